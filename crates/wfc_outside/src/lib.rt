@@ -9,11 +9,13 @@ ghost use Rattle.std.specs.Prelude.{◌≡◌, ℕ, ◌<◌, ◌≤◌, length, 
 ghost use Rattle.wfc_outside.specs.Folder.{FolderView, GivesFrom, IsFaultOf, IsMissing, NoCountFell};
 ghost use Rattle.wfc_outside.specs.Sink.{SinkView, after_bytes, after_finish, IsFault};
 
+mod memory_folder;
 mod memory_sink;
 mod whole;
 
-use std::alloc::{AllocError, AllocFailed};
+pub use memory_folder::MemoryFolder;
 pub use memory_sink::MemorySink;
+use std::alloc::{AllocError, AllocFailed};
 pub use whole::{ReadFault, read_all, write_all};
 
 /// Memory ran out.
