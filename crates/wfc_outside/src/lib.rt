@@ -9,10 +9,12 @@ ghost use Rattle.std.specs.Prelude.{◌≡◌, ℕ, ◌<◌, ◌≤◌, length, 
 ghost use Rattle.wfc_outside.specs.Folder.{FolderView, GivesFrom, IsFaultOf, IsMissing, NoCountFell};
 ghost use Rattle.wfc_outside.specs.Sink.{SinkView, after_bytes, after_finish, IsFault};
 
+mod devices;
 mod memory_folder;
 mod memory_sink;
 mod whole;
 
+pub use devices::{DiskFolder, StderrSink, StdoutSink};
 pub use memory_folder::MemoryFolder;
 pub use memory_sink::MemorySink;
 use std::alloc::{AllocError, AllocFailed};
