@@ -88,3 +88,6 @@ pub trait Sink {
         ensures failed { OnErr result (IsFault (seen self.old) (seen self.new)) }
         ensures counts { (seen self.old).faults ≤ (seen self.new).faults };
 }
+
+#[cfg(test)]
+mod tests;
