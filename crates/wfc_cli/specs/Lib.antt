@@ -1,0 +1,9 @@
+pub mod Order
+pub mod PlainRules
+pub mod Request
+pub mod RequestView
+pub mod Fault
+pub mod ErrorLine
+pub mod Answer
+pub mod Endings
+pub mod Theorem
