@@ -1,5 +1,6 @@
 -- The first fault of a text that is read as a grid.
-use Rattle.std.specs.Prelude.{ℕ, ◌+◌, ◌==◌, Bool, not, nat_lt, List, [], ◌∷◌, length, position, sum_by, Option, None, Some, if◌then◌else◌}
+use Rattle.std.specs.Prelude.{ℕ, ◌+◌, ◌==◌, Bool, not, nat_lt, List, [], ◌∷◌, length, map, position, Option, None, Some, if◌then◌else◌}
+use Rattle.std.specs.List.{concat}
 use Rattle.std.specs.Option.{option_or}
 use Rattle.wfc_text.specs.Line.{LineView}
 use Rattle.wfc_grid.specs.Grid.{is_cell}
@@ -33,10 +34,18 @@ abbrev pub width_of : List LineView → ℕ
 width_of [] = 0
 width_of (line ∷ lines) = length line.bytes
 
+-- what the lines have, one after another
+abbrev pub rows_of : List LineView → List (List ℕ)
+rows_of lines = map (λ (line : LineView). line.bytes) lines
+
+-- the bytes of all lines
+abbrev pub cells_of : List LineView → List ℕ
+cells_of lines = concat (rows_of lines)
+
 -- too many bytes, where there are
 abbrev pub size_fault : ℕ → Option GridFault
 size_fault cells = if nat_lt most_cells cells then Some TooLarge else None
 
 -- the first fault of lines that are read as a grid
 abbrev pub fault_of : List LineView → Option GridFault
-fault_of lines = if width_of lines == 0 then Some Empty else option_or (first_fault (width_of lines) lines) (size_fault (sum_by (λ (line : LineView). length line.bytes) lines))
+fault_of lines = if width_of lines == 0 then Some Empty else option_or (first_fault (width_of lines) lines) (size_fault (length (cells_of lines)))

@@ -1,12 +1,11 @@
 //! Reading a grid.
 
-ghost use Rattle.std.specs.Prelude.{◌≡◌, ◌≢◌, ◌*◌, ◌^◌, ◌<◌, ◌≤◌, Option, None, Some, length, map, position, IfOk, IfErr, MatchResult};
-ghost use Rattle.std.specs.List.{concat};
-ghost use Rattle.wfc_text.specs.Line.{LineView, lines_of};
+ghost use Rattle.std.specs.Prelude.{◌≡◌, ◌≢◌, ◌*◌, ◌^◌, ◌<◌, ◌≤◌, None, Some, length, position, IfOk, IfErr, MatchResult};
+ghost use Rattle.wfc_text.specs.Line.{lines_of};
 ghost use Rattle.wfc_text.specs.View.{line_view};
 ghost use Rattle.wfc_grid.specs.Grid.{GridView};
 ghost use Rattle.wfc_grid.specs.Spelling.{SpellsGrid};
-ghost use Rattle.wfc_grid.specs.Fault.{fault_of, first_fault, is_other, line_fault, width_of};
+ghost use Rattle.wfc_grid.specs.Fault.{cells_of, fault_of, first_fault, is_other, line_fault, width_of};
 
 use crate::Grid;
 use std::alloc::{AllocError, Global};
@@ -86,7 +85,7 @@ fn first_width(text: &[u8]) -> usize
 fn cells(alloc: Global, text: &[u8], width: usize) -> Result<Vec<u8>, GridFault>
     requires { length text.now ≤ 16777216 }
     ensures right { IfOk result (λ _. first_fault width (lines_of text.now) ≡ None) }
-    ensures cells { IfOk result (λ cells. cells.items ≡ concat (map (λ (line : LineView). line.bytes) (lines_of text.now))) }
+    ensures cells { IfOk result (λ cells. cells.items ≡ cells_of (lines_of text.now)) }
     ensures fault { IfErr result (λ fault. fault ≢ GridFault.NoMemory → first_fault width (lines_of text.now) ≡ Some fault) }
 {
     let mut cells = Vec::with_capacity(alloc, text.len())?;

@@ -37,6 +37,10 @@ lines_from-at n text at inside before feed =
     subst (λ t. lines_from n t ≡ record { number = n; bytes = strip_carriage_return (take at text); ended = true } ∷ lines_from (n + 1) (drop (at + 1) text)) cut (lines_from-feed n (take at text) (drop (at + 1) text) plain)
 
 -- a text without a line feed is one line without its end
+pub lines_from-plain : (n : ℕ) (text : List ℕ) → 0 < length text → All (λ b. is_line_feed b ≡ false) text → lines_from n text ≡ record { number = n; bytes = text; ended = false } ∷ []
+lines_from-plain n [] some plain = absurd (omega arith)
+lines_from-plain n (b ∷ bs) some plain = ap (lines_of_parts n) (slice_split_none is_line_feed (b ∷ bs) plain)
+
+-- the same where no line feed was found
 pub lines_from-none : (n : ℕ) (text : List ℕ) → 0 < length text → ((k : ℕ) → 0 ≤ k → k < length text → is_line_feed (get_or text k 0) ≡ true → ⊥) → lines_from n text ≡ record { number = n; bytes = text; ended = false } ∷ []
-lines_from-none n [] some none = absurd (omega arith)
-lines_from-none n (b ∷ bs) some none = ap (lines_of_parts n) (slice_split_none is_line_feed (b ∷ bs) (λ k d inside. plain_at (b ∷ bs) k d inside none))
+lines_from-none n text some none = lines_from-plain n text some (λ k d inside. plain_at text k d inside none)

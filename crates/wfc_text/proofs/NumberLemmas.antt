@@ -1,39 +1,22 @@
 -- Digits, one by one.
-use Rattle.std.proofs.Common.{◌≡◌, ℕ, ◌+◌, ◌*◌, ◌^◌, ◌<◌, ◌≤◌, List, length, get_or, take, Bool, None, Ok, not, zero, suc, [], ◌∷◌, ◌++◌, replicate, refl, ap, ◌∙◌, length-append, arith, decimal, true}
+use Rattle.std.proofs.Common.{◌≡◌, ℕ, ◌+◌, ◌*◌, ◌^◌, ◌<◌, ◌≤◌, List, length, get_or, take, Ok, zero, suc, [], ◌∷◌, ◌++◌, replicate, refl, ap, ◌∙◌, length-append, arith, decimal, true}
 use Rattle.std.proofs.lemmas.Int.Digits.{digits_value_more}
 use Rattle.std.proofs.lemmas.Str.Parse.{digits_value-take-le, digit_at}
 use Rattle.std.proofs.lemmas.Fmt.{decimal_is_IsNumeral}
 use Rattle.std.proofs.lemmas.List.{get_or_default, length-replicate, get_or-replicate}
 use Rattle.std.proofs.lemmas.List.Elements.{All-append}
 use Rattle.std.specs.Int.{IsInRange}
-use Rattle.std.proofs.lemmas.Bool.{not-false}
 use Rattle.std.proofs.lemmas.Bool.Decides.{nat_tests}
-use Rattle.std.proofs.lemmas.List.Sums.{fails_before_first, position_or_len_is}
 use Rattle.std.specs.Char.{digit_value, is_ascii_digit}
-use Rattle.std.specs.List.{AllPass, position, position_or_len}
+use Rattle.std.specs.List.{AllPass}
 use Rattle.std.specs.Str.Parse.{digits_value, AllDigits}
-use Rattle.wfc_text.specs.Number.{is_other, number_of, within, unless_at}
+use Rattle.wfc_text.specs.Number.{number_of, within, unless_at}
+use Rattle.wfc_text.proofs.Passing.{none_found}
 
 -- where the first digits write too much, all of them do
 pub too_much : (ds : List ℕ) (i n bound : ℕ) → i < length ds → n ≡ digits_value 10 (take i ds) → (n * 10 + digit_value (get_or ds i 0) < bound → ⊥) → digits_value 10 ds < bound → ⊥
 too_much ds i n bound inside is above below =
     above (omega (arith, digits_value_more 10 ds i inside, digits_value-take-le 10 ds (i + 1) (omega arith)))
-
--- where none passes, the place of the first that does is past the end
-past_end : (p : ℕ → Bool) (text : List ℕ) → position p text ≡ None → length text ≤ position_or_len p text
-past_end p text none = grind (arith, nat_tests)
-
--- where no byte is found that is no digit, each is one
-pub all_digits : (text : List ℕ) → position is_other text ≡ None → AllPass is_ascii_digit text
-all_digits text none k d inside =
-    let past : length text ≤ position_or_len is_other text = past_end is_other text none in
-    not-false _ (fails_before_first is_other text k d (omega arith))
-
--- where each byte is a digit, none is found that is no digit
-none_found : (text : List ℕ) → AllPass is_ascii_digit text → position is_other text ≡ None
-none_found text digits =
-    let past : position_or_len is_other text ≡ length text = position_or_len_is is_other text (length text) 0 (omega arith) (λ k below. ap not (digits k 0 below)) (λ below. absurd (omega arith)) in
-    rw past (grind (arith, nat_tests))
 
 -- a number within the range is answered
 within-in : (n least most : ℕ) → least ≤ n → n ≤ most → within n least most ≡ Ok n
@@ -42,7 +25,7 @@ within-in n least most low high = grind (arith, nat_tests)
 -- digits alone write their value
 pub number_of-digits : (text : List ℕ) (least most : ℕ) → 0 < length text → AllPass is_ascii_digit text → least ≤ digits_value 10 text → digits_value 10 text ≤ most → number_of text least most ≡ Ok (digits_value 10 text)
 number_of-digits [] least most some digits low high = absurd (omega arith)
-number_of-digits (b ∷ bs) least most some digits low high = ap (λ at. unless_at at (within (digits_value 10 (b ∷ bs)) least most)) (none_found (b ∷ bs) digits) ∙ within-in _ least most low high
+number_of-digits (b ∷ bs) least most some digits low high = ap (λ at. unless_at at (within (digits_value 10 (b ∷ bs)) least most)) (none_found is_ascii_digit (b ∷ bs) digits) ∙ within-in _ least most low high
 
 -- a byte in the digits' range passes the test
 in_digits : (b : ℕ) → IsInRange 48 57 b → is_ascii_digit b ≡ true
