@@ -1,18 +1,18 @@
 -- The lines of a text that spells rows, and the rows that lines spell.
-use Rattle.std.proofs.Common.{eqb-true, ◌≡◌, ℕ, ◌+◌, ◌<◌, List, [], ◌∷◌, ◌++◌, length, ◌⊎◌, inl, inr, ⊎_elim, refl, sym, ap, ◌∙◌, append_assoc, arith, true, false, get_or, append-nil, ◌==◌, ◌-◌, take, length-append, Bool, if◌then◌else◌}
+use Rattle.std.proofs.Common.{eqb-true, ◌≡◌, ℕ, ◌+◌, ◌<◌, List, [], ◌∷◌, ◌++◌, length, ◌⊎◌, inl, inr, ⊎_elim, refl, sym, ap, ◌∙◌, append_assoc, arith, true, false, get_or, append-nil, ◌==◌, ◌-◌, take, length-append, Bool, if◌then◌else◌, ◌≤◌, length-take}
 use Rattle.std.proofs.Math.Seq.{get_or-append_seam}
 use Rattle.std.proofs.lemmas.Bool.Decides.{nat_tests}
 use Rattle.std.proofs.lemmas.Bool.{true≢false}
 use Rattle.std.proofs.lemmas.List.Splits.{join_with_byte-slice_split}
 use Rattle.std.proofs.lemmas.List.{take_at, take_all, take_more}
 use Rattle.std.proofs.lemmas.List.Elements.{All-append, All-from_recursion}
-use Rattle.std.specs.List.{All, AllPass, AllByRecursion, join_with_byte, slice_split}
+use Rattle.std.specs.List.{All, AllPass, AllByRecursion, concat, join_with_byte, slice_split}
 use Rattle.std.specs.Str.Lines.{strip_carriage_return}
-use Rattle.wfc_text.specs.Line.{LineView, is_line_feed, lines_from, lines_of_parts}
+use Rattle.wfc_text.specs.Line.{LineView, is_line_feed, lines_from, lines_of, lines_of_parts}
 use Rattle.wfc_text.proofs.LineLemmas.{lines_from-feed, lines_from-plain}
 use Rattle.wfc_grid.specs.Grid.{is_cell}
 use Rattle.wfc_grid.specs.Spelling.{IsLineEnd, SpellsRows}
-use Rattle.wfc_grid.specs.Fault.{rows_of}
+use Rattle.wfc_grid.specs.Fault.{rows_of, cells_of, width_of}
 
 -- a row has a byte, and each may stand in a grid
 pub record IsRow (row : List ℕ) : Type 0 where
@@ -118,3 +118,32 @@ pub lines-spell : (n : ℕ) (text : List ℕ) → 0 < length (lines_from n text)
 lines-spell n text some =
     let spelled : SpellsRows (join_with_byte 10 (slice_split is_line_feed text)) (rows_of (lines_from n text)) = all_parts_spell n (slice_split is_line_feed text) some in
     rw (join_with_byte-slice_split 10 text) at spelled
+
+-- lines have no more bytes than the text that they are cut from
+strip-shorter : (part : List ℕ) → length (strip_carriage_return part) ≤ length part
+strip-shorter part = shorter (get_or part (length part - 1) 0 == 13)
+  where
+    shorter : (last : Bool) → length (if last then take (length part - 1) part else part) ≤ length part
+    shorter true = omega (arith, length-take (length part - 1) part)
+    shorter false = omega arith
+
+parts_shorter : (n : ℕ) (parts : List (List ℕ)) → length (concat (rows_of (lines_of_parts n parts))) ≤ length (join_with_byte 10 parts)
+parts_shorter n [] = omega arith
+parts_shorter n ([] ∷ []) = omega arith
+parts_shorter n ((b ∷ part) ∷ []) = omega (arith, length-append (b ∷ part) [])
+parts_shorter n (part ∷ next ∷ parts) =
+    omega (arith, strip-shorter part, parts_shorter (n + 1) (next ∷ parts), length-append (strip_carriage_return part) (concat (rows_of (lines_of_parts (n + 1) (next ∷ parts)))), length-append part (10 ∷ join_with_byte 10 (next ∷ parts)))
+
+pub length-cells_of : (text : List ℕ) → length (cells_of (lines_of text)) ≤ length text
+length-cells_of text =
+    let shorter : length (cells_of (lines_of text)) ≤ length (join_with_byte 10 (slice_split is_line_feed text)) = parts_shorter 1 (slice_split is_line_feed text) in
+    rw (join_with_byte-slice_split 10 text) at shorter
+
+pub width_of-shorter : (lines : List LineView) → width_of lines ≤ length (cells_of lines)
+width_of-shorter [] = omega arith
+width_of-shorter (line ∷ lines) = omega (arith, length-append line.bytes (cells_of lines))
+
+-- a line that is still to come is no longer than the text
+pub line-shorter : (cells : List ℕ) (lines rest : List LineView) (line : LineView) (text : List ℕ) → cells ++ cells_of lines ≡ cells_of (lines_of text) → lines ≡ line ∷ rest → length line.bytes ≤ length text
+line-shorter cells lines rest line text whole next =
+    omega (arith, ap length whole, ap (λ (ls : List LineView). length (cells_of ls)) next, length-append cells (cells_of lines), length-append line.bytes (cells_of rest), length-cells_of text)

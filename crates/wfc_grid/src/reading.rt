@@ -76,7 +76,6 @@ pub fn read(alloc: Global, bytes: &[u8]) -> Result<Grid, GridFault>
 fn first_width(text: &[u8]) -> usize
     requires { length text.now ≤ 16777216 }
     ensures width { result ≡ width_of (lines_of text.now) }
-    ensures small { result ≤ length text.now }
 {
     lines(text).next().map_or(0, |line| line.bytes.len())
 }
