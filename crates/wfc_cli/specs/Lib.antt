@@ -1,0 +1,5 @@
+pub mod Order
+pub mod PlainRules
+pub mod SearchWindow
+pub mod SearchState
+pub mod SearchLore
