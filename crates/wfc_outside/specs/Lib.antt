@@ -1,3 +1,5 @@
 pub mod Count
 pub mod Folder
+pub mod ReadFault
 pub mod Sink
+pub mod Whole

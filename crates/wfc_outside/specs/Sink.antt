@@ -1,5 +1,5 @@
 -- What a sink is seen as, and what its calls do to it.
-use Rattle.std.specs.Prelude.{◌≡◌, ℕ, ◌≤◌, Bool, true, false, List, [], ◌∷◌, ◌++◌, take, Option}
+use Rattle.std.specs.Prelude.{◌≡◌, ℕ, Bool, true, false, List, [], ◌∷◌, ◌++◌, take, Option}
 use Rattle.std.specs.Option.{option_map}
 use Rattle.wfc_outside.specs.Count.{HasRisen}
 

@@ -9,7 +9,10 @@ ghost use Rattle.std.specs.Prelude.{◌≡◌, ℕ, ◌<◌, ◌≤◌, length, 
 ghost use Rattle.wfc_outside.specs.Folder.{FolderView, GivesFrom, IsFaultOf, IsMissing, NoCountFell};
 ghost use Rattle.wfc_outside.specs.Sink.{SinkView, after_bytes, after_finish, IsFault};
 
+mod whole;
+
 use std::alloc::{AllocError, AllocFailed};
+pub use whole::{ReadFault, read_all, write_all};
 
 /// Memory ran out.
 #[derive(Clone, Copy, Debug, PartialEq, Eq)]
