@@ -11,7 +11,7 @@ pub record Lore : Type 0 where
 
 -- the window whose last pixel is pixel k of the map, where there is one, is known
 abbrev pub IsKnownAt : Lore → List ℕ → ℕ → Type 0
-IsKnownAt lore map k = lore.n ≤ k % lore.width + 1 → lore.n ≤ k / lore.width + 1 → Contains lore.keys (padded (flat_window map lore.width (k - reach lore.width lore.n) lore.n))
+IsKnownAt lore map k = lore.n - 1 ≤ k % lore.width → lore.n - 1 ≤ k / lore.width → Contains lore.keys (padded (flat_window map lore.width (k - reach lore.width lore.n) lore.n))
 
 -- the pixels are bytes of the sample, and each window that lies in them is known
 pub record IsFilled (lore : Lore) (pixels : List ℕ) : Type 0 where

@@ -1,8 +1,9 @@
 //! The search itself.
 
-ghost use Rattle.std.specs.Prelude.{◌≡◌, ℕ, ◌+◌, ◌<◌, ◌≤◌, ◌↔◌, false, List, [], ◌∷◌, length, take, slice_set, All, AllPairs, Contains, IsTrue, IfOk, IfSome, IfNone};
+ghost use Rattle.std.specs.Prelude.{◌≡◌, ℕ, ◌+◌, ◌-◌, ◌*◌, ◌<◌, ◌≤◌, ◌↔◌, false, List, [], ◌∷◌, length, take, slice_set, All, AllPairs, Contains, IsTrue, IfOk, IfSome, IfNone};
 ghost use Rattle.wfc_cli.specs.Order.{IsAtMost};
 ghost use Rattle.wfc_cli.specs.SearchWindow.{AreWindowsOf};
+ghost use Rattle.wfc_cli.specs.SearchState.{IsFilled, CanFollow, next_of};
 
 use std::alloc::Global;
 use std::collections::HashSet;
@@ -26,7 +27,6 @@ pub(super) struct Search {
 }
 
 impl Search {
-    ghost use Rattle.wfc_cli.specs.SearchState.{IsFilled, IsKnownAt, CanFollow, next_of};
     ghost use Rattle.wfc_cli.specs.SearchLore.{lore_of};
 
     /// A search for maps of this width, by the n by n windows of the sample.
@@ -88,12 +88,11 @@ impl Search {
         ensures least { IfSome result (λ byte. (b : ℕ) → next_of tried ≤ b → b < byte → CanFollow (lore_of self.now) (take placed map.now) b → ⊥) }
         ensures none { IfNone result ((b : ℕ) → next_of tried ≤ b → CanFollow (lore_of self.now) (take placed map.now) b → ⊥) }
     {
-        let column = placed % self.width;
-        let row = placed / self.width;
-        if column + 1 < self.n || row + 1 < self.n {
+        let above = self.n - 1;
+        if placed % self.width < above || placed / self.width < above {
             return self.least_byte(tried);
         }
-        let first = placed - (self.n - 1) * (self.width + 1);
+        let first = placed - above * self.width - above;
         self.least_known(window_at(map, self.width, first, self.n), tried)
     }
 
