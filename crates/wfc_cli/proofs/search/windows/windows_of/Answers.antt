@@ -9,12 +9,12 @@ window_at-requires-clause-inside c =
     omega (arith, place_inside sample.width sample.height c.args.n c.loop-place.place c.requires.some c.requires.wide c.requires.high (omega arith))
 
 pub loop-place-init : goal.loop-place-init
-loop-place-init c = places_none _ _ _ _ _ ?
+loop-place-init c = places_none c.args.sample.now.cells.now c.args.sample.now.width c.args.sample.now.height c.args.n c.new-windows.result.keys c.new-windows.ensures.empty
 
 pub loop-place-preserved : goal.loop-place-preserved
 loop-place-preserved c =
     let sample = c.args.sample.now in
-    places_more sample.cells.now sample.width sample.height c.args.n _ _ _ _ c.in_ok-insert.ensures.updates c.window_at.ensures c.loop-place.invariant
+    places_more sample.cells.now sample.width sample.height c.args.n c.loop-place.windows c.insert.new.self c.window_at.result c.loop-place.place c.in_ok-insert.ensures.updates c.window_at.ensures c.loop-place.invariant
 
 pub returns : goal.returns
 returns c =
