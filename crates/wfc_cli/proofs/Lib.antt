@@ -4,3 +4,4 @@ pub mod SearchOption
 pub mod SearchOrder
 pub mod SearchWindows
 pub mod SearchMeasure
+pub mod SearchLegal
