@@ -50,14 +50,13 @@ forth_falls map placed next byte inside above small =
         left_forth (length map) (take placed map) next byte (omega arith) above small in
     rw (length-set map placed byte, take_more_set map placed byte inside) (omega arith)
 
-pub back_falls : (map : List ℕ) (placed next byte : ℕ) → placed < length map → 0 < placed → byte ≡ get_or map (placed - 1) 0 → byte < 256
-    → 2 * lists_left (length map) (take (placed - 1) map) (byte + 1) + (placed - 1) < 2 * lists_left (length map) (take placed map) next + placed
-back_falls map placed next byte inside some read small =
-    let long : length (take (placed - 1) map) ≡ placed - 1 = omega (arith, length-take (placed - 1) map) in
-    let one : placed - 1 + 1 ≡ placed = omega arith in
-    let e : take (placed - 1) map ++ byte ∷ [] ≡ take placed map =
-        ap (λ (b : ℕ). take (placed - 1) map ++ b ∷ []) read ∙ sym (take_more map (placed - 1) 0 (omega arith)) ∙ ap (λ (k : ℕ). take k map) one in
-    let fewer : lists_left (length map) (take (placed - 1) map) (byte + 1) ≤ lists_left (length map) (take placed map) next =
-        subst (λ (ps : List ℕ). lists_left (length map) (take (placed - 1) map) (byte + 1) ≤ lists_left (length map) ps next) e
-        (left_back (length map) (take (placed - 1) map) next byte (omega arith) small) in
+pub back_falls : (map : List ℕ) (placed last next byte : ℕ) → placed < length map → last + 1 ≡ placed → byte ≡ get_or map last 0 → byte < 256
+    → 2 * lists_left (length map) (take last map) (byte + 1) + last < 2 * lists_left (length map) (take placed map) next + placed
+back_falls map placed last next byte inside one read small =
+    let long : length (take last map) ≡ last = omega (arith, length-take last map) in
+    let e : take last map ++ byte ∷ [] ≡ take placed map =
+        ap (λ (b : ℕ). take last map ++ b ∷ []) read ∙ sym (take_more map last 0 (omega arith)) ∙ ap (λ (k : ℕ). take k map) one in
+    let fewer : lists_left (length map) (take last map) (byte + 1) ≤ lists_left (length map) (take placed map) next =
+        subst (λ (ps : List ℕ). lists_left (length map) (take last map) (byte + 1) ≤ lists_left (length map) ps next) e
+        (left_back (length map) (take last map) next byte (omega arith) small) in
     omega arith

@@ -110,20 +110,17 @@ stands_forth lore map placed next byte stands inside follows least =
         subst (λ (ps : List ℕ). IsAhead ps 0 other) e (ahead_forth lore pixels other next byte (omega arith) filled least (stands.ahead other (size ∙ same) filled));
     }
 
-pub stands_back : (lore : Lore) (map : List ℕ) (placed next byte : ℕ) → Stands lore map placed next → placed < length map → 0 < placed → byte ≡ get_or map (placed - 1) 0
-    → ((b : ℕ) → next ≤ b → CanFollow lore (take placed map) b → ⊥) → Stands lore map (placed - 1) (byte + 1)
-stands_back lore map placed next byte stands inside some read none =
-    let pixels : List ℕ = take (placed - 1) map in
-    let long : length pixels ≡ placed - 1 = omega (arith, length-take (placed - 1) map) in
+pub stands_back : (lore : Lore) (map : List ℕ) (placed last next byte : ℕ) → Stands lore map placed next → placed < length map → last + 1 ≡ placed → byte ≡ get_or map last 0
+    → ((b : ℕ) → next ≤ b → CanFollow lore (take placed map) b → ⊥) → Stands lore map last (byte + 1)
+stands_back lore map placed last next byte stands inside one read none =
+    let pixels : List ℕ = take last map in
+    let long : length pixels ≡ last = omega (arith, length-take last map) in
     let e : take placed map ≡ pixels ++ byte ∷ [] =
-        ap (λ (k : ℕ). take k map) (one_less placed some) ∙ take_more map (placed - 1) 0 (omega arith) ∙ ap (λ (b : ℕ). pixels ++ b ∷ []) (sym read) in
+        ap (λ (k : ℕ). take k map) (sym one) ∙ take_more map last 0 (omega arith) ∙ ap (λ (b : ℕ). pixels ++ b ∷ []) (sym read) in
     record {
       within = omega arith;
-      filled = subst (IsFilled lore) (take-take (placed - 1) placed map (omega arith)) (filled_take lore (take placed map) (placed - 1) stands.filled);
+      filled = subst (IsFilled lore) (take-take last placed map (omega arith)) (filled_take lore (take placed map) last stands.filled);
       ahead = λ other size filled.
         ahead_back lore pixels other byte next (omega arith) filled (subst (λ (ps : List ℕ). (b : ℕ) → next ≤ b → CanFollow lore ps b → ⊥) e none)
         (subst (λ (ps : List ℕ). IsAhead ps next other) e (stands.ahead other size filled));
     }
-  where
-    one_less : (k : ℕ) → 0 < k → k ≡ k - 1 + 1
-    one_less k some = omega arith

@@ -66,15 +66,19 @@ impl Search {
         let mut placed = 0;
         let mut tried = None;
         while placed < map.len() {
-            if let Some(byte) = self.least_following(map, placed, tried) {
-                map[placed] = byte;
-                placed += 1;
-                tried = None;
-            } else if placed == 0 {
-                return false;
-            } else {
-                placed -= 1;
-                tried = Some(map[placed]);
+            match self.least_following(map, placed, tried) {
+                Some(byte) => {
+                    map[placed] = byte;
+                    placed += 1;
+                    tried = None;
+                }
+                None => {
+                    let Some(last) = placed.checked_sub(1) else {
+                        return false;
+                    };
+                    placed = last;
+                    tried = Some(map[last]);
+                }
             }
         }
         true
@@ -88,10 +92,12 @@ impl Search {
         ensures least { IfSome result (λ byte. (b : ℕ) → next_of tried ≤ b → b < byte → CanFollow (lore_of self.now) (take placed map.now) b → ⊥) }
         ensures none { IfNone result ((b : ℕ) → next_of tried ≤ b → CanFollow (lore_of self.now) (take placed map.now) b → ⊥) }
     {
-        let above = self.n - 1;
-        if placed % self.width < above || placed / self.width < above {
+        let columns = placed % self.width + 1;
+        let rows = placed / self.width + 1;
+        if columns < self.n || rows < self.n {
             return self.least_byte(tried);
         }
+        let above = self.n - 1;
         let first = placed - above * self.width - above;
         self.least_known(window_at(map, self.width, first, self.n), tried)
     }

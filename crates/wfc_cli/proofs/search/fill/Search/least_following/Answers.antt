@@ -7,12 +7,12 @@ use Rattle.wfc_cli.proofs.SearchOption.{if_some_map, if_some_both, if_none_map}
 use Rattle.wfc_cli.proofs.SearchWindows.{known_where_found, reach-le}
 use Rattle.wfc_cli.proofs.search.fill.Search.least_following.Goals as goal
 
-pub returns-then-placed-self-clause-least : goal.returns-then-placed-self-clause-least
-returns-then-placed-self-clause-least c =
+pub returns-then-columns-self-clause-least : goal.returns-then-columns-self-clause-least
+returns-then-columns-self-clause-least c =
     if_some_map c.least_byte.result _ _ (λ byte least b above below follows. least b above below follows.0) c.least_byte.ensures.least
 
-pub returns-then-placed-self-clause-none : goal.returns-then-placed-self-clause-none
-returns-then-placed-self-clause-none c =
+pub returns-then-columns-self-clause-none : goal.returns-then-columns-self-clause-none
+returns-then-columns-self-clause-none c =
     if_none_map c.least_byte.result _ _ (λ none b above follows. none b above follows.0) c.least_byte.ensures.none
 
 -- the window that is looked up, with a byte at its end, is the one that the byte completes
@@ -21,9 +21,9 @@ found : (c : goal.After-least_known) (byte : ℕ)
     ↔ IsKnownAt (lore_of c.args.self.now) (take c.args.placed c.args.map.now ++ byte ∷ []) (length (take c.args.placed c.args.map.now))
 found c byte =
     let search = c.args.self.now in
-    let reaches = reach-le search.width search.n c.args.placed c.if-placed-self.false c.if-placed-self-2.false in
+    let reaches = reach-le search.width search.n c.args.placed (omega (arith, c.if-columns-self.false)) (omega (arith, c.if-rows-self.false)) in
     known_where_found (lore_of search) c.args.map.now c.window_at.result c.args.placed (c.args.placed - (search.n - 1) * search.width - (search.n - 1)) byte
-    (omega arith) (omega arith) (omega arith) c.if-placed-self.false c.if-placed-self-2.false c.requires (omega (arith, reaches)) c.window_at.ensures
+    (omega arith) (omega arith) (omega arith) (omega (arith, c.if-columns-self.false)) (omega (arith, c.if-rows-self.false)) c.requires (omega (arith, reaches)) c.window_at.ensures
 
 pub returns-clause-follows : goal.returns-clause-follows
 returns-clause-follows c =
