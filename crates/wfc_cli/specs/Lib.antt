@@ -5,5 +5,8 @@ pub mod RequestView
 pub mod Fault
 pub mod ErrorLine
 pub mod Answer
-pub mod Endings
 pub mod Theorem
+pub mod Endings
+pub mod SearchWindow
+pub mod SearchState
+pub mod SearchLore
