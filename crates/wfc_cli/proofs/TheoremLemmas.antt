@@ -25,16 +25,16 @@ use Rattle.wfc_cli.specs.declared.fault.Fault.TheVariants.{NoMap, Command, Read,
 
 -- words that are no request end so
 pub refused_answer : (words : List (List ℕ)) (before : Devices) (err_old err_new : SinkView) (status : ℕ) (fault : CommandFault)
-  → request_of words ≡ Err fault → status ≡ 3 → TellsEnding [] err_old err_new (Err (Command fault)) → IsAnswer words before before err_old err_new status
+    → request_of words ≡ Err fault → status ≡ 3 → TellsEnding [] err_old err_new (Err (Command fault)) → IsAnswer words before before err_old err_new status
 refused_answer words before err_old err_new status fault refused three tells = record {
-    ending = Err (Command fault);
-    ends = ends_refused before fault (request_of words) refused;
-    tells = subst (λ (r : Result Request CommandFault). TellsEnding (named_file r) err_old err_new (Err (Command fault))) (sym refused) tells;
-    same_status = three
-  }
+  ending = Err (Command fault);
+  ends = ends_refused before fault (request_of words) refused;
+  tells = subst (λ (r : Result Request CommandFault). TellsEnding (named_file r) err_old err_new (Err (Command fault))) (sym refused) tells;
+  same_status = three;
+}
   where
     ends_refused : (before : Devices) (fault : CommandFault) (r : Result Request CommandFault) → r ≡ Err fault
-      → (let ending : Ending = Err (Command fault) in MatchResult r (λ request. EndsRequest request before before ending) (λ other. (ending ≡ Err (Command other)) × AreUntouched before before))
+        → (let ending : Ending = Err (Command fault) in MatchResult r (λ request. EndsRequest request before before ending) (λ other. (ending ≡ Err (Command other)) × AreUntouched before before))
     ends_refused before fault (Ok request) is = absurd (cc)
     ends_refused before fault (Err other) is = let same : other ≡ fault = cc in (ap (λ f. let ending : Ending = Err (Command f) in ending) (sym same), record { folder = refl; out = refl })
 
@@ -109,7 +109,7 @@ only_no_map NoMemory is = absurd (omega arith)
 
 -- status 0: the sink has the least legal map
 pub takes_map : (words : List (List ℕ)) (before after : Devices) (err_old err_new : SinkView) (status : ℕ) → IsAnswer words before after err_old err_new status
-  → (request : Request) (file : List ℕ) → IsGiven words before.folder request file → status ≡ 0 → TakesLeastMap request file before.out after.out
+    → (request : Request) (file : List ℕ) → IsGiven words before.folder request file → status ≡ 0 → TakesLeastMap request file before.out after.out
 takes_map words before after err_old err_new status answer request file given zero =
     by_ending words before after request file given answer.ending (ends_as_request words before after answer.ending request given.asked answer.ends) (sym answer.same_status ∙ zero)
   where
@@ -117,29 +117,29 @@ takes_map words before after err_old err_new status answer request file given ze
     least request file text old new is took = (is.0, is.1, is.2, is.3, took ∙ ap (λ bytes. after_finish (after_bytes old bytes)) is.4)
 
     by_ending : (words : List (List ℕ)) (before after : Devices) (request : Request) (file : List ℕ) → IsGiven words before.folder request file
-      → (ending : Ending) → EndsRequest request before after ending → status_of ending ≡ 0 → TakesLeastMap request file before.out after.out
+        → (ending : Ending) → EndsRequest request before after ending → status_of ending ≡ 0 → TakesLeastMap request file before.out after.out
     by_ending words before after request file given (Ok done) ends zero =
-      let from : FromFile request before (λ read. TakesLeastMap request read before.out after.out) =
+        let from : FromFile request before (λ read. TakesLeastMap request read before.out after.out) =
         (ends.0, ends.1, least request ends.0 ends.2.0 before.out after.out ends.2.1 ends.2.2) in
-      from_told words before request file (λ read. TakesLeastMap request read before.out after.out) given from
+        from_told words before request file (λ read. TakesLeastMap request read before.out after.out) given from
     by_ending words before after request file given (Err fault) ends zero = absurd (no_fault_has_0 fault zero)
 
 -- status 1: there is no map
 pub has_no_map : (words : List (List ℕ)) (before after : Devices) (err_old err_new : SinkView) (status : ℕ) → IsAnswer words before after err_old err_new status
-  → (request : Request) (file : List ℕ) → IsGiven words before.folder request file → status ≡ 1 → HasNoMap request file
+    → (request : Request) (file : List ℕ) → IsGiven words before.folder request file → status ≡ 1 → HasNoMap request file
 has_no_map words before after err_old err_new status answer request file given one =
     by_ending words before after request file given answer.ending (ends_as_request words before after answer.ending request given.asked answer.ends) (sym answer.same_status ∙ one)
   where
     by_ending : (words : List (List ℕ)) (before after : Devices) (request : Request) (file : List ℕ) → IsGiven words before.folder request file
-      → (ending : Ending) → EndsRequest request before after ending → status_of ending ≡ 1 → HasNoMap request file
+        → (ending : Ending) → EndsRequest request before after ending → status_of ending ≡ 1 → HasNoMap request file
     by_ending words before after request file given (Ok done) ends one = absurd (omega arith)
     by_ending words before after request file given (Err fault) ends one =
-      let no : EndsRequest request before after (Err NoMap) = subst (λ f. EndsRequest request before after (Err f)) (only_no_map fault one) ends in
-      from_told words before request file (HasNoMap request) given no.0
+        let no : EndsRequest request before after (Err NoMap) = subst (λ f. EndsRequest request before after (Err f)) (only_no_map fault one) ends in
+        from_told words before request file (HasNoMap request) given no.0
 
 -- a status but 0 and 5: the sink took nothing
 pub takes_nothing : (words : List (List ℕ)) (before after : Devices) (err_old err_new : SinkView) (status : ℕ) → IsAnswer words before after err_old err_new status
-  → (status ≡ 0 → ⊥) → (status ≡ 5 → ⊥) → AreUntouched before after
+    → (status ≡ 0 → ⊥) → (status ≡ 5 → ⊥) → AreUntouched before after
 takes_nothing words before after err_old err_new status answer not0 not5 =
     by_words (request_of words) before after answer.ending answer.ends (λ is. not0 (answer.same_status ∙ is)) (λ is. not5 (answer.same_status ∙ is))
   where
@@ -158,14 +158,14 @@ takes_nothing words before after err_old err_new status answer not0 not5 =
     by_ending request before after (Err SizeBelowN) ends not0 not5 = ends.1
 
     by_words : (r : Result Request CommandFault) (before after : Devices) (ending : Ending)
-      → MatchResult r (λ request. EndsRequest request before after ending) (λ fault. (ending ≡ Err (Command fault)) × AreUntouched before after)
-      → (status_of ending ≡ 0 → ⊥) → (status_of ending ≡ 5 → ⊥) → AreUntouched before after
+        → MatchResult r (λ request. EndsRequest request before after ending) (λ fault. (ending ≡ Err (Command fault)) × AreUntouched before after)
+        → (status_of ending ≡ 0 → ⊥) → (status_of ending ≡ 5 → ⊥) → AreUntouched before after
     by_words (Ok request) before after ending ends not0 not5 = by_ending request before after ending ends not0 not5
     by_words (Err fault) before after ending ends not0 not5 = ends.1
 
 -- status 3: the words are no request, and the other way round
 pub is_no_request : (words : List (List ℕ)) (before after : Devices) (err_old err_new : SinkView) (status : ℕ) → IsAnswer words before after err_old err_new status
-  → status ≡ 3 → IsErr (request_of words)
+    → status ≡ 3 → IsErr (request_of words)
 is_no_request words before after err_old err_new status answer three =
     by_words (request_of words) before after answer.ending answer.ends (sym answer.same_status ∙ three)
   where
@@ -184,25 +184,25 @@ is_no_request words before after err_old err_new status answer three =
     no_request_ends_3 request before after (Err SizeBelowN) ends three = omega arith
 
     by_words : (r : Result Request CommandFault) (before after : Devices) (ending : Ending)
-      → MatchResult r (λ request. EndsRequest request before after ending) (λ fault. (ending ≡ Err (Command fault)) × AreUntouched before after)
-      → status_of ending ≡ 3 → IsErr r
+        → MatchResult r (λ request. EndsRequest request before after ending) (λ fault. (ending ≡ Err (Command fault)) × AreUntouched before after)
+        → status_of ending ≡ 3 → IsErr r
     by_words (Ok request) before after ending ends three = absurd (no_request_ends_3 request before after ending ends three)
     by_words (Err fault) before after ending ends three = refl
 
 pub no_request_is_3 : (words : List (List ℕ)) (before after : Devices) (err_old err_new : SinkView) (status : ℕ) → IsAnswer words before after err_old err_new status
-  → IsErr (request_of words) → status ≡ 3
+    → IsErr (request_of words) → status ≡ 3
 no_request_is_3 words before after err_old err_new status answer refused =
     answer.same_status ∙ by_words (request_of words) before after answer.ending answer.ends refused
   where
     by_words : (r : Result Request CommandFault) (before after : Devices) (ending : Ending)
-      → MatchResult r (λ request. EndsRequest request before after ending) (λ fault. (ending ≡ Err (Command fault)) × AreUntouched before after)
-      → IsErr r → status_of ending ≡ 3
+        → MatchResult r (λ request. EndsRequest request before after ending) (λ fault. (ending ≡ Err (Command fault)) × AreUntouched before after)
+        → IsErr r → status_of ending ≡ 3
     by_words (Ok request) before after ending ends refused = absurd (cc)
     by_words (Err fault) before after ending ends refused = ap status_of ends.0
 
 -- status 4: the file or a size stands in the way
 pub is_input_fault : (words : List (List ℕ)) (before after : Devices) (err_old err_new : SinkView) (status : ℕ) → IsAnswer words before after err_old err_new status
-  → (request : Request) (file : List ℕ) → IsGiven words before.folder request file → status ≡ 4 → IsInputFault request file
+    → (request : Request) (file : List ℕ) → IsGiven words before.folder request file → status ≡ 4 → IsInputFault request file
 is_input_fault words before after err_old err_new status answer request file given four =
     by_ending words before after request file given answer.ending (ends_as_request words before after answer.ending request given.asked answer.ends) (sym answer.same_status ∙ four)
   where
@@ -214,7 +214,7 @@ is_input_fault words before after err_old err_new status answer request file giv
     grid_input request file grid.NoMemory cause four = absurd (omega arith)
 
     by_ending : (words : List (List ℕ)) (before after : Devices) (request : Request) (file : List ℕ) → IsGiven words before.folder request file
-      → (ending : Ending) → EndsRequest request before after ending → status_of ending ≡ 4 → IsInputFault request file
+        → (ending : Ending) → EndsRequest request before after ending → status_of ending ≡ 4 → IsInputFault request file
     by_ending words before after request file given (Ok done) ends four = absurd (omega arith)
     by_ending words before after request file given (Err Out) ends four = absurd (omega arith)
     by_ending words before after request file given (Err (Read reading.Missing)) ends four = absurd (omega arith)
@@ -230,7 +230,7 @@ is_input_fault words before after err_old err_new status answer request file giv
 
 -- status 5: a device is at fault
 pub is_device_fault : (words : List (List ℕ)) (before after : Devices) (err_old err_new : SinkView) (status : ℕ) → IsAnswer words before after err_old err_new status
-  → status ≡ 5 → (request : Request) × (request_of words ≡ Ok request) × IsDeviceFault request before.folder after.folder before.out after.out
+    → status ≡ 5 → (request : Request) × (request_of words ≡ Ok request) × IsDeviceFault request before.folder after.folder before.out after.out
 is_device_fault words before after err_old err_new status answer five =
     by_words (request_of words) before after answer.ending answer.ends (sym answer.same_status ∙ five)
   where
@@ -249,14 +249,14 @@ is_device_fault words before after err_old err_new status answer five =
     by_ending request before after (Err SizeBelowN) ends five = absurd (omega arith)
 
     by_words : (r : Result Request CommandFault) (before after : Devices) (ending : Ending)
-      → MatchResult r (λ request. EndsRequest request before after ending) (λ fault. (ending ≡ Err (Command fault)) × AreUntouched before after)
-      → status_of ending ≡ 5 → (request : Request) × (r ≡ Ok request) × IsDeviceFault request before.folder after.folder before.out after.out
+        → MatchResult r (λ request. EndsRequest request before after ending) (λ fault. (ending ≡ Err (Command fault)) × AreUntouched before after)
+        → status_of ending ≡ 5 → (request : Request) × (r ≡ Ok request) × IsDeviceFault request before.folder after.folder before.out after.out
     by_words (Ok request) before after ending ends five = (request, refl, by_ending request before after ending ends five)
     by_words (Err fault) before after ending ends five = let three : 5 ≡ 3 = sym five ∙ ap status_of ends.0 in absurd (omega (arith, three))
 
 -- a status but 5: no count of the folder or of the sink rose
 pub keeps_counts : (words : List (List ℕ)) (before after : Devices) (err_old err_new : SinkView) (status : ℕ) → IsAnswer words before after err_old err_new status
-  → (status ≡ 5 → ⊥) → (after.folder ≡ before.folder) × (after.out.faults ≡ before.out.faults)
+    → (status ≡ 5 → ⊥) → (after.folder ≡ before.folder) × (after.out.faults ≡ before.out.faults)
 keeps_counts words before after err_old err_new status answer not5 =
     by_words (request_of words) before after answer.ending answer.ends (λ is. not5 (answer.same_status ∙ is))
   where
@@ -278,14 +278,14 @@ keeps_counts words before after err_old err_new status answer not5 =
     by_ending request before after (Err SizeBelowN) ends not5 = untouched before after ends.1
 
     by_words : (r : Result Request CommandFault) (before after : Devices) (ending : Ending)
-      → MatchResult r (λ request. EndsRequest request before after ending) (λ fault. (ending ≡ Err (Command fault)) × AreUntouched before after)
-      → (status_of ending ≡ 5 → ⊥) → (after.folder ≡ before.folder) × (after.out.faults ≡ before.out.faults)
+        → MatchResult r (λ request. EndsRequest request before after ending) (λ fault. (ending ≡ Err (Command fault)) × AreUntouched before after)
+        → (status_of ending ≡ 5 → ⊥) → (after.folder ≡ before.folder) × (after.out.faults ≡ before.out.faults)
     by_words (Ok request) before after ending ends not5 = by_ending request before after ending ends not5
     by_words (Err fault) before after ending ends not5 = untouched before after ends.1
 
 -- status 5: the sink took nothing, or a front of the text of the least legal map
 pub takes_front : (words : List (List ℕ)) (before after : Devices) (err_old err_new : SinkView) (status : ℕ) → IsAnswer words before after err_old err_new status
-  → (request : Request) (file : List ℕ) → IsGiven words before.folder request file → status ≡ 5 → (after.out ≡ before.out) ⊎ TakesFront request file before.out after.out
+    → (request : Request) (file : List ℕ) → IsGiven words before.folder request file → status ≡ 5 → (after.out ≡ before.out) ⊎ TakesFront request file before.out after.out
 takes_front words before after err_old err_new status answer request file given five =
     by_ending words before after request file given answer.ending (ends_as_request words before after answer.ending request given.asked answer.ends) (sym answer.same_status ∙ five)
   where
@@ -293,12 +293,12 @@ takes_front words before after err_old err_new status answer request file given 
     front request file text old new is fault = (is.0, is.1, is.2, is.3, subst (IsFaultAfterFront old new) is.4 fault)
 
     by_ending : (words : List (List ℕ)) (before after : Devices) (request : Request) (file : List ℕ) → IsGiven words before.folder request file
-      → (ending : Ending) → EndsRequest request before after ending → status_of ending ≡ 5 → (after.out ≡ before.out) ⊎ TakesFront request file before.out after.out
+        → (ending : Ending) → EndsRequest request before after ending → status_of ending ≡ 5 → (after.out ≡ before.out) ⊎ TakesFront request file before.out after.out
     by_ending words before after request file given (Ok done) ends five = absurd (omega arith)
     by_ending words before after request file given (Err Out) ends five =
-      let from : FromFile request before (λ read. TakesFront request read before.out after.out) =
+        let from : FromFile request before (λ read. TakesFront request read before.out after.out) =
         (ends.0, ends.1, front request ends.0 ends.2.0 before.out after.out ends.2.1 ends.2.2) in
-      inr (from_told words before request file (λ read. TakesFront request read before.out after.out) given from)
+        inr (from_told words before request file (λ read. TakesFront request read before.out after.out) given from)
     by_ending words before after request file given (Err (Read reading.Missing)) ends five = inl ends.1
     by_ending words before after request file given (Err (Read reading.Failed)) ends five = inl ends.1
     by_ending words before after request file given (Err (Read reading.TooLong)) ends five = inl ends.1.out
@@ -320,8 +320,10 @@ not_missing words before after request file given missing =
 sides_differ : (request : Request) (file : List ℕ) (sample : GridView) → IsTask request file sample → HasSmallSample request file → ⊥
 sides_differ request file sample task (other, read, short) =
     let same : other ≡ sample = same_sample file other sample read task.read in
-    elim short [ inl narrow ↦ (let width : other.width ≡ sample.width = ap (λ (g : GridView). g.width) same in omega (arith, narrow, width, task.sample_wide))
-      | inr low ↦ (let height : other.height ≡ sample.height = ap (λ (g : GridView). g.height) same in omega (arith, low, height, task.sample_high)) ]
+    elim short [
+      | inl narrow ↦ (let width : other.width ≡ sample.width = ap (λ (g : GridView). g.width) same in omega (arith, narrow, width, task.sample_wide))
+      | inr low ↦ (let height : other.height ≡ sample.height = ap (λ (g : GridView). g.height) same in omega (arith, low, height, task.sample_high))
+    ]
 
 sizes_differ : (request : Request) (file : List ℕ) (sample : GridView) → IsTask request file sample → HasSmallSize request file → ⊥
 sizes_differ request file sample task (other, read, wide, high, short) =
@@ -339,19 +341,19 @@ TakesLeast request file = (sample : GridView) × (m : Raster) × IsTask request 
 
 -- where nothing stands in the way the status is 0, 1 or 6
 pub is_complete : (words : List (List ℕ)) (before after : Devices) (err_old err_new : SinkView) (status : ℕ) → IsAnswer words before after err_old err_new status
-  → (request : Request) (file : List ℕ) → IsGiven words before.folder request file → NoFaultCounted request before.folder after.folder before.out after.out
-  → (sample : GridView) → IsTask request file sample → IsStatusOf request sample status
+    → (request : Request) (file : List ℕ) → IsGiven words before.folder request file → NoFaultCounted request before.folder after.folder before.out after.out
+    → (sample : GridView) → IsTask request file sample → IsStatusOf request sample status
 is_complete words before after err_old err_new status answer request file given none_counted sample task =
     subst (IsStatusOf request sample) (sym answer.same_status)
-      (by_ending words before after request file given none_counted sample task answer.ending (ends_as_request words before after answer.ending request given.asked answer.ends))
+    (by_ending words before after request file given none_counted sample task answer.ending (ends_as_request words before after answer.ending request given.asked answer.ends))
   where
     found : (request : Request) (file : List ℕ) (sample : GridView) → IsTask request file sample → TakesLeast request file → IsStatusOf request sample 0
     found request file sample task (other, m, others, least) =
-      inl (refl, (m, subst (λ (g : GridView). IsLeastMap request g m) (same_sample file other sample others.read task.read) least))
+        inl (refl, (m, subst (λ (g : GridView). IsLeastMap request g m) (same_sample file other sample others.read task.read) least))
 
     unfound : (request : Request) (file : List ℕ) (sample : GridView) → IsTask request file sample → HasNoMap request file → IsStatusOf request sample 1
     unfound request file sample task (other, others, none) =
-      inr (inl (refl, subst (λ (g : GridView). (m : Raster) → IsLegalMap request g m → ⊥) (same_sample file other sample others.read task.read) none))
+        inr (inl (refl, subst (λ (g : GridView). (m : Raster) → IsLegalMap request g m → ⊥) (same_sample file other sample others.read task.read) none))
 
     grid_ends : (request : Request) (file : List ℕ) (sample : GridView) → IsTask request file sample → (fault : GridFault) → CausesGridFault file fault → IsStatusOf request sample (grid_status fault)
     grid_ends request file sample task grid.Empty cause = absurd (no_sample file grid.Empty cause.1 sample task.read)
@@ -361,41 +363,41 @@ is_complete words before after err_old err_new status answer request file given 
     grid_ends request file sample task grid.NoMemory cause = inr (inr refl)
 
     by_ending : (words : List (List ℕ)) (before after : Devices) (request : Request) (file : List ℕ) → IsGiven words before.folder request file
-      → NoFaultCounted request before.folder after.folder before.out after.out → (sample : GridView) → IsTask request file sample
-      → (ending : Ending) → EndsRequest request before after ending → IsStatusOf request sample (status_of ending)
+        → NoFaultCounted request before.folder after.folder before.out after.out → (sample : GridView) → IsTask request file sample
+        → (ending : Ending) → EndsRequest request before after ending → IsStatusOf request sample (status_of ending)
     by_ending words before after request file given none_counted sample task (Ok done) ends =
-      found request file sample task (from_told words before request file (TakesLeast request) given (ends.0, ends.1, (ends.2.1.0, ends.2.1.1, ends.2.1.2, ends.2.1.3)))
+        found request file sample task (from_told words before request file (TakesLeast request) given (ends.0, ends.1, (ends.2.1.0, ends.2.1.1, ends.2.1.2, ends.2.1.3)))
     by_ending words before after request file given none_counted sample task (Err Out) ends = absurd (none_counted.out ends.2.2.counted)
     by_ending words before after request file given none_counted sample task (Err (Read reading.Missing)) ends = absurd (not_missing words before.folder after.folder request file given ends.0)
     by_ending words before after request file given none_counted sample task (Err (Read reading.Failed)) ends = absurd (none_counted.file ends.0)
     by_ending words before after request file given none_counted sample task (Err (Read reading.TooLong)) ends =
-      absurd (task_has_no_fault request file sample task (inl (from_told words before request file (λ read. 16777216 < length read) given ends.0)))
+        absurd (task_has_no_fault request file sample task (inl (from_told words before request file (λ read. 16777216 < length read) given ends.0)))
     by_ending words before after request file given none_counted sample task (Err (Read reading.NoMemory)) ends = inr (inr refl)
     by_ending words before after request file given none_counted sample task (Err NoMemory) ends = inr (inr refl)
     by_ending words before after request file given none_counted sample task (Err NoMap) ends = unfound request file sample task (from_told words before request file (HasNoMap request) given ends.0)
     by_ending words before after request file given none_counted sample task (Err (Command fault)) ends = absurd ends.0.2
     by_ending words before after request file given none_counted sample task (Err (Grid fault)) ends =
-      grid_ends request file sample task fault (from_told words before request file (λ read. CausesGridFault read fault) given ends.0)
+        grid_ends request file sample task fault (from_told words before request file (λ read. CausesGridFault read fault) given ends.0)
     by_ending words before after request file given none_counted sample task (Err SampleBelowN) ends = absurd (sides_differ request file sample task (from_told words before request file (HasSmallSample request) given ends.0))
     by_ending words before after request file given none_counted sample task (Err SizeBelowN) ends = absurd (sizes_differ request file sample task (from_told words before request file (HasSmallSize request) given ends.0))
 
 -- where the file or a size stands in the way the status is 4 or 6
 pub input_fault_is_4 : (words : List (List ℕ)) (before after : Devices) (err_old err_new : SinkView) (status : ℕ) → IsAnswer words before after err_old err_new status
-  → (request : Request) (file : List ℕ) → IsGiven words before.folder request file → NoFaultCounted request before.folder after.folder before.out after.out
-  → IsInputFault request file → (status ≡ 4) ⊎ (status ≡ 6)
+    → (request : Request) (file : List ℕ) → IsGiven words before.folder request file → NoFaultCounted request before.folder after.folder before.out after.out
+    → IsInputFault request file → (status ≡ 4) ⊎ (status ≡ 6)
 input_fault_is_4 words before after err_old err_new status answer request file given none_counted fault =
     subst (λ k. (k ≡ 4) ⊎ (k ≡ 6)) (sym answer.same_status)
-      (by_ending words before after request file given none_counted fault answer.ending (ends_as_request words before after answer.ending request given.asked answer.ends))
+    (by_ending words before after request file given none_counted fault answer.ending (ends_as_request words before after answer.ending request given.asked answer.ends))
   where
     grid_4_or_6 : (fault : GridFault) → (grid_status fault ≡ 4) ⊎ (grid_status fault ≡ 6)
     grid_4_or_6 fault = elim (grid_statuses fault) [ input four ↦ inl four | memory six ↦ inr six ]
 
     by_ending : (words : List (List ℕ)) (before after : Devices) (request : Request) (file : List ℕ) → IsGiven words before.folder request file
-      → NoFaultCounted request before.folder after.folder before.out after.out → IsInputFault request file
-      → (ending : Ending) → EndsRequest request before after ending → (status_of ending ≡ 4) ⊎ (status_of ending ≡ 6)
+        → NoFaultCounted request before.folder after.folder before.out after.out → IsInputFault request file
+        → (ending : Ending) → EndsRequest request before after ending → (status_of ending ≡ 4) ⊎ (status_of ending ≡ 6)
     by_ending words before after request file given none_counted fault (Ok done) ends =
-      let least : TakesLeast request file = from_told words before request file (TakesLeast request) given (ends.0, ends.1, (ends.2.1.0, ends.2.1.1, ends.2.1.2, ends.2.1.3)) in
-      absurd (task_has_no_fault request file least.0 least.2 fault)
+        let least : TakesLeast request file = from_told words before request file (TakesLeast request) given (ends.0, ends.1, (ends.2.1.0, ends.2.1.1, ends.2.1.2, ends.2.1.3)) in
+        absurd (task_has_no_fault request file least.0 least.2 fault)
     by_ending words before after request file given none_counted fault (Err Out) ends = absurd (none_counted.out ends.2.2.counted)
     by_ending words before after request file given none_counted fault (Err (Read reading.Missing)) ends = absurd (not_missing words before.folder after.folder request file given ends.0)
     by_ending words before after request file given none_counted fault (Err (Read reading.Failed)) ends = absurd (none_counted.file ends.0)
@@ -403,8 +405,8 @@ input_fault_is_4 words before after err_old err_new status answer request file g
     by_ending words before after request file given none_counted fault (Err (Read reading.NoMemory)) ends = inr refl
     by_ending words before after request file given none_counted fault (Err NoMemory) ends = inr refl
     by_ending words before after request file given none_counted fault (Err NoMap) ends =
-      let none : HasNoMap request file = from_told words before request file (HasNoMap request) given ends.0 in
-      absurd (task_has_no_fault request file none.0 none.1 fault)
+        let none : HasNoMap request file = from_told words before request file (HasNoMap request) given ends.0 in
+        absurd (task_has_no_fault request file none.0 none.1 fault)
     by_ending words before after request file given none_counted fault (Err (Command other)) ends = absurd ends.0.2
     by_ending words before after request file given none_counted fault (Err (Grid other)) ends = grid_4_or_6 other
     by_ending words before after request file given none_counted fault (Err SampleBelowN) ends = inl refl

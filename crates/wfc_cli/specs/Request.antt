@@ -44,9 +44,9 @@ with_value name (Err fault) next = Err (Value name)
 abbrev pub request_of_numbers : List ℕ → List ℕ → List ℕ → List ℕ → Result Request CommandFault
 request_of_numbers file n width height =
     with_value Model (number_of n 1 6) (λ side.
-      with_value Width (number_of width 1 4096) (λ columns.
-        with_value Height (number_of height 1 4096) (λ rows.
-          Ok (record { file = file; n = side; width = columns; height = rows }))))
+    with_value Width (number_of width 1 4096) (λ columns.
+    with_value Height (number_of height 1 4096) (λ rows.
+    Ok (record { file = file; n = side; width = columns; height = rows }))))
 
 -- the request of the five words FILL, FILE, N, WIDTH and HEIGHT
 abbrev pub request_of_five : List ℕ → List ℕ → List ℕ → List ℕ → List ℕ → Result Request CommandFault

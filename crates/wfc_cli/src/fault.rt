@@ -52,8 +52,12 @@ impl Fault {
             Fault::NoMap => 1,
             Fault::Command(_) => 3,
             Fault::Read(ReadFault::Missing | ReadFault::Failed) | Fault::Out => 5,
-            Fault::Read(ReadFault::NoMemory) | Fault::Grid(GridFault::NoMemory) | Fault::NoMemory => 6,
-            Fault::Read(ReadFault::TooLong) | Fault::Grid(_) | Fault::SampleBelowN | Fault::SizeBelowN => 4,
+            Fault::Read(ReadFault::NoMemory) | Fault::Grid(GridFault::NoMemory) | Fault::NoMemory =>
+                6,
+            Fault::Read(ReadFault::TooLong)
+            | Fault::Grid(_)
+            | Fault::SampleBelowN
+            | Fault::SizeBelowN => 4,
         }
     }
 }

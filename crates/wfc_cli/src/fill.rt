@@ -7,11 +7,10 @@ ghost use Rattle.wfc_cli.specs.Answer.{Devices, Causes, EndsRequest, IsLeastMap,
 ghost use Rattle.wfc_cli.specs.Endings.{ChecksSides, PutsAnswer};
 ghost use Rattle.wfc_cli.specs.RequestView.{IsInRange, request_view};
 
-use std::alloc::Global;
-
 use crate::fault::Fault;
 use crate::search::{Sample, least_map};
 use crate::words::FillRequest;
+use std::alloc::Global;
 use wfc_grid::{Grid, read, write};
 use wfc_outside::{Folder, NoMemory, Sink, read_all, write_all};
 

@@ -14,14 +14,12 @@ mod lines;
 mod search;
 mod words;
 
-use std::alloc::Global;
-
+pub use fault::{CommandFault, Fault, ValueName};
 use fill::fill;
 use lines::tell;
+use std::alloc::Global;
 use wfc_outside::{Folder, Sink};
 use words::request;
-
-pub use fault::{CommandFault, Fault, ValueName};
 
 /// Runs the command that the words spell over the files of a folder. The answer alone goes to `out`; where there is
 /// none, `err` gets one line that says why. The result is the exit status of docs/commands.md.
@@ -104,3 +102,6 @@ fn end<E: Sink>(err: &mut E, ending: &Result<(), Fault>, file: &[u8]) -> u8
         }
     }
 }
+
+#[cfg(test)]
+mod tests;

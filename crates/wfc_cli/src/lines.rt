@@ -5,9 +5,8 @@ ghost use Rattle.std.specs.List.{flat_map};
 ghost use Rattle.wfc_outside.specs.Sink.{SinkView};
 ghost use Rattle.wfc_cli.specs.ErrorLine.{Puts, about, command_text, fault_text, grid_fault_text, line, memory_text, reading_text};
 
-use itoa::Buffer;
-
 use crate::fault::{CommandFault, Fault, ValueName};
+use itoa::Buffer;
 use wfc_grid::GridFault;
 use wfc_outside::{ReadFault, Sink, SinkFault, write_all};
 
@@ -73,10 +72,18 @@ fn tell_ragged<E: Sink>(err: &mut E, number: u32, file: &[u8]) -> Result<(), Sin
 {
     let mut buffer = Buffer::new();
     let number = buffer.format(number).as_bytes();
-    put(err, &[b"wfc: grid Ragged line=", number, b" file=", file, b"\n"])
+    put(
+        err,
+        &[b"wfc: grid Ragged line=", number, b" file=", file, b"\n"],
+    )
 }
 
-fn tell_bad_byte<E: Sink>(err: &mut E, number: u32, column: u32, file: &[u8]) -> Result<(), SinkFault>
+fn tell_bad_byte<E: Sink>(
+    err: &mut E,
+    number: u32,
+    column: u32,
+    file: &[u8],
+) -> Result<(), SinkFault>
     ensures told { Puts (E.seen err.old) (E.seen err.new) (line (about (codes "grid BadByte line=" ++ decimal number ++ codes " column=" ++ decimal column) file.now)) result }
     ensures counts { (E.seen err.old).faults ≤ (E.seen err.new).faults }
 {
@@ -84,7 +91,18 @@ fn tell_bad_byte<E: Sink>(err: &mut E, number: u32, column: u32, file: &[u8]) ->
     let mut column_buffer = Buffer::new();
     let number = buffer.format(number).as_bytes();
     let column = column_buffer.format(column).as_bytes();
-    put(err, &[b"wfc: grid BadByte line=", number, b" column=", column, b" file=", file, b"\n"])
+    put(
+        err,
+        &[
+            b"wfc: grid BadByte line=",
+            number,
+            b" column=",
+            column,
+            b" file=",
+            file,
+            b"\n",
+        ],
+    )
 }
 
 /// Writes the line of a text.

@@ -27,12 +27,24 @@ pub(crate) fn request(words: &[String]) -> Result<FillRequest<'_>, CommandFault>
     ensures in_range { IfOk result (λ request. IsInRange (request_view request)) }
 {
     match words {
-        [command, file, n, width, height] => request_of_words(command.as_str(), file.as_str(), n.as_bytes(), width.as_bytes(), height.as_bytes()),
+        [command, file, n, width, height] => request_of_words(
+            command.as_str(),
+            file.as_str(),
+            n.as_bytes(),
+            width.as_bytes(),
+            height.as_bytes(),
+        ),
         _ => Err(CommandFault::Refused),
     }
 }
 
-fn request_of_words<'w>(command: &str, file: &'w str, n: &[u8], width: &[u8], height: &[u8]) -> Result<FillRequest<'w>, CommandFault>
+fn request_of_words<'w>(
+    command: &str,
+    file: &'w str,
+    n: &[u8],
+    width: &[u8],
+    height: &[u8],
+) -> Result<FillRequest<'w>, CommandFault>
     ensures exact { Reads result (request_of_five command.now file.now n.now width.now height.now) }
     ensures in_range { IfOk result (λ request. IsInRange (request_view request)) }
 {
@@ -46,7 +58,11 @@ fn request_of_words<'w>(command: &str, file: &'w str, n: &[u8], width: &[u8], he
 fn refuses(file: &[u8], n: &[u8], width: &[u8], height: &[u8]) -> bool
     ensures exact { result ≡ is_refused file.now n.now width.now height.now }
 {
-    asks_option(file) || asks_option(n) || asks_option(width) || asks_option(height) || names_picture(file)
+    asks_option(file)
+        || asks_option(n)
+        || asks_option(width)
+        || asks_option(height)
+        || names_picture(file)
 }
 
 fn asks_option(word: &[u8]) -> bool
@@ -61,14 +77,24 @@ fn names_picture(name: &[u8]) -> bool
     name.ends_with(b".ppm") || name.ends_with(b".PPM")
 }
 
-fn numbers<'w>(file: &'w str, n: &[u8], width: &[u8], height: &[u8]) -> Result<FillRequest<'w>, CommandFault>
+fn numbers<'w>(
+    file: &'w str,
+    n: &[u8],
+    width: &[u8],
+    height: &[u8],
+) -> Result<FillRequest<'w>, CommandFault>
     ensures exact { Reads result (request_of_numbers file.now n.now width.now height.now) }
     ensures in_range { IfOk result (λ request. IsInRange (request_view request)) }
 {
     let n = value(ValueName::Model, n, 6)?;
     let width = value(ValueName::Width, width, 4096)?;
     let height = value(ValueName::Height, height, 4096)?;
-    Ok(FillRequest { file, n, width, height })
+    Ok(FillRequest {
+        file,
+        n,
+        width,
+        height,
+    })
 }
 
 /// The number of a word, from 1 to `most`.

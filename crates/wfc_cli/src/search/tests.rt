@@ -8,7 +8,9 @@ fn finds_the_least_map_or_none(rt: HostRuntime) -> Result<(), Fail> {
         height: 2,
         cells: b"abba",
     };
-    let found = least_map(rt.alloc(), &checkerboard, 2, 2, 2).ok().ok_or("memory")?;
+    let found = least_map(rt.alloc(), &checkerboard, 2, 2, 2)
+        .ok()
+        .ok_or("memory")?;
     assert!(rt; found.is_some());
     Ok(())
 }

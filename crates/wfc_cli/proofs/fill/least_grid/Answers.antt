@@ -8,13 +8,13 @@ pub invariant_of-result : goal.invariant_of-result
 invariant_of-result c =
     let map : GridView = record { width = c.args.request.now.width; height = c.args.request.now.height; bytes = c.in-Some.bytes.items } in
     found_grid c.args.sample.now map c.cells.result.now c.cells.ensures.grid c.cells.ensures.bytes (omega arith) (omega arith)
-      (rw c.in-Some.is at c.in_ok-bytes.ensures.pixels) (rw c.in-Some.is at c.in_ok-bytes.ensures.from_sample)
+    (rw c.in-Some.is at c.in_ok-bytes.ensures.pixels) (rw c.in-Some.is at c.in_ok-bytes.ensures.from_sample)
 
 pub returns-in-Some-clause-found : goal.returns-in-Some-clause-found
 returns-in-Some-clause-found c =
     let map : GridView = record { width = c.args.request.now.width; height = c.args.request.now.height; bytes = c.in-Some.bytes.items } in
     found_least (request_view c.args.request.now) _ c.args.sample.now map c.cells.result.now c.sample.view_is c.cells.ensures.bytes refl refl
-      (rw c.in-Some.is at c.in_ok-bytes.ensures.pixels) (rw c.in-Some.is at c.in_ok-bytes.ensures.legal) (rw c.in-Some.is at c.in_ok-bytes.ensures.least)
+    (rw c.in-Some.is at c.in_ok-bytes.ensures.pixels) (rw c.in-Some.is at c.in_ok-bytes.ensures.legal) (rw c.in-Some.is at c.in_ok-bytes.ensures.least)
 
 pub returns-in-None-clause-none : goal.returns-in-None-clause-none
 returns-in-None-clause-none c =
