@@ -1,0 +1,10 @@
+pub mod Parts
+pub mod FillLemmas
+pub mod TheoremLemmas
+pub mod SearchBytes
+pub mod SearchKeys
+pub mod SearchOption
+pub mod SearchOrder
+pub mod SearchWindows
+pub mod SearchMeasure
+pub mod SearchLegal

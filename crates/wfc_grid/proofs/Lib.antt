@@ -1,0 +1,4 @@
+pub mod Spelled
+pub mod Right
+pub mod Grids
+pub mod Chunks

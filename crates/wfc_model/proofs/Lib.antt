@@ -1,0 +1,5 @@
+pub mod Ranges
+pub mod Squares
+pub mod Places
+pub mod Rasters
+pub mod Learned

@@ -1,0 +1,5 @@
+pub mod Raster
+pub mod Window
+pub mod Image
+pub mod Learned
+pub mod Legal

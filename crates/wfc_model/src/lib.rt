@@ -1,0 +1,6 @@
+//! What the program is about, as definitions alone: pictures, windows and their images, what a sample teaches, and
+//! which pictures are legal. The definitions stand in `specs/`; `laws` checks them on small cases and proves what
+//! the crates above rest on.
+#![tactic(auto)]
+
+pub mod laws;
