@@ -1,11 +1,11 @@
 //! A folder in memory, whose files are told.
 
-ghost use Rattle.std.specs.Prelude.{◌≡◌, ◌≢◌, ◌↔◌, ℕ, ◌-◌, ◌<◌, ◌≤◌, List, [], ◌∷◌, ◌++◌, Some, None, min, length, take, drop, position, Contains, IfOk, IfSome, IsErrOf, IsSome, OnOk, OnErr};
+ghost use Rattle.std.specs.Prelude.{◌≡◌, ◌≢◌, ◌↔◌, ℕ, ◌-◌, ◌≤◌, List, Some, None, min, length, take, drop, position, IfOk, IfSome, IsErrOf, IsSome, OnOk, OnErr};
 ghost use Rattle.std.specs.Str.{bytes_eq};
 ghost use Rattle.std.specs.String.{string_bytes};
 ghost use Rattle.wfc_outside.specs.Count.{raised, IsListedNext};
 ghost use Rattle.wfc_outside.specs.Folder.{GivesFrom, IsFaultOf, IsMissing, NoCountFell};
-ghost use Rattle.wfc_outside.specs.MemoryFolder.{MemoryFolderView, after_adding, after_call, after_failed_call, bytes_of, folder_listing, fresh_folder, given_count, seen_folder};
+ghost use Rattle.wfc_outside.specs.MemoryFolder.{after_adding, after_call, after_failed_call, bytes_of, folder_listing, fresh_folder, given_count, seen_folder};
 
 use crate::{Folder, FolderFault, NoMemory};
 use std::alloc::Global;

@@ -1,8 +1,8 @@
 //! A sink in memory, which shows the bytes that it took.
 
-ghost use Rattle.std.specs.Prelude.{◌≡◌, ◌↔◌, ◌+◌, ◌-◌, ◌<◌, ◌≤◌, [], ◌∷◌, ◌++◌, true, min, length, take, IfOk, IsErr, IsOk, OnOk, OnErr};
-ghost use Rattle.wfc_outside.specs.MemorySink.{MemorySinkView, IsToFail, after_failing, after_taking, fresh_sink, seen_sink, sink_listing, taken_count};
-ghost use Rattle.wfc_outside.specs.Sink.{SinkView, after_bytes, after_finish, IsFault};
+ghost use Rattle.std.specs.Prelude.{◌≡◌, ◌↔◌, ◌<◌, ◌≤◌, true, length, take, IfOk, IsErr, IsOk, OnOk, OnErr};
+ghost use Rattle.wfc_outside.specs.MemorySink.{IsToFail, after_failing, after_taking, fresh_sink, seen_sink, sink_listing, taken_count};
+ghost use Rattle.wfc_outside.specs.Sink.{after_bytes, after_finish, IsFault};
 
 use crate::{NoMemory, Sink, SinkFault};
 use std::alloc::Global;
