@@ -1,5 +1,5 @@
 -- Counts of faults and of calls.
-use Rattle.std.specs.Prelude.{◌≡◌, ℕ, ◌+◌, ◌<◌, ◌⊎◌, min}
+use Rattle.std.specs.Prelude.{◌≡◌, ℕ, ◌+◌, ◌<◌, ◌⊎◌, List, Contains, min}
 
 -- the count rose, or it stands where it can rise no further
 abbrev pub HasRisen : ℕ → ℕ → Type 0
@@ -8,3 +8,7 @@ HasRisen old new = (old < new) ⊎ (new ≡ 18446744073709551615)
 -- one more, or as before where the count can rise no further
 abbrev pub raised : ℕ → ℕ
 raised count = min (count + 1) 18446744073709551615
+
+-- after this many calls, the next one is listed
+abbrev pub IsListedNext : List ℕ → ℕ → Type 0
+IsListedNext listed calls = Contains listed (raised calls)

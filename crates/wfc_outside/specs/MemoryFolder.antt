@@ -1,5 +1,5 @@
 -- What a folder in memory is seen as, and what its calls do to it.
-use Rattle.std.specs.Prelude.{ℕ, List, [], ◌∷◌, Option, Some, map, if◌then◌else◌}
+use Rattle.std.specs.Prelude.{ℕ, ◌-◌, List, [], ◌∷◌, ◌++◌, Option, Some, map, min, length, if◌then◌else◌}
 use Rattle.std.specs.Str.{bytes_eq}
 use Rattle.wfc_outside.specs.Count.{raised}
 use Rattle.wfc_outside.specs.Folder.{File, FolderView, file_of}
@@ -50,3 +50,23 @@ abbrev pub with_fault : List MemoryFile → List ℕ → List MemoryFile
 with_fault [] name = []
 with_fault (file ∷ files) name =
     if bytes_eq file.name name then record file { faults = raised file.faults } ∷ files else file ∷ with_fault files name
+
+-- the folder after a file was added
+abbrev pub after_adding : MemoryFolderView → List ℕ → List ℕ → MemoryFolderView
+after_adding folder name bytes = record folder { files = with_file folder.files name bytes }
+
+-- the folder after a call was listed to fail
+abbrev pub folder_listing : MemoryFolderView → ℕ → MemoryFolderView
+folder_listing folder call = record folder { failing = folder.failing ++ (call ∷ []) }
+
+-- how many bytes of a file it gives from a place on into a buffer
+abbrev pub given_count : MemoryFolderView → List ℕ → ℕ → List ℕ → ℕ
+given_count folder file at buffer = min (min (length file - at) (length buffer)) folder.piece
+
+-- the folder after a call that didn't fail
+abbrev pub after_call : MemoryFolderView → MemoryFolderView
+after_call folder = record folder { calls = raised folder.calls }
+
+-- the folder after a call that failed on this name
+abbrev pub after_failed_call : MemoryFolderView → List ℕ → MemoryFolderView
+after_failed_call folder name = record folder { calls = raised folder.calls; files = with_fault folder.files name }

@@ -1,6 +1,6 @@
 -- What a sink in memory is seen as, and what its calls do to it.
-use Rattle.std.specs.Prelude.{ℕ, ◌<◌, ◌≤◌, Bool, false, List, [], length, Some, Contains, ◌⊎◌}
-use Rattle.wfc_outside.specs.Count.{raised}
+use Rattle.std.specs.Prelude.{ℕ, ◌<◌, ◌≤◌, Bool, false, List, [], length, min, ◌-◌, Some, ◌∷◌, ◌++◌, ◌⊎◌}
+use Rattle.wfc_outside.specs.Count.{raised, IsListedNext}
 use Rattle.wfc_outside.specs.Sink.{Taken, SinkView, with_bytes}
 
 -- a sink in memory: what it took and whether that is finished, how many bytes it takes in a call and has room for
@@ -28,7 +28,15 @@ seen_sink sink = record { told = Some (taken_of sink); faults = sink.faults }
 
 -- its next call is listed to fail, or it has no room for any of the bytes
 abbrev pub IsToFail : MemorySinkView → List ℕ → Type 0
-IsToFail sink bytes = Contains sink.failing (raised sink.calls) ⊎ ((0 < length bytes) × (sink.room ≤ length sink.bytes))
+IsToFail sink bytes = IsListedNext sink.failing sink.calls ⊎ ((0 < length bytes) × (sink.room ≤ length sink.bytes))
+
+-- the sink after a call was listed to fail
+abbrev pub sink_listing : MemorySinkView → ℕ → MemorySinkView
+sink_listing sink call = record sink { failing = sink.failing ++ (call ∷ []) }
+
+-- how many of these bytes it takes in a call that doesn't fail
+abbrev pub taken_count : MemorySinkView → List ℕ → ℕ
+taken_count sink bytes = min (min (length bytes) sink.piece) (sink.room - length sink.bytes)
 
 -- the sink after a call that took these bytes
 abbrev pub after_taking : MemorySinkView → List ℕ → MemorySinkView

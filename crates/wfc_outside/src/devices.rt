@@ -1,6 +1,6 @@
 //! Thin adapters over the files and streams of the runtime. They tell nothing of the bytes, and count their faults.
 
-ghost use Rattle.std.specs.Prelude.{◌≡◌, ◌<◌, ◌≤◌, length, take, IfOk, OnOk, OnErr, None};
+ghost use Rattle.std.specs.Prelude.{◌≡◌, ◌≤◌, length, IfOk, None};
 ghost use Rattle.wfc_outside.specs.Count.{HasRisen};
 
 use crate::{Folder, FolderFault, Sink, SinkFault};

@@ -1,11 +1,11 @@
 //! A folder in memory, whose files are told.
 
-ghost use Rattle.std.specs.Prelude.{◌≡◌, ◌≢◌, ◌↔◌, ℕ, ◌-◌, ◌<◌, ◌≤◌, List, [], ◌∷◌, ◌++◌, Some, None, min, length, take, drop, position, Contains, IfOk, IfSome, IsErrOf, IsSome, OnOk, OnErr};
+ghost use Rattle.std.specs.Prelude.{◌≡◌, ◌≢◌, ◌↔◌, ℕ, ◌-◌, ◌≤◌, List, Some, None, min, length, take, drop, position, IfOk, IfSome, IsErrOf, IsSome, OnOk, OnErr};
 ghost use Rattle.std.specs.Str.{bytes_eq};
 ghost use Rattle.std.specs.String.{string_bytes};
-ghost use Rattle.wfc_outside.specs.Count.{raised};
+ghost use Rattle.wfc_outside.specs.Count.{raised, IsListedNext};
 ghost use Rattle.wfc_outside.specs.Folder.{GivesFrom, IsFaultOf, IsMissing, NoCountFell};
-ghost use Rattle.wfc_outside.specs.MemoryFolder.{MemoryFile, MemoryFolderView, bytes_of, fresh_folder, seen_folder, with_fault, with_file};
+ghost use Rattle.wfc_outside.specs.MemoryFolder.{after_adding, after_call, after_failed_call, bytes_of, folder_listing, fresh_folder, given_count, seen_folder};
 
 use crate::{Folder, FolderFault, NoMemory};
 use std::alloc::Global;
@@ -103,9 +103,10 @@ impl MemoryFolder {
 
     /// Adds a file, or replaces the bytes of the one of that name.
     pub fn add(&mut self, name: String, bytes: Vec<u8>) -> Result<(), NoMemory>
-        ensures ok { OnOk result (self.new ≡ record self.old { files = with_file self.old.files (string_bytes name) bytes.items }) }
+        ensures ok { OnOk result (self.new ≡ after_adding self.old (string_bytes name) bytes.items) }
         ensures told { OnOk result (bytes_of self.new (string_bytes name) ≡ Some bytes.items) }
-        ensures others { OnOk result ((other : List ℕ) → other ≢ string_bytes name → bytes_of self.new other ≡ bytes_of self.old other) }
+        ensures others { OnOk result ((other : List ℕ) → other ≢ string_bytes name
+            → bytes_of self.new other ≡ bytes_of self.old other) }
         ensures no_memory { OnErr result (self.new ≡ self.old) }
     {
         match place_of(&self.files, name.as_str()) {
@@ -122,7 +123,7 @@ impl MemoryFolder {
     /// Makes the call of `read_at` of this number fail where it asks for a file that is there. Calls are counted from 1,
     /// and no further than 2^64 - 1.
     pub fn fail_at(&mut self, call: u64) -> Result<(), NoMemory>
-        ensures ok { OnOk result (self.new ≡ record self.old { failing = self.old.failing ++ call ∷ [] }) }
+        ensures ok { OnOk result (self.new ≡ folder_listing self.old call) }
         ensures no_memory { OnErr result (self.new ≡ self.old) }
     {
         self.failing.push(call)?;
@@ -136,19 +137,23 @@ impl Folder for MemoryFolder {
     /// `Missing` exactly where the name isn't there, and `Failed` exactly at a listed call on a name that is there.
     fn read_at(&mut self, name: &str, at: u64, buf: &mut [u8]) -> Result<usize, FolderFault>
         ensures missing_exactly { IsErrOf result FolderFault.Missing ↔ (bytes_of self.old name.now ≡ None) }
-        ensures failed_exactly { IsErrOf result FolderFault.Failed ↔ (Contains self.old.failing (raised self.old.calls) × IsSome (bytes_of self.old name.now)) }
-        ensures count { IfOk result (λ n. IfSome (bytes_of self.old name.now) (λ file. n ≡ min (min (length file - at) (length buf.old)) self.old.piece)) }
-        ensures given_call { OnOk result (self.new ≡ record self.old { calls = raised self.old.calls }) }
-        ensures missing_call { IsErrOf result FolderFault.Missing → self.new ≡ record self.old { calls = raised self.old.calls } }
-        ensures failed_call { IsErrOf result FolderFault.Failed → self.new ≡ record self.old { calls = raised self.old.calls; files = with_fault self.old.files name.now } }
+        ensures failed_exactly { IsErrOf result FolderFault.Failed
+            ↔ (IsListedNext self.old.failing self.old.calls × IsSome (bytes_of self.old name.now)) }
+        ensures count { IfOk result (λ n. IfSome (bytes_of self.old name.now)
+            (λ file. n ≡ given_count self.old file at buf.old)) }
+        ensures given_call { OnOk result (self.new ≡ after_call self.old) }
+        ensures missing_call { IsErrOf result FolderFault.Missing → self.new ≡ after_call self.old }
+        ensures failed_call { IsErrOf result FolderFault.Failed → self.new ≡ after_failed_call self.old name.now }
 
         ensures contents { (seen_folder self.new).contents ≡ (seen_folder self.old).contents }
         ensures counts { NoCountFell (seen_folder self.old) (seen_folder self.new) }
         ensures ok { OnOk result (seen_folder self.new ≡ seen_folder self.old) }
         ensures within { IfOk result (λ n. n ≤ length buf.new) }
         ensures given { IfOk result (λ n. GivesFrom (seen_folder self.old).contents name.now at buf.new n) }
-        ensures missing { IsErrOf result FolderFault.Missing → IsMissing (seen_folder self.old) (seen_folder self.new) name.now }
-        ensures failed { IsErrOf result FolderFault.Failed → IsFaultOf (seen_folder self.old) (seen_folder self.new) name.now }
+        ensures missing { IsErrOf result FolderFault.Missing
+            → IsMissing (seen_folder self.old) (seen_folder self.new) name.now }
+        ensures failed { IsErrOf result FolderFault.Failed
+            → IsFaultOf (seen_folder self.old) (seen_folder self.new) name.now }
     {
         self.calls = self.calls.saturating_add(1);
         let Some(place) = place_of(&self.files, name) else {

@@ -1,8 +1,8 @@
 //! A sink in memory, which shows the bytes that it took.
 
-ghost use Rattle.std.specs.Prelude.{◌≡◌, ◌↔◌, ◌+◌, ◌-◌, ◌<◌, ◌≤◌, [], ◌∷◌, ◌++◌, true, min, length, take, IfOk, IsErr, IsOk, OnOk, OnErr};
-ghost use Rattle.wfc_outside.specs.MemorySink.{MemorySinkView, IsToFail, after_failing, after_taking, fresh_sink, seen_sink};
-ghost use Rattle.wfc_outside.specs.Sink.{SinkView, after_bytes, after_finish, IsFault};
+ghost use Rattle.std.specs.Prelude.{◌≡◌, ◌↔◌, ◌<◌, ◌≤◌, true, length, take, IfOk, IsErr, IsOk, OnOk, OnErr};
+ghost use Rattle.wfc_outside.specs.MemorySink.{IsToFail, after_failing, after_taking, fresh_sink, seen_sink, sink_listing, taken_count};
+ghost use Rattle.wfc_outside.specs.Sink.{after_bytes, after_finish, IsFault};
 
 use crate::{NoMemory, Sink, SinkFault};
 use std::alloc::Global;
@@ -27,7 +27,15 @@ impl Model for MemorySink {
 
     ghost Value = { MemorySinkView };
 
-    ghost view = { λ s. record { bytes = s.bytes.items; finished = s.finished; piece = s.piece; room = s.room; calls = s.calls; failing = s.failing.items; faults = s.faults } };
+    ghost view = { λ s. record {
+      bytes = s.bytes.items;
+      finished = s.finished;
+      piece = s.piece;
+      room = s.room;
+      calls = s.calls;
+      failing = s.failing.items;
+      faults = s.faults;
+    } };
 
     ghost invariant = { λ s. (0 < s.piece) × (vec_len s.bytes ≤ s.room) × (s.room ≤ vec_capacity s.bytes) };
 }
@@ -51,7 +59,7 @@ impl MemorySink {
 
     /// Makes the call of `write` of this number fail. Calls are counted from 1, and no further than 2^64 - 1.
     pub fn fail_at(&mut self, call: u64) -> Result<(), NoMemory>
-        ensures ok { OnOk result (self.new ≡ record self.old { failing = self.old.failing ++ call ∷ [] }) }
+        ensures ok { OnOk result (self.new ≡ sink_listing self.old call) }
         ensures no_memory { OnErr result (self.new ≡ self.old) }
     {
         self.failing.push(call)?;
@@ -73,7 +81,7 @@ impl Sink for MemorySink {
     /// Fails exactly at a listed call, or where the piece isn't empty and the room is used up. It takes no memory.
     fn write(&mut self, bytes: &[u8]) -> Result<usize, SinkFault>
         ensures fails { IsErr result ↔ IsToFail self.old bytes.now }
-        ensures count { IfOk result (λ n. n ≡ min (min (length bytes.now) self.old.piece) (self.old.room - length self.old.bytes)) }
+        ensures count { IfOk result (λ n. n ≡ taken_count self.old bytes.now) }
         ensures taken { IfOk result (λ n. self.new ≡ after_taking self.old (take n bytes.now)) }
         ensures failed_call { OnErr result (self.new ≡ after_failing self.old) }
 

@@ -6,7 +6,6 @@ use crate::{
 };
 use std::alloc::{AllocError, Global};
 use std::io::ErrorKind;
-use std::process::Abort;
 use std::test::Fail;
 use std::{fs, io};
 

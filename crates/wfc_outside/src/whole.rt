@@ -1,8 +1,8 @@
 //! Whole files read and whole pieces written, however little a folder gives or a sink takes at a time.
 
-ghost use Rattle.std.specs.Prelude.{◌≡◌, ℕ, ◌<◌, ◌≤◌, length, take, IfOk, OnOk, OnErr, IsErrOf};
-ghost use Rattle.wfc_outside.specs.Folder.{FolderView, IsFaultOf, IsMissing, IsToldAs, NoCountFell};
-ghost use Rattle.wfc_outside.specs.Sink.{SinkView, after_bytes, IsFaultAfterFront};
+ghost use Rattle.std.specs.Prelude.{◌≡◌, ◌<◌, ◌≤◌, length, IfOk, OnOk, OnErr, IsErrOf};
+ghost use Rattle.wfc_outside.specs.Folder.{IsFaultOf, IsMissing, IsToldAs, NoCountFell};
+ghost use Rattle.wfc_outside.specs.Sink.{after_bytes, IsFaultAfterFront};
 ghost use Rattle.wfc_outside.specs.Whole.{IsLongerThan};
 
 use crate::{Folder, FolderFault, Sink, SinkFault};

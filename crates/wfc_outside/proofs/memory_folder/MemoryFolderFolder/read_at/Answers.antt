@@ -24,7 +24,7 @@ found_to_fail : (c : goal.After-self-then-contains-1) → Found c.self.inside.fi
 found_to_fail c = rw (← c.deref.ensures.value) c.in-Some.ensures.first
 
 first_to_fail : (c : goal.After-self-then-contains-1) → IsFirstAt c.self.inside.files.items c.args.name.now c.in-Some.place
-first_to_fail c = first_at _ _ c.in-Some.place c.index_mut.result.now (sym (found_to_fail c))
+first_to_fail c = first_at _ _ c.in-Some.place (sym (found_to_fail c))
 
 present_to_fail : (c : goal.After-self-then-contains-1) → bytes_of c.args.self.now c.args.name.now ≡ Some c.index_mut.result.now.bytes
 present_to_fail c = rw (← c.self.view_is) (present_found _ _ c.in-Some.place c.index_mut.result.now (found_to_fail c) c.index_mut.ensures.value)
