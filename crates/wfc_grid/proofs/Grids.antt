@@ -42,11 +42,10 @@ printable_cells width (row ∷ rows) fit = All-append (λ b. is_cell b ≡ true)
 
 fit_rows : (width : ℕ) (rows : List (List ℕ)) → AllByRecursion (λ (row : List ℕ). length row ≡ width) rows → AllPass is_cell (concat rows) → AllByRecursion (Fits width) rows
 fit_rows width [] long printable = tt
-fit_rows width (row ∷ rows) long printable =
-    (
-      record { long = long.0; printable = λ k d inside. rw (get_or_append_left row (concat rows) d k inside) at (printable k d (omega (arith, length-append row (concat rows)))) },
-      fit_rows width rows long.1 (λ k d inside. rw (get_or-append-add row (concat rows) k d) at (printable (length row + k) d (omega (arith, length-append row (concat rows))))),
-    )
+fit_rows width (row ∷ rows) long printable = (
+  record { long = long.0; printable = λ k d inside. rw (get_or_append_left row (concat rows) d k inside) at (printable k d (omega (arith, length-append row (concat rows)))) },
+  fit_rows width rows long.1 (λ k d inside. rw (get_or-append-add row (concat rows) k d) at (printable (length row + k) d (omega (arith, length-append row (concat rows))))),
+)
 
 -- the rows of the grid that rows make are these rows
 rows-grid_of : (width : ℕ) (rows : List (List ℕ)) → 0 < width → 0 < length rows → AllByRecursion (Fits width) rows → (raster_of_grid (grid_of width rows)).rows ≡ rows
