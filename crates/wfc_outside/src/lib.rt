@@ -9,8 +9,14 @@ ghost use Rattle.std.specs.Prelude.{◌≡◌, ℕ, ◌<◌, ◌≤◌, length, 
 ghost use Rattle.wfc_outside.specs.Folder.{FolderView, GivesFrom, IsFaultOf, IsMissing, NoCountFell};
 ghost use Rattle.wfc_outside.specs.Sink.{SinkView, after_bytes, after_finish, IsFault};
 
+mod devices;
+mod memory_folder;
+mod memory_sink;
 mod whole;
 
+pub use devices::{DiskFolder, StderrSink, StdoutSink};
+pub use memory_folder::MemoryFolder;
+pub use memory_sink::MemorySink;
 use std::alloc::{AllocError, AllocFailed};
 pub use whole::{ReadFault, read_all, write_all};
 
@@ -82,3 +88,6 @@ pub trait Sink {
         ensures failed { OnErr result (IsFault (seen self.old) (seen self.new)) }
         ensures counts { (seen self.old).faults ≤ (seen self.new).faults };
 }
+
+#[cfg(test)]
+mod tests;

@@ -1,0 +1,43 @@
+-- What a sink in memory is seen as, and what its calls do to it.
+use Rattle.std.specs.Prelude.{ℕ, ◌<◌, ◌≤◌, Bool, false, List, [], length, Some, Contains, ◌⊎◌}
+use Rattle.wfc_outside.specs.Count.{raised}
+use Rattle.wfc_outside.specs.Sink.{Taken, SinkView, with_bytes}
+
+-- a sink in memory: what it took and whether that is finished, how many bytes it takes in a call and has room for
+-- in all, how many calls were made, which calls fail, and the count of its faults
+pub record MemorySinkView : Type 0 where
+  pub bytes : List ℕ
+  pub finished : Bool
+  pub piece : ℕ
+  pub room : ℕ
+  pub calls : ℕ
+  pub failing : List ℕ
+  pub faults : ℕ
+
+-- a sink that took nothing and was not called
+abbrev pub fresh_sink : ℕ → ℕ → MemorySinkView
+fresh_sink piece room = record { bytes = []; finished = false; piece = piece; room = room; calls = 0; failing = []; faults = 0 }
+
+-- what it took
+abbrev pub taken_of : MemorySinkView → Taken
+taken_of sink = record { bytes = sink.bytes; finished = sink.finished }
+
+-- it tells what it took
+abbrev pub seen_sink : MemorySinkView → SinkView
+seen_sink sink = record { told = Some (taken_of sink); faults = sink.faults }
+
+-- its next call is listed to fail, or it has no room for any of the bytes
+abbrev pub IsToFail : MemorySinkView → List ℕ → Type 0
+IsToFail sink bytes = Contains sink.failing (raised sink.calls) ⊎ ((0 < length bytes) × (sink.room ≤ length sink.bytes))
+
+-- the sink after a call that took these bytes
+abbrev pub after_taking : MemorySinkView → List ℕ → MemorySinkView
+after_taking sink bytes = record sink {
+  bytes = (with_bytes (taken_of sink) bytes).bytes;
+  finished = (with_bytes (taken_of sink) bytes).finished;
+  calls = raised sink.calls;
+}
+
+-- the sink after a call that failed
+abbrev pub after_failing : MemorySinkView → MemorySinkView
+after_failing sink = record sink { calls = raised sink.calls; faults = raised sink.faults }
