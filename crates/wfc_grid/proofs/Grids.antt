@@ -1,18 +1,18 @@
 -- The grid that lines without a fault make, and the lines of a text that spells a grid.
-use Rattle.std.proofs.Common.{◌/◌, ◌≡◌, ◌≢◌, ℕ, ◌+◌, ◌*◌, ◌<◌, ◌≤◌, List, [], ◌∷◌, ◌++◌, length, ◌==◌, None, Some, refl, sym, ap, ◌∙◌, subst, inl, inr, zero, suc, Bool, Option, if◌then◌else◌, true, false, nat_lt, length-append, arith}
+use Rattle.std.proofs.Common.{◌/◌, ◌≡◌, ℕ, ◌+◌, ◌*◌, ◌<◌, ◌≤◌, List, [], ◌∷◌, length, ◌==◌, None, Some, refl, sym, ap, ◌∙◌, subst, inl, inr, zero, suc, Bool, Option, if◌then◌else◌, true, false, nat_lt, length-append, arith}
 use Rattle.std.proofs.Math.Nat.{mul-div_cancel_left}
 use Rattle.std.proofs.lemmas.Bool.{ltb-false}
 use Rattle.std.proofs.lemmas.Bool.Decides.{nat_tests}
 use Rattle.std.proofs.lemmas.List.{get_or_append_left, get_or-append-add, length-map}
 use Rattle.std.proofs.lemmas.List.Elements.{All-append, All-from_recursion, recursion_from_All}
-use Rattle.std.specs.List.{All, AllPass, AllByRecursion, concat}
+use Rattle.std.specs.List.{AllPass, AllByRecursion, concat}
 use Rattle.std.specs.Option.{option_or}
-use Rattle.wfc_model.specs.Raster.{Raster, raster_of, numbers_of, height_of, IsRaster, IsSized}
+use Rattle.wfc_model.specs.Raster.{Raster, IsSized}
 use Rattle.wfc_model.proofs.Rasters.{IsSized-raster_of, numbers_of-raster_of, raster_of-numbers_of, length-joined, height-raster_of}
-use Rattle.wfc_text.specs.Line.{LineView, lines_of, lines_from}
+use Rattle.wfc_text.specs.Line.{LineView, lines_of}
 use Rattle.wfc_grid.specs.Grid.{GridView, IsGrid, is_cell, raster_of_grid}
 use Rattle.wfc_grid.specs.Spelling.{SpellsRows, SpellsGrid, grid_text}
-use Rattle.wfc_grid.specs.Fault.{rows_of, cells_of, width_of, first_fault, size_fault, fault_of, most_cells}
+use Rattle.wfc_grid.specs.Fault.{rows_of, cells_of, width_of, first_fault, size_fault, fault_of}
 use Rattle.wfc_grid.specs.declared.reading.GridFault.{GridFault}
 use Rattle.wfc_grid.specs.declared.reading.GridFault.TheVariants.{Empty, TooLarge}
 use Rattle.wfc_grid.proofs.Spelled.{IsRow, rows_of-spelled, lines-spell}
@@ -42,11 +42,10 @@ printable_cells width (row ∷ rows) fit = All-append (λ b. is_cell b ≡ true)
 
 fit_rows : (width : ℕ) (rows : List (List ℕ)) → AllByRecursion (λ (row : List ℕ). length row ≡ width) rows → AllPass is_cell (concat rows) → AllByRecursion (Fits width) rows
 fit_rows width [] long printable = tt
-fit_rows width (row ∷ rows) long printable =
-    (
-      record { long = long.0; printable = λ k d inside. rw (get_or_append_left row (concat rows) d k inside) at (printable k d (omega (arith, length-append row (concat rows)))) },
-      fit_rows width rows long.1 (λ k d inside. rw (get_or-append-add row (concat rows) k d) at (printable (length row + k) d (omega (arith, length-append row (concat rows))))),
-    )
+fit_rows width (row ∷ rows) long printable = (
+  record { long = long.0; printable = λ k d inside. rw (get_or_append_left row (concat rows) d k inside) at (printable k d (omega (arith, length-append row (concat rows)))) },
+  fit_rows width rows long.1 (λ k d inside. rw (get_or-append-add row (concat rows) k d) at (printable (length row + k) d (omega (arith, length-append row (concat rows))))),
+)
 
 -- the rows of the grid that rows make are these rows
 rows-grid_of : (width : ℕ) (rows : List (List ℕ)) → 0 < width → 0 < length rows → AllByRecursion (Fits width) rows → (raster_of_grid (grid_of width rows)).rows ≡ rows

@@ -1,14 +1,12 @@
 -- Lines without a fault: rows of one length, of bytes that may stand in a grid.
-use Rattle.std.proofs.Common.{◌≡◌, ℕ, ◌+◌, ◌<◌, ◌≤◌, List, [], ◌∷◌, ◌++◌, length, ◌==◌, Bool, true, false, None, Some, Option, refl, sym, ap, ◌∙◌, arith, if◌then◌else◌, eqb-true, eq-eqb}
-use Rattle.std.proofs.lemmas.Bool.Decides.{nat_tests}
-use Rattle.std.specs.List.{AllPass, AllByRecursion, position, concat}
+use Rattle.std.proofs.Common.{◌≡◌, ℕ, List, [], ◌∷◌, length, ◌==◌, Bool, true, false, None, Some, Option, refl, if◌then◌else◌, eqb-true, eq-eqb}
+use Rattle.std.specs.List.{AllPass, AllByRecursion, position}
 use Rattle.std.specs.Option.{option_or}
 use Rattle.wfc_text.specs.Line.{LineView}
 use Rattle.wfc_text.proofs.Passing.{all_pass, none_found}
 use Rattle.wfc_grid.specs.Grid.{is_cell}
 use Rattle.wfc_grid.specs.Fault.{is_other, byte_fault, line_fault, first_fault, rows_of}
-use Rattle.wfc_grid.specs.declared.reading.GridFault.{GridFault}
-use Rattle.wfc_grid.specs.declared.reading.GridFault.TheVariants.{Ragged, BadByte}
+use Rattle.wfc_grid.specs.declared.reading.GridFault.TheVariants.{Ragged}
 
 -- a row is so long, and each byte may stand in a grid
 pub record Fits (width : ℕ) (row : List ℕ) : Type 0 where

@@ -1,5 +1,5 @@
 -- The lines of a text that spells rows, and the rows that lines spell.
-use Rattle.std.proofs.Common.{eqb-true, ◌≡◌, ℕ, ◌+◌, ◌<◌, List, [], ◌∷◌, ◌++◌, length, ◌⊎◌, inl, inr, ⊎_elim, refl, sym, ap, ◌∙◌, append_assoc, arith, true, false, get_or, append-nil, ◌==◌, ◌-◌, take, length-append, Bool, if◌then◌else◌, ◌≤◌, length-take}
+use Rattle.std.proofs.Common.{eqb-true, ◌≡◌, ℕ, ◌+◌, ◌<◌, List, [], ◌∷◌, ◌++◌, length, inl, inr, refl, sym, ap, ◌∙◌, append_assoc, arith, true, false, get_or, append-nil, ◌==◌, ◌-◌, take, length-append, Bool, if◌then◌else◌, ◌≤◌, length-take}
 use Rattle.std.proofs.Math.Seq.{get_or-append_seam}
 use Rattle.std.proofs.lemmas.Bool.Decides.{nat_tests}
 use Rattle.std.proofs.lemmas.Bool.{true≢false}

@@ -1,6 +1,5 @@
 -- How a text spells a grid.
 use Rattle.std.specs.Prelude.{◌≡◌, ℕ, ◌⊎◌, List, [], ◌∷◌, ◌++◌}
-use Rattle.wfc_model.specs.Raster.{Raster}
 use Rattle.wfc_grid.specs.Grid.{GridView, IsGrid, raster_of_grid}
 
 -- a line feed, or a carriage return and a line feed

@@ -8,9 +8,8 @@ pub mod laws;
 mod reading;
 mod writing;
 
-use std::marker::Model;
-
 pub use reading::{GridFault, read};
+use std::marker::Model;
 pub use writing::write;
 
 /// A grid: `width` times `height` bytes, row by row. Both sides are at least 1, and each byte is 0x20 to 0x7E.
@@ -40,3 +39,6 @@ impl Grid {
         self.bytes.as_slice()
     }
 }
+
+#[cfg(test)]
+mod tests;

@@ -1,7 +1,8 @@
 //! Lines and numbers by tables.
 
-use crate::{NumberFault, lines, number, push_number};
+use crate::{NumberFault, lines, number, push_number, write_number};
 use std::test::Fail;
+use wfc_outside::{MemorySink, SinkFault};
 
 #[test]
 fn cuts_lines(rt: HostRuntime) -> Result<(), Fail> {
@@ -82,5 +83,16 @@ fn writes_numbers(rt: HostRuntime) -> Result<(), Fail> {
         text.as_slice(),
         b"0 7 10 1000000007 18446744073709551615 ".as_slice()
     );
+    Ok(())
+}
+
+#[test]
+fn writes_numbers_to_sinks(rt: HostRuntime) -> Result<(), Fail> {
+    let mut sink = MemorySink::new(rt.alloc(), 3, 20)?;
+    assert_eq!(rt; write_number(&mut sink, 1_234_567), Ok(()));
+    assert_eq!(rt; write_number(&mut sink, 0), Ok(()));
+    assert_eq!(rt; sink.bytes(), b"12345670".as_slice());
+    assert_eq!(rt; write_number(&mut sink, u64::MAX), Err(SinkFault::Failed));
+    assert_eq!(rt; sink.bytes(), b"12345670184467440737".as_slice());
     Ok(())
 }

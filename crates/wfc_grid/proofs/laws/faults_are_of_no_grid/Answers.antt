@@ -1,4 +1,3 @@
-use Rattle.std.proofs.Common.{◌≡◌}
 use Rattle.wfc_grid.proofs.Grids.{right-spelled, spelled-right}
 use Rattle.wfc_grid.proofs.laws.faults_are_of_no_grid.Goals as goal
 

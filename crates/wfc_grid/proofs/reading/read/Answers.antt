@@ -1,4 +1,4 @@
-use Rattle.std.proofs.Common.{◌<◌, sym, subst, ap, ◌∙◌, arith, Some, ◌≡◌, length}
+use Rattle.std.proofs.Common.{◌<◌, sym, ap, ◌∙◌, arith, ◌≡◌, length}
 use Rattle.std.proofs.lemmas.Result.{err_from_is_err_and}
 use Rattle.wfc_text.specs.Line.{lines_of}
 use Rattle.wfc_grid.specs.Fault.{cells_of, width_of}
