@@ -1,11 +1,11 @@
 -- Facts about the tables of a problem's parts.
-use Rattle.std.proofs.Common.{◌≡◌, ◌≢◌, ℕ, zero, suc, ◌+◌, ◌-◌, ◌*◌, ◌/◌, ◌%◌, ◌<◌, ◌≤◌, Bool, true, false, cond, List, [], ◌∷◌, length, get_or, refl, sym, ◌∙◌, ap, subst, arith, Option, Some, None, inl, inr, Result, Ok, Err, ◌⊎◌}
+use Rattle.std.proofs.Common.{◌≡◌, ◌≢◌, ℕ, zero, suc, ◌+◌, ◌-◌, ◌*◌, ◌/◌, ◌%◌, ◌<◌, ◌≤◌, Bool, true, false, cond, List, [], ◌∷◌, length, get_or, take, drop, refl, sym, ◌∙◌, ap, subst, arith, Option, Some, None, inl, inr, Result, Ok, Err, ◌⊎◌}
 use Rattle.std.specs.Prelude.{not, ◌==◌, ◌&&◌, Contains, map, is_ok, AllPairs}
 use Rattle.std.specs.List.{list_any}
 use Rattle.std.specs.List.Sorted.{IsStrictlyIncreasing, IsBinarySearchResult}
 use Rattle.std.specs.Ordering.{nat_cmp}
-use Rattle.std.proofs.lemmas.Bool.{cases_lt, cases_Bool, cases_eq, and_parts, and_from, eqb-true, eq-eqb, ne_eqb, ltb-true, lt-ltb, leb-true, le-leb, cond-true, cond-false, le-ltb, false_from_ne_true}
-use Rattle.std.proofs.lemmas.List.{get_or_default, get_or_past}
+use Rattle.std.proofs.lemmas.Bool.{false≢true, cases_lt, cases_Bool, cases_eq, and_parts, and_from, eqb-true, eq-eqb, ne_eqb, ltb-true, lt-ltb, leb-true, le-leb, cond-true, cond-false, le-ltb, false_from_ne_true}
+use Rattle.std.proofs.lemmas.List.{get_or_default, get_or_past, get_or-take, get_or-drop, length-take}
 use Rattle.std.proofs.lemmas.List.Folds.{Any-from_list_any, list_any-from_Any, list_any_at}
 use Rattle.std.proofs.lemmas.List.Kept.{AllPairs-from_increasing}
 use Rattle.std.proofs.lemmas.List.Sorted.{searched}
@@ -13,7 +13,7 @@ use Rattle.std.proofs.lemmas.Nat.{mul-add-lt}
 use Rattle.std.proofs.Math.Nat.{mul-le-mul_right}
 use Rattle.wfc_problem.specs.declared.TheConstants.{NO_CELL}
 use Rattle.wfc_problem.specs.Fault.{rises}
-use Rattle.wfc_problem.specs.Network.{Network, values, neighbour, named, supports_of, ok, opposite}
+use Rattle.wfc_problem.specs.Network.{Network, values, neighbour, named, supports_of, ok, opposite, has_flag, row_of, in_base, IsProblem}
 
 -- ---- lists of numbers
 
@@ -173,3 +173,43 @@ neighbour-some P c d n e none =
     let entry = get_or P.neighbours (c * P.dirs + d) NO_CELL in
     let z : neighbour P c d ≡ None = cond-true _ (named entry) None (lt-ltb d P.dirs r.dir_in) ∙ cond-true _ None (Some entry) (eq-eqb entry NO_CELL (r.entry ∙ none)) in
     cc
+
+-- a neighbour lies in a direction that there is
+pub neighbour-dir : (P : Network) (c d n : ℕ) → neighbour P c d ≡ Some n → d < P.dirs
+neighbour-dir P c d n e = (neighbour-read P c d n e).dir_in
+
+-- ---- a number of a list that passes a test
+
+pub Contains-any : (p : ℕ → Bool) (xs : List ℕ) (w : ℕ) → Contains xs w → p w ≡ true → list_any p xs ≡ true
+Contains-any p xs w k t = list_any_at p xs k.0 w k.1 (ap p k.2 ∙ t)
+
+pub any-Contains : (p : ℕ → Bool) (xs : List ℕ) → list_any p xs ≡ true → (w : ℕ) × Contains xs w × (p w ≡ true)
+any-Contains p xs t =
+    let a = Any-from_list_any p xs t in
+    (a.1, (a.0, a.2, a.3), a.4)
+
+-- ---- flags
+
+-- a value's flag stands in its cell's row
+pub flag-at : (n : ℕ) (flags : List Bool) (c v : ℕ) → v < n → has_flag n flags c v ≡ get_or flags (c * n + v) false
+flag-at n flags c v l = get_or-take n (drop (c * n) flags) v false l ∙ get_or-drop (c * n) flags v false
+
+-- there is no flag past a row
+pub flag-past : (n : ℕ) (flags : List Bool) (c v : ℕ) → n ≤ v → has_flag n flags c v ≡ false
+flag-past n flags c v ge = get_or_past (take n (drop (c * n) flags)) v false (omega (arith, length-take n (drop (c * n) flags)))
+
+-- a flag that is set stands in the table
+pub flag-inside : (n : ℕ) (flags : List Bool) (c v : ℕ) → has_flag n flags c v ≡ true → (v < n) × (c * n + v < length flags)
+flag-inside n flags c v t = elim (cases_lt v n) [
+    inr ge ↦ absurd (false≢true (sym (flag-past n flags c v ge) ∙ t))
+  | inl l ↦ elim (cases_lt (c * n + v) (length flags)) [
+        inl m ↦ (l, m)
+      | inr ge ↦ absurd (false≢true (sym (get_or_past flags (c * n + v) false ge) ∙ sym (flag-at n flags c v l) ∙ t))
+      ]
+  ]
+
+-- a base value is a value of a cell
+pub base-inside : (P : Network) → IsProblem P → (c v : ℕ) → in_base P c v ≡ true → (c < P.cells) × (v < values P)
+base-inside P p c v t =
+    let i = flag-inside (values P) P.base c v t in
+    (row-below c v (values P) P.cells (omega (arith, i.1, p.base_table)), i.0)

@@ -3,13 +3,18 @@
 //! off, and what the greatest arc-consistent domains of a problem are.
 #![tactic(auto)]
 
-ghost use Rattle.std.specs.Prelude.{◌≡◌, ℕ, ◌+◌, ◌*◌, ◌<◌, ◌≤◌, ◌↔◌, IsTrue, IsOk, IfOk, Contains, length};
+ghost use Rattle.std.specs.Prelude.{◌≡◌, ℕ, ◌+◌, ◌*◌, ◌<◌, ◌≤◌, ◌↔◌, IsTrue, IsOk, IfOk, Contains, count_by, length};
 ghost use Rattle.std.specs.List.Sorted.{IsStrictlyIncreasing};
 ghost use Rattle.std.specs.Result.{result_err};
 ghost use Rattle.wfc_problem.specs.Fault.{fault_of};
+ghost use Rattle.wfc_problem.specs.Rounds.{depth_of};
 ghost use Rattle.wfc_problem.specs.Network.{values, weight_of, opposite, neighbour, supports_of, ok, in_base, IsProblem};
 
 mod checks;
+pub mod laws;
+mod plain;
+
+pub use plain::greatest_domains;
 
 use std::marker::Model;
 use thiserror::Error;
@@ -146,6 +151,14 @@ impl Parts {
     {
         self.supports(v, dir).binary_search(&w).is_ok()
     }
+
+    /// How many flags of the base are set.
+    fn depth(&self) -> usize
+        ensures count { result ≡ count_by (λ flag. flag) self.now.base }
+        ensures few { result ≤ length self.now.base }
+    {
+        self.base.iter().filter(|&&flag| flag).count()
+    }
 }
 
 /// A constraint problem. Cells, values and directions count from 0.
@@ -272,5 +285,13 @@ impl Problem {
         ensures problem { IsProblem self.now }
     {
         self.parts.weights[value as usize]
+    }
+
+    /// How many pairs of a cell and a value of its base there are. It counts them anew.
+    pub fn depth(&self) -> u32
+        ensures value { result ≡ depth_of self.now }
+        ensures problem { IsProblem self.now }
+    {
+        self.parts.depth() as u32
     }
 }
