@@ -37,7 +37,7 @@ count_by-found p (x ∷ xs) h =
     let e = count_by-cons p x xs in
     let P : Bool → Type 0 = λ b. p x ≡ b → (w : ℕ) × Contains (x ∷ xs) w × (p w ≡ true) in
     elim (p x) as P [
-        true ↦ λ t. (x, (0, omega arith, refl), t)
+      | true ↦ λ t. (x, (0, omega arith, refl), t)
       | false ↦ λ f.
           let r = count_by-found p xs (let z : flag (p x) ≡ 0 = ap flag f in omega arith) in
           (r.0, (suc r.1.0, omega (arith, r.1.1), r.1.2), r.2)

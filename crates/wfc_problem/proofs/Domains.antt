@@ -22,7 +22,7 @@ use Rattle.wfc_problem.proofs.Tables.{neighbour-read, row-below, opposite-below,
 pub support_count-le : (P : Network) (E D : Test) (c v d : ℕ) → Within E D → support_count P E c v d ≤ support_count P D c v d
 support_count-le P E D c v d h =
     elim (neighbour P c d) as (λ o. count_at P E v d o ≤ count_at P D v d o) [
-        None ↦ omega arith
+      | None ↦ omega arith
       | Some n ↦ count_by-le (E n) (D n) (supports_of P v d) (h n)
     ]
 
@@ -51,23 +51,24 @@ rising-ge xs up (suc k) l =
 
 pub supports-few : (P : Network) → IsProblem P → (v d : ℕ) → d < P.dirs → length (supports_of P v d) ≤ 4096
 supports-few P p v d hd = elim (cases_lt 0 (length xs)) [
-    inl l ↦
+  | inl l ↦
       let e : suc k ≡ length xs = omega arith in
       let ge = rising-ge xs (p.rising v d hd) k (omega arith) in
       let w = p.in_values v (get_or xs k 0) d hd (k, omega arith, get_or_default xs k (get_or xs k 0) 0 (omega arith)) in
       omega (arith, p.few_values)
   | inr l ↦ omega arith
-  ]
+]
   where
     xs : List ℕ
     xs = supports_of P v d
+
     k : ℕ
     k = length xs - 1
 
 pub support_count-few : (P : Network) → IsProblem P → (E : Test) (c v d : ℕ) → d < P.dirs → support_count P E c v d ≤ 4096
 support_count-few P p E c v d hd =
     elim (neighbour P c d) as (λ o. count_at P E v d o ≤ 4096) [
-        None ↦ omega arith
+      | None ↦ omega arith
       | Some n ↦ omega (arith, supports-few P p v d hd, count_by-le-length (E n) (supports_of P v d))
     ]
 
@@ -142,10 +143,11 @@ greatest-holds P literals D E g within consistent c v t =
 
 -- consistent domains within the cut base that hold all others are the greatest
 pub greatest-from_holding : (P : Network) (literals : List Literal) (D : Test) → Within D (base_with P literals) → IsArcConsistent P D
-  → ((E : Test) → Within E (base_with P literals) → IsArcConsistent P E → Within E D) → IsGreatest P literals D
-greatest-from_holding P literals D within consistent holds c v =
-    ( (λ t. record { domains = D; within = within; consistent = consistent; stands = t })
-    , (λ g. holds g.domains g.within g.consistent c v g.stands) )
+    → ((E : Test) → Within E (base_with P literals) → IsArcConsistent P E → Within E D) → IsGreatest P literals D
+greatest-from_holding P literals D within consistent holds c v = (
+  (λ t. record { domains = D; within = within; consistent = consistent; stands = t }),
+  (λ g. holds g.domains g.within g.consistent c v g.stands),
+)
 
 -- ---- assignments
 
@@ -169,14 +171,15 @@ placed-within a D lies c v t =
 placed-consistent : (P : Network) → IsProblem P → (a : List ℕ) → IsLegalAssignment P a → IsArcConsistent P (placed a)
 placed-consistent P p a legal c v d t n e =
     let i = placed-is a c v t in
-    let k = has-Contains (supports_of P (slice_index a c) d) (slice_index a n) (legal.beside c d n e) in
-    ( slice_index a n
-    , subst (λ x. Contains (supports_of P x d) (slice_index a n)) (sym i.1) k
-    , placed-at a n (omega (arith, p.in_cells c d n e, legal.each_cell)) )
+    let k = has-Contains (supports_of P (slice_index a c) d) (slice_index a n) (legal.beside c d n e) in (
+      slice_index a n,
+      subst (λ x. Contains (supports_of P x d) (slice_index a n)) (sym i.1) k,
+      placed-at a n (omega (arith, p.in_cells c d n e, legal.each_cell)),
+    )
 
 -- a legal assignment within the cut base lies within the greatest domains
 pub assignment-stands : (P : Network) → IsProblem P → (literals : List Literal) (a : List ℕ) → IsLegalAssignment P a → LiesIn a (base_with P literals)
-  → (c : ℕ) → c < P.cells → IsInGreatest P literals c (slice_index a c)
+    → (c : ℕ) → c < P.cells → IsInGreatest P literals c (slice_index a c)
 assignment-stands P p literals a legal lies c l = record {
   domains = placed a;
   within = placed-within a (base_with P literals) lies;
@@ -186,7 +189,7 @@ assignment-stands P p literals a legal lies c l = record {
 
 -- so there is none where these are dead
 pub dead-none : (P : Network) → IsProblem P → (literals : List Literal) (D : Test) → IsGreatest P literals D → IsDead P D
-  → (a : List ℕ) → IsLegalAssignment P a → LiesIn a (base_with P literals) → ⊥
+    → (a : List ℕ) → IsLegalAssignment P a → LiesIn a (base_with P literals) → ⊥
 dead-none P p literals D g dead a legal lies =
     false≢true (sym (dead.2 (slice_index a dead.0)) ∙ (g dead.0 (slice_index a dead.0)).1 (assignment-stands P p literals a legal lies dead.0 dead.1))
 
@@ -196,11 +199,11 @@ only-legal P p literals D g a o = record {
   each_cell = o.each_cell;
   based = λ c l. (and_parts _ _ (greatest-within P literals D g c (slice_index a c) ((o.only c (slice_index a c) l).1 refl))).0;
   beside = λ c d n e.
-    let r = neighbour-read P c d n e in
-    let l = row-below c d P.dirs P.cells (omega (arith, r.inside, p.neighbours_table)) in
-    let s = greatest-consistent P literals D g c (slice_index a c) d ((o.only c (slice_index a c) l).1 refl) n e in
-    let same = (o.only n s.0 (p.in_cells c d n e)).0 s.2 in
-    Contains-has (supports_of P (slice_index a c) d) (slice_index a n) (subst (λ x. Contains (supports_of P (slice_index a c) d) x) same s.1);
+      let r = neighbour-read P c d n e in
+      let l = row-below c d P.dirs P.cells (omega (arith, r.inside, p.neighbours_table)) in
+      let s = greatest-consistent P literals D g c (slice_index a c) d ((o.only c (slice_index a c) l).1 refl) n e in
+      let same = (o.only n s.0 (p.in_cells c d n e)).0 s.2 in
+      Contains-has (supports_of P (slice_index a c) d) (slice_index a n) (subst (λ x. Contains (supports_of P (slice_index a c) d) x) same s.1);
 }
 
 pub only-lies : (P : Network) (literals : List Literal) (D : Test) → IsGreatest P literals D → (a : List ℕ) → HasOnly P D a → LiesIn a (base_with P literals)
@@ -209,12 +212,12 @@ only-lies P literals D g a o c l =
 
 -- an assignment within the cut base takes a value at a cell or doesn't
 pub either-literal : (P : Network) (literals : List Literal) (a : List ℕ) (cell value : ℕ) → LiesIn a (base_with P literals)
-  → LiesIn a (base_with P (literals ++ Is cell value ∷ [])) ⊎ LiesIn a (base_with P (literals ++ Not cell value ∷ []))
+    → LiesIn a (base_with P (literals ++ Is cell value ∷ [])) ⊎ LiesIn a (base_with P (literals ++ Not cell value ∷ []))
 either-literal P literals a cell value lies = elim (cases_eq (slice_index a cell) value) [
-    inl e ↦ inl (λ c l.
+  | inl e ↦ inl (λ c l.
       base_with-push P literals (Is cell value) c (slice_index a c)
       ∙ and_from _ _ (lies c l) (let at : c ≡ cell → slice_index a c ≡ value = λ f. ap (slice_index a) f ∙ e in grind (arith, nat_tests)))
   | inr ne ↦ inr (λ c l.
       base_with-push P literals (Not cell value) c (slice_index a c)
       ∙ and_from _ _ (lies c l) (let at : c ≡ cell → slice_index a c ≡ value → ⊥ = λ f g. ne (sym (ap (slice_index a) f) ∙ g) in grind (arith, nat_tests)))
-  ]
+]

@@ -54,7 +54,7 @@ sized P lengths size =
       few_pairs = few_pairs;
       neighbours_table = eqb-true _ _ (unless-none _ (Lengths Neighbours) c.0);
       supports_table = eqb-true _ _ (unless-none _ (Lengths Supports) d.0);
-      base_table = eqb-true _ _ (unless-none _ (Lengths Base) d.1)
+      base_table = eqb-true _ _ (unless-none _ (Lengths Base) d.1);
     }
 
 -- the lists of supports
@@ -62,7 +62,7 @@ pub list-rises : (P : Network) → supports_fault P ≡ None → (v d : ℕ) →
 list-rises P none v d =
     let i = v * P.dirs + d in
     elim (cases_lt i (length P.supports)) [
-        inl l ↦ rises-Rises 0 (values P) (supports_of P v d)
+      | inl l ↦ rises-Rises 0 (values P) (supports_of P v d)
           (not-false _ (position-passed (λ ws. not (rises 0 (values P) ws)) P.supports (map-none (λ at. BadIndex Supports at) _ none) i [] l))
       | inr ge ↦ rises-Rises 0 (values P) (supports_of P v d) (ap (rises 0 (values P)) (get_or_past P.supports i [] ge))
     ]
@@ -74,7 +74,7 @@ entry-below P none c d n e =
     let passed = not-false _ (position-passed (λ n. not (is_entry P.cells n)) P.neighbours (map-none (λ at. BadIndex Neighbours at) _ none) i NO_CELL r.inside) in
     let at : is_entry P.cells n ≡ true = sym (ap (is_entry P.cells) r.entry) ∙ passed in
     elim (or_cases _ _ at) [
-        inl t ↦
+      | inl t ↦
           let same = eqb-true n NO_CELL t in
           absurd (neighbour-some P c d n e same)
       | inr t ↦ ltb-true n P.cells t
@@ -83,10 +83,10 @@ entry-below P none c d n e =
 -- the indices
 pub indexed : (P : Network) → neighbours_fault P ≡ None → supports_fault P ≡ None → IsIndexed P
 indexed P neighbours supports = record {
-    in_cells = entry-below P neighbours;
-    rising = λ v d l. (list-rises P supports v d).strictly;
-    in_values = λ v w d l k. let r = (list-rises P supports v d).below k.0 k.1 in let same = get_or_default (supports_of P v d) k.0 0 w k.1 ∙ k.2 in omega arith
-  }
+  in_cells = entry-below P neighbours;
+  rising = λ v d l. (list-rises P supports v d).strictly;
+  in_values = λ v w d l k. let r = (list-rises P supports v d).below k.0 k.1 in let same = get_or_default (supports_of P v d) k.0 0 w k.1 ∙ k.2 in omega arith;
+}
 
 -- the weights
 pub weighed : (P : Network) → weight_fault P ≡ None → (v : ℕ) → v < values P → (0 < weight_of P v) × (weight_of P v ≤ MAX_WEIGHT)
@@ -140,7 +140,7 @@ problem-from P none =
       in_values = i.in_values;
       in_cells = i.in_cells;
       back = goes_back P s f.0;
-      symmetric = goes_both_ways P s f.1
+      symmetric = goes_both_ways P s f.1;
     }
 
 -- ---- and the other way
@@ -161,7 +161,7 @@ some_dirs P p = elim p.four_or_six [ inl e ↦ omega arith | inr e ↦ omega ari
 lengths-none : (P : Network) → IsProblem P → lengths_fault P ≡ None
 lengths-none P p =
     or-from _ _ (passes _ (Lengths Cells) (and_from _ _ (lt-ltb 0 P.cells p.some_cell)
-      (elim p.four_or_six [ inl e ↦ or_left _ _ (eq-eqb P.dirs 4 e) | inr e ↦ or_right _ _ (eq-eqb P.dirs 6 e) ])))
+    (elim p.four_or_six [ inl e ↦ or_left _ _ (eq-eqb P.dirs 4 e) | inr e ↦ or_right _ _ (eq-eqb P.dirs 6 e) ])))
     (or-from _ _ (passes _ (Lengths Weights) (and_from _ _ (lt-ltb 0 (values P) p.some_value) (le-leb (values P) MAX_VALUES p.few_values)))
     (or-from _ _ (passes _ (Lengths Neighbours) (eq-eqb _ _ p.neighbours_table))
     (or-from _ _ (passes _ (Lengths Supports) (eq-eqb _ _ p.supports_table))
@@ -179,11 +179,11 @@ neighbours-none P p = maps (λ at. BadIndex Neighbours at) _ (position-none (λ 
         let hd : d < P.dirs = omega arith in
         let same : get_or P.neighbours (c * P.dirs + d) NO_CELL ≡ entry = ap (λ i. get_or P.neighbours i NO_CELL) (place-is k P.dirs some) in
         not_from_true _ (elim (cases_eq entry NO_CELL) [
-            inl e ↦ or_left _ _ (eq-eqb entry NO_CELL e)
+          | inl e ↦ or_left _ _ (eq-eqb entry NO_CELL e)
           | inr ne ↦
               let lt = p.in_cells c d _ (neighbour-is P c d hd (λ e. ne (sym same ∙ e))) in
               or_right (entry == NO_CELL) (nat_lt entry P.cells) (lt-ltb entry P.cells (let z : get_or P.neighbours (c * P.dirs + d) NO_CELL < P.cells = lt in omega arith))
-          ])
+        ])
 
 supports-none : (P : Network) → IsProblem P → supports_fault P ≡ None
 supports-none P p = maps (λ at. BadIndex Supports at) _ (position-none (λ ws. not (rises 0 (values P) ws)) P.supports [] each)
@@ -198,25 +198,25 @@ supports-none P p = maps (λ at. BadIndex Supports at) _ (position-none (λ ws. 
         let good = Rises-rises 0 (values P) xs (record {
           strictly = p.rising v d hd;
           below = λ j m. p.in_values v (get_or xs j 0) d hd (j, m, get_or_default xs j (get_or xs j 0) 0 m);
-          from = λ m. omega arith
+          from = λ m. omega arith;
         }) in
         not_from_true _ (sym (ap (λ i. rises 0 (values P) (get_or P.supports i [])) (place-is k P.dirs some)) ∙ good)
 
 weights-none : (P : Network) → IsProblem P → weight_fault P ≡ None
 weights-none P p = maps (λ v. BadWeight v) _ (position-none (λ w. not (is_weight w)) P.weights 0
-  (λ k l. not_from_true _ (and_from _ _ (lt-ltb 0 (weight_of P k) (p.some_weight k l)) (le-leb (weight_of P k) MAX_WEIGHT (p.small_weight k l)))))
+    (λ k l. not_from_true _ (and_from _ _ (lt-ltb 0 (weight_of P k) (p.some_weight k l)) (le-leb (weight_of P k) MAX_WEIGHT (p.small_weight k l)))))
 
 leads-true : (P : Network) → IsProblem P → (c d : ℕ) → leads_back P c d ≡ true
 leads-true P p c d =
     let Q : Option ℕ → Type 0 = λ o. neighbour P c d ≡ o → returns P c d o ≡ true in
     elim (neighbour P c d) as Q [
-        None ↦ λ e. refl
+      | None ↦ λ e. refl
       | Some n ↦ λ e. ap (is_cell c) (p.back c d n e) ∙ eq-eqb c c refl
     ] refl
 
 mutual-true : (P : Network) → IsProblem P → (v d : ℕ) → d < P.dirs → is_mutual P v d ≡ true
 mutual-true P p v d hd = list_all-from_AllPass (λ w. ok P (opposite d) w v) (supports_of P v d)
-  (λ k e l. let xs = supports_of P v d in
+    (λ k e l. let xs = supports_of P v d in
     let w = get_or xs k e in
     Contains-has (supports_of P w (opposite d)) v (p.symmetric v w d hd (k, l, get_or_default xs k w e l)))
 

@@ -32,11 +32,11 @@ unless-none false fault e = cc
 -- where no element passes, none does at any index
 pub position-passed : {X : Type 0} (p : X → Bool) (xs : List X) → position p xs ≡ None → (k : ℕ) (d : X) → k < length xs → p (get_or xs k d) ≡ false
 position-passed p xs none k d l = elim (cases_lt (position_or_len p xs) (length xs)) [
-    inl m ↦
+  | inl m ↦
       let clash = sym (cond-true _ (Some (position_or_len p xs)) None (lt-ltb _ _ m)) ∙ none in
       cc
   | inr m ↦ fails_before_first p xs k d (omega arith)
-  ]
+]
 
 -- and the other way
 pub position-none : {X : Type 0} (p : X → Bool) (xs : List X) (d : X) → ((k : ℕ) → k < length xs → p (get_or xs k d) ≡ false) → position p xs ≡ None
@@ -64,20 +64,20 @@ find-none p (x ∷ xs) d each =
 find-passed : {X : Type 0} (p : X → Bool) (xs : List X) (d : X) → find p xs ≡ None → (k : ℕ) → k < length xs → p (get_or xs k d) ≡ false
 find-passed p [] d none k l = absurd (omega arith)
 find-passed p (x ∷ xs) d none k l = elim (cases_Bool (p x)) [
-    inl t ↦ let clash = sym (ap (λ b. cond b (Some x) (find p xs)) t) ∙ none in cc
+  | inl t ↦ let clash = sym (ap (λ b. cond b (Some x) (find p xs)) t) ∙ none in cc
   | inr f ↦
       let rest = find-passed p xs d (sym (ap (λ b. cond b (Some x) (find p xs)) f) ∙ none) in
       let P : ℕ → Type 0 = λ j. j < length (x ∷ xs) → p (get_or (x ∷ xs) j d) ≡ false in
       elim k as P [ zero ↦ λ m. f | suc j ↦ λ m. rest j (omega arith) ] l
-  ]
+]
 
 -- ---- the first of n numbers
 
 pub failing-none : (passes : ℕ → Bool) (n : ℕ) → ((k : ℕ) → k < n → passes k ≡ true) → first_failing passes n ≡ None
 failing-none passes n each =
     find-none (λ k. not (passes k)) (range_with_len 0 n) 0
-      (λ k l. let m : k < n = omega (arith, length-range_with_len 0 n) in
-        not_from_true _ (ap passes (get_or-range_with_len 0 n k 0 m ∙ (let z : 0 + k ≡ k = omega arith in z)) ∙ each k m))
+    (λ k l. let m : k < n = omega (arith, length-range_with_len 0 n) in
+    not_from_true _ (ap passes (get_or-range_with_len 0 n k 0 m ∙ (let z : 0 + k ≡ k = omega arith in z)) ∙ each k m))
 
 pub failing-passed : (passes : ℕ → Bool) (n : ℕ) → first_failing passes n ≡ None → (k : ℕ) → k < n → passes k ≡ true
 failing-passed passes n none k l =
@@ -88,8 +88,8 @@ failing-passed passes n none k l =
 
 -- no row before has a failing column, and this one has
 first_pair-at : (passes : ℕ → ℕ → Bool) (rows : List ℕ) (columns i c : ℕ) → i < length rows
-  → ((k : ℕ) → k < i → first_failing (passes (get_or rows k 0)) columns ≡ None)
-  → first_failing (passes (get_or rows i 0)) columns ≡ Some c → first_pair passes rows columns ≡ Some (get_or rows i 0, c)
+    → ((k : ℕ) → k < i → first_failing (passes (get_or rows k 0)) columns ≡ None)
+    → first_failing (passes (get_or rows i 0)) columns ≡ Some c → first_pair passes rows columns ≡ Some (get_or rows i 0, c)
 first_pair-at passes [] columns i c l before here = absurd (omega arith)
 first_pair-at passes (r ∷ rs) columns zero c l before here =
     ap (λ o. option_or (option_map (λ d. (r, d)) o) (first_pair passes rs columns)) here
@@ -99,7 +99,7 @@ first_pair-at passes (r ∷ rs) columns (suc i) c l before here =
 
 -- no row has a failing column
 first_pair-none : (passes : ℕ → ℕ → Bool) (rows : List ℕ) (columns : ℕ)
-  → ((k : ℕ) → k < length rows → first_failing (passes (get_or rows k 0)) columns ≡ None) → first_pair passes rows columns ≡ None
+    → ((k : ℕ) → k < length rows → first_failing (passes (get_or rows k 0)) columns ≡ None) → first_pair passes rows columns ≡ None
 first_pair-none passes [] columns each = refl
 first_pair-none passes (r ∷ rs) columns each =
     ap (λ o. option_or (option_map (λ d. (r, d)) o) (first_pair passes rs columns)) (each 0 (omega arith))
@@ -107,7 +107,7 @@ first_pair-none passes (r ∷ rs) columns each =
 
 -- and the other way
 first_pair-passed : (passes : ℕ → ℕ → Bool) (rows : List ℕ) (columns : ℕ) → first_pair passes rows columns ≡ None
-  → (k : ℕ) → k < length rows → first_failing (passes (get_or rows k 0)) columns ≡ None
+    → (k : ℕ) → k < length rows → first_failing (passes (get_or rows k 0)) columns ≡ None
 first_pair-passed passes [] columns none k l = absurd (omega arith)
 first_pair-passed passes (r ∷ rs) columns none k l =
     let parts = or-none _ _ none in
@@ -121,23 +121,23 @@ row_at n k l = get_or-range_with_len 0 n k 0 l ∙ (let z : 0 + k ≡ k = omega 
 
 -- the same, where the rows are numbered from 0
 pub pair-at : (passes : ℕ → ℕ → Bool) (rows columns r c : ℕ) → r < rows → ((k : ℕ) → k < r → first_failing (passes k) columns ≡ None)
-  → first_failing (passes r) columns ≡ Some c → first_pair passes (range_with_len 0 rows) columns ≡ Some (r, c)
+    → first_failing (passes r) columns ≡ Some c → first_pair passes (range_with_len 0 rows) columns ≡ Some (r, c)
 pair-at passes rows columns r c l before here =
     first_pair-at passes (range_with_len 0 rows) columns r c (omega (arith, length-range_with_len 0 rows))
-      (λ k m. ap (λ x. first_failing (passes x) columns) (row_at rows k (omega arith)) ∙ before k m)
-      (ap (λ x. first_failing (passes x) columns) (row_at rows r l) ∙ here)
+    (λ k m. ap (λ x. first_failing (passes x) columns) (row_at rows k (omega arith)) ∙ before k m)
+    (ap (λ x. first_failing (passes x) columns) (row_at rows r l) ∙ here)
     ∙ ap (λ (x : ℕ). Some (x, c)) (row_at rows r l)
 
 pub pair-none : (passes : ℕ → ℕ → Bool) (rows columns : ℕ) → ((k : ℕ) → k < rows → first_failing (passes k) columns ≡ None)
-  → first_pair passes (range_with_len 0 rows) columns ≡ None
+    → first_pair passes (range_with_len 0 rows) columns ≡ None
 pair-none passes rows columns each =
     first_pair-none passes (range_with_len 0 rows) columns
-      (λ k l. let m : k < rows = omega (arith, length-range_with_len 0 rows) in
-        ap (λ x. first_failing (passes x) columns) (row_at rows k m) ∙ each k m)
+    (λ k l. let m : k < rows = omega (arith, length-range_with_len 0 rows) in
+    ap (λ x. first_failing (passes x) columns) (row_at rows k m) ∙ each k m)
 
 -- where there is no first, the test is passed at each row and column
 pub pair-passed : (passes : ℕ → ℕ → Bool) (rows columns : ℕ) → first_pair passes (range_with_len 0 rows) columns ≡ None
-  → (r c : ℕ) → r < rows → c < columns → passes r c ≡ true
+    → (r c : ℕ) → r < rows → c < columns → passes r c ≡ true
 pair-passed passes rows columns none r c hr hc =
     let row = first_pair-passed passes (range_with_len 0 rows) columns none r (omega (arith, length-range_with_len 0 rows)) in
     failing-passed (passes r) columns (sym (ap (λ x. first_failing (passes x) columns) (row_at rows r hr)) ∙ row) c hc

@@ -33,15 +33,15 @@ flags-are P D flags long inside tells = λ i c v. each c v i
   where
     each : (c v : ℕ) → has_flag (values P) flags c v ≡ D c v
     each c v = elim (cases_Bool (D c v)) [
-        inl t ↦
+      | inl t ↦
           let at = inside c v t in
           flag-at (values P) flags c v at.1 ∙ tells.each c v at.1 (omega (arith, mul-add-lt c (values P) v P.cells at.0 at.1, mul_comm (values P) P.cells))
       | inr f ↦
           false_from_ne_true (has_flag (values P) flags c v) (λ t.
-            let at = flag-inside (values P) flags c v t in
-            false≢true (sym f ∙ sym (tells.each c v at.0 at.1) ∙ sym (flag-at (values P) flags c v at.0) ∙ t))
+          let at = flag-inside (values P) flags c v t in
+          false≢true (sym f ∙ sym (tells.each c v at.0 at.1) ∙ sym (flag-at (values P) flags c v at.0) ∙ t))
           ∙ sym f
-      ]
+    ]
 
 -- ---- how many flags are set
 
@@ -53,7 +53,7 @@ row-count n xs e =
 
 -- a table's flags are those of its rows
 rows-count : (n : ℕ) (flags : List Bool) (k a : ℕ) → (a + k) * n ≤ length flags
-  → sum_by (λ c. count_by (has_flag n flags c) (range_with_len 0 n)) (range_with_len a k) ≡ count_by (λ b. b) (take (k * n) (drop (a * n) flags))
+    → sum_by (λ c. count_by (has_flag n flags c) (range_with_len 0 n)) (range_with_len a k) ≡ count_by (λ b. b) (take (k * n) (drop (a * n) flags))
 rows-count n flags zero a l = let e : 0 * n ≡ 0 = omega arith in rw e refl
 rows-count n flags (suc k) a l =
     let ys = drop (a * n) flags in
@@ -86,16 +86,16 @@ tells-none n D = record { each = λ c v l m. absurd (omega arith) }
 
 -- with the flag of the next place the table goes on telling D
 pub tells-push : (n : ℕ) (D : Test) (flags : List Bool) (place : ℕ) (b : Bool) → 0 < n → length flags ≡ place → Tells n D flags → b ≡ D (place / n) (place % n)
-  → Tells n D (flags ++ b ∷ [])
+    → Tells n D (flags ++ b ∷ [])
 tells-push n D flags place b some long tells is = record {
   each = λ c v hv l.
-    elim (cases_lt (c * n + v) place) [
-        inl m ↦ get_or_append_left flags (b ∷ []) false (c * n + v) (omega arith) ∙ tells.each c v hv (omega arith)
-      | inr ge ↦
-          let at : c * n + v ≡ place = omega (arith, length-append flags (b ∷ [])) in
-          let whole : (place / n) * n + place % n ≡ place = omega (arith, mul_comm (place / n) n) in
-          let hm : place % n < n = omega arith in
-          let same = same_from_place c v (place / n) (place % n) n hv hm (at ∙ sym whole) in
-          get_or_push flags b false (c * n + v) (omega arith) ∙ is ∙ sym (ap (λ x. D x v) same.0 ∙ ap (D (place / n)) same.1)
-    ]
+      elim (cases_lt (c * n + v) place) [
+        | inl m ↦ get_or_append_left flags (b ∷ []) false (c * n + v) (omega arith) ∙ tells.each c v hv (omega arith)
+        | inr ge ↦
+            let at : c * n + v ≡ place = omega (arith, length-append flags (b ∷ [])) in
+            let whole : (place / n) * n + place % n ≡ place = omega (arith, mul_comm (place / n) n) in
+            let hm : place % n < n = omega arith in
+            let same = same_from_place c v (place / n) (place % n) n hv hm (at ∙ sym whole) in
+            get_or_push flags b false (c * n + v) (omega arith) ∙ is ∙ sym (ap (λ x. D x v) same.0 ∙ ap (D (place / n)) same.1)
+      ];
 }

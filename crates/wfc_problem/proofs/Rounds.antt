@@ -19,21 +19,23 @@ round-contains P E F consistent within c v t =
   where
     side : (d : ℕ) → side_holds P F v d (neighbour P c d) ≡ true
     side d =
-      let Q : Option ℕ → Type 0 = λ o. neighbour P c d ≡ o → side_holds P F v d o ≡ true in
-      elim (neighbour P c d) as Q [
-        None ↦ λ e. refl
-      | Some n ↦ λ e.
-          let s = consistent c v d t n e in
-          Contains-any (F n) (supports_of P v d) s.0 s.1 (within n s.0 s.2)
-      ] refl
+        let Q : Option ℕ → Type 0 = λ o. neighbour P c d ≡ o → side_holds P F v d o ≡ true in
+        elim (neighbour P c d) as Q [
+          | None ↦ λ e. refl
+          | Some n ↦ λ e.
+              let s = consistent c v d t n e in
+              Contains-any (F n) (supports_of P v d) s.0 s.1 (within n s.0 s.2)
+        ] refl
 
 -- what a round leaves unchanged is consistent
 pub fixed-consistent : (P : Network) (E : Test) → Within E (round P E) → IsArcConsistent P E
 fixed-consistent P E fixed c v d t n e =
     let hd = neighbour-dir P c d n e in
+    let hl : d < length (range_with_len 0 P.dirs) = omega (arith, length-range_with_len 0 P.dirs) in
+    let z : 0 + d ≡ d = omega arith in
+    let at : get_or (range_with_len 0 P.dirs) d d ≡ d = get_or-range_with_len 0 P.dirs d d hd ∙ z in
     let all = AllPass-from_list_all (λ x. side_holds P E v x (neighbour P c x)) (range_with_len 0 P.dirs) (and_parts _ _ (fixed c v t)).1 in
-    let at : get_or (range_with_len 0 P.dirs) d d ≡ d = get_or-range_with_len 0 P.dirs d d hd ∙ (let z : 0 + d ≡ d = omega arith in z) in
-    let here : side_holds P E v d (neighbour P c d) ≡ true = sym (ap (λ x. side_holds P E v x (neighbour P c x)) at) ∙ all d d (omega (arith, length-range_with_len 0 P.dirs)) in
+    let here : side_holds P E v d (neighbour P c d) ≡ true = sym (ap (λ x. side_holds P E v x (neighbour P c x)) at) ∙ all d d hl in
     let here' : side_holds P E v d (Some n) ≡ true = sym (ap (side_holds P E v d) e) ∙ here in
     any-Contains (E n) (supports_of P v d) here'
 
@@ -110,26 +112,27 @@ no_fewer P E inr' h =
 either : (P : Network) (E : Test) → InRange P E → (n : ℕ) → (pairs P (rounds P E n) + n ≤ pairs P E) ⊎ IsArcConsistent P (rounds P E n)
 either P E r zero = inl (omega arith)
 either P E r (suc n) = elim (either P E r n) [
-    inr h ↦ inr (round-consistent P (rounds P E n) h)
+  | inr h ↦ inr (round-consistent P (rounds P E n) h)
   | inl l ↦ elim (cases_lt (pairs P (round P (rounds P E n))) (pairs P (rounds P E n))) [
-      inl fewer ↦ inl (omega arith)
+    | inl fewer ↦ inl (omega arith)
     | inr as_many ↦ inr (round-consistent P (rounds P E n) (no_fewer P (rounds P E n) (λ c v t. r c v (rounds-within P E n c v t)) as_many))
-    ]
   ]
+]
 
 -- enough rounds are consistent
 pub rounds-consistent : (P : Network) (E : Test) → InRange P E → (n : ℕ) → pairs P E ≤ n → IsArcConsistent P (rounds P E n)
 rounds-consistent P E r n enough = elim (either P E r n) [
-    inr h ↦ h
+  | inr h ↦ h
   | inl l ↦ no_fewer P (rounds P E n) (λ c v t. r c v (rounds-within P E n c v t)) (omega arith)
-  ]
+]
 
 -- and are the union of all consistent domains within the cut base
 pub rounds-greatest : (P : Network) (literals : List Literal) (n : ℕ) → InRange P (base_with P literals) → pairs P (base_with P literals) ≤ n → IsGreatest P literals (rounds P (base_with P literals) n)
 rounds-greatest P literals n r enough c v =
-    let B = base_with P literals in
-    ( (λ t. record { domains = rounds P B n; within = rounds-within P B n; consistent = rounds-consistent P B r n enough; stands = t })
-    , (λ g. rounds-contains P g.domains B n g.consistent g.within c v g.stands) )
+    let B = base_with P literals in (
+      (λ t. record { domains = rounds P B n; within = rounds-within P B n; consistent = rounds-consistent P B r n enough; stands = t }),
+      (λ g. rounds-contains P g.domains B n g.consistent g.within c v g.stands),
+    )
 
 -- ---- of a problem
 
@@ -143,7 +146,7 @@ base_with-inside P p literals c v t = base-inside P p c v (base_with-base P lite
 pub depth-greatest : (P : Network) → IsProblem P → (literals : List Literal) (n : ℕ) → depth_of P ≤ n → IsGreatest P literals (rounds P (base_with P literals) n)
 depth-greatest P p literals n enough =
     rounds-greatest P literals n (base_with-inside P p literals)
-      (let fewer : pairs P (base_with P literals) ≤ depth_of P = pairs-le P (base_with P literals) (in_base P) (base_with-base P literals) in omega arith)
+    (let fewer : pairs P (base_with P literals) ≤ depth_of P = pairs-le P (base_with P literals) (in_base P) (base_with-base P literals) in omega arith)
 
 pub greatest-is : (P : Network) → IsProblem P → (literals : List Literal) → IsGreatest P literals (greatest P literals)
 unfolding greatest

@@ -28,9 +28,9 @@ Contains-has xs w c = list_any_at (λ x. x == w) xs c.0 w c.1 (eq-eqb _ w c.2)
 
 increasing-le : (xs : List ℕ) → IsStrictlyIncreasing xs → (i j : ℕ) → i ≤ j → j < length xs → get_or xs i 0 ≤ get_or xs j 0
 increasing-le xs up i j le l = elim (cases_eq i j) [
-    inl e ↦ let same = ap (λ k. get_or xs k 0) e in omega arith
+  | inl e ↦ let same = ap (λ k. get_or xs k 0) e in omega arith
   | inr ne ↦ let lt = AllPairs-from_increasing xs up i j 0 (omega arith) l in omega arith
-  ]
+]
 
 -- a binary search of a rising list finds a number exactly where the list has it
 pub searched-has : (xs : List ℕ) (w : ℕ) (r : Result ℕ ℕ) → IsBinarySearchResult (λ y. nat_cmp y w) xs r → IsStrictlyIncreasing xs → is_ok r ≡ list_any (λ x. x == w) xs
@@ -40,12 +40,12 @@ searched-has xs w (Ok i) s up =
 searched-has xs w (Err i) s up =
     let f = searched xs w (Err i) s (increasing-le xs up) in
     sym (false_from_ne_true (list_any (λ x. x == w) xs) (λ t.
-      let c = has-Contains xs w t in
-      let e : get_or xs c.0 0 ≡ w = get_or_default xs c.0 0 w c.1 ∙ c.2 in
-      elim (cases_lt c.0 i) [
-        inl l ↦ let lt = f.1 c.0 l in omega arith
+    let c = has-Contains xs w t in
+    let e : get_or xs c.0 0 ≡ w = get_or_default xs c.0 0 w c.1 ∙ c.2 in
+    elim (cases_lt c.0 i) [
+      | inl l ↦ let lt = f.1 c.0 l in omega arith
       | inr l ↦ let lt = f.2 c.0 l c.1 in omega arith
-      ]))
+    ]))
 
 -- ---- rising lists
 
@@ -71,15 +71,15 @@ rises-Rises low n (x ∷ xs) t =
     let rest = rises-Rises (x + 1) n xs parts.1 in
     record {
       strictly = λ k l.
-        let P : ℕ → Type 0 = λ j. j + 1 < length (x ∷ xs) → get_or (x ∷ xs) j 0 < get_or (x ∷ xs) (j + 1) 0 in
-        elim k as P [
-            zero ↦ λ m. let next = rest.from (omega arith) in let e : 0 + 1 ≡ suc 0 = omega arith in let same = ap (λ i. get_or (x ∷ xs) i 0) e in omega arith
-          | suc j ↦ λ m. let next = rest.strictly j (omega arith) in let e : suc j + 1 ≡ suc (j + 1) = omega arith in let same = ap (λ i. get_or (x ∷ xs) i 0) e in omega arith
-        ] l;
+          let P : ℕ → Type 0 = λ j. j + 1 < length (x ∷ xs) → get_or (x ∷ xs) j 0 < get_or (x ∷ xs) (j + 1) 0 in
+          elim k as P [
+            | zero ↦ λ m. let next = rest.from (omega arith) in let e : 0 + 1 ≡ suc 0 = omega arith in let same = ap (λ i. get_or (x ∷ xs) i 0) e in omega arith
+            | suc j ↦ λ m. let next = rest.strictly j (omega arith) in let e : suc j + 1 ≡ suc (j + 1) = omega arith in let same = ap (λ i. get_or (x ∷ xs) i 0) e in omega arith
+          ] l;
       below = λ k l.
-        let P : ℕ → Type 0 = λ j. j < length (x ∷ xs) → get_or (x ∷ xs) j 0 < n in
-        elim k as P [ zero ↦ λ m. lt | suc j ↦ λ m. rest.below j (omega arith) ] l;
-      from = λ l. ge
+          let P : ℕ → Type 0 = λ j. j < length (x ∷ xs) → get_or (x ∷ xs) j 0 < n in
+          elim k as P [ zero ↦ λ m. lt | suc j ↦ λ m. rest.below j (omega arith) ] l;
+      from = λ l. ge;
     }
 
 pub Rises-rises : (low n : ℕ) (xs : List ℕ) → Rises low n xs → rises low n xs ≡ true
@@ -90,7 +90,7 @@ Rises-rises low n (x ∷ xs) r =
     let rest = Rises-rises (x + 1) n xs (record {
       strictly = tail_rises x xs r.strictly;
       below = λ k l. r.below (suc k) (omega arith);
-      from = λ l. let step = r.strictly 0 (omega arith) in let e : 0 + 1 ≡ suc 0 = omega arith in let same = ap (λ i. get_or (x ∷ xs) i 0) e in omega arith
+      from = λ l. let step = r.strictly 0 (omega arith) in let e : 0 + 1 ≡ suc 0 = omega arith in let same = ap (λ i. get_or (x ∷ xs) i 0) e in omega arith;
     }) in
     and_from _ _ (and_from _ _ (le-leb low x ge) (lt-ltb x n lt)) rest
 
@@ -104,14 +104,14 @@ pub record IsRead (P : Network) (c d n : ℕ) : Type 0 where
 
 pub neighbour-read : (P : Network) (c d n : ℕ) → neighbour P c d ≡ Some n → IsRead P c d n
 neighbour-read P c d n e = elim (cases_lt d P.dirs) [
-    inr ge ↦
+  | inr ge ↦
       let z : neighbour P c d ≡ None = cond-false _ (named (get_or P.neighbours (c * P.dirs + d) NO_CELL)) None (le-ltb d P.dirs ge) in
       cc
   | inl l ↦
       let i = c * P.dirs + d in
       let at : neighbour P c d ≡ named (get_or P.neighbours i NO_CELL) = cond-true _ _ None (lt-ltb d P.dirs l) in
       elim (cases_eq (get_or P.neighbours i NO_CELL) NO_CELL) [
-          inl none ↦
+        | inl none ↦
             let z : named (get_or P.neighbours i NO_CELL) ≡ None = cond-true _ None (Some (get_or P.neighbours i NO_CELL)) (eq-eqb _ NO_CELL none) in
             cc
         | inr some ↦
@@ -119,10 +119,10 @@ neighbour-read P c d n e = elim (cases_lt d P.dirs) [
             record {
               dir_in = l;
               inside = elim (cases_lt i (length P.neighbours)) [ inl m ↦ m | inr ge ↦ absurd (some (get_or_past P.neighbours i NO_CELL ge)) ];
-              entry = cc
+              entry = cc;
             }
-        ]
-  ]
+      ]
+]
 
 -- and the other way: an entry that is not none is the neighbour
 pub neighbour-is : (P : Network) (c d : ℕ) → d < P.dirs → (get_or P.neighbours (c * P.dirs + d) NO_CELL ≡ NO_CELL → ⊥) → neighbour P c d ≡ Some (get_or P.neighbours (c * P.dirs + d) NO_CELL)
@@ -133,16 +133,16 @@ neighbour-is P c d l some =
 -- a list that has a support stands in the table
 pub supports-inside : (P : Network) (v d w : ℕ) → Contains (supports_of P v d) w → v * P.dirs + d < length P.supports
 supports-inside P v d w k = elim (cases_lt (v * P.dirs + d) (length P.supports)) [
-    inl l ↦ l
+  | inl l ↦ l
   | inr ge ↦ let none = ap length (get_or_past P.supports (v * P.dirs + d) [] ge) in absurd (omega (arith, k.1))
-  ]
+]
 
 -- a place of a table with so many columns lies in a row that there is
 pub row-below : (r c columns rows : ℕ) → r * columns + c < rows * columns → r < rows
 row-below r c columns rows l = elim (cases_lt r rows) [
-    inl m ↦ m
+  | inl m ↦ m
   | inr ge ↦ let le : rows * columns ≤ r * columns = mul-le-mul_right columns ge in absurd (omega arith)
-  ]
+]
 
 -- ---- directions
 
@@ -155,16 +155,16 @@ opposite_high d h = cond-false _ _ _ (le-ltb d 4 h)
 -- turning round twice
 pub opposite-opposite : (d : ℕ) → d < 6 → opposite (opposite d) ≡ d
 opposite-opposite d h = elim (cases_lt d 4) [
-    inl l ↦ ap opposite (opposite_low d l) ∙ opposite_low ((d + 2) % 4) (omega arith) ∙ omega arith
+  | inl l ↦ ap opposite (opposite_low d l) ∙ opposite_low ((d + 2) % 4) (omega arith) ∙ omega arith
   | inr l ↦ ap opposite (opposite_high d l) ∙ opposite_high (9 - d) (omega arith) ∙ omega arith
-  ]
+]
 
 -- the opposite of a direction that there is, is one
 pub opposite-below : (dirs d : ℕ) → (dirs ≡ 4) ⊎ (dirs ≡ 6) → d < dirs → opposite d < dirs
 opposite-below dirs d many h = elim (cases_lt d 4) [
-    inl l ↦ let e = opposite_low d l in elim many [ inl f ↦ omega arith | inr f ↦ omega arith ]
+  | inl l ↦ let e = opposite_low d l in elim many [ inl f ↦ omega arith | inr f ↦ omega arith ]
   | inr l ↦ let e = opposite_high d l in elim many [ inl f ↦ omega arith | inr f ↦ omega arith ]
-  ]
+]
 
 -- no neighbour is none
 pub neighbour-some : (P : Network) (c d n : ℕ) → neighbour P c d ≡ Some n → n ≡ NO_CELL → ⊥
@@ -201,12 +201,12 @@ flag-past n flags c v ge = get_or_past (take n (drop (c * n) flags)) v false (om
 -- a flag that is set stands in the table
 pub flag-inside : (n : ℕ) (flags : List Bool) (c v : ℕ) → has_flag n flags c v ≡ true → (v < n) × (c * n + v < length flags)
 flag-inside n flags c v t = elim (cases_lt v n) [
-    inr ge ↦ absurd (false≢true (sym (flag-past n flags c v ge) ∙ t))
+  | inr ge ↦ absurd (false≢true (sym (flag-past n flags c v ge) ∙ t))
   | inl l ↦ elim (cases_lt (c * n + v) (length flags)) [
-        inl m ↦ (l, m)
-      | inr ge ↦ absurd (false≢true (sym (get_or_past flags (c * n + v) false ge) ∙ sym (flag-at n flags c v l) ∙ t))
-      ]
+    | inl m ↦ (l, m)
+    | inr ge ↦ absurd (false≢true (sym (get_or_past flags (c * n + v) false ge) ∙ sym (flag-at n flags c v l) ∙ t))
   ]
+]
 
 -- a base value is a value of a cell
 pub base-inside : (P : Network) → IsProblem P → (c v : ℕ) → in_base P c v ≡ true → (c < P.cells) × (v < values P)

@@ -10,6 +10,7 @@ ghost use Rattle.wfc_problem.specs.Network.{values};
 use crate::{MAX_PAIRS, MAX_VALUES, MAX_WEIGHT, NO_CELL, Part, Parts, ProblemFault, opposite};
 
 /// All checks, in their order.
+#[tactic(auto, using(crate::proofs::Faults::sized, crate::proofs::Faults::indexed))]
 pub fn check(parts: &Parts) -> Result<(), ProblemFault>
     ensures { result_err result ≡ fault_of parts.now }
 {
@@ -72,7 +73,9 @@ fn check_neighbours(parts: &Parts) -> Result<(), ProblemFault>
 fn first_wrong_entry(entries: &[u32], cells: u32) -> Option<usize>
     ensures { result ≡ position (λ entry. not (is_entry cells entry)) entries.now }
 {
-    entries.iter().position(|&entry| !(entry == NO_CELL || entry < cells))
+    entries
+        .iter()
+        .position(|&entry| !(entry == NO_CELL || entry < cells))
 }
 
 fn check_supports(parts: &Parts) -> Result<(), ProblemFault>
@@ -123,7 +126,9 @@ fn check_weights(parts: &Parts) -> Result<(), ProblemFault>
 fn first_wrong_weight(weights: &[u32]) -> Option<usize>
     ensures { result ≡ position (λ weight. not (is_weight weight)) weights.now }
 {
-    weights.iter().position(|&weight| !(0 < weight && weight <= MAX_WEIGHT))
+    weights
+        .iter()
+        .position(|&weight| !(0 < weight && weight <= MAX_WEIGHT))
 }
 
 fn check_ways_back(parts: &Parts) -> Result<(), ProblemFault>

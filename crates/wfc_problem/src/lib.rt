@@ -13,9 +13,10 @@ ghost use Rattle.wfc_problem.specs.Network.{values, weight_of, opposite, neighbo
 mod checks;
 pub mod laws;
 mod plain;
+#[cfg(test)]
+mod tests;
 
 pub use plain::greatest_domains;
-
 use std::marker::Model;
 use thiserror::Error;
 
@@ -72,12 +73,12 @@ impl Model for Parts {
     ghost Value = { Network };
 
     ghost view = { λ a. record {
-        cells = a.cells;
-        dirs = a.dirs;
-        neighbours = a.neighbours.items;
-        weights = a.weights.items;
-        supports = map (λ v. v.items) a.supports.items;
-        base = a.base.items
+      cells = a.cells;
+      dirs = a.dirs;
+      neighbours = a.neighbours.items;
+      weights = a.weights.items;
+      supports = map (λ v. v.items) a.supports.items;
+      base = a.base.items;
     } };
 }
 

@@ -12,7 +12,11 @@ use std::alloc::{AllocError, Global};
 
 /// The greatest arc-consistent domains of a problem whose base is cut by literals, as one flag for each cell and
 /// value, row by row. It makes as many rounds over the whole problem as there are pairs of a cell and a base value.
-pub fn greatest_domains(alloc: Global, problem: &Problem, literals: &[Literal]) -> Result<Vec<bool>, ProblemFault>
+pub fn greatest_domains(
+    alloc: Global,
+    problem: &Problem,
+    literals: &[Literal],
+) -> Result<Vec<bool>, ProblemFault>
     ensures length { IfOk result (λ flags. vec_len flags ≡ problem.now.cells * values problem.now) }
     ensures value { IfOk result (λ flags. has_flag (values problem.now) flags.items ≡ greatest problem.now literals.now) }
     ensures greatest { IfOk result (λ flags. IsGreatest problem.now literals.now (has_flag (values problem.now) flags.items)) }
@@ -76,10 +80,8 @@ fn leaves(literal: Literal, c: u32, v: u16) -> bool
 fn next_round(alloc: Global, problem: &Problem, flags: &[bool]) -> Result<Vec<bool>, AllocError>
     requires { length flags.now ≡ problem.now.cells * values problem.now }
     ensures length { IfOk result (λ next. vec_len next ≡ problem.now.cells * values problem.now) }
-    ensures value {
-        IfOk result (λ next. has_flag (values problem.now) next.items
-          ≡ round problem.now (has_flag (values problem.now) flags.now))
-    }
+    ensures value { IfOk result (λ next. has_flag (values problem.now) next.items
+        ≡ round problem.now (has_flag (values problem.now) flags.now)) }
 {
     let values = problem.values() as usize;
     let mut next = Vec::new(alloc);
@@ -116,10 +118,8 @@ fn side_holds(problem: &Problem, flags: &[bool], cell: u32, value: u16, dir: u8)
     requires cell_in { cell < problem.now.cells }
     requires value_in { value < values problem.now }
     requires dir_in { dir < problem.now.dirs }
-    ensures {
-        result ≡ side_holds problem.now (has_flag (values problem.now) flags.now) value dir
-          (neighbour problem.now cell dir)
-    }
+    ensures { result ≡ side_holds problem.now (has_flag (values problem.now) flags.now) value dir
+        (neighbour problem.now cell dir) }
 {
     match problem.neighbour(cell, dir) {
         None => true,

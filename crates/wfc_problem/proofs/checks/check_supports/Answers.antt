@@ -13,12 +13,12 @@ pub returns-in-Some : goal.returns-in-Some
 returns-in-Some c =
     let found = rw (c.deref.ensures.value, c.len.ensures, c.parts.inside.weights.ok.0) at (sym c.first_wrong_list.ensures ∙ c.in-Some.is) in
     rw (← c.parts.view_is)
-      (sym (ap (option_map (λ (at : ℕ). BadIndex Supports at))
-        (position-map (λ (list : Vec ℕ Global). list.items) _ c.parts.inside.supports.items ∙ found)))
+    (sym (ap (option_map (λ (at : ℕ). BadIndex Supports at))
+    (position-map (λ (list : Vec ℕ Global). list.items) _ c.parts.inside.supports.items ∙ found)))
 
 pub returns-in-None : goal.returns-in-None
 returns-in-None c =
     let found = rw (c.deref.ensures.value, c.len.ensures, c.parts.inside.weights.ok.0) at (sym c.first_wrong_list.ensures ∙ c.in-None.is) in
     rw (← c.parts.view_is)
-      (sym (ap (option_map (λ (at : ℕ). BadIndex Supports at))
-        (position-map (λ (list : Vec ℕ Global). list.items) _ c.parts.inside.supports.items ∙ found)))
+    (sym (ap (option_map (λ (at : ℕ). BadIndex Supports at))
+    (position-map (λ (list : Vec ℕ Global). list.items) _ c.parts.inside.supports.items ∙ found)))

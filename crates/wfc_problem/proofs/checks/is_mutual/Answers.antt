@@ -12,12 +12,12 @@ pub ok-requires-clause-value_in : goal.ok-requires-clause-value_in
 ok-requires-clause-value_in c =
     let other = get_or c.supports-other-items.result.now c.loop-other.other-index 0 in
     c.requires.indexed.in_values c.args.value other c.args.dir c.requires.dir_in
-      (let has : List ℕ → Type 0 = λ xs. Contains xs other in
-       subst has c.supports-other-items.ensures (Contains-get_or c.supports-other-items.result.now c.loop-other.other-index 0 c.loop-other-test.true))
+    (let has : List ℕ → Type 0 = λ xs. Contains xs other in
+    subst has c.supports-other-items.ensures (Contains-get_or c.supports-other-items.result.now c.loop-other.other-index 0 c.loop-other-test.true))
 
 pub returns : goal.returns
 returns c =
     let xs : List ℕ = c.supports-other-items.result.now in
     let all : list_all (λ (w : ℕ). ok c.args.parts.now c.opposite-back.result w c.args.value) xs ≡ true
-      = list_all-from_AllPass _ xs (λ k d l. ap (λ (w : ℕ). ok c.args.parts.now c.opposite-back.result w c.args.value) (get_or_default xs k d 0 l) ∙ c.loop-other.invariant k (omega arith)) in
+    = list_all-from_AllPass _ xs (λ k d l. ap (λ (w : ℕ). ok c.args.parts.now c.opposite-back.result w c.args.value) (get_or_default xs k d 0 l) ∙ c.loop-other.invariant k (omega arith)) in
     sym (rw (c.opposite-back.ensures, c.supports-other-items.ensures) at all)

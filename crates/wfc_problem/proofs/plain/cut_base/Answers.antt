@@ -11,7 +11,7 @@ loop-place-preserved c =
     record {
       so_many = omega (arith, c.in_ok-push.ensures.len);
       told = rw c.in_ok-push.ensures.items
-        (tells-push _ _ c.loop-place.flags.items c.loop-place.place c.is_left.result c.values-values.ensures.problem.some_value (omega arith) c.loop-place.invariant.told is)
+          (tells-push _ _ c.loop-place.flags.items c.loop-place.place c.is_left.result c.values-values.ensures.problem.some_value (omega arith) c.loop-place.invariant.told is);
     }
 
 pub returns-clause-value : goal.returns-clause-value

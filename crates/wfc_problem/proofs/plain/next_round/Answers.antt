@@ -12,11 +12,11 @@ loop-place-preserved c =
     record {
       so_many = omega (arith, c.in_ok-push.ensures.len);
       told = rw c.in_ok-push.ensures.items
-        (tells-push _ _ c.loop-place.next.items c.loop-place.place c.stays.result c.values-values.ensures.problem.some_value (omega arith) c.loop-place.invariant.told is)
+          (tells-push _ _ c.loop-place.next.items c.loop-place.place c.stays.result c.values-values.ensures.problem.some_value (omega arith) c.loop-place.invariant.told is);
     }
 
 pub returns-clause-value : goal.returns-clause-value
 returns-clause-value c =
     let long = c.loop-place.next.ok.0 in
     flags-are c.args.problem.now _ c.loop-place.next.items (omega arith)
-      (round-inside c.args.problem.now (has_flag (values c.args.problem.now) c.args.flags.now) (flags-inside c.args.problem.now c.args.flags.now c.requires)) c.loop-place.invariant.told
+    (round-inside c.args.problem.now (has_flag (values c.args.problem.now) c.args.flags.now) (flags-inside c.args.problem.now c.args.flags.now c.requires)) c.loop-place.invariant.told
