@@ -1,0 +1,22 @@
+-- Each flag is that of the next place, and the whole table is the cut base.
+use Rattle.std.proofs.Common.{◌≡◌, ◌+◌, length, ap, arith, sym, ◌∙◌, vec_len}
+use Rattle.wfc_problem.proofs.Flags.{Tells, flags-are, tells-push}
+use Rattle.wfc_problem.proofs.Rounds.{base_with-inside}
+use Rattle.wfc_problem.proofs.plain.cut_base.Goals as goal
+
+pub loop-place-preserved : goal.loop-place-preserved
+loop-place-preserved c =
+    let is = rw c.values-values.ensures.value at c.is_left.ensures in
+    let long = c.loop-place.flags.ok.0 in
+    record {
+      so_many = omega (arith, c.in_ok-push.ensures.len);
+      told = rw c.in_ok-push.ensures.items
+          (tells-push _ _ c.loop-place.flags.items c.loop-place.place c.is_left.result c.values-values.ensures.problem.some_value (omega arith) c.loop-place.invariant.told is);
+    }
+
+pub returns-clause-value : goal.returns-clause-value
+returns-clause-value c =
+    let long = c.loop-place.flags.ok.0 in
+    let p = c.base-place-end.ensures.problem in
+    let same = ap length c.base-place-end.ensures.value in
+    flags-are c.args.problem.now _ c.loop-place.flags.items (omega (arith, p.base_table)) (base_with-inside c.args.problem.now p c.args.literals.now) c.loop-place.invariant.told

@@ -1,0 +1,5 @@
+pub mod Network
+pub mod Fault
+pub mod Assignment
+pub mod Domains
+pub mod Rounds
