@@ -20,24 +20,26 @@ pub marks_more : (marks : List Bool) (cells : List ℕ) (i cell : ℕ) → lengt
 marks_more marks cells i cell long inside read small so_far b range =
     let e : take (i + 1) cells ≡ take i cells ++ cell ∷ [] = take_more cells i 0 inside ∙ ap (λ (c : ℕ). take i cells ++ c ∷ []) (sym read) in
     let f : list_any (nat_eq b) (take (i + 1) cells) ≡ (list_any (nat_eq b) (take i cells) || (nat_eq b cell || false)) =
-        ap (list_any (nat_eq b)) e ∙ list_any-append (nat_eq b) (take i cells) (cell ∷ []) in
+    ap (list_any (nat_eq b)) e ∙ list_any-append (nat_eq b) (take i cells) (cell ∷ []) in
     let g : get_or marks b false ≡ list_any (nat_eq b) (take i cells) = so_far b range in
     elim (cases_eq b cell) [
-      inl same ↦ (
-        let found : nat_eq b cell ≡ true = eq-eqb b cell same in
-        ap (λ (j : ℕ). get_or (set marks cell true) j false) same ∙ get_or-set_same marks cell true false (omega arith) ∙ sym (f ∙ after_yes (list_any (nat_eq b) (take i cells)) (nat_eq b cell) found))
-    | inr apart ↦ (
-        let other : nat_eq b cell ≡ false = not_true (nat_eq b cell) (λ e. apart ((Decides-eqb b cell).0 e)) in
-        get_or-set_other marks cell b true false apart ∙ g ∙ sym (f ∙ after_no (list_any (nat_eq b) (take i cells)) (nat_eq b cell) other))
+      | inl same ↦ (
+          let found : nat_eq b cell ≡ true = eq-eqb b cell same in
+          ap (λ (j : ℕ). get_or (set marks cell true) j false) same ∙ get_or-set_same marks cell true false (omega arith) ∙ sym (f ∙ after_yes (list_any (nat_eq b) (take i cells)) (nat_eq b cell) found))
+      | inr apart ↦ (
+          let other : nat_eq b cell ≡ false = not_true (nat_eq b cell) (λ e. apart ((Decides-eqb b cell).0 e)) in
+          get_or-set_other marks cell b true false apart ∙ g ∙ sym (f ∙ after_no (list_any (nat_eq b) (take i cells)) (nat_eq b cell) other))
     ]
   where
     not_true : (b : Bool) → (b ≡ true → ⊥) → b ≡ false
     not_true true h = absurd (h refl)
     not_true false h = refl
+
     after_yes : (a b : Bool) → b ≡ true → (a || (b || false)) ≡ true
     after_yes true b e = refl
     after_yes false true e = refl
     after_yes false false e = e
+
     after_no : (a b : Bool) → b ≡ false → (a || (b || false)) ≡ a
     after_no true b e = refl
     after_no false true e = e
@@ -61,7 +63,7 @@ upward n = λ k inside.
     omega arith
 
 pub passing_rise : (p : ℕ → Bool) (n : ℕ) (bytes : List ℕ) → bytes ≡ passing p n → AllPairs (λ a b. a < b) bytes
-passing_rise p n bytes made = 
+passing_rise p n bytes made =
     subst (λ (xs : List ℕ). AllPairs (λ a b. a < b) xs) (sym made) (AllPairs-from_increasing (passing p n) (IsStrictlyIncreasing-filter p (map (λ b. b) (range_with_len 0 n)) (upward n)))
 
 same_256 : (p : ℕ → Bool) (cells : List ℕ) → All (λ c. c < 256) cells → ((b : ℕ) → b < 256 → p b ≡ list_any (nat_eq b) cells)
@@ -70,16 +72,17 @@ same_256 p cells small among b =
     let all : List ℕ = map (λ (b : ℕ). b) (range_with_len 0 256) in
     let long : length all ≡ 256 = length-map-range_with_len (λ (b : ℕ). b) 0 256 in
     let at : (k : ℕ) → k < 256 → get_or all k 0 ≡ k = λ k inside. get_or-map-range_with_len (λ (b : ℕ). b) 0 256 k k 0 inside (omega arith) in
-    let below : All (λ c. c < 256) all = All-from_get_or (λ c. c < 256) all 0 (λ k inside. omega (arith, at k (omega arith))) in
-    ( (λ within.
-        let passes : p b ≡ true = All-contains (λ c. p c ≡ true) (filter p all) b (filter_passes p all) within in
-        let inside : b < 256 = All-contains (λ c. c < 256) (filter p all) b (All-filter p (λ c. c < 256) all below) within in
-        Contains-from_any exact_unsigned_eq b cells (sym (among b inside) ∙ passes)),
+    let below : All (λ c. c < 256) all = All-from_get_or (λ c. c < 256) all 0 (λ k inside. omega (arith, at k (omega arith))) in (
       (λ within.
-        let inside : b < 256 = All-contains (λ c. c < 256) cells b small within in
-        let passes : p b ≡ true = among b inside ∙ list_any-from_Contains nat_eq_equiv b cells within in
-        let there : Contains all b = let e : get_or all b 0 ≡ b = at b inside in subst (Contains all) e (Contains-get_or all b 0 (omega arith)) in
-        All-contains (λ c. p c ≡ true → Contains (filter p all) c) all b (All-kept p all) there passes))
+          let passes : p b ≡ true = All-contains (λ c. p c ≡ true) (filter p all) b (filter_passes p all) within in
+          let inside : b < 256 = All-contains (λ c. c < 256) (filter p all) b (All-filter p (λ c. c < 256) all below) within in
+          Contains-from_any exact_unsigned_eq b cells (sym (among b inside) ∙ passes)),
+      (λ within.
+          let inside : b < 256 = All-contains (λ c. c < 256) cells b small within in
+          let passes : p b ≡ true = among b inside ∙ list_any-from_Contains nat_eq_equiv b cells within in
+          let there : Contains all b = let e : get_or all b 0 ≡ b = at b inside in subst (Contains all) e (Contains-get_or all b 0 (omega arith)) in
+          All-contains (λ c. p c ≡ true → Contains (filter p all) c) all b (All-kept p all) there passes),
+    )
 
 -- a number passes where it is one of a list: then those that pass are those of the list
 pub passing_same : (p : ℕ → Bool) (n : ℕ) (bytes cells : List ℕ) → bytes ≡ passing p n → n ≡ 256 → All (λ c. c < 256) cells
@@ -100,11 +103,11 @@ module _ (P : ℕ → Type 0) (bytes : List ℕ) (next : ℕ) where
       let k = within.0 in
       let e : get_or bytes k 0 ≡ b = get_or_default bytes k 0 b within.1 ∙ within.2 in
       elim (cases_lt k i) [
-        inl earlier ↦ passed k earlier (omega arith) (subst P (sym e) holds)
-      | inr later ↦ elim (cases_eq i k) [
-            inl same ↦ (let f : get_or bytes i 0 ≡ get_or bytes k 0 = ap (λ (j : ℕ). get_or bytes j 0) same in omega arith)
+        | inl earlier ↦ passed k earlier (omega arith) (subst P (sym e) holds)
+        | inr later ↦ elim (cases_eq i k) [
+          | inl same ↦ (let f : get_or bytes i 0 ≡ get_or bytes k 0 = ap (λ (j : ℕ). get_or bytes j 0) same in omega arith)
           | inr apart ↦ (let g : get_or bytes i 0 < get_or bytes k 0 = rising i k 0 (omega arith) within.1 in omega arith)
-          ]
+        ]
       ]
 
   pub none_at_all : (i : ℕ) → length bytes ≤ i → PassedBy i → (b : ℕ) → next ≤ b → Contains bytes b → P b → ⊥
@@ -112,4 +115,3 @@ module _ (P : ℕ → Type 0) (bytes : List ℕ) (next : ℕ) where
       let k = within.0 in
       let e : get_or bytes k 0 ≡ b = get_or_default bytes k 0 b within.1 ∙ within.2 in
       passed k (omega arith) (omega arith) (subst P (sym e) holds)
-

@@ -23,13 +23,13 @@ pub window_flat : (m : Raster) (w h n x y : ℕ) → IsSized m w h → x + n ≤
 window_flat m w h n x y sized left below =
     square-same n (λ i j. number_at m ((x + i) % m.width) ((y + j) % height_of m)) (λ i j. get_or (numbers_of m) (y * w + x + j * w + i) 0)
     (λ i j column row.
-      let e : (x + i) % m.width ≡ x + i = mod-eq_of_lt (omega (arith, sized.same_width)) in
-      let f : (y + j) % height_of m ≡ y + j = mod-eq_of_lt (omega (arith, sized.same_height)) in
-      let g : (y + j) * w + (x + i) ≡ y * w + x + j * w + i = omega arith in
-      ap (λ (c : ℕ). number_at m c ((y + j) % height_of m)) e
-      ∙ ap (λ (r : ℕ). number_at m (x + i) r) f
-      ∙ number_at-numbers_of m w h sized (x + i) (y + j) (omega arith) (omega arith)
-      ∙ ap (λ (k : ℕ). get_or (numbers_of m) k 0) g)
+    let e : (x + i) % m.width ≡ x + i = mod-eq_of_lt (omega (arith, sized.same_width)) in
+    let f : (y + j) % height_of m ≡ y + j = mod-eq_of_lt (omega (arith, sized.same_height)) in
+    let g : (y + j) * w + (x + i) ≡ y * w + x + j * w + i = omega arith in
+    ap (λ (c : ℕ). number_at m c ((y + j) % height_of m)) e
+    ∙ ap (λ (r : ℕ). number_at m (x + i) r) f
+    ∙ number_at-numbers_of m w h sized (x + i) (y + j) (omega arith) (omega arith)
+    ∙ ap (λ (k : ℕ). get_or (numbers_of m) k 0) g)
 
 -- padded windows of one side are one where they are padded to the same
 padded_same : (n : ℕ) (v w : List ℕ) → length v ≡ n * n → length w ≡ n * n → padded v ≡ padded w → v ≡ w
@@ -46,8 +46,8 @@ first_image n (suc k) w first = absurd (omega arith)
 span : (side n x : ℕ) → 1 ≤ n → n ≤ side → x < side → (s : ℕ) × (i : ℕ) × (s + n ≤ side) × (i < n) × (x ≡ s + i)
 span side n x some fits inside =
     elim (cases_lt side (x + n)) [
-      inl past ↦ (side - n, x - (side - n), omega arith, omega arith, omega arith)
-    | inr before ↦ (x, 0, omega arith, omega arith, omega arith)
+      | inl past ↦ (side - n, x - (side - n), omega arith, omega arith, omega arith)
+      | inr before ↦ (x, 0, omega arith, omega arith, omega arith)
     ]
 
 rejoined : (a b : ℕ) → b ≤ a → a ≡ a - b + b
@@ -106,7 +106,7 @@ module _ (cells : List ℕ) (sw sh : ℕ) (lore : Lore) (some : 1 ≤ lore.n) (s
       let high : y < height_of sample + 1 - lore.n = subst (λ (h : ℕ). y < h + 1 - lore.n) (sym (height-raster_of sw sh cells)) (start_from_fit sh lore.n y known.3) in
       subst (Contains (learned sample lore.n 1 false)) f
       (without_repeats-Contains (arising sample lore.n 1 false) (window sample x y lore.n)
-       (Contains-arising sample lore.n 1 false x y 0 (start_from_fit sw lore.n x known.2) high (omega arith)))
+      (Contains-arising sample lore.n 1 false x y 0 (start_from_fit sw lore.n x known.2) high (omega arith)))
 
   -- each number of a learned window is a byte of the sample
   byte_of_learned : (v : List ℕ) (f : ℕ → ℕ → ℕ) (i j : ℕ) → v ≡ square lore.n f → Contains (learned sample lore.n 1 false) v → i < lore.n → j < lore.n → Contains cells (f i j)
@@ -132,7 +132,7 @@ module _ (cells : List ℕ) (sw sh : ℕ) (lore : Lore) (some : 1 ≤ lore.n) (s
         let i : ℕ = column.1 in
         let j : ℕ = row.1 in
         let within : Contains (learned sample n 1 false) (window m x y n) =
-            at_place (λ (place : ℕ × ℕ). Contains (learned sample n 1 false) (window m place.0 place.1 n)) w h n false legal.windows x y (start_from_fit w n x column.2) (start_from_fit h n y row.2) in
+        at_place (λ (place : ℕ × ℕ). Contains (learned sample n 1 false) (window m place.0 place.1 n)) w h n false legal.windows x y (start_from_fit w n x column.2) (start_from_fit h n y row.2) in
         let whole : k / w * w + k % w ≡ k = div-add-mod' k w in
         let split : k / w * w ≡ (y + j) * w = ap (λ (r : ℕ). r * w) row.4 in
         let e : y * w + x + j * w + i ≡ k = omega (arith, column.4, split) in
@@ -150,7 +150,7 @@ module _ (cells : List ℕ) (sw sh : ℕ) (lore : Lore) (some : 1 ≤ lore.n) (s
         let right : x + n ≤ w = omega arith in
         let down : y + n ≤ h = omega arith in
         let within : Contains (learned sample n 1 false) (window m x y n) =
-            at_place (λ (place : ℕ × ℕ). Contains (learned sample n 1 false) (window m place.0 place.1 n)) w h n false legal.windows x y (start_from_fit w n x right) (start_from_fit h n y down) in
+        at_place (λ (place : ℕ × ℕ). Contains (learned sample n 1 false) (window m place.0 place.1 n)) w h n false legal.windows x y (start_from_fit w n x right) (start_from_fit h n y down) in
         let whole : k / w * w + k % w ≡ k = div-add-mod' k w in
         let split : k / w * w ≡ y * w + (n - 1) * w = ap (λ (r : ℕ). r * w) (rejoined (k / w) (n - 1) below) ∙ add-mul y (n - 1) w in
         let start : y * w + x ≡ k - reach w n = omega arith in
@@ -180,21 +180,21 @@ module _ (cells : List ℕ) (sw sh : ℕ) (lore : Lore) (some : 1 ≤ lore.n) (s
         let start : k - reach w n ≡ y * w + x = omega arith in
         let flat : List ℕ = flat_window pixels w (y * w + x) n in
         let known : Contains lore.keys (padded flat) =
-            subst (λ (first : ℕ). Contains lore.keys (padded (flat_window pixels w first n))) start (filled.windows k inside (omega arith) (omega arith)) in
+        subst (λ (first : ℕ). Contains lore.keys (padded (flat_window pixels w first n))) start (filled.windows k inside (omega arith) (omega arith)) in
         let e : window (raster_of w h pixels) x y n ≡ flat =
-            window_flat (raster_of w h pixels) w h n x y (IsSized-raster_of w h pixels (omega arith) (omega arith) long) right down
-            ∙ ap (λ (xs : List ℕ). flat_window xs w (y * w + x) n) (numbers_of-raster_of w h pixels long) in
+        window_flat (raster_of w h pixels) w h n x y (IsSized-raster_of w h pixels (omega arith) (omega arith) long) right down
+        ∙ ap (λ (xs : List ℕ). flat_window xs w (y * w + x) n) (numbers_of-raster_of w h pixels long) in
         subst (Contains (learned sample n 1 false)) (sym e) (learned_from_known flat (length-square n (λ i j. get_or pixels (y * w + x + j * w + i) 0)) known)
 
     pub legal_if_filled : (pixels : List ℕ) → length pixels ≡ lore.width * h → IsFilled lore pixels → IsLegalPicture sample (plain_rules lore.n) [] lore.width h (raster_of lore.width h pixels)
     legal_if_filled pixels long filled = record {
-        sized = IsSized-raster_of lore.width h pixels (omega arith) (omega arith) long;
-        wide = wide;
-        high = high;
-        windows = All-places (λ (place : ℕ × ℕ). Contains (learned sample lore.n 1 false) (window (raster_of lore.width h pixels) place.0 place.1 lore.n)) lore.width h lore.n false
-            (λ x y left below. learned_of_filled pixels long filled x y (start_fits lore.width lore.n x left) (start_fits h lore.n y below));
-        held = All-nil (IsHeld (raster_of lore.width h pixels));
-      }
+      sized = IsSized-raster_of lore.width h pixels (omega arith) (omega arith) long;
+      wide = wide;
+      high = high;
+      windows = All-places (λ (place : ℕ × ℕ). Contains (learned sample lore.n 1 false) (window (raster_of lore.width h pixels) place.0 place.1 lore.n)) lore.width h lore.n false
+          (λ x y left below. learned_of_filled pixels long filled x y (start_fits lore.width lore.n x left) (start_fits h lore.n y below));
+      held = All-nil (IsHeld (raster_of lore.width h pixels));
+    }
 
 -- ---- the same of a search for n by n windows in a map of width w, of a sample of sides sw and sh
 pub record Knows (cells : List ℕ) (sw sh n w h : ℕ) (lore : Lore) : Type 0 where
@@ -217,7 +217,7 @@ filled_from_legal cells sw sh n w h lore knows m legal =
     filled_if_legal cells sw sh lore (omega (arith, knows.some)) (omega (arith, knows.sample_wide)) (omega (arith, knows.sample_high)) knows.size knows.bytes
     (subst (AreWindowsOf lore.keys cells sw sh) side knows.windows) h (omega (arith, knows.wide)) (omega (arith, knows.high)) m
     (subst (λ (v : ℕ). IsLegalPicture (raster_of sw sh cells) (plain_rules lore.n) [] v h m) width
-     (subst (λ (v : ℕ). IsLegalPicture (raster_of sw sh cells) (plain_rules v) [] w h m) side legal))
+    (subst (λ (v : ℕ). IsLegalPicture (raster_of sw sh cells) (plain_rules v) [] w h m) side legal))
 
 pub legal_from_filled : (cells : List ℕ) (sw sh n w h : ℕ) (lore : Lore) → Knows cells sw sh n w h lore → (pixels : List ℕ) → length pixels ≡ w * h
     → IsFilled lore pixels → IsLegalPicture (raster_of sw sh cells) (plain_rules n) [] w h (raster_of w h pixels)
@@ -226,9 +226,9 @@ legal_from_filled cells sw sh n w h lore knows pixels long filled =
     let width : w ≡ lore.width = sym knows.width in
     subst (λ (v : ℕ). IsLegalPicture (raster_of sw sh cells) (plain_rules v) [] w h (raster_of w h pixels)) knows.side
     (subst (λ (v : ℕ). IsLegalPicture (raster_of sw sh cells) (plain_rules lore.n) [] v h (raster_of v h pixels)) knows.width
-     (legal_if_filled cells sw sh lore (omega (arith, knows.some)) (omega (arith, knows.sample_wide)) (omega (arith, knows.sample_high)) knows.size knows.bytes
-      (subst (AreWindowsOf lore.keys cells sw sh) side knows.windows) h (omega (arith, knows.wide)) (omega (arith, knows.high)) pixels
-      (long ∙ ap (λ (v : ℕ). v * h) width) filled))
+    (legal_if_filled cells sw sh lore (omega (arith, knows.some)) (omega (arith, knows.sample_wide)) (omega (arith, knows.sample_high)) knows.size knows.bytes
+    (subst (AreWindowsOf lore.keys cells sw sh) side knows.windows) h (omega (arith, knows.wide)) (omega (arith, knows.high)) pixels
+    (long ∙ ap (λ (v : ℕ). v * h) width) filled))
 
 pub bytes_from_filled : (cells : List ℕ) (sw sh n w h : ℕ) (lore : Lore) → Knows cells sw sh n w h lore → (pixels : List ℕ) → IsFilled lore pixels → All (Contains cells) pixels
 bytes_from_filled cells sw sh n w h lore knows pixels filled = All-weaker (Contains lore.bytes) (Contains cells) (λ b within. (knows.bytes b).0 within) pixels filled.bytes

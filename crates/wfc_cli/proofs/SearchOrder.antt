@@ -20,8 +20,8 @@ ahead_cases (p ∷ pixels) next [] ahead = absurd ahead
 ahead_cases (p ∷ pixels) next (q ∷ map) (inl above) = inl (inl above)
 ahead_cases (p ∷ pixels) next (q ∷ map) (inr both) =
     elim (ahead_cases pixels next map both.1) [
-      inl above ↦ inl (inr (both.0, above))
-    | inr same ↦ inr (let e : p ≡ q = both.0 in let f : take (length pixels) map ≡ pixels = same.0 in cc, same.1)
+      | inl above ↦ inl (inr (both.0, above))
+      | inr same ↦ inr (let e : p ≡ q = both.0 in let f : take (length pixels) map ≡ pixels = same.0 in cc, same.1)
     ]
 
 -- a map above the pixels is above them with one more
@@ -65,11 +65,11 @@ pub ahead_forth : (lore : Lore) (pixels map : List ℕ) (next byte : ℕ) → le
     → ((b : ℕ) → next ≤ b → b < byte → CanFollow lore pixels b → ⊥) → IsAhead pixels next map → IsAhead (pixels ++ byte ∷ []) 0 map
 ahead_forth lore pixels map next byte shorter filled least ahead =
     elim (ahead_cases pixels next map ahead) [
-      inl above ↦ above_forth pixels byte map above
-    | inr same ↦ elim (cases_lt (get_or map (length pixels) 0) byte) [
-          inl below ↦ absurd (least (get_or map (length pixels) 0) same.1 below (follows_from_filled lore pixels map filled shorter same.0))
+      | inl above ↦ above_forth pixels byte map above
+      | inr same ↦ elim (cases_lt (get_or map (length pixels) 0) byte) [
+        | inl below ↦ absurd (least (get_or map (length pixels) 0) same.1 below (follows_from_filled lore pixels map filled shorter same.0))
         | inr above ↦ same_forth pixels byte map shorter same.0 above
-        ]
+      ]
     ]
 
 -- no byte can follow the last pixel: maps that are ahead are so without it, from the next byte on
@@ -78,8 +78,8 @@ pub ahead_back : (lore : Lore) (pixels map : List ℕ) (byte next : ℕ) → len
 ahead_back lore pixels map byte next shorter filled none ahead =
     let long : length (pixels ++ byte ∷ []) ≡ length pixels + 1 = length_push pixels byte in
     elim (ahead_cases (pixels ++ byte ∷ []) next map ahead) [
-      inl above ↦ above_back pixels byte map above
-    | inr same ↦ absurd (none (get_or map (length (pixels ++ byte ∷ [])) 0) same.1 (follows_from_filled lore (pixels ++ byte ∷ []) map filled (omega arith) same.0))
+      | inl above ↦ above_back pixels byte map above
+      | inr same ↦ absurd (none (get_or map (length (pixels ++ byte ∷ [])) 0) same.1 (follows_from_filled lore (pixels ++ byte ∷ []) map filled (omega arith) same.0))
     ]
 
 -- no byte can be the first pixel: no map is ahead
@@ -107,7 +107,7 @@ stands_forth lore map placed next byte stands inside follows least =
       within = omega arith;
       filled = subst (IsFilled lore) e (filled_push lore pixels byte stands.filled follows);
       ahead = λ other size filled.
-        subst (λ (ps : List ℕ). IsAhead ps 0 other) e (ahead_forth lore pixels other next byte (omega arith) filled least (stands.ahead other (size ∙ same) filled));
+          subst (λ (ps : List ℕ). IsAhead ps 0 other) e (ahead_forth lore pixels other next byte (omega arith) filled least (stands.ahead other (size ∙ same) filled));
     }
 
 pub stands_back : (lore : Lore) (map : List ℕ) (placed last next byte : ℕ) → Stands lore map placed next → placed < length map → last + 1 ≡ placed → byte ≡ get_or map last 0
@@ -116,11 +116,11 @@ stands_back lore map placed last next byte stands inside one read none =
     let pixels : List ℕ = take last map in
     let long : length pixels ≡ last = omega (arith, length-take last map) in
     let e : take placed map ≡ pixels ++ byte ∷ [] =
-        ap (λ (k : ℕ). take k map) (sym one) ∙ take_more map last 0 (omega arith) ∙ ap (λ (b : ℕ). pixels ++ b ∷ []) (sym read) in
+    ap (λ (k : ℕ). take k map) (sym one) ∙ take_more map last 0 (omega arith) ∙ ap (λ (b : ℕ). pixels ++ b ∷ []) (sym read) in
     record {
       within = omega arith;
       filled = subst (IsFilled lore) (take-take last placed map (omega arith)) (filled_take lore (take placed map) last stands.filled);
       ahead = λ other size filled.
-        ahead_back lore pixels other byte next (omega arith) filled (subst (λ (ps : List ℕ). (b : ℕ) → next ≤ b → CanFollow lore ps b → ⊥) e none)
-        (subst (λ (ps : List ℕ). IsAhead ps next other) e (stands.ahead other size filled));
+          ahead_back lore pixels other byte next (omega arith) filled (subst (λ (ps : List ℕ). (b : ℕ) → next ≤ b → CanFollow lore ps b → ⊥) e none)
+          (subst (λ (ps : List ℕ). IsAhead ps next other) e (stands.ahead other size filled));
     }

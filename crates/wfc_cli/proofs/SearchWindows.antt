@@ -35,9 +35,9 @@ known_same lore xs ys k same known = λ left below.
     let first = k - reach lore.width lore.n in
     let inside : first + reach lore.width lore.n < k + 1 = omega (arith, reach-le lore.width lore.n k left below) in
     let e : flat_window xs lore.width first lore.n ≡ flat_window ys lore.width first lore.n =
-        sym (flat_window-take xs lore.width first lore.n (k + 1) inside)
-        ∙ ap (λ (zs : List ℕ). flat_window zs lore.width first lore.n) same
-        ∙ flat_window-take ys lore.width first lore.n (k + 1) inside in
+    sym (flat_window-take xs lore.width first lore.n (k + 1) inside)
+    ∙ ap (λ (zs : List ℕ). flat_window zs lore.width first lore.n) same
+    ∙ flat_window-take ys lore.width first lore.n (k + 1) inside in
     subst (λ (window : List ℕ). Contains lore.keys (padded window)) e (known left below)
 
 -- ---- what may be placed
@@ -46,22 +46,22 @@ filled_nil lore = record { bytes = λ k d inside. absurd (omega arith); windows 
 
 pub filled_push : (lore : Lore) (pixels : List ℕ) (byte : ℕ) → IsFilled lore pixels → CanFollow lore pixels byte → IsFilled lore (pixels ++ byte ∷ [])
 filled_push lore pixels byte filled follows = record {
-    bytes = All-push (Contains lore.bytes) pixels byte filled.bytes follows.0;
-    windows = λ k inside.
+  bytes = All-push (Contains lore.bytes) pixels byte filled.bytes follows.0;
+  windows = λ k inside.
       elim (cases_lt k (length pixels)) [
-        inl before ↦ known_same lore pixels (pixels ++ byte ∷ []) k (sym (take-append-le (k + 1) pixels (byte ∷ []) (omega arith))) (filled.windows k before)
-      | inr last ↦ (let e : length pixels ≡ k = omega (arith, length_push pixels byte) in subst (IsKnownAt lore (pixels ++ byte ∷ [])) e follows.1)
+        | inl before ↦ known_same lore pixels (pixels ++ byte ∷ []) k (sym (take-append-le (k + 1) pixels (byte ∷ []) (omega arith))) (filled.windows k before)
+        | inr last ↦ (let e : length pixels ≡ k = omega (arith, length_push pixels byte) in subst (IsKnownAt lore (pixels ++ byte ∷ [])) e follows.1)
       ];
-  }
+}
 
 pub filled_take : (lore : Lore) (pixels : List ℕ) (m : ℕ) → IsFilled lore pixels → IsFilled lore (take m pixels)
 filled_take lore pixels m filled = record {
-    bytes = All-take (Contains lore.bytes) m pixels filled.bytes;
-    windows = λ k inside.
+  bytes = All-take (Contains lore.bytes) m pixels filled.bytes;
+  windows = λ k inside.
       let short : k < m = omega (arith, length-take m pixels) in
       let long : k < length pixels = omega (arith, length-take m pixels) in
       known_same lore pixels (take m pixels) k (sym (take-take (k + 1) m pixels (omega arith))) (filled.windows k long);
-  }
+}
 
 -- the next pixel of a map that is filled can follow those before it
 pub follows_from_filled : (lore : Lore) (pixels map : List ℕ) → IsFilled lore map → length pixels < length map → take (length pixels) map ≡ pixels
@@ -70,16 +70,17 @@ follows_from_filled lore pixels map filled shorter same =
     let k = length pixels in
     let byte = get_or map k 0 in
     let e : take (k + 1) map ≡ pixels ++ byte ∷ [] = take_more map k 0 shorter ∙ ap (λ (zs : List ℕ). zs ++ byte ∷ []) same in
-    let f : take (k + 1) (pixels ++ byte ∷ []) ≡ pixels ++ byte ∷ [] = take_all (k + 1) (pixels ++ byte ∷ []) (omega (arith, length_push pixels byte)) in
-    (All-get_or (Contains lore.bytes) map k 0 shorter filled.bytes,
-     known_same lore map (pixels ++ byte ∷ []) k (e ∙ sym f) (filled.windows k shorter))
+    let f : take (k + 1) (pixels ++ byte ∷ []) ≡ pixels ++ byte ∷ [] = take_all (k + 1) (pixels ++ byte ∷ []) (omega (arith, length_push pixels byte)) in (
+      All-get_or (Contains lore.bytes) map k 0 shorter filled.bytes,
+      known_same lore map (pixels ++ byte ∷ []) k (e ∙ sym f) (filled.windows k shorter),
+    )
 
 -- ---- padded windows
 zeros_at : (n k : ℕ) → get_or {A = ℕ} (replicate n 0) k 0 ≡ 0
 zeros_at n k =
     elim (cases_lt k n) [
-      inl inside ↦ get_or-replicate n k 0 0 inside
-    | inr past ↦ get_or_past (replicate n 0) k 0 (omega (arith, length-replicate {A = ℕ} n 0))
+      | inl inside ↦ get_or-replicate n k 0 0 inside
+      | inr past ↦ get_or_past (replicate n 0) k 0 (omega (arith, length-replicate {A = ℕ} n 0))
     ]
 
 pub zeros_36 : (k : ℕ) → get_or {A = ℕ} (replicate 36 0) k 0 ≡ 0
@@ -101,9 +102,9 @@ padded_from window xs w first n most long front back =
     let whole : length (flat ++ zeros) ≡ 36 = omega (arith, length-append flat zeros, length-replicate {A = ℕ} (36 - length flat) 0) in
     ext_get_or 0 window (flat ++ zeros) (long ∙ sym whole)
     (λ k inside. elim (cases_lt k (n * n)) [
-        inl before ↦ front k before ∙ sym (get_or-square n (λ i j. get_or xs (first + j * w + i) 0) k before) ∙ sym (get_or_append_left flat zeros 0 k (omega arith))
+      | inl before ↦ front k before ∙ sym (get_or-square n (λ i j. get_or xs (first + j * w + i) 0) k before) ∙ sym (get_or_append_left flat zeros 0 k (omega arith))
       | inr behind ↦ back k behind ∙ sym (get_or-append_right flat zeros (n * n) k 0 size behind ∙ zeros_at (36 - length flat) (k - n * n))
-      ])
+    ])
 
 square_less : (n : ℕ) → 1 ≤ n → n * n - 1 ≡ (n - 1) * n + (n - 1)
 square_less zero some = absurd (omega arith)
@@ -126,14 +127,14 @@ before_last w n k some wide before =
     let whole : k / n * n + k % n ≡ k = div-add-mod' k n in
     let all : n * n - 1 ≡ (n - 1) * n + (n - 1) = square_less n some in
     elim (cases_lt (k / n) (n - 1)) [
-      inl higher ↦ (let h : suc (k / n) * w ≤ (n - 1) * w = mul-le-mul_right w higher in omega arith)
-    | inr last ↦ (
-        let h : (n - 1) * n ≤ k / n * n = mul-le-mul_right n last in
-        let g : (n - 1) * w ≤ k / n * w = mul-le-mul_right w last in
-        let row : k / n ≤ n - 1 = row_fits n k column before in
-        let f : k / n * w ≤ (n - 1) * w = mul-le-mul_right w row in
-        let f' : k / n * n ≤ (n - 1) * n = mul-le-mul_right n row in
-        omega arith)
+      | inl higher ↦ (let h : suc (k / n) * w ≤ (n - 1) * w = mul-le-mul_right w higher in omega arith)
+      | inr last ↦ (
+          let h : (n - 1) * n ≤ k / n * n = mul-le-mul_right n last in
+          let g : (n - 1) * w ≤ k / n * w = mul-le-mul_right w last in
+          let row : k / n ≤ n - 1 = row_fits n k column before in
+          let f : k / n * w ≤ (n - 1) * w = mul-le-mul_right w row in
+          let f' : k / n * n ≤ (n - 1) * n = mul-le-mul_right n row in
+          omega arith)
     ]
 
 -- The window that a pixel completes, as it is read before the pixel is placed: with the byte put at its end it is the
@@ -152,7 +153,7 @@ completed map w n placed first byte some most wide left below inside ends =
     let long : length front ≡ placed = omega (arith, length-take placed map) in
     padded_from (set (flat ++ zeros) last byte) (front ++ byte ∷ []) w first n most (length-set (flat ++ zeros) last byte ∙ whole)
     (λ k within. elim (cases_lt k last) [
-        inl before ↦ (
+      | inl before ↦ (
           let place : ℕ = first + k / n * w + k % n in
           let earlier : place < placed = omega (arith, before_last w n k some wide before) in
           let other : k ≢ last = omega arith in
@@ -166,14 +167,14 @@ completed map w n placed first byte some most wide left below inside ends =
           let place : first + last / n * w + last % n ≡ placed = rw (last_row n some, last_column n some) (omega arith) in
           subst (λ (j : ℕ). get_or (set (flat ++ zeros) last byte) j 0 ≡ get_or (front ++ byte ∷ []) (first + j / n * w + j % n) 0) (sym e)
           (get_or-set_same (flat ++ zeros) last byte 0 (omega arith)
-           ∙ sym (get_or_at front byte [] 0 placed long)
-           ∙ ap (λ (j : ℕ). get_or (front ++ byte ∷ []) j 0) (sym place)))
-      ])
+          ∙ sym (get_or_at front byte [] 0 placed long)
+          ∙ ap (λ (j : ℕ). get_or (front ++ byte ∷ []) j 0) (sym place)))
+    ])
     (λ k behind.
-      let other : k ≢ last = omega arith in
-      get_or-set_other (flat ++ zeros) last k byte 0 other
-      ∙ get_or-append_right flat zeros (n * n) k 0 size behind
-      ∙ zeros_at (36 - length flat) (k - n * n))
+    let other : k ≢ last = omega arith in
+    get_or-set_other (flat ++ zeros) last k byte 0 other
+    ∙ get_or-append_right flat zeros (n * n) k 0 size behind
+    ∙ zeros_at (36 - length flat) (k - n * n))
 
 -- so the search looks the window up before the pixel is placed
 pub known_where_found : (lore : Lore) (map window : List ℕ) (placed first byte : ℕ) → 1 ≤ lore.n → lore.n ≤ 6 → lore.n ≤ lore.width → lore.n - 1 ≤ placed % lore.width → lore.n - 1 ≤ placed / lore.width
@@ -186,11 +187,12 @@ known_where_found lore map window placed first byte some most wide left below in
     let long : length front ≡ placed = omega (arith, length-take placed map) in
     let start : first ≡ length front - reach w n = omega arith in
     let e : set window (n * n - 1) byte ≡ padded (flat_window (front ++ byte ∷ []) w (length front - reach w n) n) =
-        ap (λ (xs : List ℕ). set xs (n * n - 1) byte) read
-        ∙ completed map w n placed first byte some most (omega arith) left below inside ends
-        ∙ ap (λ (f : ℕ). padded (flat_window (front ++ byte ∷ []) w f n)) start in
-    ( (λ found _ _. subst (Contains lore.keys) e found),
-      (λ known. subst (Contains lore.keys) (sym e) (known (subst (λ (k : ℕ). n - 1 ≤ k % w) (sym long) left) (subst (λ (k : ℕ). n - 1 ≤ k / w) (sym long) below))))
+    ap (λ (xs : List ℕ). set xs (n * n - 1) byte) read
+    ∙ completed map w n placed first byte some most (omega arith) left below inside ends
+    ∙ ap (λ (f : ℕ). padded (flat_window (front ++ byte ∷ []) w f n)) start in (
+      (λ found _ _. subst (Contains lore.keys) e found),
+      (λ known. subst (Contains lore.keys) (sym e) (known (subst (λ (k : ℕ). n - 1 ≤ k % w) (sym long) left) (subst (λ (k : ℕ). n - 1 ≤ k / w) (sym long) below))),
+    )
 
 -- a window that starts at a place of a picture ends in it
 pub place_inside : (w h n place : ℕ) → 1 ≤ n → n ≤ w → n ≤ h → place < (w + 1 - n) * (h + 1 - n)

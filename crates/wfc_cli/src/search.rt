@@ -11,9 +11,8 @@ mod bytes;
 mod fill;
 mod windows;
 
-use std::alloc::Global;
-
 use fill::Search;
+use std::alloc::Global;
 use wfc_outside::NoMemory;
 
 /// A sample: its cells as bytes, row by row.

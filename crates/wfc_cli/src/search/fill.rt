@@ -5,12 +5,11 @@ ghost use Rattle.wfc_cli.specs.Order.{IsAtMost};
 ghost use Rattle.wfc_cli.specs.SearchWindow.{AreWindowsOf};
 ghost use Rattle.wfc_cli.specs.SearchState.{IsFilled, CanFollow, next_of};
 
-use std::alloc::Global;
-use std::collections::HashSet;
-
 use super::Sample;
 use super::bytes::bytes_of;
 use super::windows::{Window, window_at, windows_of};
+use std::alloc::Global;
+use std::collections::HashSet;
 use wfc_outside::NoMemory;
 
 /// What a search goes by: the sample's bytes in rising order, its windows, their side, and the width of the map.

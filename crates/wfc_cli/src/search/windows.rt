@@ -3,10 +3,9 @@
 ghost use Rattle.std.specs.Prelude.{◌≡◌, ℕ, ◌+◌, ◌*◌, ◌<◌, ◌≤◌, length, IfOk};
 ghost use Rattle.wfc_cli.specs.SearchWindow.{flat_window, padded, reach, AreWindowsOf};
 
+use super::Sample;
 use std::alloc::Global;
 use std::collections::HashSet;
-
-use super::Sample;
 use wfc_outside::NoMemory;
 
 /// Numbers in the largest window.

@@ -54,14 +54,14 @@ pub returns-clause-none : goal.returns-clause-none
 returns-clause-none c = λ m legal.
     c.fill.ensures.none c.if-fill.false (numbers_of m) (omega (arith, length-numbers_of m c.args.width c.args.height legal.sized, c.in_ok-map.ensures.len))
     (filled_from_legal _ _ _ _ _ _ _ (record {
-        some = c.requires.some;
-        sample_wide = c.requires.sample_width;
-        sample_high = c.requires.sample_height;
-        size = c.requires.cells;
-        wide = c.requires.wide;
-        high = c.requires.high;
-        side = c.in_ok-search.ensures.side;
-        width = c.in_ok-search.ensures.width;
-        bytes = c.in_ok-search.ensures.bytes;
-        windows = c.in_ok-search.ensures.windows;
-      }) m legal)
+      some = c.requires.some;
+      sample_wide = c.requires.sample_width;
+      sample_high = c.requires.sample_height;
+      size = c.requires.cells;
+      wide = c.requires.wide;
+      high = c.requires.high;
+      side = c.in_ok-search.ensures.side;
+      width = c.in_ok-search.ensures.width;
+      bytes = c.in_ok-search.ensures.bytes;
+      windows = c.in_ok-search.ensures.windows;
+    }) m legal)

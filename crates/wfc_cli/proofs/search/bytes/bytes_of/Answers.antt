@@ -13,10 +13,10 @@ loop-byte-preserved c =
     let inside : byte < length marks = omega (arith, c.in_ok-marks.ensures.long) in
     let read : c.index.result.now ≡ marked byte = get_or_read marks byte c.index.result.now inside c.index.ensures false in
     elim c.if-index.branch [
-      then-index+in_ok-push w ↦
-        ap (λ v. v.items) w.bytes-is ∙ w.in_ok-push.ensures.items ∙ ap (λ (xs : List ℕ). xs ++ byte ∷ []) c.loop-byte.invariant
-        ∙ sym (passing_yes marked byte (sym read ∙ w.if-index.true))
-    | else-index w ↦ ap (λ v. v.items) w.bytes-is ∙ c.loop-byte.invariant ∙ sym (passing_no marked byte (sym read ∙ w.if-index.false))
+      | then-index+in_ok-push w ↦
+          ap (λ v. v.items) w.bytes-is ∙ w.in_ok-push.ensures.items ∙ ap (λ (xs : List ℕ). xs ++ byte ∷ []) c.loop-byte.invariant
+          ∙ sym (passing_yes marked byte (sym read ∙ w.if-index.true))
+      | else-index w ↦ ap (λ v. v.items) w.bytes-is ∙ c.loop-byte.invariant ∙ sym (passing_no marked byte (sym read ∙ w.if-index.false))
     ]
 
 pub returns-clause-rising : goal.returns-clause-rising

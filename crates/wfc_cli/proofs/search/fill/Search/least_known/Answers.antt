@@ -23,20 +23,20 @@ pub loop-byte-preserved : goal.loop-byte-preserved
 loop-byte-preserved c =
     let last = c.args.self.now.n * c.args.self.now.n - 1 in
     let read : get_or c.args.self.now.bytes.items c.loop-byte.byte-index 0 ≡ get_or c.deref-byte-items.result.now c.loop-byte.byte-index 0 =
-        ap (λ (bytes : List ℕ). get_or bytes c.loop-byte.byte-index 0) (sym c.deref-byte-items.ensures.value) in
+    ap (λ (bytes : List ℕ). get_or bytes c.loop-byte.byte-index 0) (sym c.deref-byte-items.ensures.value) in
     elim c.if-is_left.branch [
-      then-is_left+else-contains w ↦ record {
-          same = λ b. ap (λ (xs : List ℕ). set xs last b) w.window-is ∙ set-set c.loop-byte.window last _ b ∙ c.loop-byte.invariant.same b;
-          passed = below_more _ _ c.loop-byte.invariant.passed (λ above within.
-              lost_key c.args.self.now.windows.keys _ (sym w.contains.ensures ∙ w.if-contains.false)
-              (subst (Contains c.args.self.now.windows.keys) (ap (set c.args.window last) read ∙ sym (c.loop-byte.invariant.same _)) within))
-        }
-    | else-is_left w ↦ record {
-          same = λ b. ap (λ (xs : List ℕ). set xs last b) w.window-is ∙ c.loop-byte.invariant.same b;
-          passed = below_more _ _ c.loop-byte.invariant.passed (λ above within.
-              let here : next_of c.args.tried ≤ get_or c.deref-byte-items.result.now c.loop-byte.byte-index 0 = omega arith in
-              false≢true (subst IsTrue w.if-is_left.false (c.is_left.ensures.1 here)))
-        }
+      | then-is_left+else-contains w ↦ record {
+        same = λ b. ap (λ (xs : List ℕ). set xs last b) w.window-is ∙ set-set c.loop-byte.window last _ b ∙ c.loop-byte.invariant.same b;
+        passed = below_more _ _ c.loop-byte.invariant.passed (λ above within.
+            lost_key c.args.self.now.windows.keys _ (sym w.contains.ensures ∙ w.if-contains.false)
+            (subst (Contains c.args.self.now.windows.keys) (ap (set c.args.window last) read ∙ sym (c.loop-byte.invariant.same _)) within));
+      }
+      | else-is_left w ↦ record {
+        same = λ b. ap (λ (xs : List ℕ). set xs last b) w.window-is ∙ c.loop-byte.invariant.same b;
+        passed = below_more _ _ c.loop-byte.invariant.passed (λ above within.
+            let here : next_of c.args.tried ≤ get_or c.deref-byte-items.result.now c.loop-byte.byte-index 0 = omega arith in
+            false≢true (subst IsTrue w.if-is_left.false (c.is_left.ensures.1 here)));
+      }
     ]
 
 pub returns-clause-none : goal.returns-clause-none

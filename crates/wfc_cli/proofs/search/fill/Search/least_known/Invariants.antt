@@ -4,6 +4,6 @@ use Rattle.wfc_cli.proofs.search.fill.Search.least_known.Given as goal
 
 abbrev pub invariant-loop-byte : goal.invariant-loop-byte
 invariant-loop-byte l = record {
-    same : (b : ℕ) → set l.window l.last b ≡ set l.initial.window l.last b;
-    passed : (k : ℕ) → k < l.byte-index → next_of l.tried ≤ get_or l.self.bytes.items k 0 → Contains l.self.windows.keys (set l.initial.window l.last (get_or l.self.bytes.items k 0)) → ⊥
-  }
+  same : (b : ℕ) → set l.window l.last b ≡ set l.initial.window l.last b;
+  passed : (k : ℕ) → k < l.byte-index → next_of l.tried ≤ get_or l.self.bytes.items k 0 → Contains l.self.windows.keys (set l.initial.window l.last (get_or l.self.bytes.items k 0)) → ⊥;
+}
