@@ -27,19 +27,15 @@ returns-in_default-clause-none c = λ _ other long filled.
     (subst (λ ps. (b : ℕ) → next_of c.loop-placed.tried ≤ b → CanFollow lore ps b → ⊥) none c.in-None.ensures.none)
     (subst (λ ps. IsAhead ps (next_of c.loop-placed.tried) other) none (c.loop-placed.invariant.ahead other (omega arith) filled))
 
--- the last pixel is taken away
-one_less : (c : goal.After-slice_known-in-None-1) → c.in-Some-checked_sub.last + 1 ≡ c.loop-placed.placed
-one_less c = omega (arith, c.in-Some-checked_sub.ensures)
-
 pub loop-placed-smaller : goal.loop-placed-smaller
 loop-placed-smaller c =
     back_falls c.loop-placed.map c.loop-placed.placed c.in-Some-checked_sub.last (next_of c.loop-placed.tried) (get_or c.loop-placed.map c.in-Some-checked_sub.last 0)
-    c.loop-placed-test.true (one_less c) refl (omega (arith, c.type_inv.map c.in-Some-checked_sub.last))
+    c.loop-placed-test.true (omega (arith, c.in-Some-checked_sub.ensures)) refl (omega (arith, c.type_inv.map c.in-Some-checked_sub.last))
 
 pub loop-placed-preserved : goal.loop-placed-preserved
 loop-placed-preserved c =
     stands_back (lore_of c.args.self.now) c.loop-placed.map c.loop-placed.placed c.in-Some-checked_sub.last (next_of c.loop-placed.tried) (get_or c.loop-placed.map c.in-Some-checked_sub.last 0)
-    c.loop-placed.invariant c.loop-placed-test.true (one_less c) refl c.in-None.ensures.none
+    c.loop-placed.invariant c.loop-placed-test.true (omega (arith, c.in-Some-checked_sub.ensures)) refl c.in-None.ensures.none
 
 -- at the end all pixels are placed
 whole : (c : goal.After-loop-placed) → take c.loop-placed.placed c.loop-placed.map ≡ c.loop-placed.map
