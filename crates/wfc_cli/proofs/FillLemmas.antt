@@ -1,14 +1,14 @@
 -- How the steps of `fill` follow from those of its devices.
-use Rattle.std.proofs.Common.{◌≡◌, ℕ, ◌≤◌, ◌<◌, List, length, take, ap, sym, ◌∙◌, subst, refl, arith, Result, Ok, Err, []}
+use Rattle.std.proofs.Common.{◌≡◌, ℕ, ◌<◌, List, length, ap, sym, ◌∙◌, subst, refl, arith, Result, Err, []}
 use Rattle.std.proofs.lemmas.List.{take_all}
 use Rattle.wfc_outside.specs.Count.{HasRisen}
-use Rattle.wfc_outside.specs.Folder.{FolderView, IsMissing, IsFaultOf, IsToldAs}
+use Rattle.wfc_outside.specs.Folder.{FolderView, IsMissing, IsFaultOf}
 use Rattle.wfc_outside.specs.Whole.{IsLongerThan}
 use Rattle.wfc_outside.specs.Sink.{SinkView, after_bytes, IsFault, IsFaultAfterFront}
 use Rattle.wfc_outside.specs.declared.whole.ReadFault.{ReadFault}
 use Rattle.wfc_outside.specs.declared.whole.ReadFault.TheVariants.{Missing, Failed, TooLong, NoMemory}
 use Rattle.wfc_cli.specs.Request.{Request}
-use Rattle.wfc_cli.specs.Answer.{Devices, EndsRequest, IsLegalMap, IsLeastMap}
+use Rattle.wfc_cli.specs.Answer.{EndsRequest, IsLegalMap, IsLeastMap}
 use Rattle.wfc_cli.specs.Order.{IsAtMost}
 use Rattle.wfc_cli.specs.PlainRules.{plain_rules}
 use Rattle.wfc_model.specs.Raster.{Raster, raster_of, numbers_of}

@@ -1,23 +1,20 @@
 -- What the relation of a call says in the subject's words.
-use Rattle.std.proofs.Common.{◌≡◌, ℕ, ◌<◌, ◌≤◌, ◌≢◌, ◌⊎◌, inl, inr, List, [], length, Option, None, Some, Result, Ok, Err, ap, sym, ◌∙◌, subst, refl, arith}
+use Rattle.std.proofs.Common.{◌≡◌, ℕ, ◌<◌, ◌≢◌, ◌⊎◌, inl, inr, List, [], length, Option, None, Some, Result, Ok, Err, ap, sym, ◌∙◌, subst, refl, arith}
 use Rattle.std.specs.Result.{MatchResult, IsErr}
 use Rattle.std.specs.Option.{MatchOption}
 use Rattle.wfc_model.specs.Raster.{Raster}
-use Rattle.wfc_outside.specs.Count.{HasRisen}
 use Rattle.wfc_outside.specs.Folder.{File, FolderView, file_of, IsToldAs, IsMissing, IsFaultOf}
 use Rattle.wfc_outside.specs.Sink.{SinkView, after_bytes, after_finish, IsFaultAfterFront}
-use Rattle.wfc_outside.specs.declared.whole.ReadFault.{ReadFault}
 use Rattle.wfc_outside.specs.declared.whole.ReadFault.TheVariants as reading
 use Rattle.wfc_grid.specs.declared.reading.GridFault.{GridFault}
 use Rattle.wfc_grid.specs.declared.reading.GridFault.TheVariants as grid
 use Rattle.wfc_grid.specs.Grid.{GridView}
-use Rattle.wfc_grid.specs.Spelling.{SpellsGrid, grid_text}
 use Rattle.wfc_grid.specs.Fault.{fault_of}
 use Rattle.wfc_grid.proofs.Grids.{one_grid, spelled-right}
 use Rattle.wfc_text.specs.Line.{lines_of}
 use Rattle.wfc_cli.specs.Request.{Request, request_of}
 use Rattle.wfc_cli.specs.Fault.{Ending, fault_status, grid_status, status_of}
-use Rattle.wfc_cli.specs.Answer.{AreUntouched, Causes, CausesGridFault, Devices, EndsRequest, EndsWords, FromFile, HasNoMap, HasSmallSample, HasSmallSize, IsAnswer, IsLeastMap, IsLeastText, IsLegalMap, IsSample, IsTask, TellsEnding, named_file}
+use Rattle.wfc_cli.specs.Answer.{AreUntouched, CausesGridFault, Devices, EndsRequest, EndsWords, FromFile, HasNoMap, HasSmallSample, HasSmallSize, IsAnswer, IsLeastMap, IsLeastText, IsLegalMap, IsSample, IsTask, TellsEnding, named_file}
 use Rattle.wfc_cli.specs.Theorem.{HasNoSample, IsDeviceFault, IsGiven, IsInputFault, IsStatusOf, NoFaultCounted, TakesFront, TakesLeastMap}
 use Rattle.wfc_cli.specs.declared.fault.CommandFault.{CommandFault}
 use Rattle.wfc_cli.specs.declared.fault.Fault.{Fault}

@@ -1,8 +1,8 @@
 -- What a call of the program may answer, and why: one case for each way to end.
-use Rattle.std.specs.Prelude.{◌≡◌, ◌≢◌, ℕ, ◌*◌, ◌<◌, ◌≤◌, ◌⊎◌, List, [], length, Some, Result, Ok, Err, MatchResult}
+use Rattle.std.specs.Prelude.{◌≡◌, ℕ, ◌*◌, ◌<◌, ◌≤◌, ◌⊎◌, List, [], length, Some, Result, Ok, Err, MatchResult}
 use Rattle.wfc_model.specs.Raster.{Raster, numbers_of}
 use Rattle.wfc_model.specs.Legal.{IsLegalPicture}
-use Rattle.wfc_outside.specs.Folder.{File, FolderView, file_of, IsToldAs, IsMissing, IsFaultOf}
+use Rattle.wfc_outside.specs.Folder.{FolderView, IsToldAs, IsMissing, IsFaultOf}
 use Rattle.wfc_outside.specs.Sink.{SinkView, after_bytes, after_finish, IsFaultAfterFront}
 use Rattle.wfc_outside.specs.declared.whole.ReadFault.TheVariants as reading
 use Rattle.wfc_grid.specs.declared.reading.GridFault.{GridFault}

@@ -1,10 +1,9 @@
 -- How the steps of `fill` end.
-use Rattle.std.specs.Prelude.{◌≡◌, ℕ, ◌<◌, ◌≤◌, ◌⊎◌, List, Result, Ok, Err}
+use Rattle.std.specs.Prelude.{◌≡◌, ℕ, ◌<◌, ◌≤◌, ◌⊎◌, List, Ok, Err}
 use Rattle.wfc_outside.specs.Sink.{SinkView, after_bytes, after_finish, IsFaultAfterFront}
 use Rattle.wfc_grid.specs.Grid.{GridView}
 use Rattle.wfc_cli.specs.Request.{Request}
 use Rattle.wfc_cli.specs.Fault.{Ending}
-use Rattle.wfc_cli.specs.declared.fault.Fault.{Fault}
 use Rattle.wfc_cli.specs.declared.fault.Fault.TheVariants.{SampleBelowN, SizeBelowN, Out}
 
 -- the sink took the text and was finished, or it failed after a front of the text

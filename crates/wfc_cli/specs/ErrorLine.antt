@@ -1,5 +1,5 @@
 -- The line that the error stream gets where a call ends without its answer.
-use Rattle.std.specs.Prelude.{◌≡◌, ℕ, List, [], ◌++◌, codes, decimal, Result, Ok, Err, MatchResult}
+use Rattle.std.specs.Prelude.{◌≡◌, ℕ, List, ◌++◌, codes, decimal, Result, MatchResult}
 use Rattle.wfc_outside.specs.Sink.{SinkView, after_bytes, IsFaultAfterFront}
 use Rattle.wfc_outside.specs.declared.SinkFault.{SinkFault}
 use Rattle.wfc_outside.specs.declared.whole.ReadFault.{ReadFault}

@@ -1,4 +1,3 @@
-use Rattle.std.proofs.Common.{refl}
 use Rattle.wfc_cli.specs.Request.{texts}
 use Rattle.wfc_cli.proofs.TheoremLemmas.{refused_answer}
 use Rattle.wfc_cli.proofs.answer.Goals as goal

@@ -1,4 +1,3 @@
-use Rattle.std.proofs.Common.{refl}
 use Rattle.std.proofs.lemmas.Result.{err_from_is_err_and}
 use Rattle.wfc_cli.proofs.FillLemmas.{fault_behind}
 use Rattle.wfc_cli.proofs.fill.put_answer.Goals as goal

@@ -1,8 +1,4 @@
-use Rattle.std.proofs.Common.{rules, ◌≡◌, ◌++◌, ◌≤◌, List, length, Bor, get_or, take, drop}
-use Rattle.std.specs.List.{flat_map}
 use Rattle.std.proofs.lemmas.Result.{err_from_is_err_and}
-use Rattle.wfc_outside.specs.Sink.{SinkView, IsFaultAfterFront, after_bytes}
-use Rattle.wfc_cli.specs.ErrorLine.{Puts}
 use Rattle.wfc_cli.proofs.Parts.{fault_in_list}
 use Rattle.wfc_cli.proofs.lines.put.Goals as goal
 

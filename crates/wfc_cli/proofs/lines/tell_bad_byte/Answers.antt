@@ -1,4 +1,4 @@
-use Rattle.std.proofs.Common.{◌≡◌, ◌∙◌, append_assoc}
+use Rattle.std.proofs.Common.{append_assoc}
 use Rattle.wfc_cli.proofs.lines.tell_bad_byte.Goals as goal
 
 pub returns-clause-told : goal.returns-clause-told

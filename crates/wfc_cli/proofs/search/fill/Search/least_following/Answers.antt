@@ -1,7 +1,5 @@
-use Rattle.std.proofs.Common.{◌≡◌, ℕ, ◌+◌, ◌-◌, ◌*◌, ◌/◌, ◌%◌, ◌<◌, ◌≤◌, ◌↔◌, List, [], ◌∷◌, ◌++◌, length, take, set, Contains, subst, refl, sym, ap, ◌∙◌, arith, rules}
-use Rattle.std.proofs.lemmas.List.{length-take-le}
-use Rattle.wfc_cli.specs.SearchWindow.{flat_window, padded, reach}
-use Rattle.wfc_cli.specs.SearchState.{IsKnownAt, CanFollow, next_of}
+use Rattle.std.proofs.Common.{ℕ, ◌-◌, ◌*◌, ◌↔◌, [], ◌∷◌, ◌++◌, length, take, set, Contains, arith}
+use Rattle.wfc_cli.specs.SearchState.{IsKnownAt}
 use Rattle.wfc_cli.specs.SearchLore.{lore_of}
 use Rattle.wfc_cli.proofs.SearchOption.{if_some_map, if_some_both, if_none_map}
 use Rattle.wfc_cli.proofs.SearchWindows.{known_where_found, reach-le}
