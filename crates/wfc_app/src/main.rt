@@ -4,7 +4,6 @@
 use std::process::ExitCode;
 use std::rt::Env;
 use std::{env, io};
-
 use wfc_cli::{CommandFault, Fault, refuse, run};
 use wfc_outside::{DiskFolder, StderrSink, StdoutSink};
 
