@@ -115,6 +115,7 @@ goes_both_ways P s none v w d hd k =
 
 -- parts with no fault are a problem
 pub problem-from : (P : Network) → fault_of P ≡ None → IsProblem P
+unfolding fault_of
 problem-from P none =
     let a = or-none _ _ none in
     let b = or-none _ _ a.1 in
@@ -221,6 +222,7 @@ mutual-true P p v d hd = list_all-from_AllPass (λ w. ok P (opposite d) w v) (su
 
 -- a problem's parts have no fault
 pub fault-none : (P : Network) → IsProblem P → fault_of P ≡ None
+unfolding fault_of
 fault-none P p =
     or-from _ _ (lengths-none P p)
     (or-from _ _ (passes _ (TooLarge (P.cells * values P)) (le-leb _ MAX_PAIRS p.few_pairs))

@@ -10,7 +10,7 @@ ghost use Rattle.wfc_problem.specs.Network.{values};
 use crate::{MAX_PAIRS, MAX_VALUES, MAX_WEIGHT, NO_CELL, Part, Parts, ProblemFault, opposite};
 
 /// All checks, in their order.
-#[tactic(auto, using(crate::proofs::Faults::sized, crate::proofs::Faults::indexed))]
+#[tactic(auto, using(crate::proofs::Faults::sized, crate::proofs::Faults::indexed), unfolding(crate::specs::Fault::fault_of))]
 pub fn check(parts: &Parts) -> Result<(), ProblemFault>
     ensures value { result_err result ≡ fault_of parts.now }
 {
