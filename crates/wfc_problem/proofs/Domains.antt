@@ -1,16 +1,16 @@
 -- Domains: support counts, consistency, and what literals and assignments do to the greatest.
-use Rattle.std.proofs.Common.{◌≡◌, ◌≢◌, ℕ, zero, suc, ◌+◌, ◌-◌, ◌*◌, ◌<◌, ◌≤◌, Bool, true, false, List, [], ◌∷◌, ◌++◌, length, get_or, refl, sym, ◌∙◌, ap, subst, arith, Option, Some, None, inl, inr, ◌⊎◌}
-use Rattle.std.specs.Prelude.{not, ◌&&◌, ◌||◌, ◌==◌, count_by, Contains, IsTrue, ◌↔◌, nat_lt, slice_index}
+use Rattle.std.proofs.Common.{◌≡◌, ℕ, zero, suc, ◌+◌, ◌-◌, ◌<◌, ◌≤◌, Bool, true, List, [], ◌∷◌, ◌++◌, length, get_or, refl, sym, ◌∙◌, ap, subst, arith, Some, None, inl, inr, ◌⊎◌}
+use Rattle.std.specs.Prelude.{◌&&◌, ◌==◌, Contains, IsTrue, nat_lt, slice_index}
 use Rattle.std.specs.List.{list_all}
 use Rattle.std.specs.List.Sorted.{IsStrictlyIncreasing}
-use Rattle.std.proofs.lemmas.Bool.{false≢true, and_parts, and_from, cases_Bool, cases_lt, cases_eq, ltb-true, lt-ltb, eqb-true, eq-eqb}
+use Rattle.std.proofs.lemmas.Bool.{false≢true, false_from_ne_true, and_parts, and_from, cases_Bool, cases_lt, cases_eq, ltb-true, lt-ltb, eqb-true, eq-eqb}
 use Rattle.std.proofs.lemmas.Bool.Decides.{nat_tests}
 use Rattle.std.proofs.lemmas.List.{get_or_default}
 use Rattle.std.proofs.lemmas.List.Folds.{list_all-append}
 use Rattle.std.proofs.lemmas.List.Sums.{count_by-le-length}
 use Rattle.wfc_problem.specs.Assignment.{IsLegalAssignment, LiesIn}
-use Rattle.wfc_problem.specs.Domains.{Test, leaves, cut, base_with, Within, IsSupported, IsArcConsistent, IsInGreatest, IsGreatest, IsDead, IsEmptyAt, HasOnly, count_at, support_count}
-use Rattle.wfc_problem.specs.Network.{Network, values, neighbour, supports_of, in_base, ok, opposite, IsProblem}
+use Rattle.wfc_problem.specs.Domains.{Test, leaves, cut, base_with, Within, IsArcConsistent, IsInGreatest, IsGreatest, IsDead, HasOnly, count_at, support_count}
+use Rattle.wfc_problem.specs.Network.{Network, values, neighbour, supports_of, in_base, opposite, IsProblem}
 use Rattle.wfc_problem.specs.declared.Literal.{Literal}
 use Rattle.wfc_problem.specs.declared.Literal.TheVariants.{Is, Not}
 use Rattle.wfc_problem.proofs.Counts.{count_by-le, count_by-pos, count_by-found}
@@ -148,6 +148,16 @@ greatest-from_holding P literals D within consistent holds c v = (
   (λ t. record { domains = D; within = within; consistent = consistent; stands = t }),
   (λ g. holds g.domains g.within g.consistent c v g.stands),
 )
+
+-- so there is only one
+pub greatest-same : (P : Network) (literals : List Literal) (D E : Test) → IsGreatest P literals D → IsGreatest P literals E → D ≡ E
+greatest-same P literals D E d e = λ i c v. each c v i
+  where
+    each : (c v : ℕ) → D c v ≡ E c v
+    each c v = elim (cases_Bool (D c v)) [
+      | inl t ↦ t ∙ sym ((e c v).1 ((d c v).0 t))
+      | inr f ↦ f ∙ sym (false_from_ne_true (E c v) (λ t. false≢true (sym f ∙ (d c v).1 ((e c v).0 t))))
+    ]
 
 -- ---- assignments
 

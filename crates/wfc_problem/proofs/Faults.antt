@@ -1,20 +1,19 @@
 -- What each check of the parts shows, and that parts with no fault are a problem.
-use Rattle.std.proofs.Common.{◌≡◌, ◌≢◌, ℕ, zero, suc, ◌+◌, ◌-◌, ◌*◌, ◌/◌, ◌%◌, ◌<◌, ◌≤◌, Bool, true, false, cond, List, [], ◌∷◌, length, get_or, refl, sym, ◌∙◌, ap, subst, arith, Option, Some, None, inl, inr, ◌⊎◌, Result, Ok, Err}
-use Rattle.std.specs.Prelude.{not, ◌==◌, ◌&&◌, ◌||◌, Contains, nat_lt, nat_le, ◌↔◌, IsOk}
-use Rattle.std.specs.Option.{option_map, option_or}
-use Rattle.std.specs.List.{position}
+use Rattle.std.proofs.Common.{◌≡◌, ℕ, ◌+◌, ◌*◌, ◌/◌, ◌%◌, ◌<◌, ◌≤◌, Bool, true, false, [], length, get_or, refl, sym, ◌∙◌, ap, arith, Option, Some, None, inl, inr, Result, Ok, Err}
+use Rattle.std.specs.Prelude.{not, ◌==◌, Contains, nat_lt, ◌↔◌, IsOk}
+use Rattle.std.specs.Option.{option_map}
 use Rattle.std.specs.Result.{result_err}
 use Rattle.wfc_problem.specs.declared.Part.TheVariants.{Cells, Neighbours, Weights, Supports, Base}
 use Rattle.wfc_problem.specs.declared.ProblemFault.TheVariants.{TooLarge, NotSymmetric, BadIndex, NotBack, Lengths, BadWeight}
 use Rattle.wfc_problem.specs.declared.TheConstants.{MAX_PAIRS, MAX_VALUES, MAX_WEIGHT, NO_CELL}
-use Rattle.wfc_problem.specs.Network.{Network, values, weight_of, neighbour, named, supports_of, ok, opposite, IsProblem}
+use Rattle.wfc_problem.specs.Network.{Network, values, weight_of, neighbour, supports_of, ok, opposite, IsProblem}
 use Rattle.wfc_problem.specs.Fault.{unless, first_failing, lengths_fault, size_fault, neighbours_fault, supports_fault, weight_fault, back_fault, symmetry_fault, fault_of, is_entry, is_weight, rises, leads_back, returns, is_cell, is_mutual, IsSized, IsIndexed}
-use Rattle.std.proofs.lemmas.Bool.{cases_lt, cases_Bool, cases_eq, and_parts, and_from, or_cases, or_left, or_right, eqb-true, eq-eqb, ltb-true, lt-ltb, leb-true, le-leb, not-false, not_from_true}
+use Rattle.std.proofs.lemmas.Bool.{cases_lt, cases_eq, and_parts, and_from, or_cases, or_left, or_right, eqb-true, eq-eqb, ltb-true, lt-ltb, leb-true, le-leb, not-false, not_from_true}
 use Rattle.std.proofs.lemmas.List.{get_or_default, get_or_past}
 use Rattle.std.proofs.Math.Nat.{mul-le-mul_left, mul_comm}
 use Rattle.std.proofs.lemmas.List.Sums.{AllPass-from_list_all, list_all-from_AllPass}
 use Rattle.wfc_problem.specs.declared.ProblemFault.{ProblemFault}
-use Rattle.wfc_problem.proofs.Tables.{Rises, rises-Rises, Rises-rises, IsRead, neighbour-read, neighbour-some, neighbour-is, supports-inside, row-below, opposite-below, has-Contains, Contains-has}
+use Rattle.wfc_problem.proofs.Tables.{Rises, rises-Rises, Rises-rises, neighbour-read, neighbour-some, neighbour-is, supports-inside, row-below, has-Contains, Contains-has}
 use Rattle.wfc_problem.proofs.Firsts.{or-none, or-from, map-none, unless-none, position-passed, position-none, pair-at, pair-none, pair-passed, failing-none}
 
 -- the first place at which a way doesn't lead back is the fault
@@ -116,6 +115,7 @@ goes_both_ways P s none v w d hd k =
 
 -- parts with no fault are a problem
 pub problem-from : (P : Network) → fault_of P ≡ None → IsProblem P
+unfolding fault_of
 problem-from P none =
     let a = or-none _ _ none in
     let b = or-none _ _ a.1 in
@@ -222,6 +222,7 @@ mutual-true P p v d hd = list_all-from_AllPass (λ w. ok P (opposite d) w v) (su
 
 -- a problem's parts have no fault
 pub fault-none : (P : Network) → IsProblem P → fault_of P ≡ None
+unfolding fault_of
 fault-none P p =
     or-from _ _ (lengths-none P p)
     (or-from _ _ (passes _ (TooLarge (P.cells * values P)) (le-leb _ MAX_PAIRS p.few_pairs))

@@ -1,18 +1,18 @@
 -- Tables of flags, one row of n for each cell.
-use Rattle.std.proofs.Common.{◌≡◌, ℕ, zero, suc, ◌+◌, ◌*◌, ◌/◌, ◌%◌, ◌<◌, ◌≤◌, Bool, true, false, cond, List, [], ◌∷◌, ◌++◌, length, get_or, take, drop, refl, sym, ◌∙◌, ap, arith, inl, inr}
-use Rattle.std.specs.Prelude.{count_by, map}
+use Rattle.std.proofs.Common.{◌≡◌, ℕ, zero, suc, ◌+◌, ◌*◌, ◌/◌, ◌%◌, ◌<◌, ◌≤◌, Bool, false, cond, List, [], ◌∷◌, ◌++◌, length, get_or, take, drop, refl, sym, ◌∙◌, ap, arith, inl, inr}
+use Rattle.std.specs.Prelude.{count_by}
 use Rattle.std.specs.List.{range_with_len, sum_by}
 use Rattle.std.proofs.lemmas.Bool.{cases_lt, cases_Bool, false≢true, false_from_ne_true}
 use Rattle.std.proofs.lemmas.List.{get_or_append_left, get_or_push, length-take, drop-drop}
 use Rattle.std.proofs.Common.{length-append, length-drop}
 use Rattle.std.proofs.Math.Nat.{mul_comm}
 use Rattle.std.proofs.Math.Seq.{take-add, take-length}
-use Rattle.std.proofs.lemmas.List.FromFn.{fill_by_all, get_or-range_with_len, length-range_with_len}
+use Rattle.std.proofs.lemmas.List.FromFn.{fill_by_all}
 use Rattle.std.proofs.lemmas.List.Sums.{sum_by-cons, sum_by-append}
 use Rattle.std.proofs.lemmas.Nat.{same_from_place, mul-add-lt}
 use Rattle.wfc_problem.specs.Domains.{Test}
-use Rattle.wfc_problem.specs.Network.{Network, values, has_flag, row_of, in_base, IsProblem}
-use Rattle.wfc_problem.specs.Rounds.{pairs, depth_of}
+use Rattle.wfc_problem.specs.Network.{Network, values, has_flag, row_of, IsProblem}
+use Rattle.wfc_problem.specs.Rounds.{depth_of}
 use Rattle.wfc_problem.proofs.Counts.{count_by-map}
 use Rattle.wfc_problem.proofs.Rounds.{InRange}
 use Rattle.wfc_problem.proofs.Tables.{flag-at, flag-inside, row-below}

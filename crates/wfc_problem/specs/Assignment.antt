@@ -1,5 +1,5 @@
 -- One value for each cell.
-use Rattle.std.specs.Prelude.{◌≡◌, ℕ, ◌<◌, Bool, List, length, Option, Some, slice_index, IsTrue}
+use Rattle.std.specs.Prelude.{◌≡◌, ℕ, ◌<◌, Bool, List, length, Some, slice_index, IsTrue}
 use Rattle.wfc_problem.specs.Network.{Network, neighbour, ok, in_base}
 
 -- each cell has a value of its base, and each neighbour that exists has one that may stand there beside it

@@ -67,5 +67,6 @@ abbrev pub count_at : Network → Test → ℕ → ℕ → Option ℕ → ℕ
 count_at P D v d None = 0
 count_at P D v d (Some n) = count_by (D n) (supports_of P v d)
 
+-- how many supports of v stand beside c in direction d
 abbrev pub support_count : Network → Test → ℕ → ℕ → ℕ → ℕ
 support_count P D c v d = count_at P D v d (neighbour P c d)

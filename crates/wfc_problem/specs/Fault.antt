@@ -3,7 +3,6 @@ use Rattle.std.specs.Prelude.{◌≡◌, ◌<◌, ◌≤◌, ◌⊎◌, Contains
 use Rattle.std.specs.List.{find, list_all, position, range_with_len}
 use Rattle.std.specs.List.Sorted.{IsStrictlyIncreasing}
 use Rattle.std.specs.Option.{option_map, option_or}
-use Rattle.wfc_problem.specs.declared.Part.{Part}
 use Rattle.wfc_problem.specs.declared.Part.TheVariants.{Cells, Neighbours, Weights, Supports, Base}
 use Rattle.wfc_problem.specs.declared.ProblemFault.{ProblemFault}
 use Rattle.wfc_problem.specs.declared.ProblemFault.TheVariants.{TooLarge, NotSymmetric, BadIndex, NotBack, Lengths, BadWeight}
@@ -57,6 +56,7 @@ supports_fault P = option_map (λ at. BadIndex Supports at) (position (λ ws. no
 abbrev pub is_weight : ℕ → Bool
 is_weight w = nat_lt 0 w && nat_le w MAX_WEIGHT
 
+-- each weight is one
 abbrev pub weight_fault : Network → Option ProblemFault
 weight_fault P = option_map (λ v. BadWeight v) (position (λ w. not (is_weight w)) P.weights)
 
@@ -70,9 +70,11 @@ abbrev pub returns : Network → ℕ → ℕ → Option ℕ → Bool
 returns P c d None = true
 returns P c d (Some n) = is_cell c (neighbour P n (opposite d))
 
+-- so from the cell beside c in direction d
 abbrev pub leads_back : Network → ℕ → ℕ → Bool
 leads_back P c d = returns P c d (neighbour P c d)
 
+-- each way leads back
 abbrev pub back_fault : Network → Option ProblemFault
 back_fault P = option_map (λ p. NotBack p.0 p.1) (first_pair (leads_back P) (range_with_len 0 P.cells) P.dirs)
 
@@ -80,11 +82,12 @@ back_fault P = option_map (λ p. NotBack p.0 p.1) (first_pair (leads_back P) (ra
 abbrev pub is_mutual : Network → ℕ → ℕ → Bool
 is_mutual P v d = list_all (λ w. ok P (opposite d) w v) (supports_of P v d)
 
+-- what may stand beside a value has the value beside it the other way
 abbrev pub symmetry_fault : Network → Option ProblemFault
 symmetry_fault P = option_map (λ p. NotSymmetric p.0 p.1) (first_pair (is_mutual P) (range_with_len 0 (values P)) P.dirs)
 
 -- the first fault of the parts, if they have one
-abbrev pub fault_of : Network → Option ProblemFault
+unfoldable pub fault_of : Network → Option ProblemFault
 fault_of P =
     option_or (lengths_fault P)
     (option_or (size_fault P)

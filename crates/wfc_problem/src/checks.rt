@@ -10,9 +10,9 @@ ghost use Rattle.wfc_problem.specs.Network.{values};
 use crate::{MAX_PAIRS, MAX_VALUES, MAX_WEIGHT, NO_CELL, Part, Parts, ProblemFault, opposite};
 
 /// All checks, in their order.
-#[tactic(auto, using(crate::proofs::Faults::sized, crate::proofs::Faults::indexed))]
+#[tactic(auto, using(crate::proofs::Faults::sized, crate::proofs::Faults::indexed), unfolding(crate::specs::Fault::fault_of))]
 pub fn check(parts: &Parts) -> Result<(), ProblemFault>
-    ensures { result_err result ≡ fault_of parts.now }
+    ensures value { result_err result ≡ fault_of parts.now }
 {
     check_lengths(parts)?;
     check_size(parts)?;
@@ -24,7 +24,7 @@ pub fn check(parts: &Parts) -> Result<(), ProblemFault>
 }
 
 fn check_lengths(parts: &Parts) -> Result<(), ProblemFault>
-    ensures { result_err result ≡ lengths_fault parts.now }
+    ensures value { result_err result ≡ lengths_fault parts.now }
 {
     let cells = parts.cells as usize;
     let dirs = parts.dirs as usize;
@@ -46,8 +46,8 @@ fn check_lengths(parts: &Parts) -> Result<(), ProblemFault>
 }
 
 fn check_size(parts: &Parts) -> Result<(), ProblemFault>
-    requires { values parts.now ≤ MAX_VALUES }
-    ensures { result_err result ≡ size_fault parts.now }
+    requires few_values { values parts.now ≤ MAX_VALUES }
+    ensures value { result_err result ≡ size_fault parts.now }
 {
     let product = parts.cells as u64 * parts.weights.len() as u64;
     if product > MAX_PAIRS {
@@ -57,8 +57,8 @@ fn check_size(parts: &Parts) -> Result<(), ProblemFault>
 }
 
 fn check_neighbours(parts: &Parts) -> Result<(), ProblemFault>
-    requires { IsSized parts.now }
-    ensures { result_err result ≡ neighbours_fault parts.now }
+    requires sized { IsSized parts.now }
+    ensures value { result_err result ≡ neighbours_fault parts.now }
 {
     match first_wrong_entry(&parts.neighbours, parts.cells) {
         None => Ok(()),
@@ -71,7 +71,7 @@ fn check_neighbours(parts: &Parts) -> Result<(), ProblemFault>
 
 /// Where the first entry stands that is neither none nor one of so many cells.
 fn first_wrong_entry(entries: &[u32], cells: u32) -> Option<usize>
-    ensures { result ≡ position (λ entry. not (is_entry cells entry)) entries.now }
+    ensures value { result ≡ position (λ entry. not (is_entry cells entry)) entries.now }
 {
     entries
         .iter()
@@ -79,8 +79,8 @@ fn first_wrong_entry(entries: &[u32], cells: u32) -> Option<usize>
 }
 
 fn check_supports(parts: &Parts) -> Result<(), ProblemFault>
-    requires { IsSized parts.now }
-    ensures { result_err result ≡ supports_fault parts.now }
+    requires sized { IsSized parts.now }
+    ensures value { result_err result ≡ supports_fault parts.now }
 {
     match first_wrong_list(&parts.supports, parts.weights.len()) {
         None => Ok(()),
@@ -93,14 +93,14 @@ fn check_supports(parts: &Parts) -> Result<(), ProblemFault>
 
 /// Where the first list stands that doesn't rise below the limit.
 fn first_wrong_list(lists: &[Vec<u16>], limit: usize) -> Option<usize>
-    ensures { result ≡ position (λ list. not (rises 0 limit list.items)) lists.now }
+    ensures value { result ≡ position (λ list. not (rises 0 limit list.items)) lists.now }
 {
     lists.iter().position(|list| !rises_below(list, limit))
 }
 
 /// Whether the numbers rise strictly and are below `limit`.
 fn rises_below(numbers: &[u16], limit: usize) -> bool
-    ensures { result ≡ rises 0 limit numbers.now }
+    ensures value { result ≡ rises 0 limit numbers.now }
 {
     let mut low = 0;
     for number in numbers {
@@ -114,8 +114,8 @@ fn rises_below(numbers: &[u16], limit: usize) -> bool
 }
 
 fn check_weights(parts: &Parts) -> Result<(), ProblemFault>
-    requires { IsSized parts.now }
-    ensures { result_err result ≡ weight_fault parts.now }
+    requires sized { IsSized parts.now }
+    ensures value { result_err result ≡ weight_fault parts.now }
 {
     match first_wrong_weight(&parts.weights) {
         None => Ok(()),
@@ -124,7 +124,7 @@ fn check_weights(parts: &Parts) -> Result<(), ProblemFault>
 }
 
 fn first_wrong_weight(weights: &[u32]) -> Option<usize>
-    ensures { result ≡ position (λ weight. not (is_weight weight)) weights.now }
+    ensures value { result ≡ position (λ weight. not (is_weight weight)) weights.now }
 {
     weights
         .iter()
@@ -134,7 +134,7 @@ fn first_wrong_weight(weights: &[u32]) -> Option<usize>
 fn check_ways_back(parts: &Parts) -> Result<(), ProblemFault>
     requires sized { IsSized parts.now }
     requires indexed { IsIndexed parts.now }
-    ensures { result_err result ≡ back_fault parts.now }
+    ensures value { result_err result ≡ back_fault parts.now }
 {
     for cell in 0..parts.cells {
         if let Some(dir) = first_one_way(parts, cell) {
@@ -149,7 +149,7 @@ fn first_one_way(parts: &Parts, cell: u32) -> Option<u8>
     requires sized { IsSized parts.now }
     requires indexed { IsIndexed parts.now }
     requires cell_in { cell < parts.now.cells }
-    ensures { result ≡ first_failing (leads_back parts.now cell) parts.now.dirs }
+    ensures value { result ≡ first_failing (leads_back parts.now cell) parts.now.dirs }
 {
     (0..parts.dirs).find(|&dir| !leads_back(parts, cell, dir))
 }
@@ -160,7 +160,7 @@ fn leads_back(parts: &Parts, cell: u32, dir: u8) -> bool
     requires indexed { IsIndexed parts.now }
     requires cell_in { cell < parts.now.cells }
     requires dir_in { dir < parts.now.dirs }
-    ensures { result ≡ leads_back parts.now cell dir }
+    ensures value { result ≡ leads_back parts.now cell dir }
 {
     match parts.neighbour(cell, dir) {
         None => true,
@@ -171,7 +171,7 @@ fn leads_back(parts: &Parts, cell: u32, dir: u8) -> bool
 fn check_symmetry(parts: &Parts) -> Result<(), ProblemFault>
     requires sized { IsSized parts.now }
     requires indexed { IsIndexed parts.now }
-    ensures { result_err result ≡ symmetry_fault parts.now }
+    ensures value { result_err result ≡ symmetry_fault parts.now }
 {
     for value in 0..parts.weights.len() as u16 {
         if let Some(dir) = first_one_sided(parts, value) {
@@ -186,7 +186,7 @@ fn first_one_sided(parts: &Parts, value: u16) -> Option<u8>
     requires sized { IsSized parts.now }
     requires indexed { IsIndexed parts.now }
     requires value_in { value < values parts.now }
-    ensures { result ≡ first_failing (is_mutual parts.now value) parts.now.dirs }
+    ensures value { result ≡ first_failing (is_mutual parts.now value) parts.now.dirs }
 {
     (0..parts.dirs).find(|&dir| !is_mutual(parts, value, dir))
 }
@@ -197,7 +197,7 @@ fn is_mutual(parts: &Parts, value: u16, dir: u8) -> bool
     requires indexed { IsIndexed parts.now }
     requires value_in { value < values parts.now }
     requires dir_in { dir < parts.now.dirs }
-    ensures { result ≡ is_mutual parts.now value dir }
+    ensures value { result ≡ is_mutual parts.now value dir }
 {
     let back = opposite(dir);
     for other in parts.supports(value, dir) {

@@ -9,11 +9,14 @@ ghost use Rattle.wfc_problem.specs.declared.Literal.{Literal};
 
 /// As many rounds as there are pairs of a cell and a base value, or more, give the greatest domains.
 pub fn rounds_give_the_greatest()
-    ensures { (P : Network) → IsProblem P → (literals : List Literal) (n : ℕ) → depth_of P ≤ n →
+    ensures rounds { (P : Network) → IsProblem P → (literals : List Literal) (n : ℕ) → depth_of P ≤ n →
         IsGreatest P literals (rounds P (base_with P literals) n) }
+    ensures greatest { (P : Network) → IsProblem P → (literals : List Literal) →
+        IsGreatest P literals (greatest P literals) }
 {}
 
-/// The greatest domains lie within the cut base, are arc consistent, and hold all others that are.
+/// The greatest domains lie within the cut base, are arc consistent, hold all others that are, and are the only ones
+/// that do.
 pub fn greatest_holds_all()
     ensures within { (P : Network) (literals : List Literal) (D : Test) → IsGreatest P literals D →
         Within D (base_with P literals) }
@@ -21,18 +24,20 @@ pub fn greatest_holds_all()
         IsArcConsistent P D }
     ensures largest { (P : Network) (literals : List Literal) (D E : Test) → IsGreatest P literals D →
         Within E (base_with P literals) → IsArcConsistent P E → Within E D }
+    ensures only { (P : Network) (literals : List Literal) (D E : Test) → IsGreatest P literals D →
+        IsGreatest P literals E → D ≡ E }
 {}
 
 /// A legal assignment within the cut base lies within the greatest domains.
 pub fn assignments_stand()
-    ensures { (P : Network) → IsProblem P → (literals : List Literal) (a : List ℕ) →
+    ensures stands { (P : Network) → IsProblem P → (literals : List Literal) (a : List ℕ) →
         IsLegalAssignment P a → LiesIn a (base_with P literals) →
         (c : ℕ) → c < P.cells → IsInGreatest P literals c (slice_index a c) }
 {}
 
 /// Where the greatest domains are dead, no legal assignment lies within the cut base.
 pub fn dead_means_none()
-    ensures { (P : Network) → IsProblem P → (literals : List Literal) (D : Test) →
+    ensures none { (P : Network) → IsProblem P → (literals : List Literal) (D : Test) →
         IsGreatest P literals D → IsDead P D →
         (a : List ℕ) → IsLegalAssignment P a → LiesIn a (base_with P literals) → ⊥ }
 {}
@@ -47,14 +52,14 @@ pub fn single_values_are_legal()
 
 /// Literals more leave no value that the greatest domains did not have.
 pub fn cutting_lowers()
-    ensures { (P : Network) (literals more : List Literal) (c v : ℕ) →
+    ensures lowers { (P : Network) (literals more : List Literal) (c v : ℕ) →
         IsInGreatest P (literals ++ more) c v → IsInGreatest P literals c v }
 {}
 
 /// An assignment within the cut base has a value at a cell, or it doesn't: it lies within the base cut further by
 /// the one literal or by the other.
 pub fn one_literal_holds()
-    ensures { (P : Network) (literals : List Literal) (a : List ℕ) (cell value : ℕ) →
+    ensures either { (P : Network) (literals : List Literal) (a : List ℕ) (cell value : ℕ) →
         LiesIn a (base_with P literals) →
         LiesIn a (base_with P (literals ++ Literal.Is cell value ∷ []))
         ⊎ LiesIn a (base_with P (literals ++ Literal.Not cell value ∷ [])) }

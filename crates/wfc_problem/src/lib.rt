@@ -111,8 +111,8 @@ pub enum ProblemFault {
 /// The direction that leads back.
 #[inline]
 pub fn opposite(dir: u8) -> u8
-    requires { dir < 6 }
-    ensures { result ≡ opposite dir }
+    requires dir_in { dir < 6 }
+    ensures value { result ≡ opposite dir }
 {
     if dir < 4 { (dir + 2) % 4 } else { 9 - dir }
 }
@@ -124,7 +124,7 @@ impl Parts {
         requires cell_in { cell < self.now.cells }
         requires dir_in { dir < self.now.dirs }
         requires table { length self.now.neighbours ≡ self.now.cells * self.now.dirs }
-        ensures { result ≡ neighbour self.now cell dir }
+        ensures value { result ≡ neighbour self.now cell dir }
     {
         let entry = self.neighbours[cell as usize * self.dirs as usize + dir as usize];
         if entry == NO_CELL { None } else { Some(entry) }
@@ -136,7 +136,7 @@ impl Parts {
         requires value_in { value < values self.now }
         requires dir_in { dir < self.now.dirs }
         requires table { length self.now.supports ≡ values self.now * self.now.dirs }
-        ensures { result.now ≡ supports_of self.now value dir }
+        ensures value { result.now ≡ supports_of self.now value dir }
     {
         &self.supports[value as usize * self.dirs as usize + dir as usize]
     }
@@ -148,7 +148,7 @@ impl Parts {
         requires dir_in { dir < self.now.dirs }
         requires table { length self.now.supports ≡ values self.now * self.now.dirs }
         requires rising { IsStrictlyIncreasing (supports_of self.now v dir) }
-        ensures { result ≡ ok self.now dir v w }
+        ensures value { result ≡ ok self.now dir v w }
     {
         self.supports(v, dir).binary_search(&w).is_ok()
     }
@@ -281,7 +281,7 @@ impl Problem {
     /// How much `value` weighs in a draw, 1 to `MAX_WEIGHT`.
     #[inline]
     pub fn weight(&self, value: u16) -> u32
-        requires { value < values self.now }
+        requires value_in { value < values self.now }
         ensures value { result ≡ weight_of self.now value }
         ensures problem { IsProblem self.now }
     {

@@ -55,20 +55,20 @@ fn cut_base(alloc: Global, problem: &Problem, literals: &[Literal]) -> Result<Ve
 fn is_left(problem: &Problem, literals: &[Literal], cell: u32, value: u16) -> bool
     requires cell_in { cell < problem.now.cells }
     requires value_in { value < values problem.now }
-    ensures { result ≡ base_with problem.now literals.now cell value }
+    ensures value { result ≡ base_with problem.now literals.now cell value }
 {
     problem.in_base(cell, value) && leaves_all(literals, cell, value)
 }
 
 /// Whether each literal leaves the value at the cell.
 fn leaves_all(literals: &[Literal], cell: u32, value: u16) -> bool
-    ensures { result ≡ leaves_all literals.now cell value }
+    ensures value { result ≡ leaves_all literals.now cell value }
 {
     literals.iter().all(|literal| leaves(*literal, cell, value))
 }
 
 fn leaves(literal: Literal, c: u32, v: u16) -> bool
-    ensures { result ≡ leaves literal c v }
+    ensures value { result ≡ leaves literal c v }
 {
     match literal {
         Literal::Is { cell, value } => c != cell || v == value,
@@ -78,7 +78,7 @@ fn leaves(literal: Literal, c: u32, v: u16) -> bool
 
 /// What stands, less each value that lacks a support in it.
 fn next_round(alloc: Global, problem: &Problem, flags: &[bool]) -> Result<Vec<bool>, AllocError>
-    requires { length flags.now ≡ problem.now.cells * values problem.now }
+    requires table { length flags.now ≡ problem.now.cells * values problem.now }
     ensures length { IfOk result (λ next. vec_len next ≡ problem.now.cells * values problem.now) }
     ensures value { IfOk result (λ next. has_flag (values problem.now) next.items
         ≡ round problem.now (has_flag (values problem.now) flags.now)) }
@@ -97,7 +97,7 @@ fn stays(problem: &Problem, flags: &[bool], cell: u32, value: u16) -> bool
     requires table { length flags.now ≡ problem.now.cells * values problem.now }
     requires cell_in { cell < problem.now.cells }
     requires value_in { value < values problem.now }
-    ensures { result ≡ round problem.now (has_flag (values problem.now) flags.now) cell value }
+    ensures value { result ≡ round problem.now (has_flag (values problem.now) flags.now) cell value }
 {
     let place = cell as usize * problem.values() as usize + value as usize;
     flags[place] && is_supported(problem, flags, cell, value)
@@ -108,7 +108,7 @@ fn is_supported(problem: &Problem, flags: &[bool], cell: u32, value: u16) -> boo
     requires table { length flags.now ≡ problem.now.cells * values problem.now }
     requires cell_in { cell < problem.now.cells }
     requires value_in { value < values problem.now }
-    ensures { result ≡ is_supported problem.now (has_flag (values problem.now) flags.now) cell value }
+    ensures value { result ≡ is_supported problem.now (has_flag (values problem.now) flags.now) cell value }
 {
     (0..problem.dirs()).all(|dir| side_holds(problem, flags, cell, value, dir))
 }
@@ -118,7 +118,7 @@ fn side_holds(problem: &Problem, flags: &[bool], cell: u32, value: u16, dir: u8)
     requires cell_in { cell < problem.now.cells }
     requires value_in { value < values problem.now }
     requires dir_in { dir < problem.now.dirs }
-    ensures { result ≡ side_holds problem.now (has_flag (values problem.now) flags.now) value dir
+    ensures value { result ≡ side_holds problem.now (has_flag (values problem.now) flags.now) value dir
         (neighbour problem.now cell dir) }
 {
     match problem.neighbour(cell, dir) {
@@ -131,7 +131,7 @@ fn side_holds(problem: &Problem, flags: &[bool], cell: u32, value: u16, dir: u8)
 fn any_stands(flags: &[bool], values: u16, cell: u32, wanted: &[u16]) -> bool
     requires row { (cell + 1) * values ≤ length flags.now }
     requires wanted { All (λ value. value < values) wanted.now }
-    ensures { result ≡ list_any (has_flag values flags.now cell) wanted.now }
+    ensures value { result ≡ list_any (has_flag values flags.now cell) wanted.now }
 {
     for value in wanted {
         if flags[cell as usize * values as usize + *value as usize] {

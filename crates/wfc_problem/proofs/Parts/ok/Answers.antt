@@ -7,7 +7,10 @@ use Rattle.wfc_problem.proofs.Parts.ok.Goals as goal
 
 pub returns : goal.returns
 returns c =
-    let is = c.supports.ensures in
-    c.is_ok.ensures.value
-    ∙ searched-has c.supports.result.now c.args.w c.binary_search.result c.binary_search.ensures.position (rw is c.requires.rising)
-    ∙ ap (λ (xs : List ℕ). list_any (λ x. x == c.args.w) xs) is
+    let is = c.supports.ensures.value in
+    record {
+      value =
+          c.is_ok.ensures.value
+          ∙ searched-has c.supports.result.now c.args.w c.binary_search.result c.binary_search.ensures.position (rw is c.requires.rising)
+          ∙ ap (λ (xs : List ℕ). list_any (λ x. x == c.args.w) xs) is;
+    }

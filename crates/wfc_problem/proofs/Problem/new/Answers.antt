@@ -11,7 +11,7 @@ returns-in_err-check-clause-problem c =
     ok-problem c.args.parts c.from_residual.result named
 
 pub invariant_of-result : goal.invariant_of-result
-invariant_of-result c = problem-from c.args.parts (sym c.in_ok-check.ensures)
+invariant_of-result c = problem-from c.args.parts (sym c.in_ok-check.ensures.value)
 
 pub returns-clause-problem : goal.returns-clause-problem
-returns-clause-problem c = ((λ _. problem-from c.args.parts (sym c.in_ok-check.ensures)), (λ _. refl))
+returns-clause-problem c = ((λ _. problem-from c.args.parts (sym c.in_ok-check.ensures.value)), (λ _. refl))

@@ -7,9 +7,15 @@ use Rattle.wfc_problem.proofs.checks.check_ways_back.Goals as goal
 pub returns-in-Some : goal.returns-in-Some
 returns-in-Some c =
     let same = ap (λ (P : Network). P.cells) c.parts.view_is in
-    sym (back-at c.args.parts.now c.loop-cell.cell c.in-Some.dir (omega arith) c.loop-cell.invariant (sym c.first_one_way.ensures ∙ c.in-Some.is))
+    record {
+      value =
+          sym (back-at c.args.parts.now c.loop-cell.cell c.in-Some.dir (omega arith) c.loop-cell.invariant (sym c.first_one_way.ensures.value ∙ c.in-Some.is));
+    }
 
 pub returns : goal.returns
 returns c =
     let same = ap (λ (P : Network). P.cells) c.parts.view_is in
-    sym (back-none c.args.parts.now (λ k l. c.loop-cell.invariant k (omega arith)))
+    record {
+      value =
+          sym (back-none c.args.parts.now (λ k l. c.loop-cell.invariant k (omega arith)));
+    }

@@ -2,4 +2,4 @@ use Rattle.wfc_problem.proofs.Domains.{assignment-stands}
 use Rattle.wfc_problem.proofs.laws.assignments_stand.Goals as goal
 
 pub returns : goal.returns
-returns c = assignment-stands
+returns c = record { stands = assignment-stands }

@@ -2,4 +2,4 @@ use Rattle.wfc_problem.proofs.Domains.{dead-none}
 use Rattle.wfc_problem.proofs.laws.dead_means_none.Goals as goal
 
 pub returns : goal.returns
-returns c = dead-none
+returns c = record { none = dead-none }

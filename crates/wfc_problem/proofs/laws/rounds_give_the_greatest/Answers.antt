@@ -1,5 +1,8 @@
-use Rattle.wfc_problem.proofs.Rounds.{depth-greatest}
+use Rattle.wfc_problem.proofs.Rounds.{depth-greatest, greatest-is}
 use Rattle.wfc_problem.proofs.laws.rounds_give_the_greatest.Goals as goal
 
-pub returns : goal.returns
-returns c = depth-greatest
+pub returns-clause-rounds : goal.returns-clause-rounds
+returns-clause-rounds c = depth-greatest
+
+pub returns-clause-greatest : goal.returns-clause-greatest
+returns-clause-greatest c = greatest-is

@@ -1,12 +1,12 @@
 -- Each flag is that of the next place, and the whole table is the cut base.
-use Rattle.std.proofs.Common.{◌≡◌, ◌+◌, length, ap, arith, sym, ◌∙◌, vec_len}
-use Rattle.wfc_problem.proofs.Flags.{Tells, flags-are, tells-push}
+use Rattle.std.proofs.Common.{length, ap, arith}
+use Rattle.wfc_problem.proofs.Flags.{flags-are, tells-push}
 use Rattle.wfc_problem.proofs.Rounds.{base_with-inside}
 use Rattle.wfc_problem.proofs.plain.cut_base.Goals as goal
 
 pub loop-place-preserved : goal.loop-place-preserved
 loop-place-preserved c =
-    let is = rw c.values-values.ensures.value at c.is_left.ensures in
+    let is = rw c.values-values.ensures.value at c.is_left.ensures.value in
     let long = c.loop-place.flags.ok.0 in
     record {
       so_many = omega (arith, c.in_ok-push.ensures.len);

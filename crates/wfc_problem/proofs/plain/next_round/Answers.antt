@@ -1,13 +1,13 @@
 -- Each flag is that of the next place, and the whole table is the round.
-use Rattle.std.proofs.Common.{◌≡◌, ◌+◌, arith, sym, ◌∙◌, vec_len}
-use Rattle.wfc_problem.proofs.Flags.{Tells, flags-are, flags-inside, tells-push}
+use Rattle.std.proofs.Common.{arith}
+use Rattle.wfc_problem.proofs.Flags.{flags-are, flags-inside, tells-push}
 use Rattle.wfc_problem.specs.Network.{values, has_flag}
 use Rattle.wfc_problem.proofs.Rounds.{round-inside}
 use Rattle.wfc_problem.proofs.plain.next_round.Goals as goal
 
 pub loop-place-preserved : goal.loop-place-preserved
 loop-place-preserved c =
-    let is = rw c.values-values.ensures.value at c.stays.ensures in
+    let is = rw c.values-values.ensures.value at c.stays.ensures.value in
     let long = c.loop-place.next.ok.0 in
     record {
       so_many = omega (arith, c.in_ok-push.ensures.len);
@@ -19,4 +19,4 @@ pub returns-clause-value : goal.returns-clause-value
 returns-clause-value c =
     let long = c.loop-place.next.ok.0 in
     flags-are c.args.problem.now _ c.loop-place.next.items (omega arith)
-    (round-inside c.args.problem.now (has_flag (values c.args.problem.now) c.args.flags.now) (flags-inside c.args.problem.now c.args.flags.now c.requires)) c.loop-place.invariant.told
+    (round-inside c.args.problem.now (has_flag (values c.args.problem.now) c.args.flags.now) (flags-inside c.args.problem.now c.args.flags.now c.requires.table)) c.loop-place.invariant.told

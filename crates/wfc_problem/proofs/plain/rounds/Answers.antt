@@ -1,7 +1,6 @@
 -- There were as many rounds as pairs.
-use Rattle.std.proofs.Common.{◌≡◌, ℕ, ◌≤◌, arith, ap, sym, subst, ◌∙◌}
+use Rattle.std.proofs.Common.{◌≡◌, ◌≤◌, arith, ap, sym, subst, ◌∙◌}
 use Rattle.wfc_problem.specs.Domains.{Test, base_with, IsGreatest}
-use Rattle.wfc_problem.specs.Network.{values, has_flag}
 use Rattle.wfc_problem.specs.Rounds.{greatest, rounds, depth_of}
 use Rattle.wfc_problem.proofs.Rounds.{depth-greatest}
 use Rattle.wfc_problem.proofs.plain.rounds.Goals as goal

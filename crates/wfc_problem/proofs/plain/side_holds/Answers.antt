@@ -1,5 +1,4 @@
 -- A support is a value.
-use Rattle.std.proofs.Common.{ℕ, ◌<◌, sym}
 use Rattle.wfc_problem.proofs.Domains.{supports-below}
 use Rattle.wfc_problem.proofs.plain.side_holds.Goals as goal
 
