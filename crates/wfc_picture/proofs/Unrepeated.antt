@@ -19,7 +19,7 @@ module _ {X : Type 0} (same : X → X → Bool) (sound : (x y : X) → same x y 
       by false e = e
 
   -- what is left out for being w is no x that isn't w
-  list_any-filter : (x w : X) → same x w ≡ false → (ks : List X) → list_any (same x) (filter (λ y. not (same w y)) ks) ≡ list_any (same x) ks
+  pub list_any-filter : (x w : X) → same x w ≡ false → (ks : List X) → list_any (same x) (filter (λ y. not (same w y)) ks) ≡ list_any (same x) ks
   list_any-filter x w apart [] = refl
   list_any-filter x w apart (k ∷ ks) = by (same w k) refl (list_any-filter x w apart ks)
     where

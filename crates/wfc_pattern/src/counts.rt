@@ -1,0 +1,46 @@
+//! Windows, counted in the order of their first appearance.
+ghost use Rattle.std.specs.Prelude.{◌≡◌, ℕ, ◌+◌, ◌<◌, ◌^◌, List, [], length, OnOk};
+ghost use Rattle.wfc_pattern.specs.Tally.{noted, total};
+
+use indexmap::IndexMap;
+use std::alloc::Global;
+use std::marker::Model;
+use wfc_outside::NoMemory;
+
+/// The windows that were noted, each once, with its number of times. It is seen as the list of both.
+#[derive(Drop)]
+pub struct Tally {
+    counts: IndexMap<Vec<u32>, u32>,
+}
+
+impl Model for Tally {
+    ghost use Rattle.std.specs.Prelude.{ℕ, List, map};
+
+    ghost Value = { List (List ℕ × ℕ) };
+
+    ghost view = { λ t. map (λ e. (e.0.items, e.1)) t.counts.entries };
+}
+
+impl Tally {
+    pub fn new(alloc: Global) -> Tally
+        ensures empty { result ≡ [] }
+    {
+        Tally {
+            counts: IndexMap::new(alloc),
+        }
+    }
+
+    /// Takes memory for a window that is new.
+    pub fn note(&mut self, alloc: Global, window: &[u32]) -> Result<(), NoMemory>
+        requires room { total self.old + 1 < 2 ^ 32 }
+        ensures noted { OnOk result (self.new ≡ noted self.old window.now) }
+    {
+        if let Some(count) = self.counts.get_mut(window) {
+            *count += 1;
+            return Ok(());
+        }
+        let key = Vec::from_slice(alloc, window)?;
+        self.counts.insert(key, 1)?;
+        Ok(())
+    }
+}
