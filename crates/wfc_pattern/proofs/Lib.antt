@@ -1,3 +1,5 @@
 pub mod Images
 pub mod Noted
 pub mod Tallied
+pub mod Seen
+pub mod Held

@@ -10,12 +10,12 @@ use Rattle.wfc_model.specs.Learned.{same_window, without_repeats, weight_of}
 use Rattle.wfc_model.proofs.Learned.{same_window-Decides}
 use Rattle.wfc_picture.specs.Palette.{unrepeated}
 use Rattle.wfc_picture.proofs.Unrepeated.{flips, list_any-filter, unrepeated_push}
-use Rattle.wfc_pattern.specs.Tally.{noted, total}
+use Rattle.wfc_pattern.specs.Tally.{noted, tallied, total}
 
-sound : (v w : List ℕ) → same_window v w ≡ true → v ≡ w
+pub sound : (v w : List ℕ) → same_window v w ≡ true → v ≡ w
 sound v w = (same_window-Decides v w).0
 
-whole : (w : List ℕ) → same_window w w ≡ true
+pub whole : (w : List ℕ) → same_window w w ≡ true
 whole w = (same_window-Decides w w).1 refl
 
 -- one more window is one more count
@@ -83,10 +83,6 @@ none_there x (w ∷ ws) new =
     let later : list_any (same_window x) (without_repeats ws) ≡ false = sym (list_any-filter same_window sound whole x w parts.0 (without_repeats ws)) ∙ parts.1 in
     let here : cond (same_window x w) 1 0 ≡ zero = ap (λ (b : Bool). let n : ℕ = cond b 1 0 in n) parts.0 in
     omega (arith, sum_by-cons (λ v. cond (same_window x v) 1 0) w ws, none_there x ws later, here)
-
--- the windows, each with its number of times
-abbrev pub tallied : List (List ℕ) → List (List ℕ × ℕ)
-tallied ws = map (λ (w : List ℕ). (w, weight_of ws w)) (without_repeats ws)
 
 abbrev counted : (List ℕ → ℕ) → List ℕ → List ℕ × ℕ
 counted c w = (w, c w)

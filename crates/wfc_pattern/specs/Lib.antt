@@ -1,2 +1,4 @@
-pub mod Tally
+pub mod Agreement
 pub mod Arising
+pub mod Patterns
+pub mod Tally

@@ -56,6 +56,13 @@ impl Learner {
         Ok(())
     }
 
+    /// The counts.
+    pub fn into_tally(self) -> Tally
+        ensures value { result ≡ self.tally }
+    {
+        self.tally
+    }
+
     /// Notes the images of the window at a place.
     fn note_place(&mut self, picture: &Picture, x: u32, y: u32) -> Result<(), NoMemory>
         requires few { total self.old.tally + self.old.symmetry < 2 ^ 32 }
