@@ -3,3 +3,5 @@ pub mod Noted
 pub mod Tallied
 pub mod Seen
 pub mod Held
+pub mod Overlaps
+pub mod Agreements

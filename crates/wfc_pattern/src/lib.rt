@@ -16,7 +16,7 @@ mod overlap;
 
 use counts::Tally;
 use learner::Learner;
-use overlap::overlaps;
+use overlap::agree;
 use std::alloc::Global;
 use std::marker::Model;
 use thiserror::Error;
@@ -188,15 +188,7 @@ impl Patterns {
         ensures value { result ≡ agrees self.now.n (window_at self.now p) (window_at self.now q) dir }
         ensures everywhere { IsTrue result ↔ Agrees self.now.n (window_at self.now p) (window_at self.now q) dir }
     {
-        let n = self.n as usize;
-        let p = self.window(p);
-        let q = self.window(q);
-        match dir {
-            0 => overlaps(q, p, n, 1, 0),
-            1 => overlaps(p, q, n, 0, 1),
-            2 => overlaps(p, q, n, 1, 0),
-            _ => overlaps(q, p, n, 0, 1),
-        }
+        agree(self.window(p), self.window(q), self.n as usize, dir)
     }
 
     /// The number of the pattern with these numbers, if there is one.
