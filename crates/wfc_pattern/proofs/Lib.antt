@@ -5,3 +5,4 @@ pub mod Seen
 pub mod Held
 pub mod Overlaps
 pub mod Agreements
+pub mod Taught

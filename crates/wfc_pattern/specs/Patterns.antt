@@ -25,6 +25,7 @@ pub record IsCounted (n : ℕ) (tally : List (List ℕ × ℕ)) : Type 0 where
   pub some_side : 0 < n
   pub small_side : n ≤ 6
   pub some_window : 0 < length tally
+  pub at_most : length tally ≤ 8388608
   pub squares : All (λ (e : List ℕ × ℕ). length e.0 ≡ n * n) tally
   pub arising : All (λ (e : List ℕ × ℕ). 0 < e.1) tally
   pub rare : All (λ (e : List ℕ × ℕ). e.1 ≤ 8388608) tally

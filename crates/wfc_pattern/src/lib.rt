@@ -124,7 +124,6 @@ fn starts(side: u32, n: u32, wrap: bool) -> u32
 /// The counted windows as patterns, if they are few enough.
 fn patterns_of(n: u32, tally: Tally) -> Result<Patterns, LearnFault>
     requires counted { IsCounted n tally }
-    requires fits { length tally < 2 ^ 32 }
     ensures n { IfOk result (λ patterns. patterns.n ≡ n) }
     ensures windows { IfOk result (λ patterns. patterns.windows ≡ windows_of tally) }
     ensures weights { IfOk result (λ patterns. patterns.weights ≡ weights_of tally) }
