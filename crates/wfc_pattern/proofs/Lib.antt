@@ -6,3 +6,4 @@ pub mod Held
 pub mod Overlaps
 pub mod Agreements
 pub mod Taught
+pub mod Neighbours

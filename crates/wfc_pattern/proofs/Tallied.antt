@@ -71,9 +71,10 @@ pub apart : (ws : List (List ℕ)) → IsApart (without_repeats ws)
 apart [] = tt
 apart (w ∷ ws) =
     let p : List ℕ → Bool = λ v. not (same_window w v) in
-    let rest = without_repeats ws in
-    (recursion_from_All (λ v. same_window w v ≡ false) (filter p rest) (All-weaker (λ v. p v ≡ true) (λ v. same_window w v ≡ false) (λ v kept. not-true (same_window w v) kept) (filter p rest) (filter_passes p rest)),
-        apart_kept p rest (apart ws))
+    let rest = without_repeats ws in (
+      recursion_from_All (λ v. same_window w v ≡ false) (filter p rest) (All-weaker (λ v. p v ≡ true) (λ v. same_window w v ≡ false) (λ v kept. not-true (same_window w v) kept) (filter p rest) (filter_passes p rest)),
+      apart_kept p rest (apart ws),
+    )
 
 -- a window that isn't among the windows without repeats stands nowhere
 none_there : (x : List ℕ) (ws : List (List ℕ)) → list_any (same_window x) (without_repeats ws) ≡ false → weight_of ws x ≡ 0

@@ -145,8 +145,8 @@ counted_arising sample n s wrap raster some_side small_side some eight pixels wi
       squares = All-map (λ (e : List ℕ × ℕ). length e.0 ≡ n * n) counted (without_repeats ws) (each_without_repeats (λ w. length w ≡ n * n) ws (squares_arising sample n s wrap));
       arising = All-map (λ (e : List ℕ × ℕ). 0 < e.1) counted (without_repeats ws) (each_without_repeats (λ w. 0 < weight_of ws w) ws (there_once ws));
       rare =
-        All-map (λ (e : List ℕ × ℕ). e.1 ≤ 8388608) counted (without_repeats ws)
-        (All-weaker (Contains ws) (λ w. weight_of ws w ≤ 8388608) (λ w _. omega (arith, count_by-le-length (same_window w) ws)) (without_repeats ws) (All-without_repeats ws));
+          All-map (λ (e : List ℕ × ℕ). e.1 ≤ 8388608) counted (without_repeats ws)
+          (All-weaker (Contains ws) (λ w. weight_of ws w ≤ 8388608) (λ w _. omega (arith, count_by-le-length (same_window w) ws)) (without_repeats ws) (All-without_repeats ws));
     }
 
 -- the weights together are the length of the list

@@ -21,6 +21,11 @@ pub record IsStep (direction a b i j : ℕ) : Type 0 where
   pub across : a + right_by direction ≡ i + left_by direction
   pub down : b + down_by direction ≡ j + up_by direction
 
+-- and modulo the sides of a picture
+pub record IsStepModulo (direction width height a b i j : ℕ) : Type 0 where
+  pub across : (a + right_by direction) % width ≡ (i + left_by direction) % width
+  pub down : (b + down_by direction) % height ≡ (j + up_by direction) % height
+
 -- q, moved by one step, has the same numbers as p wherever both have one
 abbrev pub Agrees : ℕ → List ℕ → List ℕ → ℕ → Type 0
 Agrees n p q direction = (i j a b : ℕ) → i < n → j < n → a < n → b < n → IsStep direction a b i j → cell_at n p i j ≡ cell_at n q a b

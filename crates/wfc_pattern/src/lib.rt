@@ -11,6 +11,7 @@ ghost use Rattle.wfc_pattern.specs.Patterns.{IsCounted, window_at, weight_at, is
 ghost use Rattle.wfc_pattern.specs.declared.LearnFault.TheVariants.{NoMemory, TooManyPatterns};
 
 mod counts;
+pub mod laws;
 mod learner;
 mod overlap;
 
@@ -66,7 +67,13 @@ impl Model for Patterns {
 
 /// Learns the patterns of a sample from the windows at all its places, each in its first `symmetry` images. A window is
 /// `n` columns wide and `n` rows high; where the sample wraps, one starts at every pixel.
-pub fn learn(alloc: Global, picture: &Picture, n: u32, symmetry: u8, wrap: bool) -> Result<Patterns, LearnFault>
+pub fn learn(
+    alloc: Global,
+    picture: &Picture,
+    n: u32,
+    symmetry: u8,
+    wrap: bool,
+) -> Result<Patterns, LearnFault>
     requires some_side { 0 < n }
     requires small_side { n ≤ 6 }
     requires some_image { 0 < symmetry }
@@ -201,3 +208,6 @@ impl Patterns {
         Some(number as u16)
     }
 }
+
+#[cfg(test)]
+mod tests;

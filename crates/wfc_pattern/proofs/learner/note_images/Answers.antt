@@ -13,5 +13,5 @@ pub loop-k-preserved : goal.loop-k-preserved
 loop-k-preserved c = record {
   turned = turned_more c.args.n c.args.window.now c.loop-k.k c.loop-k.window c.note_image.new.window c.loop-k.invariant.turned c.in_ok-note_image.ensures.turned;
   noted =
-    images_more c.args.n c.args.window.now c.loop-k.k c.loop-k.window c.args.tally.now c.loop-k.tally c.note_image.new.tally c.loop-k.invariant.turned c.loop-k.invariant.noted c.in_ok-note_image.ensures.noted;
+      images_more c.args.n c.args.window.now c.loop-k.k c.loop-k.window c.args.tally.now c.loop-k.tally c.note_image.new.tally c.loop-k.invariant.turned c.loop-k.invariant.noted c.in_ok-note_image.ensures.noted;
 }

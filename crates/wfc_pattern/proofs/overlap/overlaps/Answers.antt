@@ -10,8 +10,10 @@ returns-then-ne c =
     let j = c.loop-row.row in
     let other : is_same_row c.args.n c.args.columns c.args.rows j c.args.p.now c.args.q.now ≡ false = not-true _ (sym c.if-ne.ensures) in
     record {
-      exact = (λ e. absurd (false≢true e),
-          λ overlap. absurd (false≢true (sym other ∙ same_row c.args.n c.args.columns c.args.rows j c.args.p.now c.args.q.now c.requires.p c.requires.q c.requires.columns (omega arith) overlap)));
+      exact = (
+        λ e. absurd (false≢true e),
+        λ overlap. absurd (false≢true (sym other ∙ same_row c.args.n c.args.columns c.args.rows j c.args.p.now c.args.q.now c.requires.p c.requires.q c.requires.columns (omega arith) overlap)),
+      );
     }
 
 pub loop-row-preserved : goal.loop-row-preserved

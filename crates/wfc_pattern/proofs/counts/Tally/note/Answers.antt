@@ -17,9 +17,9 @@ returns-in-Some c =
     let written = c.get_mut.follows.holds (c.in-Some.count.now + 1) in
     record {
       noted =
-        ap seen written.0
-        ∙ noted_there w c.self.inside.counts.entries c.in-Some.count.now (sym c.in-Some.ensures.value)
-        ∙ ap (λ es. noted es w) c.self.view_is;
+          ap seen written.0
+          ∙ noted_there w c.self.inside.counts.entries c.in-Some.count.now (sym c.in-Some.ensures.value)
+          ∙ ap (λ es. noted es w) c.self.view_is;
     }
 
 pub returns : goal.returns
@@ -28,8 +28,8 @@ returns c =
     let absent : lookup (holds w) c.self.inside.counts.entries ≡ None = sym c.in_default.ensures.value in
     record {
       noted =
-        ap seen c.in_ok-insert.ensures.entries
-        ∙ ap (λ m. seen (insert_entry (λ k l. same_window k.items l.items) m.entries c.in_ok-key.key 1)) c.get_mut.follows.holds-at-none
-        ∙ noted_new w c.self.inside.counts.entries c.in_ok-key.key absent c.in_ok-key.ensures.items
-        ∙ ap (λ es. noted es w) c.self.view_is;
+          ap seen c.in_ok-insert.ensures.entries
+          ∙ ap (λ m. seen (insert_entry (λ k l. same_window k.items l.items) m.entries c.in_ok-key.key 1)) c.get_mut.follows.holds-at-none
+          ∙ noted_new w c.self.inside.counts.entries c.in_ok-key.key absent c.in_ok-key.ensures.items
+          ∙ ap (λ es. noted es w) c.self.view_is;
     }
