@@ -1,0 +1,12 @@
+use Rattle.std.proofs.Common.{◌≡◌, [], fold}
+use Rattle.std.specs.List.{flat_map, range_with_len}
+use Rattle.wfc_pattern.specs.Arising.{images_in_row}
+use Rattle.wfc_pattern.specs.Tally.{noted}
+use Rattle.wfc_pattern.proofs.tally_of.Given as goal
+
+abbrev pub invariant-loop-y : goal.invariant-loop-y
+invariant-loop-y l = record {
+  n : l.learner.n ≡ l.n;
+  symmetry : l.learner.symmetry ≡ l.symmetry;
+  noted : l.learner.tally ≡ fold noted [] (flat_map (images_in_row l.picture l.n l.symmetry l.columns) (range_with_len 0 l.y));
+}

@@ -1,0 +1,4 @@
+pub mod Agreement
+pub mod Arising
+pub mod Patterns
+pub mod Tally

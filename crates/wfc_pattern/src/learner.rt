@@ -1,0 +1,128 @@
+//! The images of a sample's windows, noted in the order in which they arise.
+ghost use Rattle.std.specs.Prelude.{◌≡◌, ℕ, ◌+◌, ◌*◌, ◌<◌, ◌%◌, ◌^◌, ◌==◌, [], length, map, fold, if◌then◌else◌, OnOk, IfOk};
+ghost use Rattle.std.specs.List.{range_with_len};
+ghost use Rattle.wfc_model.specs.Image.{image, reflected, rotated};
+ghost use Rattle.wfc_pattern.specs.Arising.{images_at, images_in_row};
+ghost use Rattle.wfc_pattern.specs.Tally.{noted, total};
+
+use crate::counts::Tally;
+use std::alloc::Global;
+use wfc_outside::NoMemory;
+use wfc_picture::Picture;
+use wfc_symmetry::{reflect_into, rotate_into};
+
+/// How windows are taken from a sample, the counts so far, and room for a window and for its image.
+#[derive(Drop)]
+pub struct Learner {
+    pub n: u32,
+    pub symmetry: u8,
+    pub tally: Tally,
+    alloc: Global,
+    window: Vec<u32>,
+    spare: Vec<u32>,
+    ghost square: { length window.items ≡ n * n },
+    ghost room: { length spare.items ≡ n * n },
+}
+
+impl Learner {
+    pub fn new(alloc: Global, n: u32, symmetry: u8) -> Result<Learner, NoMemory>
+        ensures n { IfOk result (λ learner. learner.n ≡ n) }
+        ensures symmetry { IfOk result (λ learner. learner.symmetry ≡ symmetry) }
+        ensures empty { IfOk result (λ learner. learner.tally ≡ []) }
+    {
+        let area = n as usize * n as usize;
+        let window = vec![in alloc; 0; area]?;
+        let spare = vec![in alloc; 0; area]?;
+        Ok(Learner {
+            n,
+            symmetry,
+            tally: Tally::new(alloc),
+            alloc,
+            window,
+            spare,
+        })
+    }
+
+    /// Notes the images at the first places of row `y`.
+    pub fn note_row(&mut self, picture: &Picture, y: u32, columns: u32) -> Result<(), NoMemory>
+        requires few { total self.old.tally + columns * self.old.symmetry < 2 ^ 32 }
+        ensures n { self.new.n ≡ self.old.n }
+        ensures symmetry { self.new.symmetry ≡ self.old.symmetry }
+        ensures noted { OnOk result (self.new.tally ≡ fold noted self.old.tally (images_in_row picture.now self.old.n self.old.symmetry columns y)) }
+    {
+        for x in 0..columns {
+            self.note_place(picture, x, y)?;
+        }
+        Ok(())
+    }
+
+    /// The counts.
+    pub fn into_tally(self) -> Tally
+        ensures value { result ≡ self.tally }
+    {
+        self.tally
+    }
+
+    /// Notes the images of the window at a place.
+    fn note_place(&mut self, picture: &Picture, x: u32, y: u32) -> Result<(), NoMemory>
+        requires few { total self.old.tally + self.old.symmetry < 2 ^ 32 }
+        ensures n { self.new.n ≡ self.old.n }
+        ensures symmetry { self.new.symmetry ≡ self.old.symmetry }
+        ensures noted { OnOk result (self.new.tally ≡ fold noted self.old.tally (images_at picture.now self.old.n self.old.symmetry (x, y))) }
+    {
+        picture.window_into(x, y, self.n, &mut self.window);
+        note_images(
+            self.alloc,
+            &mut self.tally,
+            &mut self.window,
+            &mut self.spare,
+            self.n,
+            self.symmetry,
+        )
+    }
+}
+
+/// Notes the first images of a window, which is used up.
+fn note_images(
+    alloc: Global,
+    tally: &mut Tally,
+    window: &mut [u32],
+    spare: &mut [u32],
+    n: u32,
+    symmetry: u8,
+) -> Result<(), NoMemory>
+    requires square { length window.old ≡ n * n }
+    requires room { length spare.old ≡ n * n }
+    requires few { total tally.old + symmetry < 2 ^ 32 }
+    ensures noted { OnOk result (tally.new ≡ fold noted tally.old (map (image n window.old) (range_with_len 0 symmetry))) }
+{
+    for k in 0..symmetry {
+        note_image(alloc, tally, window, spare, n, k)?;
+    }
+    Ok(())
+}
+
+/// Notes image `k` of a window that was turned half as often, and turns it once more behind its reflection.
+fn note_image(
+    alloc: Global,
+    tally: &mut Tally,
+    window: &mut [u32],
+    spare: &mut [u32],
+    n: u32,
+    k: u8,
+) -> Result<(), NoMemory>
+    requires square { length window.old ≡ n * n }
+    requires room { length spare.old ≡ n * n }
+    requires few { total tally.old + 1 < 2 ^ 32 }
+    ensures noted { OnOk result (tally.new ≡ noted tally.old (if k % 2 == 0 then window.old else reflected n window.old)) }
+    ensures turned { OnOk result (window.new ≡ (if k % 2 == 0 then window.old else rotated n window.old)) }
+{
+    if k % 2 == 0 {
+        return tally.note(alloc, window);
+    }
+    reflect_into(window, n, spare);
+    tally.note(alloc, spare)?;
+    rotate_into(window, n, spare);
+    window.copy_from_slice(spare);
+    Ok(())
+}
