@@ -1,11 +1,11 @@
 -- Agreement in a direction, as a test, as an overlap and everywhere.
-use Rattle.std.proofs.Common.{◌≡◌, ℕ, zero, suc, ◌+◌, ◌-◌, ◌*◌, ◌/◌, ◌%◌, ◌<◌, ◌≤◌, Bool, true, false, not, ◌&&◌, ◌||◌, eqb, ltb, leb, List, [], ◌∷◌, get_or, refl, sym, ap, ◌∙◌, arith, subst, eq-eqb, ◌⊎◌, inl, inr}
+use Rattle.std.proofs.Common.{◌≡◌, ℕ, zero, suc, ◌+◌, ◌-◌, ◌*◌, ◌/◌, ◌%◌, ◌<◌, ◌≤◌, Bool, true, false, not, ◌&&◌, ◌||◌, eqb, ltb, leb, List, refl, sym, ap, ◌∙◌, arith, subst, eq-eqb, ◌⊎◌, inl, inr}
 use Rattle.std.specs.List.{list_all, range_with_len}
 use Rattle.std.proofs.lemmas.Bool.{false≢true, and_parts, and_from, eqb-true, leb-true, ltb-true, le-leb, lt-ltb}
-use Rattle.std.proofs.lemmas.Nat.{mod-mul-add, div-mul-add, mul-add-lt, div_below, mod_below}
+use Rattle.std.proofs.lemmas.Nat.{mod-mul-add, div-mul-add}
 use Rattle.wfc_model.specs.Image.{cell_at}
 use Rattle.wfc_model.proofs.Squares.{column_of_place, row_of_place, place_in_square}
-use Rattle.wfc_pattern.specs.Agreement.{left_by, down_by, right_by, up_by, IsStep, Agrees, agrees_at, agrees, IsOverlap}
+use Rattle.wfc_pattern.specs.Agreement.{left_by, down_by, right_by, up_by, IsStep, Agrees, agrees_at, agrees}
 
 -- a test of each number of a range
 all_each : (p : ℕ → Bool) (a n : ℕ) → list_all p (range_with_len a n) ≡ true → (k : ℕ) → a ≤ k → k < a + n → p k ≡ true

@@ -1,9 +1,9 @@
-pub mod Images
-pub mod Noted
-pub mod Tallied
-pub mod Seen
-pub mod Held
-pub mod Overlaps
 pub mod Agreements
-pub mod Taught
+pub mod Held
+pub mod Images
 pub mod Neighbours
+pub mod Noted
+pub mod Overlaps
+pub mod Seen
+pub mod Tallied
+pub mod Taught

@@ -5,7 +5,7 @@ use Rattle.std.proofs.Math.Nat.{mod-add-mod, add-mod_right}
 use Rattle.wfc_model.specs.Raster.{Raster, IsRaster, height_of, number_at}
 use Rattle.wfc_model.specs.Window.{window}
 use Rattle.wfc_model.proofs.Squares.{square-at}
-use Rattle.wfc_pattern.specs.Agreement.{left_by, down_by, right_by, up_by, IsStep, IsStepModulo, Agrees, agrees}
+use Rattle.wfc_pattern.specs.Agreement.{left_by, down_by, right_by, up_by, IsStepModulo, Agrees, agrees}
 use Rattle.wfc_pattern.proofs.Agreements.{everywhere, tested, same_test}
 
 -- what is the same modulo a side with c more is the same modulo the side

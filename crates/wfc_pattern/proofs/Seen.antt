@@ -1,10 +1,9 @@
 -- What a map from windows to counts says of the windows and the counts.
-use Rattle.std.proofs.Common.{◌≡◌, ℕ, ◌+◌, ◌<◌, Bool, true, false, not, cond, ltb, List, [], ◌∷◌, length, get_or, map, slice_get, slice_index, position, Option, None, Some, Vec, refl, sym, subst, ap, ◌∙◌, arith}
+use Rattle.std.proofs.Common.{◌≡◌, ℕ, ◌+◌, ◌<◌, Bool, false, not, cond, ltb, List, [], ◌∷◌, length, get_or, map, slice_get, slice_index, position, None, Some, Vec, refl, sym, subst, ap, ◌∙◌, arith}
 use Rattle.std.specs.List.{position_or_len, IsDistinct, AllByRecursion}
 use Rattle.std.specs.Map.{keys_of, values_of}
 use Rattle.std.specs.Option.{option_map}
 use Rattle.std.proofs.lemmas.List.{length-map}
-use Rattle.std.proofs.lemmas.Map.Keys.{IsDistinct-head, IsDistinct-tail, IsDistinct-cons}
 use Rattle.std.proofs.lemmas.Option.{slice_get-map, slice_get_read, slice_get_within, get_or_from_slice_get}
 use Rattle.wfc_model.specs.Learned.{same_window}
 use Rattle.wfc_picture.proofs.Places.{own_place}

@@ -1,5 +1,5 @@
 -- What a sample teaches, as a value: its patterns in order, and how often each arises.
-use Rattle.std.specs.Prelude.{◌≡◌, ℕ, ◌*◌, ◌<◌, ◌≤◌, Bool, not, ◌&&◌, ◌||◌, nat_lt, List, [], length, map, All, slice_index, slice_index_or}
+use Rattle.std.specs.Prelude.{◌≡◌, ℕ, ◌*◌, ◌<◌, ◌≤◌, Bool, not, ◌&&◌, ◌||◌, nat_lt, List, [], length, All, slice_index, slice_index_or}
 use Rattle.wfc_model.specs.Raster.{Raster, height_of}
 
 -- the side of a window, the windows in the order of their first appearance, and beside each how often it arises

@@ -1,7 +1,7 @@
 //! What a sample teaches: its patterns, and how often each of them arises.
 #![tactic(auto)]
 
-ghost use Rattle.std.specs.Prelude.{◌≡◌, ℕ, ◌+◌, ◌-◌, ◌*◌, ◌<◌, ◌^◌, ◌≤◌, ◌↔◌, List, [], length, map, Contains, slice_get, IsTrue, IsNone, IfSome, IfErr, IfOk, position, OnOk, IsErrOf, MatchBool, ⊤};
+ghost use Rattle.std.specs.Prelude.{◌≡◌, ℕ, ◌*◌, ◌<◌, ◌≤◌, ◌↔◌, length, map, position, Contains, slice_get, IsTrue, IsNone, IfSome, IfErr, IfOk, OnOk, IsErrOf, MatchBool, ⊤};
 ghost use Rattle.wfc_model.specs.Raster.{height_of};
 ghost use Rattle.wfc_model.specs.Window.{starts};
 ghost use Rattle.wfc_model.specs.Learned.{arising, learned, same_window, weight_of};

@@ -1,7 +1,7 @@
 //! Pictures of numbers, and the palettes that say which symbol each number stands for.
 #![tactic(auto)]
 
-ghost use Rattle.std.specs.Prelude.{◌≡◌, ◌≢◌, ℕ, ◌+◌, ◌*◌, ◌/◌, ◌%◌, ◌<◌, ◌≤◌, ◌⊎◌, ◌↔◌, List, length, Contains, slice_get, IsOk, IsNone, IfOk, OnOk, OnErr, IfSome};
+ghost use Rattle.std.specs.Prelude.{◌≡◌, ◌≢◌, ℕ, ◌*◌, ◌/◌, ◌%◌, ◌<◌, ◌≤◌, ◌⊎◌, ◌↔◌, length, Contains, slice_get, IsOk, IsNone, IfOk, OnOk, OnErr, IfSome};
 ghost use Rattle.wfc_model.specs.Raster.{Raster, IsRaster, height_of, number_at, raster_of};
 ghost use Rattle.wfc_model.specs.Window.{window};
 ghost use Rattle.wfc_picture.specs.Filled.{IsFilled};

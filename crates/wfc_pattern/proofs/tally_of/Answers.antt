@@ -2,10 +2,9 @@ use Rattle.std.proofs.Common.{◌≡◌, ◌+◌, ◌*◌, ◌≤◌, fold, sym,
 use Rattle.std.proofs.Math.Nat.{mul-le-mul_right}
 use Rattle.wfc_model.specs.Raster.{height_of}
 use Rattle.wfc_model.specs.Window.{starts}
-use Rattle.wfc_model.specs.Learned.{arising}
 use Rattle.wfc_pattern.specs.Arising.{images_in_row}
 use Rattle.wfc_pattern.specs.Patterns.{IsCounted}
-use Rattle.wfc_pattern.specs.Tally.{noted, tallied, total}
+use Rattle.wfc_pattern.specs.Tally.{noted, total}
 use Rattle.wfc_pattern.proofs.Images.{row_noted, total-rows}
 use Rattle.wfc_pattern.proofs.Taught.{tally_is, starts_within, most_arising, counted_arising}
 use Rattle.wfc_pattern.proofs.tally_of.Goals as goal

@@ -1,4 +1,4 @@
-use Rattle.std.proofs.Common.{◌≡◌, ◌<◌, ◌≤◌, length, slice_index, rules}
+use Rattle.std.proofs.Common.{◌<◌, ◌≤◌, length, rules}
 use Rattle.wfc_pattern.specs.Tally.{weights_of}
 use Rattle.wfc_pattern.proofs.Held.{weight_held}
 use Rattle.wfc_pattern.proofs.Patterns.weight.Goals as goal

@@ -1,4 +1,4 @@
-use Rattle.std.proofs.Common.{◌≡◌, slice_get, position, Some, sym, ap, ◌∙◌}
+use Rattle.std.proofs.Common.{slice_get, position, ap, ◌∙◌}
 use Rattle.wfc_model.specs.Learned.{same_window}
 use Rattle.wfc_pattern.specs.Tally.{windows_of}
 use Rattle.wfc_pattern.proofs.Seen.{place_seen, own_place_seen}

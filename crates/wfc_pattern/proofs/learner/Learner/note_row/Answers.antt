@@ -1,4 +1,4 @@
-use Rattle.std.proofs.Common.{◌≡◌, ◌+◌, ◌*◌, ◌<◌, ◌≤◌, sym, ap, ◌∙◌, arith, fold}
+use Rattle.std.proofs.Common.{◌≡◌, ◌+◌, ◌*◌, ◌≤◌, ap, ◌∙◌, arith, fold}
 use Rattle.std.proofs.Math.Nat.{mul-le-mul_right}
 use Rattle.wfc_pattern.specs.Arising.{images_at}
 use Rattle.wfc_pattern.specs.Tally.{noted, total}
