@@ -1,5 +1,5 @@
 //! Windows, counted in the order of their first appearance.
-ghost use Rattle.std.specs.Prelude.{◌≡◌, ℕ, ◌+◌, ◌<◌, ◌^◌, List, [], length, map, position, slice_get, slice_index, OnOk};
+ghost use Rattle.std.specs.Prelude.{◌≡◌, ℕ, ◌+◌, ◌<◌, ◌^◌, [], length, position, slice_get, slice_index, OnOk};
 ghost use Rattle.wfc_model.specs.Learned.{same_window};
 ghost use Rattle.wfc_pattern.specs.Tally.{noted, total, windows_of, weights_of};
 
