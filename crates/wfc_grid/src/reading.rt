@@ -74,7 +74,7 @@ pub fn read(alloc: Global, bytes: &[u8]) -> Result<Grid, GridFault>
 
 /// How many bytes the first line has; 0 where there is no line.
 fn first_width(text: &[u8]) -> usize
-    requires { length text.now ≤ 16777216 }
+    requires short { length text.now ≤ 16777216 }
     ensures width { result ≡ width_of (lines_of text.now) }
 {
     lines(text).next().map_or(0, |line| line.bytes.len())
@@ -82,7 +82,7 @@ fn first_width(text: &[u8]) -> usize
 
 /// The bytes of all lines, or the first fault of a line.
 fn cells(alloc: Global, text: &[u8], width: usize) -> Result<Vec<u8>, GridFault>
-    requires { length text.now ≤ 16777216 }
+    requires short { length text.now ≤ 16777216 }
     ensures right { IfOk result (λ _. first_fault width (lines_of text.now) ≡ None) }
     ensures cells { IfOk result (λ cells. cells.items ≡ cells_of (lines_of text.now)) }
     ensures fault { IfErr result (λ fault. fault ≢ GridFault.NoMemory → first_fault width (lines_of text.now) ≡ Some fault) }
@@ -97,7 +97,7 @@ fn cells(alloc: Global, text: &[u8], width: usize) -> Result<Vec<u8>, GridFault>
 
 /// Answers the line's fault, if it has one.
 fn check(line: &TextLine<'_>, width: usize) -> Result<(), GridFault>
-    requires { length line.now.bytes.now ≤ 16777216 }
+    requires short { length line.now.bytes.now ≤ 16777216 }
     ensures right { IfOk result (λ _. line_fault width (line_view line.now) ≡ None) }
     ensures fault { IfErr result (λ fault. line_fault width (line_view line.now) ≡ Some fault) }
 {

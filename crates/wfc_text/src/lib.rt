@@ -13,7 +13,7 @@ pub use numeral::{NumberFault, number, push_number, write_number};
 
 /// The lines of a text, in order. A line ends with LF or CRLF; the last one may lack its end. An empty text has no line.
 pub fn lines(bytes: &[u8]) -> Lines<'_>
-    requires { length bytes.now < 2 ^ 32 }
+    requires short { length bytes.now < 2 ^ 32 }
     ensures all { result ≡ lines_of bytes.now }
 {
     Lines::new(bytes)

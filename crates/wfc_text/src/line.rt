@@ -38,7 +38,7 @@ impl<'a> Model for Lines<'a> {
 impl<'a> Lines<'a> {
     /// All lines of the text.
     pub fn new(bytes: &'a [u8]) -> Lines<'a>
-        requires { length bytes.now < 2 ^ 32 }
+        requires short { length bytes.now < 2 ^ 32 }
         ensures all { result ≡ lines_of bytes.now }
     {
         Lines {
@@ -68,7 +68,7 @@ impl<'a> Iterator for Lines<'a> {
 
 /// The first line of a text that has a byte, and the text behind it.
 fn first_line(number: u32, text: &[u8]) -> (TextLine<'_>, &[u8])
-    requires { 0 < length text.now }
+    requires some { 0 < length text.now }
     ensures first { lines_from number text.now ≡ line_view result.0 ∷ lines_from (number + 1) result.1.now }
     ensures shorter { length result.1.now < length text.now }
 {

@@ -51,7 +51,7 @@ fn first_other(text: &[u8]) -> Option<usize>
 
 /// The number that digits write, if it fits.
 fn value(digits: &[u8]) -> Option<u64>
-    requires { AllPass is_ascii_digit digits.now }
+    requires digits { AllPass is_ascii_digit digits.now }
     ensures value { SomeIff result (digits_value 10 digits.now < 2 ^ 64) (digits_value 10 digits.now) }
 {
     let mut n = 0;
@@ -64,7 +64,7 @@ fn value(digits: &[u8]) -> Option<u64>
 /// The number with a digit more at its end, if it fits.
 #[inline]
 fn with_digit(n: u64, digit: u8) -> Option<u64>
-    requires { is_ascii_digit digit ≡ true }
+    requires digit { is_ascii_digit digit ≡ true }
     ensures value { SomeIff result (n * 10 + digit_value digit < 2 ^ 64) (n * 10 + digit_value digit) }
 {
     n.checked_mul(10)?.checked_add(u64::from(digit - b'0'))

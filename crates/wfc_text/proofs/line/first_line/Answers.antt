@@ -10,4 +10,4 @@ returns-in-Some-clause-first c =
     rw (c.without_return.ensures.stripped, behind) (lines_from-at c.args.number c.args.text.now c.in-Some.at found.0.high found.0.before (eqb-true _ 10 found.1))
 
 pub returns-in-None-clause-first : goal.returns-in-None-clause-first
-returns-in-None-clause-first c = lines_from-none c.args.number c.args.text.now c.requires c.in-None.ensures
+returns-in-None-clause-first c = lines_from-none c.args.number c.args.text.now c.requires.some c.in-None.ensures

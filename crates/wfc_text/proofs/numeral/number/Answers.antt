@@ -4,4 +4,4 @@ use Rattle.wfc_text.proofs.Passing.{all_pass}
 use Rattle.wfc_text.proofs.numeral.number.Goals as goal
 
 pub value-requires : goal.value-requires
-value-requires c = all_pass is_ascii_digit c.args.text.now (sym c.in_default.ensures.first)
+value-requires c = record { digits = all_pass is_ascii_digit c.args.text.now (sym c.in_default.ensures.first) }
