@@ -281,6 +281,8 @@ mod tests {
         let numbers = picture.window(rt.alloc(), 1, 0, 2)?;
         assert_eq!(rt; numbers.as_slice(), [1, 0, 1, 0].as_slice());
         assert_eq!(rt; palette.len(), 2);
+        assert_eq!(rt; palette.symbol(0), Symbol::Char(b'b'));
+        assert_eq!(rt; palette.symbol(1), Symbol::Char(b'a'));
         for (symbol, number) in [(b'b', Some(0)), (b'a', Some(1)), (b'c', None)] {
             assert_eq!(rt; palette.number(Symbol::Char(symbol)), number);
         }
