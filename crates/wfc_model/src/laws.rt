@@ -52,3 +52,24 @@ pub fn rasters_are_lists()
     ensures numbers { (w h : ℕ) (numbers : List ℕ) → length numbers ≡ w * h → numbers_of (raster_of w h numbers) ≡ numbers }
     ensures sized { (w h : ℕ) (numbers : List ℕ) → 0 < w → 0 < h → length numbers ≡ w * h → IsSized (raster_of w h numbers) w h }
 {}
+
+/// The window at the last pixel of a picture of three by two goes on in the first column and row.
+pub fn windows_turn_over()
+    ensures corner { window (raster_of 3 2 (1 ∷ 2 ∷ 3 ∷ 4 ∷ 5 ∷ 6 ∷ [])) 2 1 2 ≡ 6 ∷ 4 ∷ 3 ∷ 1 ∷ [] }
+    ensures inside { window (raster_of 3 2 (1 ∷ 2 ∷ 3 ∷ 4 ∷ 5 ∷ 6 ∷ [])) 1 0 2 ≡ 2 ∷ 3 ∷ 5 ∷ 6 ∷ [] }
+{}
+
+/// Place by place, and at a place image by image.
+pub fn arising_in_order()
+    ensures order { arising (raster_of 3 2 (1 ∷ 2 ∷ 3 ∷ 4 ∷ 5 ∷ 6 ∷ [])) 2 2 false ≡ (1 ∷ 2 ∷ 4 ∷ 5 ∷ []) ∷ (2 ∷ 1 ∷ 5 ∷ 4 ∷ []) ∷ (2 ∷ 3 ∷ 5 ∷ 6 ∷ []) ∷ (3 ∷ 2 ∷ 6 ∷ 5 ∷ []) ∷ [] }
+    ensures nine { map (image 3 (1 ∷ 2 ∷ 3 ∷ 4 ∷ 5 ∷ 6 ∷ 7 ∷ 8 ∷ 9 ∷ [])) (range_with_len 0 4) ≡
+        (1 ∷ 2 ∷ 3 ∷ 4 ∷ 5 ∷ 6 ∷ 7 ∷ 8 ∷ 9 ∷ []) ∷ (3 ∷ 2 ∷ 1 ∷ 6 ∷ 5 ∷ 4 ∷ 9 ∷ 8 ∷ 7 ∷ []) ∷ (3 ∷ 6 ∷ 9 ∷ 2 ∷ 5 ∷ 8 ∷ 1 ∷ 4 ∷ 7 ∷ []) ∷ (9 ∷ 6 ∷ 3 ∷ 8 ∷ 5 ∷ 2 ∷ 7 ∷ 4 ∷ 1 ∷ []) ∷ [] }
+{}
+
+/// The rules: where the output wraps, and with all eight images.
+pub fn rules_of_legal()
+    ensures images { IsLegalPicture (raster_of 2 2 (97 ∷ 98 ∷ 98 ∷ 97 ∷ [])) (record { n = 2; symmetry = 8; wrap_in = false; wrap_out = false }) [] 2 2 (raster_of 2 2 (98 ∷ 97 ∷ 97 ∷ 98 ∷ [])) }
+    ensures wraps_in { IsLegalPicture (raster_of 2 2 (97 ∷ 98 ∷ 98 ∷ 97 ∷ [])) (record { n = 2; symmetry = 1; wrap_in = true; wrap_out = false }) [] 2 2 (raster_of 2 2 (98 ∷ 97 ∷ 97 ∷ 98 ∷ [])) }
+    ensures wraps_out { IsLegalPicture (raster_of 2 2 (97 ∷ 98 ∷ 98 ∷ 97 ∷ [])) (record { n = 2; symmetry = 1; wrap_in = false; wrap_out = true }) [] 2 2 (raster_of 2 2 (97 ∷ 98 ∷ 98 ∷ 97 ∷ [])) → ⊥ }
+    ensures pin { IsLegalPicture (raster_of 2 2 (97 ∷ 98 ∷ 99 ∷ 97 ∷ [])) (record { n = 2; symmetry = 1; wrap_in = false; wrap_out = false }) (record { keep = true; column = 1; row = 0; number = 98 } ∷ []) 2 2 (raster_of 2 2 (97 ∷ 98 ∷ 99 ∷ 97 ∷ [])) }
+{}

@@ -4,7 +4,7 @@ ghost use Rattle.std.specs.Prelude.{◌≡◌, ◌↔◌, ℕ, ◌+◌, ◌%◌,
 ghost use Rattle.wfc_model.specs.Raster.{Raster, IsRaster, height_of};
 ghost use Rattle.wfc_model.specs.Window.{window};
 ghost use Rattle.wfc_model.specs.Learned.{arising, learned, weight_of};
-ghost use Rattle.wfc_pattern.specs.Agreement.{Agrees, IsStepModulo, agrees};
+ghost use Rattle.wfc_pattern.specs.Agreement.{Agrees, IsStep, IsStepModulo, agrees};
 
 /// The windows at neighbouring places agree: the one at a place with the one a step away, modulo the sides.
 pub fn neighbouring_windows_agree()
@@ -20,4 +20,12 @@ pub fn agreement_is_mutual()
 /// The weights of the patterns together are the number of images that arise.
 pub fn weights_add_up()
     ensures sum { (sample : Raster) (n s : ℕ) (wrap : Bool) → sum (map (weight_of (arising sample n s wrap)) (learned sample n s wrap)) ≡ length (arising sample n s wrap) }
+{}
+
+/// Direction 0 is to the left, 1 down, 2 to the right and 3 up.
+pub fn directions()
+    ensures left { (x y : ℕ) → IsStep 0 (x + 1) y x y }
+    ensures down { (x y : ℕ) → IsStep 1 x y x (y + 1) }
+    ensures right { (x y : ℕ) → IsStep 2 x y (x + 1) y }
+    ensures up { (x y : ℕ) → IsStep 3 x (y + 1) x y }
 {}

@@ -231,3 +231,14 @@ either-literal P literals a cell value lies = elim (cases_eq (slice_index a cell
       base_with-push P literals (Not cell value) c (slice_index a c)
       ∙ and_from _ _ (lies c l) (let at : c ≡ cell → slice_index a c ≡ value → ⊥ = λ f g. ne (sym (ap (slice_index a) f) ∙ g) in grind (arith, nat_tests)))
 ]
+
+pub is-exact : (P : Network) (literals : List Literal) (a : List ℕ) (cell value : ℕ) → cell < length a → LiesIn a (base_with P (literals ++ Is cell value ∷ [])) → slice_index a cell ≡ value
+is-exact P literals a cell value l lies =
+    let h : leaves (Is cell value) cell (slice_index a cell) ≡ true = (and_parts (base_with P literals cell (slice_index a cell)) (leaves (Is cell value) cell (slice_index a cell)) (sym (base_with-push P literals (Is cell value) cell (slice_index a cell)) ∙ lies cell l)).1 in grind (arith, nat_tests)
+
+pub not-exact : (P : Network) (literals : List Literal) (a : List ℕ) (cell value : ℕ) → cell < length a → LiesIn a (base_with P (literals ++ Not cell value ∷ [])) → slice_index a cell ≡ value → ⊥
+not-exact P literals a cell value l lies e =
+    let h : leaves (Not cell value) cell (slice_index a cell) ≡ true = (and_parts (base_with P literals cell (slice_index a cell)) (leaves (Not cell value) cell (slice_index a cell)) (sym (base_with-push P literals (Not cell value) cell (slice_index a cell)) ∙ lies cell l)).1 in grind (arith, nat_tests)
+
+pub legal-base : (P : Network) (a : List ℕ) → IsLegalAssignment P a → LiesIn a (base_with P [])
+legal-base P a legal c l = and_from _ _ (legal.based c (omega (arith, legal.each_cell))) refl

@@ -1,9 +1,11 @@
 //! What the definitions imply. Each function does nothing; its contract is the law.
 
-ghost use Rattle.std.specs.Prelude.{◌≡◌, ℕ, ◌<◌, ◌≤◌, ◌⊎◌, List, [], ◌∷◌, ◌++◌, IsTrue, slice_index};
+ghost use Rattle.std.specs.Prelude.{◌≡◌, ℕ, ◌<◌, ◌≤◌, ◌⊎◌, List, [], ◌∷◌, ◌++◌, IsTrue, slice_index, length, map};
+ghost use Rattle.std.specs.List.{range_with_len};
+ghost use Rattle.wfc_problem.specs.declared.TheConstants.{MAX_PAIRS, MAX_VALUES, MAX_WEIGHT, NO_CELL};
 ghost use Rattle.wfc_problem.specs.Assignment.{IsLegalAssignment, LiesIn};
 ghost use Rattle.wfc_problem.specs.Domains.{Test, Within, IsArcConsistent, IsInGreatest, IsGreatest, IsDead, HasOnly, base_with};
-ghost use Rattle.wfc_problem.specs.Network.{Network, IsProblem};
+ghost use Rattle.wfc_problem.specs.Network.{Network, IsProblem, opposite};
 ghost use Rattle.wfc_problem.specs.Rounds.{rounds, depth_of, greatest};
 ghost use Rattle.wfc_problem.specs.declared.Literal.{Literal};
 
@@ -63,4 +65,26 @@ pub fn one_literal_holds()
         LiesIn a (base_with P literals) →
         LiesIn a (base_with P (literals ++ Literal.Is cell value ∷ []))
         ⊎ LiesIn a (base_with P (literals ++ Literal.Not cell value ∷ [])) }
+{}
+
+/// What a literal leaves of an assignment.
+pub fn literals_cut()
+    ensures is_exact { (P : Network) (literals : List Literal) (a : List ℕ) (cell value : ℕ) → cell < length a →
+        LiesIn a (base_with P (literals ++ Literal.Is cell value ∷ [])) → slice_index a cell ≡ value }
+    ensures not_exact { (P : Network) (literals : List Literal) (a : List ℕ) (cell value : ℕ) → cell < length a →
+        LiesIn a (base_with P (literals ++ Literal.Not cell value ∷ [])) → slice_index a cell ≡ value → ⊥ }
+{}
+
+/// A legal assignment lies within the base.
+pub fn legal_lies_in_base()
+    ensures base { (P : Network) (a : List ℕ) → IsLegalAssignment P a → LiesIn a (base_with P []) }
+{}
+
+/// The six opposites, and the limits.
+pub fn numbers()
+    ensures opposites { map opposite (range_with_len 0 6) ≡ 2 ∷ 3 ∷ 0 ∷ 1 ∷ 5 ∷ 4 ∷ [] }
+    ensures pairs { MAX_PAIRS ≡ 8388608 }
+    ensures values { MAX_VALUES ≡ 4096 }
+    ensures weight { MAX_WEIGHT ≡ 16777216 }
+    ensures none { NO_CELL ≡ 4294967295 }
 {}
