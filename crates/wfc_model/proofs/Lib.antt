@@ -1,5 +1,9 @@
-pub mod Ranges
-pub mod Squares
-pub mod Places
-pub mod Rasters
-pub mod Learned
+pub mod CallerLemmas
+pub mod DirectionLemmas
+pub mod ImageLemmas
+pub mod LearnedLemmas
+pub mod PlaceLemmas
+pub mod RasterLemmas
+pub mod RenumberedLemmas
+mod SmallLemmas
+pub mod SquareLemmas

@@ -2,6 +2,7 @@
 use Rattle.std.specs.Prelude.{◌≡◌, ℕ, ◌*◌, ◌<◌, List, [], length, take, drop, map, All, slice_index, slice_index_or}
 use Rattle.std.specs.List.{concat, range_with_len}
 
+-- a picture: how wide it is, and its rows from the top
 pub record Raster : Type 0 where
   pub width : ℕ
   pub rows : List (List ℕ)
@@ -25,6 +26,12 @@ pub record IsSized (m : Raster) (width height : ℕ) : Type 0 where
   pub raster : IsRaster m
   pub same_width : m.width ≡ width
   pub same_height : height_of m ≡ height
+
+-- both sides are at least 1, and there are as many numbers, or bytes or colours, as they have places
+pub record IsFilled {X : Type 0} (width height : ℕ) (numbers : List X) : Type 0 where
+  pub some_column : 0 < width
+  pub some_row : 0 < height
+  pub as_many : length numbers ≡ width * height
 
 -- the numbers row by row
 abbrev pub numbers_of : Raster → List ℕ

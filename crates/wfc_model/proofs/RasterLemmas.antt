@@ -1,13 +1,13 @@
 -- Pictures made of a list of numbers.
-use Rattle.std.proofs.Common.{◌≡◌, ℕ, zero, suc, ◌+◌, ◌*◌, ◌<◌, ◌≤◌, List, [], ◌∷◌, ◌++◌, length, get_or, map, take, drop, arith, sym, ◌∙◌, zero-add, ap, refl}
+use Rattle.std.proofs.Common.{◌≡◌, ℕ, zero, suc, ◌+◌, ◌*◌, ◌<◌, ◌≤◌, List, [], ◌∷◌, ◌++◌, length, get_or, map, take, drop, arith, sym, ◌∙◌, zero-add, ap, refl, subst}
 use Rattle.std.specs.List.{range_with_len, AllByRecursion, concat}
 use Rattle.std.proofs.lemmas.List.{length-take, length-drop, length-append, get_or-take, get_or-drop, drop-drop, take_all, take_at, ext_get_or}
 use Rattle.std.proofs.Math.Seq.{take-add, drop-append-add}
 use Rattle.std.proofs.lemmas.List.FromFn.{length-map-range_with_len, get_or-map-range_with_len}
 use Rattle.std.proofs.lemmas.List.Elements.{All-from_recursion, recursion_from_All}
 use Rattle.std.proofs.Math.Nat.{mul-le-mul_right}
-use Rattle.wfc_model.specs.Raster.{Raster, height_of, number_at, numbers_of, raster_of, IsSized}
-use Rattle.wfc_model.proofs.Ranges.{each_in_row}
+use Rattle.wfc_model.specs.Raster.{Raster, height_of, number_at, numbers_of, raster_of, IsFilled, IsSized}
+use Rattle.wfc_lists.proofs.Ranges.{each_in_row}
 
 pub height-raster_of : (w h : ℕ) (numbers : List ℕ) → height_of (raster_of w h numbers) ≡ h
 height-raster_of w h numbers = length-map-range_with_len (λ y. take w (drop (y * w) numbers)) 0 h
@@ -24,13 +24,13 @@ number_at-raster_of w h numbers x y column row =
     ∙ get_or-drop (y * w) numbers x 0
 
 -- as many numbers as the sides say make a picture of these sides
-pub IsSized-raster_of : (w h : ℕ) (numbers : List ℕ) → 0 < w → 0 < h → length numbers ≡ w * h → IsSized (raster_of w h numbers) w h
-IsSized-raster_of w h numbers wide high many = record {
+pub IsSized-raster_of : (w h : ℕ) (numbers : List ℕ) → IsFilled w h numbers → IsSized (raster_of w h numbers) w h
+IsSized-raster_of w h numbers filled = record {
   raster = record {
-    some_column = wide;
-    some_row = rw height-raster_of high;
+    some_column = filled.some_column;
+    some_row = rw height-raster_of filled.some_row;
     rows_fit = All-from_recursion (λ (row : List ℕ). length row ≡ w) (raster_of w h numbers).rows
-        (each_in_row (λ (row : List ℕ). length row ≡ w) (λ y. take w (drop (y * w) numbers)) 0 h (λ y _ below. row_long w h numbers y many (omega arith)));
+        (each_in_row (λ (row : List ℕ). length row ≡ w) (λ y. take w (drop (y * w) numbers)) 0 h (λ y _ below. row_long w h numbers y filled.as_many (omega arith)));
   };
   same_width = refl;
   same_height = height-raster_of w h numbers;
@@ -78,6 +78,14 @@ pub length-numbers_of : (m : Raster) (w h : ℕ) → IsSized m w h → length (n
 length-numbers_of m w h sized =
     length-joined m.width m.rows (recursion_from_All (λ (row : List ℕ). length row ≡ m.width) m.rows sized.raster.rows_fit)
     ∙ ap (λ k. k * length m.rows) sized.same_width ∙ ap (λ k. w * k) sized.same_height
+
+-- its numbers are as many as its sides say
+pub IsFilled-numbers_of : (m : Raster) (w h : ℕ) → IsSized m w h → IsFilled w h (numbers_of m)
+IsFilled-numbers_of m w h sized = record {
+  some_column = subst (λ k. 0 < k) sized.same_width sized.raster.some_column;
+  some_row = subst (λ k. 0 < k) sized.same_height sized.raster.some_row;
+  as_many = length-numbers_of m w h sized;
+}
 
 -- a picture is made of its own numbers
 pub raster_of-numbers_of : (m : Raster) (w h : ℕ) → IsSized m w h → raster_of w h (numbers_of m) ≡ m
