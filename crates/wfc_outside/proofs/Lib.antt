@@ -1,3 +1,4 @@
-pub mod Front
-pub mod Pieces
-pub mod Places
+pub mod CallerLemmas
+pub mod MemoryFolderLemmas
+pub mod SinkLemmas
+pub mod WholeLemmas

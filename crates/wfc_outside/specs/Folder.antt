@@ -27,16 +27,20 @@ IsToldAs (Some files) name bytes = file_of files name ≡ Some bytes
 abbrev pub NoCountFell : FolderView → FolderView → Type 0
 NoCountFell old new = (name : List ℕ) → old.faults name ≤ new.faults name
 
--- a fault of the named file was counted
-abbrev pub IsFaultOf : FolderView → FolderView → List ℕ → Type 0
-IsFaultOf old new name = HasRisen (old.faults name) (new.faults name)
+-- a fault of the named file was counted; what is told stands, and no count fell
+pub record IsFaultOf (old new : FolderView) (name : List ℕ) : Type 0 where
+  pub contents : new.contents ≡ old.contents
+  pub counts : NoCountFell old new
+  pub counted : HasRisen (old.faults name) (new.faults name)
 
--- the named file is missing: the told files lack it, or, where they aren't told, a fault of it was counted
-abbrev pub IsMissing : FolderView → FolderView → List ℕ → Type 0
-IsMissing old new name = MatchOption old.contents (IsFaultOf old new name) (λ files. file_of files name ≡ None)
+-- the named file is missing: the told files lack it, or, where they aren't told, a fault of it was counted; what is told stands, and no count fell
+pub record IsMissing (old new : FolderView) (name : List ℕ) : Type 0 where
+  pub contents : new.contents ≡ old.contents
+  pub counts : NoCountFell old new
+  pub lacking : MatchOption old.contents (HasRisen (old.faults name) (new.faults name)) (λ files. file_of files name ≡ None)
 
 -- the first n bytes of the buffer are those that stand at a place of the file, and there are none only at its end
-pub record Gives (file : List ℕ) (at : ℕ) (buffer : List ℕ) (n : ℕ) : Type 0 where
+pub record IsPieceOf (file : List ℕ) (at : ℕ) (buffer : List ℕ) (n : ℕ) : Type 0 where
   pub same : take n buffer ≡ take n (drop at file)
   pub inside : n ≤ length file - at
   pub at_end : n ≡ 0 → 0 < length buffer → length file ≤ at
@@ -44,4 +48,4 @@ pub record Gives (file : List ℕ) (at : ℕ) (buffer : List ℕ) (n : ℕ) : Ty
 -- where the files are told, the first n bytes of the buffer are given from the named one
 abbrev pub GivesFrom : Option (List File) → List ℕ → ℕ → List ℕ → ℕ → Type 0
 GivesFrom None name at buffer n = Unit {0}
-GivesFrom (Some files) name at buffer n = (file : List ℕ) × (file_of files name ≡ Some file) × Gives file at buffer n
+GivesFrom (Some files) name at buffer n = (file : List ℕ) × (file_of files name ≡ Some file) × IsPieceOf file at buffer n

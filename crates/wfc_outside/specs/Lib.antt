@@ -1,7 +1,10 @@
+pub mod Cases
 pub mod Count
 pub mod Folder
+pub mod Gives
 pub mod MemoryFolder
 pub mod MemorySink
 pub mod ReadFault
 pub mod Sink
+pub mod Stream
 pub mod Whole

@@ -1,10 +1,10 @@
 -- What a sink in memory is seen as, and what its calls do to it.
-use Rattle.std.specs.Prelude.{ℕ, ◌<◌, ◌≤◌, Bool, false, List, [], length, min, ◌-◌, Some, ◌∷◌, ◌++◌, ◌⊎◌}
+use Rattle.std.specs.Prelude.{ℕ, ◌<◌, ◌≤◌, Bool, true, false, if◌then◌else◌, List, [], length, min, ◌-◌, Some, ◌∷◌, ◌++◌, ◌⊎◌}
 use Rattle.wfc_outside.specs.Count.{raised, IsListedNext}
 use Rattle.wfc_outside.specs.Sink.{Taken, SinkView, with_bytes}
 
 -- a sink in memory: what it took and whether that is finished, how many bytes it takes in a call and has room for
--- in all, how many calls were made, which calls fail, and the count of its faults
+-- in all, how many calls were made, which calls fail, whether each finishing fails, and the count of its faults
 pub record MemorySinkView : Type 0 where
   pub bytes : List ℕ
   pub finished : Bool
@@ -12,11 +12,12 @@ pub record MemorySinkView : Type 0 where
   pub room : ℕ
   pub calls : ℕ
   pub failing : List ℕ
+  pub finish_fails : Bool
   pub faults : ℕ
 
 -- a sink that took nothing and was not called
 abbrev pub fresh_sink : ℕ → ℕ → MemorySinkView
-fresh_sink piece room = record { bytes = []; finished = false; piece = piece; room = room; calls = 0; failing = []; faults = 0 }
+fresh_sink piece room = record { bytes = []; finished = false; piece = piece; room = room; calls = 0; failing = []; finish_fails = false; faults = 0 }
 
 -- what it took
 abbrev pub taken_of : MemorySinkView → Taken
@@ -46,6 +47,14 @@ after_taking sink bytes = record sink {
   calls = raised sink.calls;
 }
 
--- the sink after a call that failed
+-- the sink after a call of `write` that failed
 abbrev pub after_failing : MemorySinkView → MemorySinkView
 after_failing sink = record sink { calls = raised sink.calls; faults = raised sink.faults }
+
+-- the sink whose every later finishing fails
+abbrev pub sink_failing_finish : MemorySinkView → MemorySinkView
+sink_failing_finish sink = record sink { finish_fails = true }
+
+-- the sink after it was asked to finish
+abbrev pub after_finishing : MemorySinkView → MemorySinkView
+after_finishing sink = if sink.finish_fails then record sink { faults = raised sink.faults } else record sink { finished = true }

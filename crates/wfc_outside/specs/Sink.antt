@@ -1,5 +1,5 @@
 -- What a sink is seen as, and what its calls do to it.
-use Rattle.std.specs.Prelude.{◌≡◌, ℕ, Bool, true, false, List, [], ◌∷◌, ◌++◌, take, Option}
+use Rattle.std.specs.Prelude.{◌≡◌, ℕ, Bool, true, false, List, [], ◌∷◌, ◌++◌, take, Option, Result, MatchResult}
 use Rattle.std.specs.Option.{option_map}
 use Rattle.wfc_outside.specs.Count.{HasRisen}
 
@@ -35,3 +35,11 @@ pub record IsFault (old new : SinkView) : Type 0 where
 pub record IsFaultAfterFront (old new : SinkView) (bytes : List ℕ) : Type 0 where
   pub front : (n : ℕ) × (new.told ≡ (after_bytes old (take n bytes)).told)
   pub counted : HasRisen old.faults new.faults
+
+-- a piece was put: the sink took the whole of it, or a front of it and then a fault was counted
+abbrev pub Puts : {T E : Type 0} → SinkView → SinkView → List ℕ → Result T E → Type 0
+Puts old new bytes result = MatchResult result (λ _. new ≡ after_bytes old bytes) (λ _. IsFaultAfterFront old new bytes)
+
+-- the bytes were finished, or a fault was counted
+abbrev pub Finishes : {T E : Type 0} → SinkView → SinkView → Result T E → Type 0
+Finishes old new result = MatchResult result (λ _. new ≡ after_finish old) (λ _. IsFault old new)

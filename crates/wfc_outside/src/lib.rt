@@ -6,19 +6,21 @@
 #![tactic(auto)]
 
 ghost use Rattle.std.specs.Prelude.{◌≡◌, ◌<◌, ◌≤◌, length, take, IfOk, OnOk, OnErr, IsErrOf};
-ghost use Rattle.wfc_outside.specs.Folder.{FolderView, GivesFrom, IsFaultOf, IsMissing, NoCountFell};
-ghost use Rattle.wfc_outside.specs.Sink.{SinkView, after_bytes, after_finish, IsFault};
+ghost use Rattle.wfc_outside.specs.Folder.{FolderView, GivesFrom, IsFaultOf, IsMissing};
+ghost use Rattle.wfc_outside.specs.Sink.{SinkView, after_bytes, Finishes, IsFault};
 
+mod count;
 mod devices;
+pub mod laws;
 mod memory_folder;
 mod memory_sink;
 mod whole;
 
-pub use devices::{DiskFolder, StderrSink, StdoutSink};
+pub use devices::{DiskFolder, StderrSink, StdoutSink, StreamSink};
 pub use memory_folder::MemoryFolder;
 pub use memory_sink::MemorySink;
 use std::alloc::{AllocError, AllocFailed};
-pub use whole::{ReadFault, read_all, write_all};
+pub use whole::{MAX_FILE_BYTES, ReadFault, read_all, write_all};
 
 /// Memory ran out.
 #[derive(Clone, Copy, Debug, PartialEq, Eq)]
@@ -51,13 +53,11 @@ pub trait Folder {
     /// Reads bytes of the named file from byte `at` on into `buf`, and answers how many. `Ok(0)` for a buffer with room
     /// comes only at or past the file's end. What of `buf` lies behind the answered count is left open.
     fn read_at(&mut self, name: &str, at: u64, buf: &mut [u8]) -> Result<usize, FolderFault>
-        // What is told never changes, and no count falls.
-        ensures contents { (seen self.new).contents ≡ (seen self.old).contents }
-        ensures counts { NoCountFell (seen self.old) (seen self.new) }
-
         ensures ok { OnOk result (seen self.new ≡ seen self.old) }
         ensures within { IfOk result (λ n. n ≤ length buf.new) }
         ensures given { IfOk result (λ n. GivesFrom (seen self.old).contents name.now at buf.new n) }
+
+        // What is told stands in each case, and no count falls.
         ensures missing { IsErrOf result FolderFault.Missing → IsMissing (seen self.old) (seen self.new) name.now }
         ensures failed { IsErrOf result FolderFault.Failed → IsFaultOf (seen self.old) (seen self.new) name.now };
 }
@@ -79,14 +79,11 @@ pub trait Sink {
         ensures within { IfOk result (λ n. n ≤ length bytes.now) }
         ensures some { IfOk result (λ n. 0 < length bytes.now → 0 < n) }
         ensures ok { IfOk result (λ n. seen self.new ≡ after_bytes (seen self.old) (take n bytes.now)) }
-        ensures failed { OnErr result (IsFault (seen self.old) (seen self.new)) }
-        ensures counts { (seen self.old).faults ≤ (seen self.new).faults };
+        ensures failed { OnErr result (IsFault (seen self.old) (seen self.new)) };
 
     /// Says that nothing follows, and passes on what is held back.
     fn finish(&mut self) -> Result<(), SinkFault>
-        ensures ok { OnOk result (seen self.new ≡ after_finish (seen self.old)) }
-        ensures failed { OnErr result (IsFault (seen self.old) (seen self.new)) }
-        ensures counts { (seen self.old).faults ≤ (seen self.new).faults };
+        ensures finished { Finishes (seen self.old) (seen self.new) result };
 }
 
 #[cfg(test)]

@@ -3,10 +3,11 @@
 ghost use Rattle.std.specs.Prelude.{◌≡◌, ◌≢◌, ◌↔◌, ℕ, ◌-◌, ◌≤◌, List, Some, None, min, length, take, drop, position, IfOk, IfSome, IsErrOf, IsSome, OnOk, OnErr};
 ghost use Rattle.std.specs.Str.{bytes_eq};
 ghost use Rattle.std.specs.String.{string_bytes};
-ghost use Rattle.wfc_outside.specs.Count.{raised, IsListedNext};
-ghost use Rattle.wfc_outside.specs.Folder.{GivesFrom, IsFaultOf, IsMissing, NoCountFell};
+ghost use Rattle.wfc_outside.specs.Count.{HasRisen, IsListedNext, raised};
+ghost use Rattle.wfc_outside.specs.Folder.{GivesFrom, IsFaultOf};
 ghost use Rattle.wfc_outside.specs.MemoryFolder.{after_adding, after_call, after_failed_call, bytes_of, folder_listing, fresh_folder, given_count, seen_folder};
 
+use crate::count::one_more;
 use crate::{Folder, FolderFault, NoMemory};
 use std::alloc::Global;
 use std::marker::Model;
@@ -36,9 +37,9 @@ impl StoredFile {
 
     fn count_fault(&mut self)
         ensures counted { self.new ≡ record self.old { faults = raised self.old.faults } }
-        ensures rises { self.old.faults ≤ raised self.old.faults }
+        ensures rises { HasRisen self.old.faults (raised self.old.faults) }
     {
-        self.faults = self.faults.saturating_add(1);
+        self.faults = one_more(self.faults);
     }
 
     fn replace(&mut self, bytes: Vec<u8>)
@@ -129,33 +130,23 @@ impl MemoryFolder {
         self.failing.push(call)?;
         Ok(())
     }
-}
 
-impl Folder for MemoryFolder {
-    ghost seen = { seen_folder };
-
-    /// `Missing` exactly where the name isn't there, and `Failed` exactly at a listed call on a name that is there.
-    fn read_at(&mut self, name: &str, at: u64, buf: &mut [u8]) -> Result<usize, FolderFault>
+    /// As `Folder` has it. It answers `Missing` exactly where the name isn't there, and `Failed` exactly at a listed
+    /// call on a name that is there.
+    pub fn read_at(&mut self, name: &str, at: u64, buf: &mut [u8]) -> Result<usize, FolderFault>
         ensures missing_exactly { IsErrOf result FolderFault.Missing ↔ (bytes_of self.old name.now ≡ None) }
         ensures failed_exactly { IsErrOf result FolderFault.Failed
             ↔ (IsListedNext self.old.failing self.old.calls × IsSome (bytes_of self.old name.now)) }
         ensures count { IfOk result (λ n. IfSome (bytes_of self.old name.now)
             (λ file. n ≡ given_count self.old file at buf.old)) }
-        ensures given_call { OnOk result (self.new ≡ after_call self.old) }
-        ensures missing_call { IsErrOf result FolderFault.Missing → self.new ≡ after_call self.old }
-        ensures failed_call { IsErrOf result FolderFault.Failed → self.new ≡ after_failed_call self.old name.now }
-
-        ensures contents { (seen_folder self.new).contents ≡ (seen_folder self.old).contents }
-        ensures counts { NoCountFell (seen_folder self.old) (seen_folder self.new) }
-        ensures ok { OnOk result (seen_folder self.new ≡ seen_folder self.old) }
-        ensures within { IfOk result (λ n. n ≤ length buf.new) }
         ensures given { IfOk result (λ n. GivesFrom (seen_folder self.old).contents name.now at buf.new n) }
-        ensures missing { IsErrOf result FolderFault.Missing
-            → IsMissing (seen_folder self.old) (seen_folder self.new) name.now }
-        ensures failed { IsErrOf result FolderFault.Failed
+        ensures ok { OnOk result (self.new ≡ after_call self.old) }
+        ensures missing { IsErrOf result FolderFault.Missing → self.new ≡ after_call self.old }
+        ensures failed { IsErrOf result FolderFault.Failed → self.new ≡ after_failed_call self.old name.now }
+        ensures counted { IsErrOf result FolderFault.Failed
             → IsFaultOf (seen_folder self.old) (seen_folder self.new) name.now }
     {
-        self.calls = self.calls.saturating_add(1);
+        self.calls = one_more(self.calls);
         let Some(place) = place_of(&self.files, name) else {
             return Err(FolderFault::Missing);
         };
@@ -164,5 +155,13 @@ impl Folder for MemoryFolder {
             return Err(FolderFault::Failed);
         }
         Ok(self.files[place].give(at, self.piece, buf))
+    }
+}
+
+impl Folder for MemoryFolder {
+    ghost seen = { seen_folder };
+
+    fn read_at(&mut self, name: &str, at: u64, buf: &mut [u8]) -> Result<usize, FolderFault> {
+        MemoryFolder::read_at(self, name, at, buf)
     }
 }

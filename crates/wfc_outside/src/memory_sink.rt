@@ -1,15 +1,16 @@
 //! A sink in memory, which shows the bytes that it took.
 
-ghost use Rattle.std.specs.Prelude.{◌≡◌, ◌↔◌, ◌<◌, ◌≤◌, true, length, take, IfOk, IsErr, IsOk, OnOk, OnErr};
-ghost use Rattle.wfc_outside.specs.MemorySink.{IsToFail, after_failing, after_taking, fresh_sink, seen_sink, sink_listing, taken_count};
-ghost use Rattle.wfc_outside.specs.Sink.{after_bytes, after_finish, IsFault};
+ghost use Rattle.std.specs.Prelude.{◌≡◌, ◌↔◌, ◌<◌, ◌≤◌, true, length, take, IfOk, IsErr, OnOk, OnErr};
+ghost use Rattle.wfc_outside.specs.Count.{HasRisen, raised};
+ghost use Rattle.wfc_outside.specs.MemorySink.{IsToFail, after_failing, after_finishing, after_taking, fresh_sink, seen_sink, sink_failing_finish, sink_listing, taken_count};
 
+use crate::count::one_more;
 use crate::{NoMemory, Sink, SinkFault};
 use std::alloc::Global;
 use std::marker::Model;
 
 /// A sink that keeps its bytes in memory, takes at most a piece of some bytes at a time, has room for so many bytes
-/// and fails at the calls that were listed.
+/// and fails at the calls that were listed, and at each finishing where that was asked for.
 #[derive(Drop)]
 pub struct MemorySink {
     bytes: Vec<u8>,
@@ -18,6 +19,7 @@ pub struct MemorySink {
     room: usize,
     calls: u64,
     failing: Vec<u64>,
+    finish_fails: bool,
     faults: u64,
 }
 
@@ -34,6 +36,7 @@ impl Model for MemorySink {
       room = s.room;
       calls = s.calls;
       failing = s.failing.items;
+      finish_fails = s.finish_fails;
       faults = s.faults;
     } };
 
@@ -53,6 +56,7 @@ impl MemorySink {
             room,
             calls: 0,
             failing: Vec::new(alloc),
+            finish_fails: false,
             faults: 0,
         })
     }
@@ -66,6 +70,21 @@ impl MemorySink {
         Ok(())
     }
 
+    /// Makes each later call of `finish` fail. It takes no memory.
+    pub fn fail_finish(&mut self)
+        ensures asked { self.new ≡ sink_failing_finish self.old }
+    {
+        self.finish_fails = true;
+    }
+
+    fn fault(&mut self) -> SinkFault
+        ensures one_more { self.new ≡ record self.old { faults = raised self.old.faults } }
+        ensures counted { HasRisen self.old.faults self.new.faults }
+    {
+        self.faults = one_more(self.faults);
+        SinkFault::Failed
+    }
+
     /// The bytes that the sink took.
     pub fn bytes(&self) -> &[u8]
         ensures taken { result.now ≡ self.now.bytes }
@@ -73,29 +92,21 @@ impl MemorySink {
     {
         self.bytes.as_slice()
     }
-}
 
-impl Sink for MemorySink {
-    ghost seen = { seen_sink };
-
-    /// Fails exactly at a listed call, or where the piece isn't empty and the room is used up. It takes no memory.
-    fn write(&mut self, bytes: &[u8]) -> Result<usize, SinkFault>
+    /// As `Sink` has it. It fails exactly at a listed call, or where the piece isn't empty and the room is used up, and
+    /// takes no memory.
+    pub fn write(&mut self, bytes: &[u8]) -> Result<usize, SinkFault>
         ensures fails { IsErr result ↔ IsToFail self.old bytes.now }
         ensures count { IfOk result (λ n. n ≡ taken_count self.old bytes.now) }
         ensures taken { IfOk result (λ n. self.new ≡ after_taking self.old (take n bytes.now)) }
-        ensures failed_call { OnErr result (self.new ≡ after_failing self.old) }
-
-        ensures within { IfOk result (λ n. n ≤ length bytes.now) }
+        ensures failed { OnErr result (self.new ≡ after_failing self.old) }
         ensures some { IfOk result (λ n. 0 < length bytes.now → 0 < n) }
-        ensures ok { IfOk result (λ n. seen_sink self.new ≡ after_bytes (seen_sink self.old) (take n bytes.now)) }
-        ensures failed { OnErr result (IsFault (seen_sink self.old) (seen_sink self.new)) }
-        ensures counts { (seen_sink self.old).faults ≤ (seen_sink self.new).faults }
+        ensures counted { OnErr result (HasRisen self.old.faults self.new.faults) }
     {
-        self.calls = self.calls.saturating_add(1);
+        self.calls = one_more(self.calls);
         let left = self.room - self.bytes.len();
         if self.failing.contains(&self.calls) || (left == 0 && !bytes.is_empty()) {
-            self.faults = self.faults.saturating_add(1);
-            return Err(SinkFault::Failed);
+            return Err(self.fault());
         }
         let count = bytes.len().min(self.piece).min(left);
         if count > 0 {
@@ -105,16 +116,28 @@ impl Sink for MemorySink {
         Ok(count)
     }
 
-    /// Never fails.
-    fn finish(&mut self) -> Result<(), SinkFault>
-        ensures never { IsOk result }
-        ensures finished { self.new ≡ record self.old { finished = true } }
-
-        ensures ok { OnOk result (seen_sink self.new ≡ after_finish (seen_sink self.old)) }
-        ensures failed { OnErr result (IsFault (seen_sink self.old) (seen_sink self.new)) }
-        ensures counts { (seen_sink self.old).faults ≤ (seen_sink self.new).faults }
+    /// As `Sink` has it. It fails exactly after `fail_finish`.
+    pub fn finish(&mut self) -> Result<(), SinkFault>
+        ensures fails { IsErr result ↔ (self.old.finish_fails ≡ true) }
+        ensures finished { self.new ≡ after_finishing self.old }
+        ensures counted { OnErr result (HasRisen self.old.faults self.new.faults) }
     {
+        if self.finish_fails {
+            return Err(self.fault());
+        }
         self.finished = true;
         Ok(())
+    }
+}
+
+impl Sink for MemorySink {
+    ghost seen = { seen_sink };
+
+    fn write(&mut self, bytes: &[u8]) -> Result<usize, SinkFault> {
+        MemorySink::write(self, bytes)
+    }
+
+    fn finish(&mut self) -> Result<(), SinkFault> {
+        MemorySink::finish(self)
     }
 }

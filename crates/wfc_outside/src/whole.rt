@@ -1,13 +1,16 @@
 //! Whole files read and whole pieces written, however little a folder gives or a sink takes at a time.
 
-ghost use Rattle.std.specs.Prelude.{◌≡◌, ◌<◌, ◌≤◌, length, IfOk, OnOk, OnErr, IsErrOf};
-ghost use Rattle.wfc_outside.specs.Folder.{IsFaultOf, IsMissing, IsToldAs, NoCountFell};
-ghost use Rattle.wfc_outside.specs.Sink.{after_bytes, IsFaultAfterFront};
+ghost use Rattle.std.specs.Prelude.{◌≡◌, ◌≤◌, length, IfOk, OnOk, IsErrOf};
+ghost use Rattle.wfc_outside.specs.Folder.{IsFaultOf, IsMissing, IsToldAs};
+ghost use Rattle.wfc_outside.specs.Sink.{Puts};
 ghost use Rattle.wfc_outside.specs.Whole.{IsLongerThan};
 
 use crate::{Folder, FolderFault, Sink, SinkFault};
 use std::alloc::{AllocError, Global};
 use thiserror::Error;
+
+/// How many bytes a file may have at most that is read whole.
+pub const MAX_FILE_BYTES: u64 = 16_777_216;
 
 /// How many bytes are asked for at a time where the limit leaves room for as many.
 const PIECE: u64 = 65536;
@@ -58,17 +61,14 @@ fn zeros(alloc: Global, count: usize) -> Result<Vec<u8>, AllocError>
 
 /// Reads the whole of the named file, which may have at most `limit` bytes.
 ///
-/// It asks for one byte past the limit at most.
+/// It asks for one byte past the limit at most, and for no other file; no clause says so, a test shows it.
 pub fn read_all<F: Folder>(
     alloc: Global,
     folder: &mut F,
     name: &str,
     limit: u64,
 ) -> Result<Vec<u8>, ReadFault>
-    requires limited { limit ≤ 16777216 }
-
-    ensures contents { (F.seen folder.new).contents ≡ (F.seen folder.old).contents }
-    ensures counts { NoCountFell (F.seen folder.old) (F.seen folder.new) }
+    requires limited { limit ≤ MAX_FILE_BYTES }
 
     ensures ok { OnOk result (F.seen folder.new ≡ F.seen folder.old) }
     ensures within { IfOk result (λ bytes. length bytes.items ≤ limit) }
@@ -77,7 +77,7 @@ pub fn read_all<F: Folder>(
     ensures missing { IsErrOf result ReadFault.Missing → IsMissing (F.seen folder.old) (F.seen folder.new) name.now }
     ensures failed { IsErrOf result ReadFault.Failed → IsFaultOf (F.seen folder.old) (F.seen folder.new) name.now }
     ensures too_long { IsErrOf result ReadFault.TooLong → IsLongerThan (F.seen folder.old).contents name.now limit }
-    ensures too_long_only { IsErrOf result ReadFault.TooLong → F.seen folder.new ≡ F.seen folder.old }
+    ensures too_long_same { IsErrOf result ReadFault.TooLong → F.seen folder.new ≡ F.seen folder.old }
     ensures no_memory { IsErrOf result ReadFault.NoMemory → F.seen folder.new ≡ F.seen folder.old }
 {
     let mut zeros = zeros(alloc, PIECE as usize)?;
@@ -101,9 +101,7 @@ pub fn read_all<F: Folder>(
 ///
 /// After `Failed` the sink has taken a front of them.
 pub fn write_all<S: Sink>(sink: &mut S, bytes: &[u8]) -> Result<(), SinkFault>
-    ensures ok { OnOk result (S.seen sink.new ≡ after_bytes (S.seen sink.old) bytes.now) }
-    ensures failed { OnErr result (IsFaultAfterFront (S.seen sink.old) (S.seen sink.new) bytes.now) }
-    ensures counts { (S.seen sink.old).faults ≤ (S.seen sink.new).faults }
+    ensures put { Puts (S.seen sink.old) (S.seen sink.new) bytes.now result }
 {
     let mut done = 0;
     while done < bytes.len() {

@@ -1,6 +1,6 @@
 use Rattle.std.proofs.Common.{◌≡◌, length, arith}
 use Rattle.std.proofs.lemmas.Grind.{common_steps}
-use Rattle.wfc_outside.proofs.Front.{front_more, front_longer, given_next}
+use Rattle.wfc_outside.proofs.WholeLemmas.{front_more, front_longer, given_next}
 use Rattle.wfc_outside.proofs.whole.read_all.Goals as goal
 
 pub returns-then-len-given-clause-too_long : goal.returns-then-len-given-clause-too_long

@@ -1,6 +1,6 @@
 -- The bytes so far are the first ones of the file, and the folder is seen as at the entry.
 use Rattle.std.proofs.Common.{◌≡◌, ◌+◌, ◌-◌, ◌≤◌, length}
-use Rattle.wfc_outside.proofs.Front.{IsFrontOf}
+use Rattle.wfc_outside.proofs.WholeLemmas.{IsFrontOf}
 use Rattle.wfc_outside.proofs.whole.read_all.Given as goal
 
 abbrev pub invariant-loop-bytes : goal.invariant-loop-bytes

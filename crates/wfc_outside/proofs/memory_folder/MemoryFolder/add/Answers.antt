@@ -1,6 +1,6 @@
 use Rattle.std.proofs.Common.{◌≡◌, Some, None, ◌∙◌, set, string_bytes}
 use Rattle.wfc_outside.specs.MemoryFolder.{with_file}
-use Rattle.wfc_outside.proofs.Places.{Found, replaced, appended, told-with_file, others-with_file}
+use Rattle.wfc_outside.proofs.MemoryFolderLemmas.{Found, replaced, appended, told-with_file, others-with_file}
 use Rattle.wfc_outside.proofs.memory_folder.MemoryFolder.add.Goals as goal
 
 -- the files after the bytes of one were replaced

@@ -1,4 +1,4 @@
--- The place of a name among the files of a folder in memory.
+-- What the files of a folder in memory tell, by the place of a name among them.
 use Rattle.std.proofs.Common.{◌≡◌, ◌≢◌, ℕ, zero, suc, ◌+◌, ◌-◌, ◌<◌, ◌≤◌, true, false, cond, not, ltb, List, [], ◌∷◌, ◌++◌, length, map, take, drop, min, get_or, set, refl, ap, sym, ◌∙◌, subst, Option, None, Some, arith, position}
 use Rattle.std.specs.List.{position_or_len}
 use Rattle.std.proofs.lemmas.Bool.Decides.{nat_tests}
@@ -6,7 +6,8 @@ use Rattle.std.proofs.lemmas.List.Quantifiers.{position-Some}
 use Rattle.std.proofs.lemmas.Slice.Eq.{bytes_eq-Decides}
 use Rattle.std.specs.Str.{bytes_eq}
 use Rattle.wfc_outside.specs.Count.{raised, HasRisen}
-use Rattle.wfc_outside.specs.Folder.{File, file_of, Gives}
+use Rattle.wfc_outside.proofs.CallerLemmas.{never_falls}
+use Rattle.wfc_outside.specs.Folder.{File, file_of, IsPieceOf}
 use Rattle.wfc_outside.specs.MemoryFolder.{MemoryFile, told_file, faults_of, with_file, with_fault}
 
 -- the first file of that name stands at this place
@@ -90,16 +91,18 @@ told-with_fault (file ∷ files) name =
     ]
 
 -- a fault raises the count of its name
-pub faults_rise : (files : List MemoryFile) (name : List ℕ) (place : ℕ) → IsFirstAt files name place → HasRisen (faults_of files name) (faults_of (with_fault files name) name)
-faults_rise [] name place first = absurd first
-faults_rise (f ∷ files) name zero first = simp first (grind arith)
-faults_rise (f ∷ files) name (suc place) first = simp first.0 (faults_rise files name place first.1)
+pub faults_rise : (files : List MemoryFile) (name : List ℕ) (place : ℕ) (file : MemoryFile) → IsFirstAt files name place → file ≡ get_or files place file → HasRisen file.faults (raised file.faults) → HasRisen (faults_of files name) (faults_of (with_fault files name) name)
+faults_rise [] name place file first is rises = absurd first
+faults_rise (f ∷ files) name zero file first is rises =
+    let rises_here : HasRisen f.faults (raised f.faults) = subst (λ (g : MemoryFile). HasRisen g.faults (raised g.faults)) is rises in
+    simp first rises_here
+faults_rise (f ∷ files) name (suc place) file first is rises = simp first.0 (faults_rise files name place file first.1 is rises)
 
 -- a fault lowers no count
-pub faults_stay : (files : List MemoryFile) (name : List ℕ) (place : ℕ) (file : MemoryFile) → IsFirstAt files name place → file ≡ get_or files place file → file.faults ≤ raised file.faults → (other : List ℕ) → faults_of files other ≤ faults_of (with_fault files name) other
+pub faults_stay : (files : List MemoryFile) (name : List ℕ) (place : ℕ) (file : MemoryFile) → IsFirstAt files name place → file ≡ get_or files place file → HasRisen file.faults (raised file.faults) → (other : List ℕ) → faults_of files other ≤ faults_of (with_fault files name) other
 faults_stay [] name place file first is rises other = absurd first
 faults_stay (f ∷ files) name zero file first is rises other =
-    let rises_here : f.faults ≤ raised f.faults = subst (λ (g : MemoryFile). g.faults ≤ raised g.faults) is rises in
+    let rises_here : f.faults ≤ raised f.faults = never_falls f.faults (raised f.faults) (subst (λ (g : MemoryFile). HasRisen g.faults (raised g.faults)) is rises) in
     rw first (elim (bytes_eq f.name other) as (λ b. cond b f.faults (faults_of files other) ≤ cond b (raised f.faults) (faults_of files other)) [
       | true ↦ rises_here
       | false ↦ omega arith
@@ -165,8 +168,8 @@ counted files name place file new found is made =
     ap (λ (f : MemoryFile). set files place f) made ∙ sym (with_fault_at files name place file (first_at files name place (sym found)) is)
 
 -- the bytes of one piece are given
-pub gives_piece : (file buffer old : List ℕ) (at piece n : ℕ) → n ≡ min (min (length file - at) (length old)) piece → length buffer ≡ length old → 0 < piece → take n buffer ≡ take n (drop at file) → Gives file at buffer n
-gives_piece file buffer old at piece n count same_length some same = record {
+pub is_piece : (file buffer old : List ℕ) (at piece n : ℕ) → n ≡ min (min (length file - at) (length old)) piece → length buffer ≡ length old → 0 < piece → take n buffer ≡ take n (drop at file) → IsPieceOf file at buffer n
+is_piece file buffer old at piece n count same_length some same = record {
   same = same;
   inside = omega arith;
   at_end = λ none room. omega arith;

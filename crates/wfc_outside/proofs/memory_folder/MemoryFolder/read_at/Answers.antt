@@ -1,8 +1,8 @@
 use Rattle.std.proofs.Common.{rules, ◌≡◌, ℕ, List, Option, Some, None, set, sym, ap, refl, is_some, true, false, arith}
 use Rattle.wfc_outside.specs.Folder.{File}
 use Rattle.wfc_outside.specs.MemoryFolder.{bytes_of, with_fault}
-use Rattle.wfc_outside.proofs.Places.{Found, IsFirstAt, gives_piece, absent_found, present_found, counted, first_at, told-with_fault, faults_rise, faults_stay}
-use Rattle.wfc_outside.proofs.memory_folder.MemoryFolderFolder.read_at.Goals as goal
+use Rattle.wfc_outside.proofs.MemoryFolderLemmas.{Found, IsFirstAt, is_piece, absent_found, present_found, counted, first_at, told-with_fault, faults_rise, faults_stay}
+use Rattle.wfc_outside.proofs.memory_folder.MemoryFolder.read_at.Goals as goal
 
 -- where no place was found, the name isn't there
 absent_here : (c : goal.In_default) → bytes_of c.args.self.now c.args.name.now ≡ None
@@ -15,9 +15,6 @@ returns-in_default-clause-missing_exactly c = (λ _. absent_here c, λ _. refl)
 
 pub returns-in_default-clause-failed_exactly : goal.returns-in_default-clause-failed_exactly
 returns-in_default-clause-failed_exactly c = let absent = absent_here c in (λ wrong. cc, λ both. let some : is_some (bytes_of c.args.self.now c.args.name.now) ≡ true = both.1 in let no_file : is_some (bytes_of c.args.self.now c.args.name.now) ≡ false = ap (λ (o : Option (List ℕ)). is_some o) absent in cc)
-
-pub returns-in_default-clause-missing : goal.returns-in_default-clause-missing
-returns-in_default-clause-missing c = λ _. absent_here c
 
 -- the place that was found, at a listed call
 found_to_fail : (c : goal.After-self-then-contains-1) → Found c.self.inside.files.items c.args.name.now (Some c.in-Some.place)
@@ -39,17 +36,15 @@ returns-then-contains-clause-missing_exactly c = let present = present_to_fail c
 pub returns-then-contains-clause-failed_exactly : goal.returns-then-contains-clause-failed_exactly
 returns-then-contains-clause-failed_exactly c = let present = present_to_fail c in (λ _. (search rules, rw present), λ _. refl)
 
-pub returns-then-contains-clause-failed_call : goal.returns-then-contains-clause-failed_call
-returns-then-contains-clause-failed_call c = λ _. rw (← c.self.view_is, counted_files c, c.saturating_add-self-inside.ensures)
-
-pub returns-then-contains-clause-contents : goal.returns-then-contains-clause-contents
-returns-then-contains-clause-contents c = rw (counted_files c, ← c.self.view_is) (ap (λ (files : List File). Some files) (told-with_fault _ _))
-
-pub returns-then-contains-clause-counts : goal.returns-then-contains-clause-counts
-returns-then-contains-clause-counts c = λ other. rw (counted_files c, ← c.self.view_is) (faults_stay _ _ c.in-Some.place c.index_mut.result.now (first_to_fail c) c.index_mut.ensures.value c.count_fault.ensures.rises other)
-
 pub returns-then-contains-clause-failed : goal.returns-then-contains-clause-failed
-returns-then-contains-clause-failed c = λ _. rw (counted_files c, ← c.self.view_is) (faults_rise _ _ c.in-Some.place (first_to_fail c))
+returns-then-contains-clause-failed c = λ _. rw (← c.self.view_is, counted_files c, c.one_more-self-inside.ensures.value)
+
+pub returns-then-contains-clause-counted : goal.returns-then-contains-clause-counted
+returns-then-contains-clause-counted c = λ _. rw (counted_files c, ← c.self.view_is) record {
+  contents = ap (λ (files : List File). Some files) (told-with_fault _ _);
+  counts = λ other. faults_stay _ _ c.in-Some.place c.index_mut.result.now (first_to_fail c) c.index_mut.ensures.value c.count_fault.ensures.rises other;
+  counted = faults_rise _ _ c.in-Some.place c.index_mut.result.now (first_to_fail c) c.index_mut.ensures.value c.count_fault.ensures.rises;
+}
 
 -- the place that was found, at any other call
 present_to_give : (c : goal.After-slice_known-2-1) → bytes_of c.args.self.now c.args.name.now ≡ Some c.index.result.now.bytes
@@ -64,4 +59,4 @@ pub returns-clause-count : goal.returns-clause-count
 returns-clause-count c = rw (present_to_give c, ← c.self.view_is) c.give.ensures.count
 
 pub returns-clause-given : goal.returns-clause-given
-returns-clause-given c = (c.index.result.now.bytes, present_to_give c, gives_piece c.index.result.now.bytes c.give.new.buf c.args.buf.now c.args.at c.self.inside.piece c.give.result c.give.ensures.count (omega arith) c.self.invariant c.give.ensures.given)
+returns-clause-given c = (c.index.result.now.bytes, present_to_give c, is_piece c.index.result.now.bytes c.give.new.buf c.args.buf.now c.args.at c.self.inside.piece c.give.result c.give.ensures.count (omega arith) c.self.invariant c.give.ensures.given)

@@ -1,8 +1,8 @@
--- The first bytes of a file that is read in pieces.
+-- The first bytes of a file that is read whole in pieces.
 use Rattle.std.proofs.Common.{◌≡◌, ℕ, ◌+◌, ◌-◌, ◌<◌, ◌≤◌, List, [], ◌++◌, length, take, drop, refl, ap, sym, ◌∙◌, subst, Option, None, Some, arith, length-append}
 use Rattle.std.proofs.lemmas.List.{length-take}
-use Rattle.wfc_outside.proofs.Pieces.{take-add}
-use Rattle.wfc_outside.specs.Folder.{File, FolderView, file_of, Gives, GivesFrom}
+use Rattle.std.proofs.Math.Seq.{take-add}
+use Rattle.wfc_outside.specs.Folder.{File, FolderView, file_of, IsPieceOf, GivesFrom}
 use Rattle.wfc_outside.specs.Whole.{IsLongerThan}
 
 -- these are the first bytes of the file
@@ -15,16 +15,18 @@ abbrev pub IsFrontOf : Option (List File) → List ℕ → List ℕ → Type 0
 IsFrontOf None name front = Unit {0}
 IsFrontOf (Some files) name front = (file : List ℕ) → file_of files name ≡ Some file → Begins file front
 
+-- nothing is a front of any file
 pub nothing_is_front : (contents : Option (List File)) (name : List ℕ) → IsFrontOf contents name []
 nothing_is_front None name = tt
 nothing_is_front (Some files) name = λ file is. record { fits = omega arith; same = refl }
 
-begins_more : (file front buffer : List ℕ) (n : ℕ) → Begins file front → Gives file (length front) buffer n → n ≤ length buffer → Begins file (front ++ take n buffer)
-begins_more file front buffer n begins gives fits =
+-- the first bytes with the piece that follows them are first bytes
+begins_more : (file front buffer : List ℕ) (n : ℕ) → Begins file front → IsPieceOf file (length front) buffer n → n ≤ length buffer → Begins file (front ++ take n buffer)
+begins_more file front buffer n begins piece fits =
     let len : length (front ++ take n buffer) ≡ length front + n = length-append front (take n buffer) ∙ ap (λ m. length front + m) (length-take n buffer ∙ omega arith) in
-    let inside : n ≤ length file - length front = gives.inside in
+    let inside : n ≤ length file - length front = piece.inside in
     let both : front ++ take n buffer ≡ take (length front + n) file =
-    ap (λ l. front ++ l) gives.same ∙ ap (λ l. l ++ take n (drop (length front) file)) begins.same ∙ sym (take-add (length front) n file begins.fits) in
+    ap (λ l. front ++ l) piece.same ∙ ap (λ l. l ++ take n (drop (length front) file)) begins.same ∙ sym (take-add (length front) n file) in
     let before : length front ≤ length file = begins.fits in
     record {
       fits = omega arith;
@@ -36,8 +38,8 @@ pub front_more : (contents : Option (List File)) (name front buffer : List ℕ) 
 front_more None name front buffer n begins given fits = tt
 front_more (Some files) name front buffer n begins given fits = λ file is.
     let same : given.0 ≡ file = let both : Some given.0 ≡ Some file = sym given.1 ∙ is in cc in
-    let gives : Gives file (length front) buffer n = subst (λ (f : List ℕ). Gives f (length front) buffer n) same given.2 in
-    begins_more file front buffer n (begins file is) gives fits
+    let piece : IsPieceOf file (length front) buffer n = subst (λ (f : List ℕ). IsPieceOf f (length front) buffer n) same given.2 in
+    begins_more file front buffer n (begins file is) piece fits
 
 -- where a reading gives bytes past the limit, the file is longer than the limit
 pub front_longer : (contents : Option (List File)) (name front buffer : List ℕ) (n limit : ℕ) → IsFrontOf contents name front → GivesFrom contents name (length front) buffer n → n ≤ length buffer → limit < length front + n → IsLongerThan contents name limit
