@@ -1,3 +1,4 @@
-pub mod Passing
+pub mod CallerLemmas
 pub mod LineLemmas
 pub mod NumberLemmas
+pub mod PassLemmas

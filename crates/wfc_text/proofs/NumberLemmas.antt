@@ -11,7 +11,7 @@ use Rattle.std.specs.Char.{digit_value, is_ascii_digit}
 use Rattle.std.specs.List.{AllPass}
 use Rattle.std.specs.Str.Parse.{digits_value, AllDigits}
 use Rattle.wfc_text.specs.Number.{number_of, within, unless_at}
-use Rattle.wfc_text.proofs.Passing.{none_found}
+use Rattle.wfc_text.proofs.PassLemmas.{none_found}
 
 -- where the first digits write too much, all of them do
 pub too_much : (ds : List ℕ) (i n bound : ℕ) → i < length ds → n ≡ digits_value 10 (take i ds) → (n * 10 + digit_value (get_or ds i 0) < bound → ⊥) → digits_value 10 ds < bound → ⊥

@@ -5,7 +5,7 @@ ghost use Rattle.std.specs.Char.{digit_value, is_ascii_digit};
 ghost use Rattle.std.specs.List.{AllPass};
 ghost use Rattle.std.specs.Option.{SomeIff};
 ghost use Rattle.std.specs.Str.Parse.{digits_value};
-ghost use Rattle.wfc_outside.specs.Sink.{after_bytes, IsFaultAfterFront};
+ghost use Rattle.wfc_outside.specs.Sink.{Puts};
 ghost use Rattle.wfc_text.specs.Number.{is_other, number_of};
 
 use itoa::Buffer;
@@ -73,7 +73,7 @@ fn with_digit(n: u64, digit: u8) -> Option<u64>
 /// Writes the number behind the text. After want of memory the text is as before.
 pub fn push_number(text: &mut Vec<u8>, n: u64) -> Result<(), NoMemory>
     ensures ok { OnOk result (text.new.items ≡ text.old.items ++ decimal n) }
-    ensures err { OnErr result (text.new.items ≡ text.old.items) }
+    ensures no_memory { OnErr result (text.new.items ≡ text.old.items) }
 {
     let mut buffer = Buffer::new();
     text.extend_from_slice(buffer.format(n).as_bytes())?;
@@ -82,9 +82,7 @@ pub fn push_number(text: &mut Vec<u8>, n: u64) -> Result<(), NoMemory>
 
 /// Writes the number into the sink. After `Failed` the sink has taken a front of its digits.
 pub fn write_number<S: Sink>(sink: &mut S, n: u64) -> Result<(), SinkFault>
-    ensures ok { OnOk result (S.seen sink.new ≡ after_bytes (S.seen sink.old) (decimal n)) }
-    ensures failed { OnErr result (IsFaultAfterFront (S.seen sink.old) (S.seen sink.new) (decimal n)) }
-    ensures counts { (S.seen sink.old).faults ≤ (S.seen sink.new).faults }
+    ensures put { Puts (S.seen sink.old) (S.seen sink.new) (decimal n) result }
 {
     let mut buffer = Buffer::new();
     write_all(sink, buffer.format(n).as_bytes())

@@ -87,6 +87,15 @@ fn writes_numbers(rt: HostRuntime) -> Result<(), Fail> {
 }
 
 #[test]
+fn writes_a_number_behind_a_long_text(rt: HostRuntime) -> Result<(), Fail> {
+    let mut text = vec![in rt.alloc(); b'.'; 1_000_000]?;
+    push_number(&mut text, 1_234_567)?;
+    assert_eq!(rt; text.len(), 1_000_007);
+    assert!(rt; text.ends_with(b".1234567"));
+    Ok(())
+}
+
+#[test]
 fn writes_numbers_to_sinks(rt: HostRuntime) -> Result<(), Fail> {
     let mut sink = MemorySink::new(rt.alloc(), 3, 20)?;
     assert_eq!(rt; write_number(&mut sink, 1_234_567), Ok(()));

@@ -1,6 +1,6 @@
 use Rattle.std.proofs.Common.{sym}
 use Rattle.std.specs.Char.{is_ascii_digit}
-use Rattle.wfc_text.proofs.Passing.{all_pass}
+use Rattle.wfc_text.proofs.PassLemmas.{all_pass}
 use Rattle.wfc_text.proofs.numeral.number.Goals as goal
 
 pub value-requires : goal.value-requires
