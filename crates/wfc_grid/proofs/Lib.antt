@@ -1,4 +1,5 @@
-pub mod Spelled
-pub mod Right
-pub mod Grids
-pub mod Chunks
+pub mod CallerLemmas
+pub mod FaultLemmas
+pub mod GridLemmas
+pub mod SpellingLemmas
+pub mod TextLemmas

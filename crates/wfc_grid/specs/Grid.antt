@@ -1,7 +1,7 @@
 -- Character grids: rows of printable ASCII, all of one length.
-use Rattle.std.specs.Prelude.{◌≡◌, ℕ, ◌*◌, ◌<◌, ◌&&◌, nat_le, Bool, List, length}
+use Rattle.std.specs.Prelude.{ℕ, ◌&&◌, nat_le, Bool, List}
 use Rattle.std.specs.List.{AllPass}
-use Rattle.wfc_model.specs.Raster.{Raster, raster_of}
+use Rattle.wfc_model.specs.Raster.{Raster, IsFilled, raster_of}
 
 -- a grid: its sides, and its bytes row by row
 pub record GridView : Type 0 where
@@ -15,9 +15,7 @@ is_cell byte = nat_le 0x20 byte && nat_le byte 0x7E
 
 -- both sides are at least 1, there are as many bytes as they say, and each may stand in a grid
 pub record IsGrid (grid : GridView) : Type 0 where
-  pub wide : 0 < grid.width
-  pub high : 0 < grid.height
-  pub full : length grid.bytes ≡ grid.width * grid.height
+  pub filled : IsFilled grid.width grid.height grid.bytes
   pub printable : AllPass is_cell grid.bytes
 
 -- the grid as a picture of bytes

@@ -8,7 +8,7 @@ pub mod laws;
 mod reading;
 mod writing;
 
-pub use reading::{GridFault, read};
+pub use reading::{GridFault, MAX_CELLS, read};
 use std::marker::Model;
 pub use writing::write;
 

@@ -1,19 +1,22 @@
 //! Reading a grid.
 
-ghost use Rattle.std.specs.Prelude.{◌≡◌, ◌≢◌, ◌*◌, ◌^◌, ◌<◌, ◌≤◌, None, Some, length, position, IfOk, IfErr, MatchResult};
+ghost use Rattle.std.specs.Prelude.{◌≡◌, ◌≢◌, ◌*◌, ◌≤◌, ◌⊎◌, None, Some, length, position, IfOk, IfErr};
+ghost use Rattle.wfc_outside.specs.Gives.{Gives};
 ghost use Rattle.wfc_text.specs.Line.{lines_of};
 ghost use Rattle.wfc_text.specs.View.{line_view};
 ghost use Rattle.wfc_grid.specs.Grid.{GridView};
+ghost use Rattle.wfc_grid.specs.Reading.{grid_of};
 ghost use Rattle.wfc_grid.specs.Spelling.{SpellsGrid};
-ghost use Rattle.wfc_grid.specs.Fault.{cells_of, fault_of, first_fault, is_other, line_fault, width_of};
+ghost use Rattle.wfc_grid.specs.Fault.{cells_of, first_fault, is_no_cell, line_fault, width_of};
 
 use crate::Grid;
 use std::alloc::{AllocError, Global};
 use thiserror::Error;
+use wfc_outside::MAX_FILE_BYTES;
 use wfc_text::{TextLine, lines};
 
 /// How many bytes a grid may have.
-const MOST_CELLS: usize = 1_048_576;
+pub const MAX_CELLS: usize = 1_048_576;
 
 /// Why a text is no grid.
 #[derive(Clone, Copy, Debug, PartialEq, Eq, Error)]
@@ -47,21 +50,21 @@ impl From<AllocError> for GridFault {
 /// The fault is the first one, line by line; in one line a bad byte comes before a wrong length. Lines and columns
 /// count from 1. A text with more bytes than a grid may have is `TooLarge` only where all lines are right.
 pub fn read(alloc: Global, bytes: &[u8]) -> Result<Grid, GridFault>
-    requires limited { length bytes.now ≤ 16777216 }
+    requires limited { length bytes.now ≤ MAX_FILE_BYTES }
+    ensures exact { Gives GridFault.NoMemory (λ grid. grid) result (grid_of bytes.now) }
 
+    // A grid is answered exactly for a text that spells it within the limit.
     ensures ok { IfOk result (λ grid. SpellsGrid bytes.now grid) }
-    ensures within { IfOk result (λ grid. grid.width * grid.height ≤ 1048576) }
-
-    // Nothing is refused that spells a grid within the limit.
-    ensures refused { IfErr result (λ fault. fault ≢ GridFault.NoMemory → (grid : GridView) → SpellsGrid bytes.now grid → grid.width * grid.height ≤ 1048576 → ⊥) }
-    ensures first { IfErr result (λ fault. fault ≢ GridFault.NoMemory → fault_of (lines_of bytes.now) ≡ Some fault) }
+    ensures within { IfOk result (λ grid. grid.width * grid.height ≤ MAX_CELLS) }
+    ensures refused { IfErr result (λ fault. fault ≢ GridFault.NoMemory →
+        (grid : GridView) → SpellsGrid bytes.now grid → grid.width * grid.height ≤ MAX_CELLS → ⊥) }
 {
     let width = first_width(bytes);
     if width == 0 {
         return Err(GridFault::Empty);
     }
     let cells = cells(alloc, bytes, width)?;
-    if cells.len() > MOST_CELLS {
+    if cells.len() > MAX_CELLS {
         return Err(GridFault::TooLarge);
     }
     let height = cells.len() / width;
@@ -74,7 +77,7 @@ pub fn read(alloc: Global, bytes: &[u8]) -> Result<Grid, GridFault>
 
 /// How many bytes the first line has; 0 where there is no line.
 fn first_width(text: &[u8]) -> usize
-    requires short { length text.now ≤ 16777216 }
+    requires short { length text.now ≤ MAX_FILE_BYTES }
     ensures width { result ≡ width_of (lines_of text.now) }
 {
     lines(text).next().map_or(0, |line| line.bytes.len())
@@ -82,10 +85,11 @@ fn first_width(text: &[u8]) -> usize
 
 /// The bytes of all lines, or the first fault of a line.
 fn cells(alloc: Global, text: &[u8], width: usize) -> Result<Vec<u8>, GridFault>
-    requires short { length text.now ≤ 16777216 }
+    requires short { length text.now ≤ MAX_FILE_BYTES }
     ensures right { IfOk result (λ _. first_fault width (lines_of text.now) ≡ None) }
     ensures cells { IfOk result (λ cells. cells.items ≡ cells_of (lines_of text.now)) }
-    ensures fault { IfErr result (λ fault. fault ≢ GridFault.NoMemory → first_fault width (lines_of text.now) ≡ Some fault) }
+    ensures fault { IfErr result (λ fault.
+        (first_fault width (lines_of text.now) ≡ Some fault) ⊎ (fault ≡ GridFault.NoMemory)) }
 {
     let mut cells = Vec::with_capacity(alloc, text.len())?;
     for line in lines(text) {
@@ -97,7 +101,7 @@ fn cells(alloc: Global, text: &[u8], width: usize) -> Result<Vec<u8>, GridFault>
 
 /// Answers the line's fault, if it has one.
 fn check(line: &TextLine<'_>, width: usize) -> Result<(), GridFault>
-    requires short { length line.now.bytes.now ≤ 16777216 }
+    requires short { length line.now.bytes.now ≤ MAX_FILE_BYTES }
     ensures right { IfOk result (λ _. line_fault width (line_view line.now) ≡ None) }
     ensures fault { IfErr result (λ fault. line_fault width (line_view line.now) ≡ Some fault) }
 {
@@ -115,7 +119,7 @@ fn check(line: &TextLine<'_>, width: usize) -> Result<(), GridFault>
 
 /// The place of the first byte that may not stand in a grid.
 fn first_other(bytes: &[u8]) -> Option<usize>
-    ensures first { result ≡ position is_other bytes.now }
+    ensures first { result ≡ position is_no_cell bytes.now }
 {
     bytes.iter().position(|byte| !matches!(*byte, 0x20..=0x7e))
 }

@@ -53,11 +53,12 @@ fn refuses_texts(rt: HostRuntime) {
     }
 }
 
-/// As many lines of 1,024 bytes.
-fn tall(alloc: Global, height: usize) -> Result<Vec<u8>, AllocError> {
+/// So many lines of as many bytes.
+fn lines_of_dots(alloc: Global, width: usize, height: usize) -> Result<Vec<u8>, AllocError> {
+    let line = vec![in alloc; b'.'; width]?;
     let mut text = Vec::new(alloc);
     for _ in 0..height {
-        text.extend_from_slice(&[b'.'; 1024])?;
+        text.extend_from_slice(&line)?;
         text.push(b'\n')?;
     }
     Ok(text)
@@ -66,17 +67,33 @@ fn tall(alloc: Global, height: usize) -> Result<Vec<u8>, AllocError> {
 #[test]
 fn knows_its_limit(rt: HostRuntime) -> Result<(), Fail> {
     for (height, wanted) in [(1024, None), (1025, Some(GridFault::TooLarge))] {
-        let text = tall(rt.alloc(), height)?;
+        let text = lines_of_dots(rt.alloc(), 1024, height)?;
         assert!(rt; text.len() < 2_000_000);
         assert_eq!(rt; read(rt.alloc(), text.as_slice()).err(), wanted);
     }
-    let mut text = tall(rt.alloc(), 1025)?;
+    let mut text = lines_of_dots(rt.alloc(), 1024, 1025)?;
     text.push(b'\n')?;
     assert!(rt; text.len() < 2_000_000);
     assert_eq!(rt;
         read(rt.alloc(), text.as_slice()).err(),
         Some(GridFault::Ragged { line: 1026 })
     );
+    Ok(())
+}
+
+#[test]
+fn reads_and_writes_the_largest_grids(rt: HostRuntime) -> Result<(), Fail> {
+    for (width, height) in [(4096, 256), (1, 1_048_576), (1_048_576, 1)] {
+        let text = lines_of_dots(rt.alloc(), width, height)?;
+        assert!(rt; text.len() < 3_000_000);
+        let grid = read(rt.alloc(), text.as_slice())?;
+        assert_eq!(rt;
+            (grid.width as usize, grid.height as usize),
+            (width, height)
+        );
+        assert_eq!(rt; grid.cells().len(), 1_048_576);
+        assert!(rt; write(rt.alloc(), &grid)? == text);
+    }
     Ok(())
 }
 

@@ -1,4 +1,4 @@
-use Rattle.wfc_grid.proofs.Grids.{written_grid}
+use Rattle.wfc_grid.proofs.GridLemmas.{written_grid}
 use Rattle.wfc_grid.proofs.laws.written_grids_are_spelled.Goals as goal
 
 pub returns : goal.returns

@@ -1,5 +1,5 @@
 use Rattle.std.proofs.Common.{arith}
-use Rattle.wfc_grid.proofs.Spelled.{line-shorter}
+use Rattle.wfc_grid.proofs.SpellingLemmas.{line-shorter}
 use Rattle.wfc_grid.proofs.reading.cells.Goals as goal
 
 pub check-requires : goal.check-requires

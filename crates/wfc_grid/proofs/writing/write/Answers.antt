@@ -2,8 +2,8 @@ use Rattle.std.proofs.Common.{◌≡◌, ◌∙◌, ◌<◌, length, subst, arit
 use Rattle.std.specs.Slice.Iter.{chunks_exact_rest}
 use Rattle.wfc_grid.specs.Grid.{IsGrid, raster_of_grid}
 use Rattle.wfc_grid.specs.Spelling.{grid_text}
-use Rattle.wfc_grid.proofs.Chunks.{more_written, all_written}
-use Rattle.wfc_grid.proofs.Grids.{written_grid}
+use Rattle.wfc_grid.proofs.TextLemmas.{more_written, all_written}
+use Rattle.wfc_grid.proofs.GridLemmas.{written_grid}
 use Rattle.wfc_grid.proofs.writing.write.Goals as goal
 
 pub loop-row-preserved : goal.loop-row-preserved

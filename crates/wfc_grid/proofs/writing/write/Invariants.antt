@@ -1,6 +1,6 @@
 use Rattle.std.proofs.Common.{◌≡◌}
 use Rattle.std.specs.Slice.Iter.{chunks_exact_rest, chunks_exact_size}
-use Rattle.wfc_grid.proofs.Chunks.{Written}
+use Rattle.wfc_grid.proofs.TextLemmas.{Written}
 use Rattle.wfc_grid.proofs.writing.write.Given as goal
 
 abbrev pub invariant-loop-row : goal.invariant-loop-row

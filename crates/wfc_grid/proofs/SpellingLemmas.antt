@@ -9,7 +9,7 @@ use Rattle.std.proofs.lemmas.List.Elements.{All-append, All-from_recursion}
 use Rattle.std.specs.List.{All, AllPass, AllByRecursion, concat, join_with_byte, slice_split}
 use Rattle.std.specs.Str.Lines.{strip_carriage_return}
 use Rattle.wfc_text.specs.Line.{LineView, is_line_feed, lines_from, lines_of, lines_of_parts}
-use Rattle.wfc_text.proofs.LineLemmas.{lines_from-feed, lines_from-plain}
+use Rattle.wfc_text.proofs.CallerLemmas.{lines_from-feed, lines_from-plain}
 use Rattle.wfc_grid.specs.Grid.{is_cell}
 use Rattle.wfc_grid.specs.Spelling.{IsLineEnd, SpellsRows}
 use Rattle.wfc_grid.specs.Fault.{rows_of, cells_of, width_of}

@@ -5,7 +5,7 @@ use Rattle.std.proofs.lemmas.List.Elements.{All-from_recursion}
 use Rattle.std.proofs.lemmas.Nat.{div-mul-add}
 use Rattle.std.specs.List.{AllByRecursion, concat}
 use Rattle.wfc_model.specs.Raster.{Raster, raster_of, IsSized}
-use Rattle.wfc_model.proofs.Rasters.{raster_of-numbers_of, length-joined}
+use Rattle.wfc_model.proofs.CallerLemmas.{raster_of-numbers_of, length-joined}
 use Rattle.wfc_grid.specs.Grid.{GridView, IsGrid, raster_of_grid}
 use Rattle.wfc_grid.specs.Spelling.{grid_text}
 
@@ -60,10 +60,10 @@ whole_rows width done high left short is =
 pub all_written : (g : GridView) (text rest : List ℕ) → IsGrid g → Written g text rest → length rest < g.width → text ≡ grid_text (raster_of_grid g).rows
 all_written g text rest is written short =
     let counts = whole_rows g.width (length written.done) g.height (length rest) short
-    (ap (λ n. n + length rest) (sym (length-joined g.width written.done written.fit)) ∙ sym (length-append (concat written.done) rest) ∙ ap length written.cut ∙ is.full) in
+    (ap (λ n. n + length rest) (sym (length-joined g.width written.done written.fit)) ∙ sym (length-append (concat written.done) rest) ∙ ap length written.cut ∙ is.filled.as_many) in
     let all : concat written.done ≡ g.bytes = sym (append-nil (concat written.done)) ∙ ap (λ t. concat written.done ++ t) (sym (nil_from_length rest counts.1)) ∙ written.cut in
     let sized : IsSized (record { width = g.width; rows = written.done }) g.width g.height = record {
-      raster = record { some_column = is.wide; some_row = omega (arith, is.high, counts.0); rows_fit = All-from_recursion (λ (row : List ℕ). length row ≡ g.width) written.done written.fit };
+      raster = record { some_column = is.filled.some_column; some_row = omega (arith, is.filled.some_row, counts.0); rows_fit = All-from_recursion (λ (row : List ℕ). length row ≡ g.width) written.done written.fit };
       same_width = refl;
       same_height = counts.0;
     } in

@@ -3,9 +3,10 @@ use Rattle.std.proofs.Common.{◌≡◌, ℕ, List, [], ◌∷◌, length, ◌==
 use Rattle.std.specs.List.{AllPass, AllByRecursion, position}
 use Rattle.std.specs.Option.{option_or}
 use Rattle.wfc_text.specs.Line.{LineView}
-use Rattle.wfc_text.proofs.Passing.{all_pass, none_found}
+use Rattle.wfc_text.proofs.CallerLemmas.{all_pass, none_found}
+use Rattle.wfc_lists.proofs.Options.{both_none}
 use Rattle.wfc_grid.specs.Grid.{is_cell}
-use Rattle.wfc_grid.specs.Fault.{is_other, byte_fault, line_fault, first_fault, rows_of}
+use Rattle.wfc_grid.specs.Fault.{is_no_cell, byte_fault, line_fault, first_fault, rows_of}
 use Rattle.wfc_grid.specs.declared.reading.GridFault.TheVariants.{Ragged}
 
 -- a row is so long, and each byte may stand in a grid
@@ -19,26 +20,24 @@ no_fault number None true is = (refl, refl)
 no_fault number None false is = absurd (cc)
 no_fault number (Some at) same is = absurd (cc)
 
+-- a line without a fault fits
 pub line-fits : (width : ℕ) (line : LineView) → line_fault width line ≡ None → Fits width line.bytes
 line-fits width line none =
-    let parts = no_fault line.number (position is_other line.bytes) (length line.bytes == width) none in
+    let parts = no_fault line.number (position is_no_cell line.bytes) (length line.bytes == width) none in
     record { long = eqb-true _ width parts.1; printable = all_pass is_cell line.bytes parts.0 }
 
+-- a line that fits has no fault
 pub line_fault-fits : (width : ℕ) (line : LineView) → Fits width line.bytes → line_fault width line ≡ None
 line_fault-fits width line fits = rw (none_found is_cell line.bytes fits.printable, eq-eqb _ width fits.long) refl
 
--- two options are both none where the first that is some is none
-pub both_none : {T : Type 0} (a b : Option T) → option_or a b ≡ None → (a ≡ None) × (b ≡ None)
-both_none None b is = (refl, is)
-both_none (Some x) b is = absurd (cc)
-
--- where no line has a fault, each is right, and the other way round
+-- where no line has a fault, each is right
 pub rows-fit : (width : ℕ) (lines : List LineView) → first_fault width lines ≡ None → AllByRecursion (Fits width) (rows_of lines)
 rows-fit width [] none = tt
 rows-fit width (line ∷ lines) none =
     let parts = both_none (line_fault width line) (first_fault width lines) none in
     (line-fits width line parts.0, rows-fit width lines parts.1)
 
+-- where each line is right, none has a fault
 pub first_fault-fit : (width : ℕ) (lines : List LineView) → AllByRecursion (Fits width) (rows_of lines) → first_fault width lines ≡ None
 first_fault-fit width [] fit = refl
 first_fault-fit width (line ∷ lines) fit = rw (line_fault-fits width line fit.0) (first_fault-fit width lines fit.1)
