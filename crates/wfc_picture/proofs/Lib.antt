@@ -1,6 +1,6 @@
-pub mod Indexed
-pub mod Pictures
-pub mod Places
-pub mod Symbols
-pub mod Unrepeated
-pub mod Written
+pub mod CallerLemmas
+pub mod NumberedLemmas
+pub mod PaletteLemmas
+pub mod PictureLemmas
+pub mod SymbolLemmas
+pub mod WordLemmas

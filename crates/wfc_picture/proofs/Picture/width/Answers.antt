@@ -1,5 +1,0 @@
-use Rattle.wfc_picture.proofs.Pictures.{raster_seen}
-use Rattle.wfc_picture.proofs.Picture.width.Goals as goal
-
-pub returns-clause-raster : goal.returns-clause-raster
-returns-clause-raster c = raster_seen _ _ _ _ c.self.view_is c.self.invariant

@@ -1,0 +1,90 @@
+//! Laws of symbols and palettes, each a function with no body whose contract is the law. They run nothing.
+
+ghost use Rattle.std.specs.Prelude.{◌≡◌, ◌↔◌, ℕ, ◌<◌, List, [], ◌∷◌, length, map, slice_get, All, Contains, Option, None, Some, Ok, Err, IsTrue, true, false};
+ghost use Rattle.std.specs.List.{IsDistinct};
+ghost use Rattle.wfc_model.specs.Raster.{raster_of};
+ghost use Rattle.wfc_picture.specs.Palette.{palette_of, symbol_number, numbered, first_past, unless_past, indexed};
+ghost use Rattle.wfc_picture.specs.Small.{rgb, six_pixels};
+ghost use Rattle.wfc_picture.specs.Symbol.{Spells, same_symbol, is_shown, symbol_text, symbol_of_word};
+ghost use Rattle.wfc_picture.specs.declared.palette.PaletteFault.TheVariants.{TooManyColours};
+ghost use Rattle.wfc_picture.specs.declared.palette.TheConstants.{MAX_COLOURS, MAX_PIXELS};
+ghost use Rattle.wfc_picture.specs.declared.symbol.Symbol.{Symbol};
+ghost use Rattle.wfc_picture.specs.declared.symbol.Symbol.TheVariants.{Char};
+
+/// The limits of a sample.
+pub fn limits()
+    ensures colours { MAX_COLOURS ≡ 4096 }
+    ensures pixels { MAX_PIXELS ≡ 1048576 }
+{}
+
+// ---- symbols and their words
+
+/// The test of symbols says whether they are one.
+pub fn symbols_are_told_apart()
+    ensures same { (a b : Symbol) → IsTrue (same_symbol a b) ↔ (a ≡ b) }
+{}
+
+/// The texts of symbols: a byte stands for itself, but for a blank, and a colour is written by its samples.
+pub fn texts_of_symbols()
+    ensures byte { symbol_text (Char 97) ≡ 97 ∷ [] }
+    ensures blank { symbol_text (Char 32) ≡ 92 ∷ 115 ∷ [] }
+    ensures colour { symbol_text (rgb 255 0 70) ≡ 50 ∷ 53 ∷ 53 ∷ 44 ∷ 48 ∷ 44 ∷ 55 ∷ 48 ∷ [] }
+    ensures shown { map is_shown (Char 32 ∷ Char 126 ∷ rgb 65535 0 65535 ∷ []) ≡
+        true ∷ true ∷ true ∷ [] }
+    ensures hidden { map is_shown (Char 31 ∷ Char 127 ∷ rgb 0 65536 0 ∷ []) ≡
+        false ∷ false ∷ false ∷ [] }
+{}
+
+/// A word is read as the symbol that it spells, and as none where it spells none; so it spells at most one.
+pub fn words_spell_symbols()
+    ensures exactly { (word : List ℕ) (symbol : Symbol)
+        → (symbol_of_word word ≡ Some symbol) ↔ Spells word symbol }
+    ensures one { (word : List ℕ) (a b : Symbol) → Spells word a → Spells word b → a ≡ b }
+{}
+
+/// Words that spell: `b`, `,`, `\s` and `10,0,255`. A blank alone, a tabulator, `\t`, `01,0,0`, `1,2`, `1,2,3,4`, `1,,3` and
+/// `0,65536,0` spell nothing.
+pub fn small_words()
+    ensures bytes { map symbol_of_word ((98 ∷ []) ∷ (44 ∷ []) ∷ (92 ∷ 115 ∷ []) ∷ []) ≡
+        Some (Char 98) ∷ Some (Char 44) ∷ Some (Char 32) ∷ [] }
+    ensures colour { symbol_of_word (49 ∷ 48 ∷ 44 ∷ 48 ∷ 44 ∷ 50 ∷ 53 ∷ 53 ∷ []) ≡
+        Some (rgb 10 0 255) }
+    ensures none { map symbol_of_word ([] ∷ (32 ∷ []) ∷ (9 ∷ []) ∷ (92 ∷ 116 ∷ []) ∷ []) ≡
+        None ∷ None ∷ None ∷ None ∷ [] }
+    ensures zero_first { symbol_of_word (48 ∷ 49 ∷ 44 ∷ 48 ∷ 44 ∷ 48 ∷ []) ≡ None }
+    ensures two_parts { symbol_of_word (49 ∷ 44 ∷ 50 ∷ []) ≡ None }
+    ensures four_parts { symbol_of_word (49 ∷ 44 ∷ 50 ∷ 44 ∷ 51 ∷ 44 ∷ 52 ∷ []) ≡ None }
+    ensures empty_part { symbol_of_word (49 ∷ 44 ∷ 44 ∷ 51 ∷ 51 ∷ []) ≡ None }
+    ensures too_large { symbol_of_word (48 ∷ 44 ∷ 54 ∷ 53 ∷ 53 ∷ 51 ∷ 54 ∷ 44 ∷ 48 ∷ []) ≡ None }
+{}
+
+// ---- palettes
+
+/// Naming what was numbered gives the symbols back, and each number is below the palette's length.
+pub fn numbers_name_symbols()
+    ensures named { (symbols : List Symbol)
+        → map (slice_get (palette_of symbols)) (numbered symbols) ≡ map (λ s. Some s) symbols }
+    ensures below { (symbols : List Symbol)
+        → All (λ n. n < length (palette_of symbols)) (numbered symbols) }
+{}
+
+/// A palette has each symbol of the pixels, no other, and none twice.
+pub fn palettes_have_each_symbol_once()
+    ensures each { (symbols : List Symbol) (symbol : Symbol)
+        → Contains (palette_of symbols) symbol ↔ Contains symbols symbol }
+    ensures once { (symbols : List Symbol) → IsDistinct same_symbol (palette_of symbols) }
+{}
+
+/// Six pixels of four symbols: their palette, their numbers, where the third and the fourth symbol appear, and what they
+/// are as a picture of three columns.
+pub fn numbers_of_six_pixels()
+    ensures palette { palette_of six_pixels ≡ Char 98 ∷ Char 97 ∷ rgb 1 2 3 ∷ Char 99 ∷ [] }
+    ensures numbers { numbered six_pixels ≡ 0 ∷ 1 ∷ 0 ∷ 2 ∷ 1 ∷ 3 ∷ [] }
+    ensures number { map (symbol_number (palette_of six_pixels))
+        (rgb 1 2 3 ∷ rgb 2 1 3 ∷ Char 1 ∷ []) ≡ Some 2 ∷ None ∷ None ∷ [] }
+    ensures past { map (λ limit. first_past limit six_pixels) (2 ∷ 3 ∷ 4 ∷ []) ≡
+        Some 3 ∷ Some 5 ∷ None ∷ [] }
+    ensures fault { unless_past (Some 3) six_pixels 3 ≡ Err (TooManyColours 3) }
+    ensures picture { indexed six_pixels 3 ≡
+        Ok (raster_of 3 2 (0 ∷ 1 ∷ 0 ∷ 2 ∷ 1 ∷ 3 ∷ []), palette_of six_pixels) }
+{}
