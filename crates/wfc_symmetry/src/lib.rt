@@ -12,7 +12,7 @@ use wfc_outside::NoMemory;
 /// turn, counter-clockwise, of the even one before, and an odd image is the reflection of the one before it. The
 /// order is that of the overlapping model of [WaveFunctionCollapse](https://github.com/mxgmn/WaveFunctionCollapse).
 pub fn image(alloc: Global, window: &[u32], n: u32, k: u8) -> Result<Vec<u32>, NoMemory>
-    requires kind { k < 8 }
+    requires image_in { k < 8 }
     requires square { length window.now ≡ n * n }
     ensures exact { IfOk result (λ v. v.items ≡ image n window.now k) }
 {
@@ -68,29 +68,4 @@ pub fn rotate_into(window: &[u32], n: u32, out: &mut [u32])
 }
 
 #[cfg(test)]
-mod tests {
-    use super::*;
-    use std::test::Fail;
-
-    /// The images of a window of one to four, and of one of one to nine.
-    #[test]
-    fn images(rt: HostRuntime) -> Result<(), Fail> {
-        let four = [
-            [1, 2, 3, 4],
-            [2, 1, 4, 3],
-            [2, 4, 1, 3],
-            [4, 2, 3, 1],
-            [4, 3, 2, 1],
-            [3, 4, 1, 2],
-            [3, 1, 4, 2],
-            [1, 3, 2, 4],
-        ];
-        for (k, wanted) in four.iter().enumerate() {
-            let made = image(rt.alloc(), &[1, 2, 3, 4], 2, k as u8)?;
-            assert_eq!(rt; made.as_slice(), wanted.as_slice(), "image {k}");
-        }
-        let nine = image(rt.alloc(), &[1, 2, 3, 4, 5, 6, 7, 8, 9], 3, 3)?;
-        assert_eq!(rt; nine.as_slice(), [9, 6, 3, 8, 5, 2, 7, 4, 1].as_slice());
-        Ok(())
-    }
-}
+mod tests;

@@ -1,6 +1,6 @@
 use Rattle.std.proofs.Common.{◌-◌, refl, arith}
 use Rattle.wfc_model.specs.Image.{cell_at}
-use Rattle.wfc_symmetry.proofs.Square.{some_side, row_below, place_below, square_more, square_all, next_row, next_column}
+use Rattle.wfc_model.proofs.CallerLemmas.{some_side, row_below, place_below, square_more, square_all, next_row, next_column}
 use Rattle.wfc_symmetry.proofs.reflect_into.Goals as goal
 use Rattle.wfc_symmetry.proofs.reflect_into.Goals.{then-x-side, else-x-side}
 
