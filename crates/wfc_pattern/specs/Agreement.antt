@@ -1,30 +1,8 @@
--- When two patterns agree in a direction: 0 is to the left, 1 down, 2 to the right, 3 up.
-use Rattle.std.specs.Prelude.{◌≡◌, ℕ, ◌+◌, ◌-◌, ◌*◌, ◌/◌, ◌%◌, ◌<◌, Bool, not, ◌==◌, ◌&&◌, ◌||◌, nat_le, nat_lt, List, if◌then◌else◌}
+-- When two patterns agree in a direction.
+use Rattle.std.specs.Prelude.{◌≡◌, ℕ, ◌+◌, ◌-◌, ◌*◌, ◌/◌, ◌%◌, ◌<◌, Bool, not, ◌==◌, ◌&&◌, ◌||◌, nat_le, nat_lt, List}
 use Rattle.std.specs.List.{list_all, range_with_len}
+use Rattle.wfc_model.specs.Direction.{left_by, down_by, right_by, up_by, IsStep}
 use Rattle.wfc_model.specs.Image.{cell_at}
-
--- how far a step in a direction goes to the left, down, to the right and up
-abbrev pub left_by : ℕ → ℕ
-left_by direction = if direction == 0 then 1 else 0
-
-abbrev pub down_by : ℕ → ℕ
-down_by direction = if direction == 1 then 1 else 0
-
-abbrev pub right_by : ℕ → ℕ
-right_by direction = if direction == 2 then 1 else 0
-
-abbrev pub up_by : ℕ → ℕ
-up_by direction = if direction == 3 then 1 else 0
-
--- (i, j) lies one step in the direction from (a, b)
-pub record IsStep (direction a b i j : ℕ) : Type 0 where
-  pub across : a + right_by direction ≡ i + left_by direction
-  pub down : b + down_by direction ≡ j + up_by direction
-
--- and modulo the sides of a picture
-pub record IsStepModulo (direction width height a b i j : ℕ) : Type 0 where
-  pub across : (a + right_by direction) % width ≡ (i + left_by direction) % width
-  pub down : (b + down_by direction) % height ≡ (j + up_by direction) % height
 
 -- q, moved by one step, has the same numbers as p wherever both have one
 abbrev pub Agrees : ℕ → List ℕ → List ℕ → ℕ → Type 0

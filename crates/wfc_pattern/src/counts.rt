@@ -1,8 +1,9 @@
 //! Windows, counted in the order of their first appearance.
-ghost use Rattle.std.specs.Prelude.{◌≡◌, ℕ, ◌+◌, ◌<◌, ◌^◌, [], length, position, slice_get, slice_index, OnOk};
-ghost use Rattle.wfc_model.specs.Learned.{same_window};
-ghost use Rattle.wfc_pattern.specs.Tally.{noted, total, windows_of, weights_of};
+ghost use Rattle.std.specs.Prelude.{◌≡◌, ◌+◌, ◌<◌, ◌^◌, [], length, OnOk};
+ghost use Rattle.wfc_pattern.specs.Patterns.{IsPatterns};
+ghost use Rattle.wfc_pattern.specs.Tally.{noted, total, patterns_from};
 
+use crate::Patterns;
 use indexmap::IndexMap;
 use std::alloc::Global;
 use std::marker::Model;
@@ -33,7 +34,7 @@ impl Tally {
 
     /// Takes memory for a window that is new.
     pub fn note(&mut self, alloc: Global, window: &[u32]) -> Result<(), NoMemory>
-        requires room { total self.old + 1 < 2 ^ 32 }
+        requires fits { total self.old + 1 < 2 ^ 32 }
         ensures noted { OnOk result (self.new ≡ noted self.old window.now) }
     {
         if let Some(count) = self.counts.get_mut(window) {
@@ -52,27 +53,14 @@ impl Tally {
         self.counts.len()
     }
 
-    /// The window with this number, in the order of first appearance.
-    pub fn window(&self, p: usize) -> &[u32]
-        requires within { p < length self.now }
-        ensures value { slice_get (windows_of self.now) p ≡ Some result.now }
+    /// The counted windows as patterns. Takes no memory.
+    pub fn into_patterns(self, n: u32) -> Patterns
+        requires patterns { IsPatterns (patterns_from n self) }
+        ensures value { result ≡ patterns_from n self }
     {
-        self.counts.as_slice().keys().as_slice()[p].as_slice()
-    }
-
-    /// How often it was noted.
-    pub fn weight(&self, p: usize) -> u32
-        requires within { p < length self.now }
-        ensures value { result ≡ slice_index (weights_of self.now) p }
-    {
-        self.counts[p]
-    }
-
-    /// The number of a window, if it was noted.
-    pub fn find(&self, window: &[u32]) -> Option<usize>
-        ensures value { result ≡ position (same_window window.now) (windows_of self.now) }
-        ensures inverse { (p : ℕ) → slice_get (windows_of self.now) p ≡ Some window.now → result ≡ Some p }
-    {
-        self.counts.get_index_of(window)
+        Patterns {
+            n,
+            counts: self.counts,
+        }
     }
 }

@@ -1,10 +1,12 @@
 //! The images of a sample's windows, noted in the order in which they arise.
-ghost use Rattle.std.specs.Prelude.{◌≡◌, ℕ, ◌+◌, ◌*◌, ◌<◌, ◌%◌, ◌^◌, ◌==◌, [], length, map, fold, if◌then◌else◌, OnOk, IfOk};
+ghost use Rattle.std.specs.Prelude.{◌≡◌, ℕ, ◌+◌, ◌*◌, ◌<◌, ◌≤◌, ◌%◌, ◌^◌, ◌==◌, [], length, map, fold, if◌then◌else◌, OnOk, IfOk};
+ghost use Rattle.std.specs.Bool.{OnTrue, OnFalse};
 ghost use Rattle.std.specs.List.{range_with_len};
 ghost use Rattle.wfc_model.specs.Image.{image, reflected, rotated};
 ghost use Rattle.wfc_pattern.specs.Arising.{images_at, images_in_row};
 ghost use Rattle.wfc_pattern.specs.Tally.{noted, total};
 
+use crate::MAX_PATTERNS;
 use crate::counts::Tally;
 use std::alloc::Global;
 use wfc_outside::NoMemory;
@@ -43,17 +45,26 @@ impl Learner {
         })
     }
 
-    /// Notes the images at the first places of row `y`.
-    pub fn note_row(&mut self, picture: &Picture, y: u32, columns: u32) -> Result<(), NoMemory>
-        requires few { total self.old.tally + columns * self.old.symmetry < 2 ^ 32 }
+    /// Notes the images at the first places of row `y`, and stops once more are different than are kept as patterns. Says
+    /// whether there are no more than that.
+    pub fn note_row(&mut self, picture: &Picture, y: u32, columns: u32) -> Result<bool, NoMemory>
+        requires fits { total self.old.tally + columns * self.old.symmetry < 2 ^ 32 }
+        requires few { length self.old.tally ≤ MAX_PATTERNS }
         ensures n { self.new.n ≡ self.old.n }
         ensures symmetry { self.new.symmetry ≡ self.old.symmetry }
-        ensures noted { OnOk result (self.new.tally ≡ fold noted self.old.tally (images_in_row picture.now self.old.n self.old.symmetry columns y)) }
+        ensures noted { IfOk result (λ few. OnTrue few (self.new.tally
+            ≡ fold noted self.old.tally (images_in_row picture.now self.old.n self.old.symmetry columns y))) }
+        ensures few { IfOk result (λ few. OnTrue few (length self.new.tally ≤ MAX_PATTERNS)) }
+        ensures many { IfOk result (λ few. OnFalse few (MAX_PATTERNS
+            < length (fold noted self.old.tally (images_in_row picture.now self.old.n self.old.symmetry columns y)))) }
     {
         for x in 0..columns {
             self.note_place(picture, x, y)?;
+            if self.tally.len() > MAX_PATTERNS as usize {
+                return Ok(false);
+            }
         }
-        Ok(())
+        Ok(true)
     }
 
     /// The counts.
@@ -65,10 +76,11 @@ impl Learner {
 
     /// Notes the images of the window at a place.
     fn note_place(&mut self, picture: &Picture, x: u32, y: u32) -> Result<(), NoMemory>
-        requires few { total self.old.tally + self.old.symmetry < 2 ^ 32 }
+        requires fits { total self.old.tally + self.old.symmetry < 2 ^ 32 }
         ensures n { self.new.n ≡ self.old.n }
         ensures symmetry { self.new.symmetry ≡ self.old.symmetry }
-        ensures noted { OnOk result (self.new.tally ≡ fold noted self.old.tally (images_at picture.now self.old.n self.old.symmetry (x, y))) }
+        ensures noted { OnOk result (self.new.tally
+            ≡ fold noted self.old.tally (images_at picture.now self.old.n self.old.symmetry (x, y))) }
     {
         picture.window_into(x, y, self.n, &mut self.window);
         note_images(
@@ -93,8 +105,9 @@ fn note_images(
 ) -> Result<(), NoMemory>
     requires square { length window.old ≡ n * n }
     requires room { length spare.old ≡ n * n }
-    requires few { total tally.old + symmetry < 2 ^ 32 }
-    ensures noted { OnOk result (tally.new ≡ fold noted tally.old (map (image n window.old) (range_with_len 0 symmetry))) }
+    requires fits { total tally.old + symmetry < 2 ^ 32 }
+    ensures noted { OnOk result (tally.new
+        ≡ fold noted tally.old (map (image n window.old) (range_with_len 0 symmetry))) }
 {
     for k in 0..symmetry {
         note_image(alloc, tally, window, spare, n, k)?;
@@ -113,8 +126,9 @@ fn note_image(
 ) -> Result<(), NoMemory>
     requires square { length window.old ≡ n * n }
     requires room { length spare.old ≡ n * n }
-    requires few { total tally.old + 1 < 2 ^ 32 }
-    ensures noted { OnOk result (tally.new ≡ noted tally.old (if k % 2 == 0 then window.old else reflected n window.old)) }
+    requires fits { total tally.old + 1 < 2 ^ 32 }
+    ensures noted { OnOk result (tally.new
+        ≡ noted tally.old (if k % 2 == 0 then window.old else reflected n window.old)) }
     ensures turned { OnOk result (window.new ≡ (if k % 2 == 0 then window.old else rotated n window.old)) }
 {
     if k % 2 == 0 {

@@ -1,7 +1,7 @@
 use Rattle.std.proofs.Common.{◌≡◌, [], ap}
 use Rattle.std.proofs.lemmas.Option.{get_or_from_slice_get}
 use Rattle.wfc_pattern.specs.Patterns.{PatternsView, window_at}
-use Rattle.wfc_pattern.proofs.Agreements.{says_agreement, same_test}
+use Rattle.wfc_pattern.proofs.AgreementLemmas.{says_agreement, same_test}
 use Rattle.wfc_pattern.proofs.Patterns.agrees.Goals as goal
 
 pub returns-clause-everywhere : goal.returns-clause-everywhere

@@ -1,16 +1,7 @@
-use Rattle.std.proofs.Common.{◌<◌, ◌≤◌, length, rules}
-use Rattle.wfc_pattern.specs.Tally.{weights_of}
-use Rattle.wfc_pattern.proofs.Held.{weight_held}
+use Rattle.std.proofs.Common.{ap, ◌∙◌}
+use Rattle.wfc_pattern.specs.Patterns.{PatternsView, weight_at}
+use Rattle.wfc_pattern.proofs.SeenLemmas.{weight_seen}
 use Rattle.wfc_pattern.proofs.Patterns.weight.Goals as goal
 
-pub returns-clause-some : goal.returns-clause-some
-returns-clause-some c =
-    let tally = c.self.inside.tally in
-    let below : c.args.p < length (weights_of tally) = search rules in
-    rw c.weight.ensures.value (weight_held (λ n. 0 < n) tally c.args.p c.self.invariant.counted.arising below)
-
-pub returns-clause-most : goal.returns-clause-most
-returns-clause-most c =
-    let tally = c.self.inside.tally in
-    let below : c.args.p < length (weights_of tally) = search rules in
-    rw c.weight.ensures.value (weight_held (λ n. n ≤ 8388608) tally c.args.p c.self.invariant.counted.rare below)
+pub returns-clause-value : goal.returns-clause-value
+returns-clause-value c = weight_seen c.self.inside.counts.entries c.args.p c.index.result.now c.index.ensures ∙ ap (λ (v : PatternsView). weight_at v c.args.p) c.self.view_is

@@ -1,5 +1,5 @@
-use Rattle.wfc_pattern.proofs.Agreements.{everywhere, tested}
-use Rattle.wfc_pattern.proofs.Neighbours.{opposite_agrees}
+use Rattle.wfc_pattern.proofs.AgreementLemmas.{everywhere, tested}
+use Rattle.wfc_pattern.proofs.StepLemmas.{opposite_agrees}
 use Rattle.wfc_pattern.proofs.laws.agreement_is_mutual.Goals as goal
 
 pub returns-clause-test : goal.returns-clause-test

@@ -1,4 +1,4 @@
-use Rattle.wfc_pattern.proofs.Neighbours.{neighbours_agree}
+use Rattle.wfc_pattern.proofs.StepLemmas.{neighbours_agree}
 use Rattle.wfc_pattern.proofs.laws.neighbouring_windows_agree.Goals as goal
 
 pub returns : goal.returns

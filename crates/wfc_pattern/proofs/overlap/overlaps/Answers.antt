@@ -1,7 +1,7 @@
 use Rattle.std.proofs.Common.{◌≡◌, ℕ, ◌+◌, ◌<◌, true, false, sym, ◌∙◌, arith}
 use Rattle.std.proofs.lemmas.Bool.{false≢true, not-true, not-false}
 use Rattle.wfc_model.specs.Image.{cell_at}
-use Rattle.wfc_pattern.proofs.Overlaps.{is_same_row, row_same, same_row}
+use Rattle.wfc_pattern.proofs.OverlapLemmas.{is_same_row, row_same, same_row}
 use Rattle.wfc_pattern.proofs.overlap.overlaps.Goals as goal
 use borrow.Author.Count.{below_more}
 

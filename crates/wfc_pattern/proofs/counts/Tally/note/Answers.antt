@@ -1,9 +1,9 @@
-use Rattle.std.proofs.Common.{◌≡◌, ◌+◌, ◌≤◌, None, sym, ap, ◌∙◌, subst, arith}
+use Rattle.std.proofs.Common.{◌≡◌, ◌+◌, ◌≤◌, None, sym, ap, ◌∙◌, subst, arith, nat_eq}
 use Rattle.std.specs.Map.{lookup}
 use Rattle.indexmap.specs.IndexMap.{insert_entry}
-use Rattle.wfc_model.specs.Learned.{same_window}
+use Rattle.std.specs.Cmp.Lexicographic.{pointwise}
 use Rattle.wfc_pattern.specs.Tally.{noted, total}
-use Rattle.wfc_pattern.proofs.Noted.{seen, holds, noted_there, noted_new, count_within}
+use Rattle.wfc_pattern.proofs.NotedLemmas.{seen, holds, noted_there, noted_new, count_within}
 use Rattle.wfc_pattern.proofs.counts.Tally.note.Goals as goal
 
 pub overflow_add-count : goal.overflow_add-count
@@ -29,7 +29,7 @@ returns c =
     record {
       noted =
           ap seen c.in_ok-insert.ensures.entries
-          ∙ ap (λ m. seen (insert_entry (λ k l. same_window k.items l.items) m.entries c.in_ok-key.key 1)) c.get_mut.follows.holds-at-none
+          ∙ ap (λ m. seen (insert_entry (λ k l. pointwise nat_eq k.items l.items) m.entries c.in_ok-key.key 1)) c.get_mut.follows.holds-at-none
           ∙ noted_new w c.self.inside.counts.entries c.in_ok-key.key absent c.in_ok-key.ensures.items
           ∙ ap (λ es. noted es w) c.self.view_is;
     }
