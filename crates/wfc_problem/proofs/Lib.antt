@@ -1,7 +1,14 @@
 pub mod Firsts
+pub mod Rises
 pub mod Tables
+pub mod Supports
+pub mod Cursors
 pub mod Faults
-pub mod Counts
-pub mod Domains
 pub mod Rounds
+pub mod Cuts
+pub mod Domains
 pub mod Flags
+pub mod Sizes
+pub mod Greatest
+pub mod CallerLemmas
+pub mod Corners

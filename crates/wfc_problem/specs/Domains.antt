@@ -1,13 +1,18 @@
 -- Domains as tests, cut by literals, and the greatest ones that are arc consistent.
 use Rattle.std.specs.Prelude.{◌≡◌, ℕ, ◌<◌, ◌↔◌, Bool, not, ◌&&◌, ◌||◌, List, ◌==◌, Option, Some, None, count_by, Contains, IsTrue, IsFalse, length, slice_index}
 use Rattle.std.specs.List.{list_all}
-use Rattle.wfc_problem.specs.Network.{Network, neighbour, supports_of, in_base}
+use Rattle.wfc_problem.specs.Network.{Network, values, neighbour, supports_of, in_base}
 use Rattle.wfc_problem.specs.declared.Literal.{Literal}
 use Rattle.wfc_problem.specs.declared.Literal.TheVariants.{Is, Not}
 
 -- domains as a question: does this value stand at this cell?
 abbrev pub Test : Type 0
 Test = ℕ → ℕ → Bool
+
+-- the literal's cell is one of the problem's, and its value too
+abbrev pub IsLiteralIn : Network → Literal → Type 0
+IsLiteralIn P (Is cell value) = (cell < P.cells) × (value < values P)
+IsLiteralIn P (Not cell value) = (cell < P.cells) × (value < values P)
 
 -- whether a literal leaves v at c: Is leaves its value alone at its cell, Not leaves all but its value
 abbrev pub leaves : Literal → Test

@@ -1,13 +1,13 @@
 -- Why parts are no problem: the first check, in the order in which they are made, that the parts don't pass.
-use Rattle.std.specs.Prelude.{◌≡◌, ◌<◌, ◌≤◌, ◌⊎◌, Contains, ℕ, ◌+◌, ◌*◌, Bool, true, false, not, ◌&&◌, ◌||◌, List, [], ◌∷◌, length, nat_lt, nat_le, ◌==◌, if◌then◌else◌, Option, Some, None}
+use Rattle.std.specs.Prelude.{ℕ, ◌+◌, ◌*◌, Bool, true, false, not, ◌&&◌, ◌||◌, List, [], ◌∷◌, length, nat_lt, nat_le, ◌==◌, if◌then◌else◌, Option, Some, None}
 use Rattle.std.specs.List.{find, list_all, position, range_with_len}
-use Rattle.std.specs.List.Sorted.{IsStrictlyIncreasing}
 use Rattle.std.specs.Option.{option_map, option_or}
+use Rattle.wfc_model.specs.Direction.{opposite}
 use Rattle.wfc_problem.specs.declared.Part.TheVariants.{Cells, Neighbours, Weights, Supports, Base}
 use Rattle.wfc_problem.specs.declared.ProblemFault.{ProblemFault}
 use Rattle.wfc_problem.specs.declared.ProblemFault.TheVariants.{TooLarge, NotSymmetric, BadIndex, NotBack, Lengths, BadWeight}
 use Rattle.wfc_problem.specs.declared.TheConstants.{MAX_PAIRS, MAX_VALUES, MAX_WEIGHT, NO_CELL}
-use Rattle.wfc_problem.specs.Network.{Network, values, neighbour, opposite, supports_of, ok}
+use Rattle.wfc_problem.specs.Network.{Network, values, neighbour, supports_of, ok}
 
 -- the fault, unless the check is passed
 abbrev pub unless : Bool → ProblemFault → Option ProblemFault
@@ -61,14 +61,14 @@ abbrev pub weight_fault : Network → Option ProblemFault
 weight_fault P = option_map (λ v. BadWeight v) (position (λ w. not (is_weight w)) P.weights)
 
 -- the entry is this cell
-abbrev pub is_cell : ℕ → Option ℕ → Bool
-is_cell c None = false
-is_cell c (Some n) = n == c
+abbrev pub names_cell : ℕ → Option ℕ → Bool
+names_cell c None = false
+names_cell c (Some n) = n == c
 
 -- from the cell beside c, if there is one, the opposite direction leads back to c
 abbrev pub returns : Network → ℕ → ℕ → Option ℕ → Bool
 returns P c d None = true
-returns P c d (Some n) = is_cell c (neighbour P n (opposite d))
+returns P c d (Some n) = names_cell c (neighbour P n (opposite d))
 
 -- so from the cell beside c in direction d
 abbrev pub leads_back : Network → ℕ → ℕ → Bool
@@ -87,8 +87,8 @@ abbrev pub symmetry_fault : Network → Option ProblemFault
 symmetry_fault P = option_map (λ p. NotSymmetric p.0 p.1) (first_pair (is_mutual P) (range_with_len 0 (values P)) P.dirs)
 
 -- the first fault of the parts, if they have one
-unfoldable pub fault_of : Network → Option ProblemFault
-fault_of P =
+unfoldable pub problem_fault_of : Network → Option ProblemFault
+problem_fault_of P =
     option_or (lengths_fault P)
     (option_or (size_fault P)
     (option_or (neighbours_fault P)
@@ -96,21 +96,3 @@ fault_of P =
     (option_or (weight_fault P)
     (option_or (back_fault P)
     (symmetry_fault P))))))
-
--- the counts are within the limits and the tables have their lengths, so that each entry of a table can be read
-pub record IsSized (P : Network) : Type 0 where
-  pub some_cell : 0 < P.cells
-  pub few_cells : P.cells ≤ MAX_PAIRS
-  pub four_or_six : (P.dirs ≡ 4) ⊎ (P.dirs ≡ 6)
-  pub some_value : 0 < values P
-  pub few_values : values P ≤ MAX_VALUES
-  pub few_pairs : P.cells * values P ≤ MAX_PAIRS
-  pub neighbours_table : length P.neighbours ≡ P.cells * P.dirs
-  pub supports_table : length P.supports ≡ values P * P.dirs
-  pub base_table : length P.base ≡ P.cells * values P
-
--- each entry names a cell or a value, and lists of supports rise
-pub record IsIndexed (P : Network) : Type 0 where
-  pub in_cells : (c d n : ℕ) → neighbour P c d ≡ Some n → n < P.cells
-  pub rising : (v d : ℕ) → d < P.dirs → IsStrictlyIncreasing (supports_of P v d)
-  pub in_values : (v w d : ℕ) → d < P.dirs → Contains (supports_of P v d) w → w < values P

@@ -2,4 +2,9 @@ pub mod Network
 pub mod Fault
 pub mod Assignment
 pub mod Domains
+pub mod Corner
 pub mod Rounds
+pub mod Sizes
+pub mod Symmetry
+pub use Rattle.wfc_model.specs.Direction
+pub use Rattle.wfc_outside.specs.Gives

@@ -1,7 +1,8 @@
 -- A constraint problem as contracts see it.
-use Rattle.std.specs.Prelude.{◌≡◌, ℕ, ◌+◌, ◌-◌, ◌*◌, ◌%◌, ◌<◌, ◌≤◌, ◌⊎◌, Bool, false, List, [], length, nat_lt, ◌==◌, if◌then◌else◌, Option, Some, None, slice_index, slice_index_or, Contains, take, drop}
+use Rattle.std.specs.Prelude.{◌≡◌, ℕ, ◌+◌, ◌*◌, ◌<◌, ◌≤◌, ◌⊎◌, Bool, false, List, [], length, nat_lt, ◌==◌, if◌then◌else◌, Option, Some, None, slice_index, slice_index_or, Contains, take, drop}
 use Rattle.std.specs.List.{list_any}
 use Rattle.std.specs.List.Sorted.{IsStrictlyIncreasing}
+use Rattle.wfc_model.specs.Direction.{opposite}
 use Rattle.wfc_problem.specs.declared.TheConstants.{MAX_PAIRS, MAX_VALUES, MAX_WEIGHT, NO_CELL}
 
 -- the parts of a problem: cell c's neighbour in direction d stands at c * dirs + d, the values that v supports
@@ -22,10 +23,6 @@ values P = length P.weights
 abbrev pub weight_of : Network → ℕ → ℕ
 weight_of P v = slice_index P.weights v
 
--- the direction that leads back: 0 and 2, 1 and 3, 4 and 5 are opposite
-abbrev pub opposite : ℕ → ℕ
-opposite d = if nat_lt d 4 then (d + 2) % 4 else 9 - d
-
 -- the cell that an entry of the neighbour table names, if any
 abbrev pub named : ℕ → Option ℕ
 named n = if n == NO_CELL then None else Some n
@@ -34,9 +31,9 @@ named n = if n == NO_CELL then None else Some n
 abbrev pub neighbour : Network → ℕ → ℕ → Option ℕ
 neighbour P c d = if nat_lt d P.dirs then named (slice_index_or P.neighbours (c * P.dirs + d) NO_CELL) else None
 
--- the values that may stand beside v in direction d, rising
+-- the values that may stand beside v in direction d, rising; none where there is no such value or direction
 abbrev pub supports_of : Network → ℕ → ℕ → List ℕ
-supports_of P v d = slice_index_or P.supports (v * P.dirs + d) []
+supports_of P v d = if nat_lt d P.dirs then slice_index_or P.supports (v * P.dirs + d) [] else []
 
 -- w may stand beside v in direction d
 abbrev pub ok : Network → ℕ → ℕ → ℕ → Bool
@@ -54,11 +51,10 @@ has_flag n flags c v = slice_index_or (row_of n flags c) v false
 abbrev pub in_base : Network → ℕ → ℕ → Bool
 in_base P c v = has_flag (values P) P.base c v
 
--- a problem: at least one cell, four or six directions, 1 to 4,096 values with weights 1 to 16,777,216,
--- at most 8,388,608 pairs; a neighbour's neighbour the other way is the cell, and what may stand beside
--- v in a direction has v beside it the other way
-pub record IsProblem (P : Network) : Type 0 where
+-- the counts are within the limits, and the tables have their lengths, so that each entry can be read
+pub record IsSized (P : Network) : Type 0 where
   pub some_cell : 0 < P.cells
+  pub few_cells : P.cells ≤ MAX_PAIRS
   pub four_or_six : (P.dirs ≡ 4) ⊎ (P.dirs ≡ 6)
   pub some_value : 0 < values P
   pub few_values : values P ≤ MAX_VALUES
@@ -66,10 +62,24 @@ pub record IsProblem (P : Network) : Type 0 where
   pub neighbours_table : length P.neighbours ≡ P.cells * P.dirs
   pub supports_table : length P.supports ≡ values P * P.dirs
   pub base_table : length P.base ≡ P.cells * values P
+
+-- each entry of the tables names a cell or a value that there is, and lists of supports rise
+pub record IsIndexed (P : Network) : Type 0 where
+  pub in_cells : (c d n : ℕ) → neighbour P c d ≡ Some n → n < P.cells
+  pub rising : (v d : ℕ) → IsStrictlyIncreasing (supports_of P v d)
+  pub in_values : (v w d : ℕ) → Contains (supports_of P v d) w → w < values P
+
+-- each weight is 1 to 16,777,216
+pub record IsWeighed (P : Network) : Type 0 where
   pub some_weight : (v : ℕ) → v < values P → 0 < weight_of P v
   pub small_weight : (v : ℕ) → v < values P → weight_of P v ≤ MAX_WEIGHT
-  pub rising : (v d : ℕ) → d < P.dirs → IsStrictlyIncreasing (supports_of P v d)
-  pub in_values : (v w d : ℕ) → d < P.dirs → Contains (supports_of P v d) w → w < values P
-  pub in_cells : (c d n : ℕ) → neighbour P c d ≡ Some n → n < P.cells
+
+-- a problem: at least one cell, four or six directions, 1 to 4,096 values with weights 1 to 16,777,216,
+-- at most 8,388,608 pairs; a neighbour's neighbour the other way is the cell, and what may stand beside
+-- v in a direction has v beside it the other way
+pub record IsProblem (P : Network) : Type 0 where
+  pub sized : IsSized P
+  pub indexed : IsIndexed P
+  pub weighed : IsWeighed P
   pub back : (c d n : ℕ) → neighbour P c d ≡ Some n → neighbour P n (opposite d) ≡ Some c
-  pub symmetric : (v w d : ℕ) → d < P.dirs → Contains (supports_of P v d) w → Contains (supports_of P w (opposite d)) v
+  pub symmetric : (v w d : ℕ) → Contains (supports_of P v d) w → Contains (supports_of P w (opposite d)) v

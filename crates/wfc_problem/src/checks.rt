@@ -4,15 +4,17 @@ ghost use Rattle.std.specs.List.{position};
 ghost use Rattle.std.specs.Prelude.{◌≡◌, ℕ, ◌+◌, ◌*◌, ◌<◌, ◌≤◌, not};
 ghost use Rattle.std.specs.List.Sorted.{IsStrictlyIncreasing};
 ghost use Rattle.std.specs.Result.{result_err};
-ghost use Rattle.wfc_problem.specs.Fault.{fault_of, lengths_fault, size_fault, neighbours_fault, supports_fault, weight_fault, back_fault, symmetry_fault, rises, is_mutual, leads_back, first_failing, is_entry, is_weight, IsSized, IsIndexed};
-ghost use Rattle.wfc_problem.specs.Network.{values};
+ghost use Rattle.wfc_model.specs.Direction.{opposite};
+ghost use Rattle.wfc_problem.specs.Fault.{problem_fault_of, lengths_fault, size_fault, neighbours_fault, supports_fault, weight_fault, back_fault, symmetry_fault, rises, leads_back, first_failing, is_entry, is_weight};
+ghost use Rattle.wfc_problem.specs.Network.{IsSized, IsIndexed, values};
 
+use crate::symmetry::check_symmetry;
 use crate::{MAX_PAIRS, MAX_VALUES, MAX_WEIGHT, NO_CELL, Part, Parts, ProblemFault, opposite};
 
 /// All checks, in their order.
-#[tactic(auto, using(crate::proofs::Faults::sized, crate::proofs::Faults::indexed), unfolding(crate::specs::Fault::fault_of))]
+#[tactic(auto, using(crate::proofs::Faults::sized, crate::proofs::Faults::indexed), unfolding(crate::specs::Fault::problem_fault_of))]
 pub fn check(parts: &Parts) -> Result<(), ProblemFault>
-    ensures value { result_err result ≡ fault_of parts.now }
+    ensures value { result_err result ≡ problem_fault_of parts.now }
 {
     check_lengths(parts)?;
     check_size(parts)?;
@@ -154,7 +156,8 @@ fn first_one_way(parts: &Parts, cell: u32) -> Option<u8>
     (0..parts.dirs).find(|&dir| !leads_back(parts, cell, dir))
 }
 
-/// Whether the cell beside `cell` in direction `dir`, if there is one, has `cell` beside it the other way.
+/// Whether the cell beside `cell` in direction `dir`, if there is one, has `cell` beside it the
+/// other way.
 fn leads_back(parts: &Parts, cell: u32, dir: u8) -> bool
     requires sized { IsSized parts.now }
     requires indexed { IsIndexed parts.now }
@@ -166,44 +169,4 @@ fn leads_back(parts: &Parts, cell: u32, dir: u8) -> bool
         None => true,
         Some(next) => parts.neighbour(next, opposite(dir)) == Some(cell),
     }
-}
-
-fn check_symmetry(parts: &Parts) -> Result<(), ProblemFault>
-    requires sized { IsSized parts.now }
-    requires indexed { IsIndexed parts.now }
-    ensures value { result_err result ≡ symmetry_fault parts.now }
-{
-    for value in 0..parts.weights.len() as u16 {
-        if let Some(dir) = first_one_sided(parts, value) {
-            return Err(ProblemFault::NotSymmetric { value, dir });
-        }
-    }
-    Ok(())
-}
-
-/// The first direction in which the value supports one that doesn't support it.
-fn first_one_sided(parts: &Parts, value: u16) -> Option<u8>
-    requires sized { IsSized parts.now }
-    requires indexed { IsIndexed parts.now }
-    requires value_in { value < values parts.now }
-    ensures value { result ≡ first_failing (is_mutual parts.now value) parts.now.dirs }
-{
-    (0..parts.dirs).find(|&dir| !is_mutual(parts, value, dir))
-}
-
-/// Whether each value that may stand beside `value` in direction `dir` has `value` beside it the other way.
-fn is_mutual(parts: &Parts, value: u16, dir: u8) -> bool
-    requires sized { IsSized parts.now }
-    requires indexed { IsIndexed parts.now }
-    requires value_in { value < values parts.now }
-    requires dir_in { dir < parts.now.dirs }
-    ensures value { result ≡ is_mutual parts.now value dir }
-{
-    let back = opposite(dir);
-    for other in parts.supports(value, dir) {
-        if !parts.ok(back, *other, value) {
-            return false;
-        }
-    }
-    true
 }

@@ -1,18 +1,21 @@
-//! A constraint problem as a proved value: cells, what lies beside what, the values with their weights, which
-//! value may stand beside which, and the values that each cell begins with. Beside it: what a literal cuts
-//! off, and what the greatest arc-consistent domains of a problem are.
+//! A constraint problem as a proved value: cells, what lies beside what, the values with their
+//! weights, which value may stand beside which, and the values that each cell begins with. Beside
+//! it: what a literal cuts off, and what the greatest arc-consistent domains of a problem are.
 #![tactic(auto)]
 
 ghost use Rattle.std.specs.Prelude.{◌≡◌, ℕ, ◌+◌, ◌*◌, ◌<◌, ◌≤◌, ◌↔◌, IsTrue, IsOk, IfOk, Contains, count_by, length};
 ghost use Rattle.std.specs.List.Sorted.{IsStrictlyIncreasing};
 ghost use Rattle.std.specs.Result.{result_err};
-ghost use Rattle.wfc_problem.specs.Fault.{fault_of};
+ghost use Rattle.wfc_model.specs.Direction.{opposite};
+ghost use Rattle.wfc_problem.specs.Fault.{problem_fault_of};
 ghost use Rattle.wfc_problem.specs.Rounds.{depth_of};
-ghost use Rattle.wfc_problem.specs.Network.{values, weight_of, opposite, neighbour, supports_of, ok, in_base, IsProblem};
+ghost use Rattle.wfc_problem.specs.Network.{values, weight_of, neighbour, supports_of, ok, in_base, IsProblem};
 
 mod checks;
+pub mod examples;
 pub mod laws;
 mod plain;
+mod symmetry;
 #[cfg(test)]
 mod tests;
 
@@ -88,16 +91,19 @@ pub enum ProblemFault {
     /// There are more than `MAX_PAIRS` pairs of a cell and a value, namely `product`.
     #[error("too many pairs of a cell and a value")]
     TooLarge { product: u64 },
-    /// Some value may stand beside `value` in direction `dir`, but not `value` beside it the other way.
+    /// Some value may stand beside `value` in direction `dir`, but not `value` beside it the other
+    /// way.
     #[error("a value supports one that does not support it")]
     NotSymmetric { value: u16, dir: u8 },
-    /// Entry `at` of the neighbours is no cell, or list `at` of the supports doesn't rise below the number of values.
+    /// Entry `at` of the neighbours is no cell, or list `at` of the supports doesn't rise below the
+    /// number of values.
     #[error("an index is out of range or out of order")]
     BadIndex { part: Part, at: u32 },
     /// There was no memory left.
     #[error("out of memory")]
     NoMemory,
-    /// The neighbour of `cell` in direction `dir` doesn't have `cell` as its neighbour the other way.
+    /// The neighbour of `cell` in direction `dir` doesn't have `cell` as its neighbour the other
+    /// way.
     #[error("a neighbour does not lead back")]
     NotBack { cell: u32, dir: u8 },
     /// A part hasn't the length, or the count, that it is to have.
@@ -179,16 +185,17 @@ impl Model for Problem {
 }
 
 impl Problem {
-    /// The problem of these parts. It takes no memory, and looks at each entry once; only the last check looks up
-    /// each support in a sorted list.
+    /// The problem of these parts. It takes no memory, and its time is linear in the length of the
+    /// tables.
     ///
-    /// The first check that fails names the fault, in this order: the lengths (cells and directions, weights,
-    /// neighbours, supports, base), the number of pairs, the entries of the neighbours, the lists of supports, the
-    /// weights, the ways back, the symmetry of the supports. Each check names its first place: the least index,
-    /// or the least cell or value and there the least direction.
+    /// The first check that fails names the fault, in this order: the lengths (cells and
+    /// directions, weights, neighbours, supports, base), the number of pairs, the entries of the
+    /// neighbours, the lists of supports, the weights, the ways back, the symmetry of the supports.
+    /// Each check names its first place: the least index, or the least cell or value and there the
+    /// least direction.
     pub fn new(parts: Parts) -> Result<Problem, ProblemFault>
         ensures ok { IfOk result (λ p. p ≡ parts) }
-        ensures fault { result_err result ≡ fault_of parts }
+        ensures fault { result_err result ≡ problem_fault_of parts }
         ensures problem { IsOk result ↔ IsProblem parts }
     {
         checks::check(&parts)?;
@@ -268,8 +275,8 @@ impl Problem {
         parts.base[cell as usize * parts.weights.len() + value as usize]
     }
 
-    /// Whether each cell may have each value, row by row: `value` at `cell` stands at `cell` times the number of
-    /// values, plus `value`.
+    /// Whether each cell may have each value, row by row: `value` at `cell` stands at `cell` times
+    /// the number of values, plus `value`.
     #[inline]
     pub fn base(&self) -> &[bool]
         ensures value { result.now ≡ self.now.base }

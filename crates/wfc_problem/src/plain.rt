@@ -1,34 +1,30 @@
-//! The greatest arc-consistent domains by their definition. It is slow: for small problems, and to test faster
-//! programs against.
+//! The greatest arc-consistent domains by their definition. It is slow: for small problems, and to
+//! test faster programs against.
 
-ghost use Rattle.std.specs.Prelude.{◌≡◌, ℕ, ◌+◌, ◌*◌, ◌<◌, ◌≤◌, IfOk, IsOkUnless, All, length, vec_len};
+ghost use Rattle.std.specs.Prelude.{◌≡◌, ℕ, ◌+◌, ◌*◌, ◌<◌, ◌≤◌, IfOk, All, length, vec_len};
 ghost use Rattle.std.specs.List.{list_any};
+ghost use Rattle.wfc_outside.specs.Gives.{Gives};
 ghost use Rattle.wfc_problem.specs.Domains.{IsGreatest, base_with, leaves, leaves_all};
 ghost use Rattle.wfc_problem.specs.Network.{has_flag, neighbour, values};
 ghost use Rattle.wfc_problem.specs.Rounds.{greatest, is_supported, round, side_holds};
 
-use crate::{Literal, Problem, ProblemFault};
-use std::alloc::{AllocError, Global};
+use crate::{Literal, Problem};
+use std::alloc::Global;
+use wfc_outside::NoMemory;
 
-/// The greatest arc-consistent domains of a problem whose base is cut by literals, as one flag for each cell and
-/// value, row by row. It makes as many rounds over the whole problem as there are pairs of a cell and a base value.
+/// The greatest arc-consistent domains of a problem whose base is cut by literals, as one flag for
+/// each cell and value, row by row. It makes as many rounds over the whole problem as there are
+/// pairs of a cell and a base value.
 pub fn greatest_domains(
     alloc: Global,
     problem: &Problem,
     literals: &[Literal],
-) -> Result<Vec<bool>, ProblemFault>
+) -> Result<Vec<bool>, NoMemory>
+    ensures exact { Gives (record {}) (λ flags. has_flag (values problem.now) flags.items) result
+        (Ok (greatest problem.now literals.now)) }
     ensures length { IfOk result (λ flags. vec_len flags ≡ problem.now.cells * values problem.now) }
-    ensures value { IfOk result (λ flags. has_flag (values problem.now) flags.items ≡ greatest problem.now literals.now) }
-    ensures greatest { IfOk result (λ flags. IsGreatest problem.now literals.now (has_flag (values problem.now) flags.items)) }
-    ensures memory { IsOkUnless result ProblemFault.NoMemory }
-{
-    rounds(alloc, problem, literals).map_err(|_| ProblemFault::NoMemory)
-}
-
-fn rounds(alloc: Global, problem: &Problem, literals: &[Literal]) -> Result<Vec<bool>, AllocError>
-    ensures length { IfOk result (λ flags. vec_len flags ≡ problem.now.cells * values problem.now) }
-    ensures value { IfOk result (λ flags. has_flag (values problem.now) flags.items ≡ greatest problem.now literals.now) }
-    ensures greatest { IfOk result (λ flags. IsGreatest problem.now literals.now (has_flag (values problem.now) flags.items)) }
+    ensures greatest { IfOk result (λ flags.
+        IsGreatest problem.now literals.now (has_flag (values problem.now) flags.items)) }
 {
     let mut flags = cut_base(alloc, problem, literals)?;
     for done in 0..problem.depth() {
@@ -38,9 +34,10 @@ fn rounds(alloc: Global, problem: &Problem, literals: &[Literal]) -> Result<Vec<
 }
 
 /// The base, cut by each literal.
-fn cut_base(alloc: Global, problem: &Problem, literals: &[Literal]) -> Result<Vec<bool>, AllocError>
+fn cut_base(alloc: Global, problem: &Problem, literals: &[Literal]) -> Result<Vec<bool>, NoMemory>
     ensures length { IfOk result (λ flags. vec_len flags ≡ problem.now.cells * values problem.now) }
-    ensures value { IfOk result (λ flags. has_flag (values problem.now) flags.items ≡ base_with problem.now literals.now) }
+    ensures value { IfOk result (λ flags.
+        has_flag (values problem.now) flags.items ≡ base_with problem.now literals.now) }
 {
     let values = problem.values() as usize;
     let mut flags = Vec::new(alloc);
@@ -77,7 +74,7 @@ fn leaves(literal: Literal, c: u32, v: u16) -> bool
 }
 
 /// What stands, less each value that lacks a support in it.
-fn next_round(alloc: Global, problem: &Problem, flags: &[bool]) -> Result<Vec<bool>, AllocError>
+fn next_round(alloc: Global, problem: &Problem, flags: &[bool]) -> Result<Vec<bool>, NoMemory>
     requires table { length flags.now ≡ problem.now.cells * values problem.now }
     ensures length { IfOk result (λ next. vec_len next ≡ problem.now.cells * values problem.now) }
     ensures value { IfOk result (λ next. has_flag (values problem.now) next.items
@@ -97,7 +94,8 @@ fn stays(problem: &Problem, flags: &[bool], cell: u32, value: u16) -> bool
     requires table { length flags.now ≡ problem.now.cells * values problem.now }
     requires cell_in { cell < problem.now.cells }
     requires value_in { value < values problem.now }
-    ensures value { result ≡ round problem.now (has_flag (values problem.now) flags.now) cell value }
+    ensures value { result
+        ≡ round problem.now (has_flag (values problem.now) flags.now) cell value }
 {
     let place = cell as usize * problem.values() as usize + value as usize;
     flags[place] && is_supported(problem, flags, cell, value)
@@ -108,7 +106,8 @@ fn is_supported(problem: &Problem, flags: &[bool], cell: u32, value: u16) -> boo
     requires table { length flags.now ≡ problem.now.cells * values problem.now }
     requires cell_in { cell < problem.now.cells }
     requires value_in { value < values problem.now }
-    ensures value { result ≡ is_supported problem.now (has_flag (values problem.now) flags.now) cell value }
+    ensures value { result
+        ≡ is_supported problem.now (has_flag (values problem.now) flags.now) cell value }
 {
     (0..problem.dirs()).all(|dir| side_holds(problem, flags, cell, value, dir))
 }
@@ -118,7 +117,8 @@ fn side_holds(problem: &Problem, flags: &[bool], cell: u32, value: u16, dir: u8)
     requires cell_in { cell < problem.now.cells }
     requires value_in { value < values problem.now }
     requires dir_in { dir < problem.now.dirs }
-    ensures value { result ≡ side_holds problem.now (has_flag (values problem.now) flags.now) value dir
+    ensures value { result
+        ≡ side_holds problem.now (has_flag (values problem.now) flags.now) value dir
         (neighbour problem.now cell dir) }
 {
     match problem.neighbour(cell, dir) {

@@ -60,7 +60,8 @@ fn refusal(spoil: Spoil) -> ProblemFault {
     }
 }
 
-/// Two cells side by side and two values that may stand beside each other in all ways, but for what is spoiled.
+/// Two cells side by side and two values that may stand beside each other in all ways, but for what
+/// is spoiled.
 fn spoiled(alloc: Global, spoils: &[Spoil]) -> Result<Parts, AllocError> {
     Ok(Parts {
         cells: 2,
@@ -146,7 +147,8 @@ fn spoiled_base(alloc: Global, spoils: &[Spoil]) -> Result<Vec<bool>, AllocError
     Vec::from_slice(alloc, &table[..len])
 }
 
-/// So many cells whose entries of the neighbour table are all the same, and so many values that support none.
+/// So many cells whose entries of the neighbour table are all the same, and so many values that
+/// support none.
 fn uniform(
     alloc: Global,
     cells: u16,
@@ -168,7 +170,8 @@ fn uniform(
     })
 }
 
-/// Cells with this table of neighbours, and two values that may stand in each direction beside the other alone.
+/// Cells with this table of neighbours, and two values that may stand in each direction beside the
+/// other alone.
 fn striped(alloc: Global, cells: u16, dirs: u8, neighbours: &[u32]) -> Result<Parts, AllocError> {
     let mut supports = Vec::new(alloc);
     for value in 0..2u16 {
@@ -244,10 +247,6 @@ fn the_limit_of_pairs(rt: HostRuntime) -> Result<(), Fail> {
 #[test]
 fn what_is_read(rt: HostRuntime) -> Result<(), Fail> {
     let problem = Problem::new(spoiled(rt.alloc(), &[])?)?;
-    assert_eq!(rt;
-        (problem.cells(), problem.values(), problem.dirs()),
-        (2, 2, 4)
-    );
     assert_eq!(rt; problem.cells(), 2);
     assert_eq!(rt; problem.values(), 2);
     assert_eq!(rt; problem.dirs(), 4);
@@ -283,6 +282,16 @@ fn six_directions(rt: HostRuntime) -> Result<(), Fail> {
     Ok(())
 }
 
+const FIRST_IS_0: Literal = Literal::Is { cell: 0, value: 0 };
+
+const FIRST_NOT_1: Literal = Literal::Not { cell: 0, value: 1 };
+
+const SECOND_NOT_1: Literal = Literal::Not { cell: 1, value: 1 };
+
+const SECOND_IS_1: Literal = Literal::Is { cell: 1, value: 1 };
+
+const THIRD_IS_1: Literal = Literal::Is { cell: 2, value: 1 };
+
 #[test]
 fn rounds_on_a_ring_and_on_a_row(rt: HostRuntime) -> Result<(), Fail> {
     let none = NO_CELL;
@@ -290,15 +299,56 @@ fn rounds_on_a_ring_and_on_a_row(rt: HostRuntime) -> Result<(), Fail> {
     let problem = Problem::new(striped(rt.alloc(), 3, 4, &ring)?)?;
     let free = greatest_domains(rt.alloc(), &problem, &[])?;
     assert_eq!(rt; free.as_slice(), [true; 6].as_slice());
-    let chosen = greatest_domains(rt.alloc(), &problem, &[Literal::Is { cell: 0, value: 0 }])?;
+    let chosen = greatest_domains(rt.alloc(), &problem, &[FIRST_IS_0])?;
     assert_eq!(rt; chosen.as_slice(), [false; 6].as_slice());
 
     let row = [none, none, 1, none, 0, none, 2, none, 1, none, none, none];
     let problem = Problem::new(striped(rt.alloc(), 3, 4, &row)?)?;
-    let left = greatest_domains(rt.alloc(), &problem, &[Literal::Not { cell: 1, value: 1 }])?;
+    let left = greatest_domains(rt.alloc(), &problem, &[SECOND_NOT_1])?;
     assert_eq!(rt;
         left.as_slice(),
         [false, true, true, false, false, true].as_slice()
     );
+    Ok(())
+}
+
+/// A cell with one beside it, and one on the layer above that.
+#[test]
+fn rounds_through_six_directions(rt: HostRuntime) -> Result<(), Fail> {
+    let none = NO_CELL;
+    let bent = [
+        none, none, 1, none, none, none, 0, none, none, none, 2, none, none, none, none, none,
+        none, 1,
+    ];
+    let problem = Problem::new(striped(rt.alloc(), 3, 6, &bent)?)?;
+    let several = [FIRST_NOT_1, SECOND_IS_1, FIRST_IS_0];
+    let chosen = greatest_domains(rt.alloc(), &problem, &several)?;
+    assert_eq!(rt;
+        chosen.as_slice(),
+        [true, false, false, true, true, false].as_slice()
+    );
+    let at_odds = greatest_domains(rt.alloc(), &problem, &[FIRST_NOT_1, THIRD_IS_1])?;
+    assert_eq!(rt; at_odds.as_slice(), [false; 6].as_slice());
+    Ok(())
+}
+
+/// The same, with one pair of a cell and a base value, whose flag stands at this place.
+fn single(alloc: Global, parts: Parts, place: usize) -> Result<Parts, AllocError> {
+    let mut base = Vec::new(alloc);
+    for at in 0..parts.base.len() {
+        base.push(at == place)?;
+    }
+    Ok(Parts { base, ..parts })
+}
+
+/// With ample memory there is an answer for the largest problem.
+#[test]
+fn rounds_of_the_most_pairs(rt: HostRuntime) -> Result<(), Fail> {
+    let full = uniform(rt.alloc(), 2048, NO_CELL, 4096, 1)?;
+    let problem = Problem::new(single(rt.alloc(), full, 5000)?)?;
+    let flags = greatest_domains(rt.alloc(), &problem, &[FIRST_NOT_1, SECOND_NOT_1])?;
+    assert_eq!(rt; flags.len(), 8_388_608);
+    assert_eq!(rt; flags.iter().filter(|&&flag| flag).count(), 1);
+    assert_eq!(rt; flags.get(5000), Some(&true));
     Ok(())
 }

@@ -2,7 +2,7 @@
 use Rattle.std.proofs.Common.{ℕ, List, ◌∙◌, ap}
 use Rattle.std.specs.Prelude.{◌==◌}
 use Rattle.std.specs.List.{list_any}
-use Rattle.wfc_problem.proofs.Tables.{searched-has}
+use Rattle.wfc_lists.proofs.Rising.{searched_has}
 use Rattle.wfc_problem.proofs.Parts.ok.Goals as goal
 
 pub returns : goal.returns
@@ -11,6 +11,6 @@ returns c =
     record {
       value =
           c.is_ok.ensures.value
-          ∙ searched-has c.supports.result.now c.args.w c.binary_search.result c.binary_search.ensures.position (rw is c.requires.rising)
+          ∙ searched_has c.supports.result.now c.args.w c.binary_search.result c.binary_search.ensures.position (rw is c.requires.rising)
           ∙ ap (λ (xs : List ℕ). list_any (λ x. x == c.args.w) xs) is;
     }

@@ -1,17 +1,17 @@
 -- Parts are a problem exactly where they have no fault.
 use Rattle.std.proofs.Common.{◌≡◌, rules, refl, sym}
 use Rattle.std.specs.Result.{result_err}
-use Rattle.wfc_problem.specs.Fault.{fault_of}
-use Rattle.wfc_problem.proofs.Faults.{problem-from, ok-problem}
+use Rattle.wfc_problem.specs.Fault.{problem_fault_of}
+use Rattle.wfc_problem.proofs.Faults.{problem_from, ok_problem}
 use Rattle.wfc_problem.proofs.Problem.new.Goals as goal
 
 pub returns-in_err-check-clause-problem : goal.returns-in_err-check-clause-problem
 returns-in_err-check-clause-problem c =
-    let named : result_err c.from_residual.result ≡ fault_of c.args.parts = search rules in
-    ok-problem c.args.parts c.from_residual.result named
+    let named : result_err c.from_residual.result ≡ problem_fault_of c.args.parts = search rules in
+    ok_problem c.args.parts c.from_residual.result named
 
 pub invariant_of-result : goal.invariant_of-result
-invariant_of-result c = problem-from c.args.parts (sym c.in_ok-check.ensures.value)
+invariant_of-result c = problem_from c.args.parts (sym c.in_ok-check.ensures.value)
 
 pub returns-clause-problem : goal.returns-clause-problem
-returns-clause-problem c = ((λ _. problem-from c.args.parts (sym c.in_ok-check.ensures.value)), (λ _. refl))
+returns-clause-problem c = ((λ _. problem_from c.args.parts (sym c.in_ok-check.ensures.value)), (λ _. refl))

@@ -3,7 +3,7 @@ use Rattle.std.proofs.Common.{ℕ, sym, ◌∙◌, ap, Vec, Global}
 use Rattle.std.specs.Option.{option_map}
 use Rattle.wfc_problem.specs.declared.Part.TheVariants.{Supports}
 use Rattle.wfc_problem.specs.declared.ProblemFault.TheVariants.{BadIndex}
-use Rattle.wfc_problem.proofs.Firsts.{position-map}
+use Rattle.wfc_lists.proofs.Positions.{position-map}
 use Rattle.wfc_problem.proofs.checks.check_supports.Goals as goal
 
 pub returns-in-Some : goal.returns-in-Some
@@ -13,7 +13,7 @@ returns-in-Some c =
       value =
           rw (← c.parts.view_is)
           (sym (ap (option_map (λ (at : ℕ). BadIndex Supports at))
-          (position-map (λ (list : Vec ℕ Global). list.items) _ c.parts.inside.supports.items ∙ found)));
+          (position-map _ (λ (list : Vec ℕ Global). list.items) c.parts.inside.supports.items ∙ found)));
     }
 
 pub returns-in-None : goal.returns-in-None
@@ -23,5 +23,5 @@ returns-in-None c =
       value =
           rw (← c.parts.view_is)
           (sym (ap (option_map (λ (at : ℕ). BadIndex Supports at))
-          (position-map (λ (list : Vec ℕ Global). list.items) _ c.parts.inside.supports.items ∙ found)));
+          (position-map _ (λ (list : Vec ℕ Global). list.items) c.parts.inside.supports.items ∙ found)));
     }

@@ -1,8 +1,8 @@
-use Rattle.wfc_problem.proofs.Rounds.{depth-greatest, greatest-is}
+use Rattle.wfc_problem.proofs.Rounds.{depth_greatest, greatest_is}
 use Rattle.wfc_problem.proofs.laws.rounds_give_the_greatest.Goals as goal
 
 pub returns-clause-rounds : goal.returns-clause-rounds
-returns-clause-rounds c = depth-greatest
+returns-clause-rounds c = depth_greatest
 
 pub returns-clause-greatest : goal.returns-clause-greatest
-returns-clause-greatest c = greatest-is
+returns-clause-greatest c = greatest_is

@@ -1,0 +1,26 @@
+-- A small problem without symmetry, on which laws try the definitions.
+use Rattle.std.specs.Prelude.{true, false, [], ◌∷◌}
+use Rattle.wfc_problem.specs.declared.TheConstants.{NO_CELL}
+use Rattle.wfc_problem.specs.Network.{Network}
+
+-- cells 0, 1 and 3 in a row and 2 below 0, with three values
+abbrev pub corner : Network
+corner = record {
+  cells = 4;
+  dirs = 4;
+  neighbours =
+      NO_CELL ∷ 2 ∷ 1 ∷ NO_CELL
+      ∷ 0 ∷ NO_CELL ∷ 3 ∷ NO_CELL
+      ∷ NO_CELL ∷ NO_CELL ∷ NO_CELL ∷ 0
+      ∷ 1 ∷ NO_CELL ∷ NO_CELL ∷ NO_CELL ∷ [];
+  weights = 5 ∷ 1 ∷ 3 ∷ [];
+  supports =
+      (2 ∷ []) ∷ (0 ∷ []) ∷ (1 ∷ 2 ∷ []) ∷ (0 ∷ 1 ∷ [])
+      ∷ (0 ∷ []) ∷ (0 ∷ 2 ∷ []) ∷ (2 ∷ []) ∷ (2 ∷ [])
+      ∷ (0 ∷ 1 ∷ []) ∷ (1 ∷ []) ∷ (0 ∷ []) ∷ (1 ∷ []) ∷ [];
+  base =
+      true ∷ true ∷ false
+      ∷ false ∷ true ∷ true
+      ∷ true ∷ true ∷ true
+      ∷ true ∷ false ∷ true ∷ [];
+}

@@ -1,0 +1,124 @@
+//! What the definitions give on a small problem without symmetry. Each function does nothing; its
+//! contract is the law.
+
+ghost use Rattle.std.specs.Prelude.{◌≡◌, ℕ, true, false, List, [], ◌∷◌, map, replicate, slice_set, Option, Some, None};
+ghost use Rattle.std.specs.List.{range_with_len};
+ghost use Rattle.wfc_problem.specs.Assignment.{IsLegalAssignment, LiesIn};
+ghost use Rattle.wfc_problem.specs.Corner.{corner};
+ghost use Rattle.wfc_problem.specs.Domains.{IsSupported, IsArcConsistent, IsDead, IsLiteralIn, HasOnly, base_with, leaves, support_count};
+ghost use Rattle.wfc_problem.specs.Fault.{problem_fault_of, size_fault};
+ghost use Rattle.wfc_problem.specs.Network.{IsProblem, values, weight_of, neighbour, supports_of, ok, in_base};
+ghost use Rattle.wfc_problem.specs.Rounds.{depth_of, greatest};
+ghost use Rattle.wfc_problem.specs.Sizes.{first_values, is_dead, sizes_of, values_at};
+ghost use Rattle.wfc_problem.specs.declared.Literal.TheVariants.{Is, Not};
+ghost use Rattle.wfc_problem.specs.declared.TheConstants.{NO_CELL};
+ghost use Rattle.wfc_problem.specs.declared.Part.TheVariants.{Cells, Neighbours, Weights, Supports, Base};
+ghost use Rattle.wfc_problem.specs.declared.ProblemFault.TheVariants.{TooLarge, NotSymmetric, BadIndex, NotBack, Lengths, BadWeight};
+
+/// The tables are read row by row, and nothing is there out of range.
+pub fn tables_are_read()
+    ensures values { values corner ≡ 3 }
+    ensures weights { map (weight_of corner) (range_with_len 0 4) ≡ 5 ∷ 1 ∷ 3 ∷ 0 ∷ [] }
+    ensures neighbours { map (neighbour corner 0) (range_with_len 0 5)
+        ≡ None ∷ Some 2 ∷ Some 1 ∷ None ∷ None ∷ [] }
+    ensures no_cell { neighbour corner 4 0 ≡ None }
+    ensures supports { map (supports_of corner 1) (range_with_len 0 5)
+        ≡ (0 ∷ []) ∷ (0 ∷ 2 ∷ []) ∷ (2 ∷ []) ∷ (2 ∷ []) ∷ [] ∷ [] }
+    ensures no_value { supports_of corner 3 0 ≡ [] }
+    ensures ok { map (ok corner 2 0) (range_with_len 0 4) ≡ false ∷ true ∷ true ∷ false ∷ [] }
+    ensures ok_no_dir { ok corner 4 0 1 ≡ false }
+    ensures base { map (in_base corner 1) (range_with_len 0 4) ≡ false ∷ true ∷ true ∷ false ∷ [] }
+    ensures base_no_cell { in_base corner 4 0 ≡ false }
+    ensures depth { depth_of corner ≡ 9 }
+{}
+
+/// These parts are a problem, and each change of one of them is the fault that is named.
+#[tactic(auto, unfolding(crate::specs::Fault::problem_fault_of))]
+pub fn faults_are_named()
+    ensures problem { IsProblem corner }
+    ensures refused { IsProblem (record corner { weights = 5 ∷ 0 ∷ 3 ∷ [] }) → ⊥ }
+    ensures cells { problem_fault_of (record corner { cells = 0 }) ≡ Some (Lengths Cells) }
+    ensures dirs { problem_fault_of (record corner { dirs = 5 }) ≡ Some (Lengths Cells) }
+    ensures weights { problem_fault_of (record corner { weights = [] }) ≡ Some (Lengths Weights) }
+    ensures neighbours { problem_fault_of (record corner { neighbours = [] })
+        ≡ Some (Lengths Neighbours) }
+    ensures supports { problem_fault_of (record corner { supports = [] })
+        ≡ Some (Lengths Supports) }
+    ensures base { problem_fault_of (record corner { base = [] }) ≡ Some (Lengths Base) }
+    ensures fits { size_fault (record corner { cells = 2048; weights = replicate 4096 1 }) ≡ None }
+    ensures size { size_fault (record corner { cells = 2049; weights = replicate 4096 1 })
+        ≡ Some (TooLarge 8392704) }
+    ensures entry { problem_fault_of (record corner {
+      neighbours = slice_set corner.neighbours 3 4;
+    }) ≡ Some (BadIndex Neighbours 3) }
+    ensures falling { problem_fault_of (record corner {
+      supports = slice_set corner.supports 2 (2 ∷ 1 ∷ []);
+    }) ≡ Some (BadIndex Supports 2) }
+    ensures support { problem_fault_of (record corner {
+      supports = slice_set corner.supports 6 (3 ∷ []);
+    }) ≡ Some (BadIndex Supports 6) }
+    ensures weight { problem_fault_of (record corner { weights = 5 ∷ 16777217 ∷ 0 ∷ [] })
+        ≡ Some (BadWeight 1) }
+    ensures one_way { problem_fault_of (record corner {
+      neighbours = slice_set corner.neighbours 4 NO_CELL;
+    }) ≡ Some (NotBack 0 2) }
+    ensures one_sided { problem_fault_of (record corner {
+      supports = slice_set corner.supports 10 [];
+    }) ≡ Some (NotSymmetric 0 0) }
+{}
+
+/// An assignment has a value for each cell, of its base, and neighbours may stand beside each
+/// other.
+pub fn assignments_are_judged()
+    ensures legal { IsLegalAssignment corner (1 ∷ 2 ∷ 2 ∷ 0 ∷ []) }
+    ensures short { IsLegalAssignment corner (1 ∷ 2 ∷ 2 ∷ []) → ⊥ }
+    ensures base { IsLegalAssignment corner (2 ∷ 0 ∷ 1 ∷ 2 ∷ []) → ⊥ }
+    ensures across { IsLegalAssignment corner (1 ∷ 1 ∷ 2 ∷ 2 ∷ []) → ⊥ }
+    ensures below { IsLegalAssignment corner (0 ∷ 1 ∷ 2 ∷ 2 ∷ []) → ⊥ }
+    ensures lies { LiesIn (1 ∷ 2 ∷ 2 ∷ 0 ∷ []) (in_base corner) }
+    ensures lies_not { LiesIn (1 ∷ 2 ∷ 2 ∷ 1 ∷ []) (in_base corner) → ⊥ }
+{}
+
+/// `Is` leaves its value alone at its cell, `Not` all but its value, and both leave other cells as
+/// they are.
+pub fn literals_are_applied()
+    ensures is_there { map (leaves (Is 3 2) 3) (range_with_len 0 4)
+        ≡ false ∷ false ∷ true ∷ false ∷ [] }
+    ensures is_elsewhere { map (leaves (Is 3 2) 2) (range_with_len 0 4)
+        ≡ true ∷ true ∷ true ∷ true ∷ [] }
+    ensures not_there { map (leaves (Not 3 2) 3) (range_with_len 0 4)
+        ≡ true ∷ true ∷ false ∷ true ∷ [] }
+    ensures not_elsewhere { map (leaves (Not 3 2) 2) (range_with_len 0 4)
+        ≡ true ∷ true ∷ true ∷ true ∷ [] }
+    ensures base { map (base_with corner (Not 2 1 ∷ Is 3 2 ∷ []) 2) (range_with_len 0 4)
+        ≡ true ∷ false ∷ true ∷ false ∷ [] }
+    ensures literal_in { IsLiteralIn corner (Is 3 2) }
+    ensures cell_out { IsLiteralIn corner (Not 4 0) → ⊥ }
+    ensures value_out { IsLiteralIn corner (Is 2 3) → ⊥ }
+{}
+
+/// Supports are counted at the neighbour, and there are none where there is no neighbour.
+pub fn supports_are_counted()
+    ensures counts { map (support_count corner (in_base corner) 0 0) (range_with_len 0 5)
+        ≡ 0 ∷ 1 ∷ 2 ∷ 0 ∷ 0 ∷ [] }
+    ensures supported { IsSupported corner (in_base corner) 2 0 3 }
+    ensures unsupported { IsSupported corner (in_base corner) 2 1 3 → ⊥ }
+    ensures no_neighbour { IsSupported corner (in_base corner) 2 1 2 }
+    ensures consistent { IsArcConsistent corner (greatest corner []) }
+    ensures inconsistent { IsArcConsistent corner (in_base corner) → ⊥ }
+{}
+
+/// What the greatest domains keep, cell by cell, and when they are dead.
+#[tactic(auto, unfolding(crate::specs::Rounds::greatest))]
+pub fn domains_shrink()
+    ensures sizes { sizes_of corner (in_base corner) ≡ 2 ∷ 2 ∷ 3 ∷ 2 ∷ [] }
+    ensures values { map (values_at corner (greatest corner [])) (range_with_len 0 4)
+        ≡ (0 ∷ 1 ∷ []) ∷ (1 ∷ 2 ∷ []) ∷ (0 ∷ 2 ∷ []) ∷ (0 ∷ 2 ∷ []) ∷ [] }
+    ensures first { first_values corner (greatest corner (Is 3 2 ∷ [])) ≡ 0 ∷ 1 ∷ 0 ∷ 2 ∷ [] }
+    ensures only { HasOnly corner (greatest corner (Is 3 2 ∷ [])) (0 ∷ 1 ∷ 0 ∷ 2 ∷ []) }
+    ensures several { HasOnly corner (in_base corner) (0 ∷ 1 ∷ 0 ∷ 2 ∷ []) → ⊥ }
+    ensures alive { IsDead corner (greatest corner []) → ⊥ }
+    ensures dead { IsDead corner (greatest corner (Is 2 1 ∷ [])) }
+    ensures is_dead { map (λ literals. is_dead corner (greatest corner literals))
+        ([] ∷ (Is 2 1 ∷ []) ∷ []) ≡ false ∷ true ∷ [] }
+{}
