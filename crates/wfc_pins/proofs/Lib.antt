@@ -1,0 +1,4 @@
+pub mod WordLemmas
+pub mod InOrderLemmas
+pub mod StepLemmas
+pub mod CallerLemmas

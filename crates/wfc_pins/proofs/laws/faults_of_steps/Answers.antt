@@ -1,0 +1,8 @@
+use Rattle.wfc_pins.proofs.StepLemmas.{fault_of_steps, bad_line, nothing_to_undo}
+use Rattle.wfc_pins.proofs.laws.faults_of_steps.Goals as goal
+
+pub returns : goal.returns
+returns c = record {
+  bad = λ before line after steps right is. fault_of_steps before line after steps _ right (bad_line before line is);
+  nothing = λ before line after steps right is level. fault_of_steps before line after steps _ right (nothing_to_undo before line is level);
+}

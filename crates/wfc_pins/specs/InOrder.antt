@@ -1,0 +1,13 @@
+-- Answers in order, up to the first fault.
+use Rattle.std.specs.Prelude.{List, [], ◌∷◌, Result, Ok, Err}
+use Rattle.wfc_outside.specs.Gives.{result_map}
+
+-- the answer and those behind it, or the first fault of them
+abbrev pub and_rest : {X E : Type 0} → Result X E → Result (List X) E → Result (List X) E
+and_rest (Err fault) rest = Err fault
+and_rest (Ok x) rest = result_map (λ xs. x ∷ xs) rest
+
+-- all answers, or the first fault of them
+abbrev pub all_in_order : {X E : Type 0} → List (Result X E) → Result (List X) E
+all_in_order [] = Ok []
+all_in_order (answer ∷ answers) = and_rest answer (all_in_order answers)

@@ -1,0 +1,86 @@
+-- The steps that a text writes, a line each, and whether they fit a problem.
+use Rattle.std.specs.Prelude.{ℕ, ◌==◌, ◌&&◌, ◌++◌, nat_lt, Bool, true, false, not, List, [], ◌∷◌, count_by, Option, None, Some, Result, Ok, Err, codes, if◌then◌else◌}
+use Rattle.std.specs.List.{find}
+use Rattle.std.specs.Option.{option_map}
+use Rattle.std.specs.Str.{bytes_eq}
+use Rattle.wfc_text.specs.Line.{LineView}
+use Rattle.wfc_problem.specs.Domains.{IsLiteralIn}
+use Rattle.wfc_problem.specs.Network.{Network, values}
+use Rattle.wfc_problem.specs.declared.Literal.TheVariants.{Is, Not}
+use Rattle.wfc_pins.specs.InOrder.{and_rest}
+use Rattle.wfc_pins.specs.Words.{words_of, read_lines, number32, number16}
+use Rattle.wfc_pins.specs.declared.steps.Step.{Step}
+use Rattle.wfc_pins.specs.declared.steps.Step.TheVariants.{Assume, Undo}
+use Rattle.wfc_pins.specs.declared.steps.StepLine.{StepLine}
+use Rattle.wfc_pins.specs.declared.steps.StepFault.{StepFault}
+use Rattle.wfc_pins.specs.declared.steps.StepFault.TheVariants.{BadLine, NothingToUndo}
+use Rattle.wfc_pins.specs.declared.steps.RangeFault.{RangeFault}
+use Rattle.wfc_pins.specs.declared.steps.RangeFault.TheVariants.{OutOfRange}
+
+-- what is assumed of a cell and a value, if both are there: `choose` says that the cell has it, `forbid` that it doesn't
+abbrev pub assumed : List ℕ → Option ℕ → Option ℕ → Option Step
+assumed word (Some cell) (Some value) =
+    if bytes_eq word (codes "choose") then Some (Assume (Is cell value)) else (if bytes_eq word (codes "forbid") then Some (Assume (Not cell value)) else None)
+assumed word _ _ = None
+
+-- what the words of a line say: `choose` or `forbid`, a cell and a value; or `undo` alone
+abbrev pub step_of_words : List (List ℕ) → Option Step
+step_of_words (word ∷ []) = if bytes_eq word (codes "undo") then Some Undo else None
+step_of_words (word ∷ cell ∷ value ∷ []) = assumed word (number32 cell) (number16 value)
+step_of_words _ = None
+
+-- the same of a line
+abbrev pub said : LineView → Option Step
+said line = step_of_words (words_of line.bytes)
+
+-- whether a line assumes
+abbrev pub is_assumption : Option Step → Bool
+is_assumption (Some (Assume literal)) = true
+is_assumption _ = false
+
+-- whether a line takes an assumption back
+abbrev pub is_undo : Option Step → Bool
+is_undo (Some Undo) = true
+is_undo _ = false
+
+-- how many lines assume
+abbrev pub assumptions : List LineView → ℕ
+assumptions lines = count_by (λ line. is_assumption (said line)) lines
+
+-- how many lines take an assumption back
+abbrev pub undos : List LineView → ℕ
+undos lines = count_by (λ line. is_undo (said line)) lines
+
+-- the step of a line, or its fault: it says no step, or it is an `undo` where nothing stands to be undone
+abbrev pub step_of : ℕ → Bool → Option Step → Result StepLine StepFault
+step_of line spent None = Err (BadLine line)
+step_of line spent (Some (Assume literal)) = Ok record { line = line; step = Assume literal }
+step_of line spent (Some Undo) = if spent then Err (NothingToUndo line) else Ok record { line = line; step = Undo }
+
+-- nothing stands to be undone where as many lines before undo as assume
+abbrev pub step_behind : List LineView → LineView → Result StepLine StepFault
+step_behind before line = step_of line.number (undos before == assumptions before) (said line)
+
+-- the steps of lines behind others, or the first fault
+abbrev pub steps_behind : List LineView → List LineView → Result (List StepLine) StepFault
+steps_behind before [] = Ok []
+steps_behind before (line ∷ lines) = and_rest (step_behind before line) (steps_behind (before ++ line ∷ []) lines)
+
+-- the steps of a text, or the first line at fault
+abbrev pub steps_of : List ℕ → Result (List StepLine) StepFault
+steps_of text = steps_behind [] (read_lines text)
+
+-- whether the cell and the value of a step are in a problem
+abbrev pub fits : Network → Step → Bool
+fits P (Assume (Is cell value)) = nat_lt cell P.cells && nat_lt value (values P)
+fits P (Assume (Not cell value)) = nat_lt cell P.cells && nat_lt value (values P)
+fits P Undo = true
+
+-- the same as a fact: what is assumed speaks of a cell and a value of the problem
+abbrev pub IsStepIn : Network → Step → Type 0
+IsStepIn P (Assume literal) = IsLiteralIn P literal
+IsStepIn P Undo = Unit {0}
+
+-- the first line whose step doesn't fit a problem, if there is one
+abbrev pub range_fault : Network → List StepLine → Option RangeFault
+range_fault P steps = option_map (λ (line : StepLine). OutOfRange line.line) (find (λ (line : StepLine). not (fits P line.step)) steps)

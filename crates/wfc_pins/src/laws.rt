@@ -1,0 +1,42 @@
+//! Laws of the definitions, each a function with no body whose contract is the law. They run nothing.
+
+ghost use Rattle.std.specs.Prelude.{◌≡◌, ◌↔◌, ℕ, true, false, List, [], ◌∷◌, ◌++◌, codes, Ok, Err, Some, None};
+ghost use Rattle.wfc_text.specs.Line.{LineView};
+ghost use Rattle.wfc_pins.specs.Words.{is_skipped, read_lines, words_of};
+ghost use Rattle.wfc_pins.specs.Pins.{pins_of};
+ghost use Rattle.wfc_pins.specs.Steps.{assumptions, fits, range_fault, said, steps_behind, steps_of, undos};
+ghost use Rattle.wfc_pins.specs.declared.pins.PinFault.TheVariants as pin_faults;
+ghost use Rattle.wfc_pins.specs.declared.steps.Step.TheVariants.{Assume, Undo};
+ghost use Rattle.wfc_pins.specs.declared.steps.StepLine.{StepLine};
+ghost use Rattle.wfc_pins.specs.declared.steps.StepFault.TheVariants as step_faults;
+ghost use Rattle.wfc_pins.specs.declared.steps.RangeFault.TheVariants.{OutOfRange};
+ghost use Rattle.wfc_problem.specs.declared.Literal.TheVariants.{Is, Not};
+
+/// Blanks and TABs part words, also at a line's ends. A line is passed over where its first byte is `#` or it has no word.
+pub fn words()
+    ensures parted { words_of (codes " pin\t\t12  3 a#\t") ≡ codes "pin" ∷ codes "12" ∷ codes "3" ∷ codes "a#" ∷ [] }
+    ensures none { words_of (codes " \t ") ≡ [] }
+    ensures comment { is_skipped (codes "# pin") ≡ true }
+    ensures blank { is_skipped (codes "\t ") ≡ true }
+    ensures empty { is_skipped [] ≡ true }
+    ensures later { is_skipped (codes " #") ≡ false }
+{}
+
+/// A pin and a ban of two lines, between two that are passed over. The symbol is as it stands; the last line has no end.
+pub fn pins()
+    ensures read { pins_of (codes "#\npin 2 05 \\s\r\n\nban 1 0 9,9,9") ≡ Ok (record { line = 2; keep = true; x = 2; y = 5; symbol = codes "\\s" } ∷ record { line = 4; keep = false; x = 1; y = 0; symbol = codes "9,9,9" } ∷ []) }
+    ensures bad { pins_of (codes "pin 0 1 a\npin 0 a\nban 0 0 a b") ≡ Err (pin_faults.BadLine 2) }
+{}
+
+/// Steps in order, and the faults of a line: no step, and an `undo` too many, whichever comes first.
+pub fn steps()
+    ensures read { steps_of (codes "choose 7 2\n\nforbid 1 3\nundo") ≡ Ok (record { line = 1; step = Assume (Is 7 2) } ∷ record { line = 3; step = Assume (Not 1 3) } ∷ record { line = 4; step = Undo } ∷ []) }
+    ensures undone { steps_of (codes "choose 7 2\nundo\nundo\nundo 1") ≡ Err (step_faults.NothingToUndo 3) }
+    ensures bad { steps_of (codes "choose 7 2\nundo 1\nundo\nundo") ≡ Err (step_faults.BadLine 2) }
+{}
+
+/// A step behind steps without a fault is at fault exactly where it says none, or undoes where as many undo as assume.
+pub fn faults_of_steps()
+    ensures bad { (before : List LineView) (line : LineView) (after : List LineView) (steps : List StepLine) → steps_behind [] before ≡ Ok steps → said line ≡ None → steps_behind [] (before ++ line ∷ after) ≡ Err (step_faults.BadLine line.number) }
+    ensures nothing { (before : List LineView) (line : LineView) (after : List LineView) (steps : List StepLine) → steps_behind [] before ≡ Ok steps → said line ≡ Some Undo → undos before ≡ assumptions before → steps_behind [] (before ++ line ∷ after) ≡ Err (step_faults.NothingToUndo line.number) }
+{}
