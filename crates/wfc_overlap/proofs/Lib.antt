@@ -1,0 +1,15 @@
+pub mod StepLemmas
+pub mod SampleLemmas
+pub mod PinLemmas
+pub mod ThereLemmas
+pub mod BackLemmas
+pub mod RuleLemmas
+pub mod RoundLemmas
+pub mod CallerLemmas
+pub mod PushLemmas
+pub mod SideLemmas
+pub mod NeighbourLemmas
+pub mod GroupLemmas
+pub mod FlagLemmas
+pub mod PaintLemmas
+pub mod PartLemmas

@@ -1,0 +1,10 @@
+use Rattle.std.proofs.Common.{refl}
+use Rattle.wfc_overlap.specs.Layout.{output_of}
+use Rattle.wfc_overlap.proofs.PartLemmas.{parts_are}
+use Rattle.wfc_overlap.proofs.problem.parts.Goals as goal
+
+pub returns : goal.returns
+returns c = record {
+  value = parts_are c.args.patterns.now (output_of c.args.layout) c.args.marks.now c.args.layout.n _ c.requires.n c.cells.ensures.value refl
+      c.in_ok-neighbours.ensures.value c.in_ok-weights.ensures.value c.in_ok-supports.ensures.value c.in_ok-base.ensures.value;
+}

@@ -1,0 +1,6 @@
+pub mod Sample
+pub mod Bridge
+pub mod Sides
+pub mod Flags
+pub mod Layout
+pub mod Built

@@ -1,0 +1,20 @@
+//! The constraint problem of a sample, and why its legal assignments are the legal pictures.
+//!
+//! A cell stands for a place of the output at which a window begins, and its value for the pattern that stands there.
+#![tactic(auto)]
+
+mod base;
+mod groups;
+pub mod laws;
+mod layout;
+mod mark;
+mod neighbours;
+mod painting;
+mod pins;
+mod problem;
+mod supports;
+#[cfg(test)]
+mod tests;
+
+pub use painting::picture_of;
+pub use problem::build;

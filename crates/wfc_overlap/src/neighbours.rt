@@ -1,0 +1,97 @@
+//! What lies beside each place.
+
+ghost use Rattle.std.specs.Prelude.{◌≡◌, ◌<◌, ◌++◌, map, OnOk, IfOk};
+ghost use Rattle.std.specs.Option.{ForSome};
+ghost use Rattle.std.specs.List.{flat_map, range_with_len};
+ghost use Rattle.wfc_model.specs.Window.{places};
+ghost use Rattle.wfc_overlap.specs.Layout.{along, cell_in, output_of};
+ghost use Rattle.wfc_overlap.specs.Sample.{beside};
+
+use crate::layout::Layout;
+use std::alloc::Global;
+use wfc_outside::NoMemory;
+use wfc_problem::NO_CELL;
+
+/// For each place and direction the place that lies there, or `NO_CELL`.
+pub(crate) fn neighbours(alloc: Global, layout: Layout) -> Result<Vec<u32>, NoMemory>
+    ensures value { IfOk result (λ table. table.items ≡ flat_map (λ place. map (λ d. beside layout.n (output_of layout) place d) (range_with_len 0 4)) (places layout.width layout.height layout.n layout.wrap)) }
+{
+    let mut table = Vec::with_capacity(alloc, layout.cells() as usize * 4)?;
+    for y in 0..layout.rows {
+        push_row(&mut table, layout, y)?;
+    }
+    Ok(table)
+}
+
+/// Writes what lies beside the places of a row behind the table.
+fn push_row(table: &mut Vec<u32>, layout: Layout, y: u32) -> Result<(), NoMemory>
+    requires y_in { y < layout.rows }
+    ensures row { OnOk result (table.new.items ≡ table.old.items ++ flat_map (λ place. map (λ d. beside layout.n (output_of layout) place d) (range_with_len 0 4)) (map (λ x. (x, y)) (range_with_len 0 layout.columns))) }
+{
+    for x in 0..layout.columns {
+        push_place(table, layout, x, y)?;
+    }
+    Ok(())
+}
+
+/// Writes what lies to the left of a place, below it, to its right and above it behind the table.
+fn push_place(table: &mut Vec<u32>, layout: Layout, x: u32, y: u32) -> Result<(), NoMemory>
+    requires x_in { x < layout.columns }
+    requires y_in { y < layout.rows }
+    ensures place { OnOk result (table.new.items ≡ table.old.items ++ map (λ d. beside layout.n (output_of layout) (x, y) d) (range_with_len 0 4)) }
+{
+    let left = before(x, layout.columns, layout.wrap);
+    let right = after(x, layout.columns, layout.wrap);
+    let up = before(y, layout.rows, layout.wrap);
+    let down = after(y, layout.rows, layout.wrap);
+    table.push(cell_in(layout, left, Some(y)))?;
+    table.push(cell_in(layout, Some(x), down))?;
+    table.push(cell_in(layout, right, Some(y)))?;
+    table.push(cell_in(layout, Some(x), up))?;
+    Ok(())
+}
+
+/// The cell of a column and a row, or `NO_CELL` where one of them isn't there.
+#[inline]
+fn cell_in(layout: Layout, x: Option<u32>, y: Option<u32>) -> u32
+    requires x_in { ForSome x (λ x. x < layout.columns) }
+    requires y_in { ForSome y (λ y. y < layout.rows) }
+    ensures value { result ≡ cell_in layout.columns x y }
+{
+    match (x, y) {
+        (Some(x), Some(y)) => y * layout.columns + x,
+        _ => NO_CELL,
+    }
+}
+
+/// One column or row back, if it is there.
+#[inline]
+fn before(at: u32, count: u32, wrap: bool) -> Option<u32>
+    requires at_in { at < count }
+    ensures value { result ≡ along count wrap 0 1 at }
+    ensures within { ForSome result (λ s. s < count) }
+{
+    if at > 0 {
+        Some(at - 1)
+    } else if wrap {
+        Some(count - 1)
+    } else {
+        None
+    }
+}
+
+/// One column or row forth, if it is there.
+#[inline]
+fn after(at: u32, count: u32, wrap: bool) -> Option<u32>
+    requires at_in { at < count }
+    ensures value { result ≡ along count wrap 1 0 at }
+    ensures within { ForSome result (λ s. s < count) }
+{
+    if at < count - 1 {
+        Some(at + 1)
+    } else if wrap {
+        Some(0)
+    } else {
+        None
+    }
+}

@@ -1,0 +1,96 @@
+//! The problem of a sample.
+
+ghost use Rattle.std.specs.Prelude.{◌≡◌, ◌<◌, ◌≤◌, length, IfOk};
+ghost use Rattle.wfc_outside.specs.Gives.{Gives};
+ghost use Rattle.wfc_problem.specs.Network.{IsProblem};
+ghost use Rattle.wfc_overlap.specs.Bridge.{AreInside};
+ghost use Rattle.wfc_overlap.specs.Built.{built};
+ghost use Rattle.wfc_overlap.specs.Layout.{output_of};
+ghost use Rattle.wfc_overlap.specs.Sample.{output_with, problem_of_sample};
+
+use crate::base::base;
+use crate::layout::Layout;
+use crate::mark::Mark;
+use crate::neighbours::neighbours;
+use crate::pins::marks;
+use crate::supports::supports;
+use std::alloc::Global;
+use wfc_outside::NoMemory;
+use wfc_pattern::Patterns;
+use wfc_picture::Palette;
+use wfc_pins::{BuildFault, PinLine};
+use wfc_problem::{MAX_PAIRS, Parts, Problem};
+
+/// The problem of learned patterns for an output of `width` by `height` pixels: a cell for each place at which a window
+/// begins, row by row, and the patterns as values. The lines of the pins file are read by the palette of the sample.
+///
+/// The first of these faults is answered: a side below that of a window, too many pairs of a cell and a pattern, and
+/// then the first line at fault, where a place outside comes before an unknown symbol. A ban is looked at as a pin is.
+pub fn build(
+    alloc: Global,
+    patterns: &Patterns,
+    palette: &Palette,
+    width: u32,
+    height: u32,
+    wrap: bool,
+    pins: &[PinLine],
+) -> Result<Problem, BuildFault>
+    requires some_width { 0 < width }
+    requires some_height { 0 < height }
+    requires width_limit { width ≤ 4096 }
+    requires height_limit { height ≤ 4096 }
+    ensures exact { Gives BuildFault.NoMemory (λ problem. problem) result (built patterns.now palette.now (output_with width height wrap) pins.now) }
+{
+    let n = patterns.n();
+    if width < n || height < n {
+        return Err(BuildFault::SizeBelowN);
+    }
+    let layout = Layout::new(n, width, height, wrap);
+    let product = layout.cells() as u64 * patterns.count() as u64;
+    if product > MAX_PAIRS {
+        return Err(BuildFault::TooLarge { product });
+    }
+    let marks = marks(alloc, palette, width, height, pins)?;
+    let parts = parts(alloc, patterns, layout, &marks)?;
+    Ok(sound(parts))
+}
+
+/// The problem with these parts, which are one.
+fn sound(parts: Parts) -> Problem
+    requires problem { IsProblem parts }
+    ensures value { result ≡ parts }
+{
+    Problem::new(parts).unwrap()
+}
+
+/// What the problem is made of.
+fn parts(
+    alloc: Global,
+    patterns: &Patterns,
+    layout: Layout,
+    marks: &[Mark],
+) -> Result<Parts, NoMemory>
+    requires n { layout.n ≡ patterns.now.n }
+    requires inside { AreInside (output_of layout) marks.now }
+    ensures value { IfOk result (λ parts. parts ≡ problem_of_sample patterns.now (output_of layout) marks.now) }
+{
+    Ok(Parts {
+        cells: layout.cells(),
+        dirs: 4,
+        neighbours: neighbours(alloc, layout)?,
+        weights: weights(alloc, patterns)?,
+        supports: supports(alloc, patterns)?,
+        base: base(alloc, patterns, layout, marks)?,
+    })
+}
+
+/// How often each pattern arises.
+fn weights(alloc: Global, patterns: &Patterns) -> Result<Vec<u32>, NoMemory>
+    ensures value { IfOk result (λ weights. weights.items ≡ patterns.now.weights) }
+{
+    let mut weights = Vec::with_capacity(alloc, patterns.count() as usize)?;
+    for p in 0..patterns.count() {
+        weights.push(patterns.weight(p))?;
+    }
+    Ok(weights)
+}
