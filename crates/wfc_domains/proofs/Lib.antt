@@ -1,0 +1,10 @@
+pub mod Rows
+pub mod Problems
+pub mod Places
+pub mod Loading
+pub mod Removals
+pub mod Boards
+pub mod Sound
+pub mod Cuts
+pub mod Shown
+pub mod Sweeps

@@ -1,0 +1,66 @@
+-- A table of support counters, and how many of them a removal changes.
+use Rattle.std.specs.Prelude.{◌≡◌, ℕ, ◌+◌, ◌*◌, ◌/◌, ◌%◌, List, length, map, replicate, slice_index, slice_set, Option, Some, None}
+use Rattle.std.specs.List.{range_with_len, sum_by}
+use Rattle.wfc_problem.specs.Network.{Network, values, neighbour, supports_of}
+use Rattle.wfc_problem.specs.Domains.{Test, support_count}
+use Rattle.wfc_domains.specs.declared.Removal.{Removal}
+
+-- one count for each cell, value and direction
+pub record Table : Type 0 where
+  pub cells : ℕ
+  pub values : ℕ
+  pub dirs : ℕ
+  pub counts : List ℕ
+
+-- where the count of v at c in direction d stands in a table of n values and k directions
+abbrev pub place_in : ℕ → ℕ → ℕ → ℕ → ℕ → ℕ
+place_in n k c v d = (c * n + v) * k + d
+
+-- where a problem's counter of v at c in direction d stands
+abbrev pub place : Network → ℕ → ℕ → ℕ → ℕ
+place P c v d = place_in (values P) P.dirs c v d
+
+-- the count of v at c in direction d
+abbrev pub count_of : Table → ℕ → ℕ → ℕ → ℕ
+count_of T c v d = slice_index T.counts (place_in T.values T.dirs c v d)
+
+-- the table with this count there
+abbrev pub with_count : Table → ℕ → ℕ → ℕ → ℕ → Table
+with_count T c v d n = record T { counts = slice_set T.counts (place_in T.values T.dirs c v d) n }
+
+-- how many counters a problem has
+abbrev pub counters_of : Network → ℕ
+counters_of P = (P.cells * values P) * P.dirs
+
+-- a table of the problem's cells, values and directions
+pub record FitsTable (P : Network) (T : Table) : Type 0 where
+  pub same_cells : T.cells ≡ P.cells
+  pub same_values : T.values ≡ values P
+  pub same_dirs : T.dirs ≡ P.dirs
+  pub whole : length T.counts ≡ counters_of P
+
+-- the table in which each count is 0
+abbrev pub no_counts : Network → Table
+no_counts P = record { cells = P.cells; values = values P; dirs = P.dirs; counts = replicate (counters_of P) 0 }
+
+-- the table of how many supports of each value stand beside each cell in each direction
+abbrev pub counts_of : Network → Test → Table
+counts_of P D = record {
+  cells = P.cells;
+  values = values P;
+  dirs = P.dirs;
+  counts = map (λ at. support_count P D (at / P.dirs / values P) (at / P.dirs % values P) (at % P.dirs)) (range_with_len 0 (counters_of P));
+}
+
+-- how many values may stand beside v in direction d, 0 where there is no neighbour
+abbrev pub supports_at : Network → ℕ → ℕ → Option ℕ → ℕ
+supports_at P v d None = 0
+supports_at P v d (Some next) = length (supports_of P v d)
+
+-- how many counters count v at c: those of the values that it supports at its neighbours
+abbrev pub cost_at : Network → ℕ → ℕ → ℕ
+cost_at P c v = sum_by (λ d. supports_at P v d (neighbour P c d)) (range_with_len 0 P.dirs)
+
+-- how many counters count the removed values in all
+abbrev pub cost_of : Network → List Removal → ℕ
+cost_of P removals = sum_by (λ r. cost_at P r.cell r.value) removals

@@ -1,0 +1,12 @@
+pub mod Domains
+pub mod Counters
+pub mod Sized
+pub mod Removals
+pub mod Store
+pub mod Loaded
+pub mod Log
+pub mod Room
+pub mod Board
+pub mod Swept
+pub mod Plain
+pub mod Sample

@@ -1,0 +1,42 @@
+-- Small values without symmetry, on which laws try the definitions.
+use Rattle.std.specs.Prelude.{true, false, [], ◌∷◌}
+use Rattle.std.specs.List.{range_with_len}
+use Rattle.wfc_problem.specs.Corner.{corner}
+use Rattle.wfc_problem.specs.declared.Literal.TheVariants.{Is, Not}
+use Rattle.wfc_domains.specs.declared.Cause.TheVariants.{Assumed, Arc}
+use Rattle.wfc_domains.specs.declared.Removal.{Removal}
+use Rattle.wfc_domains.specs.declared.Verdict.TheVariants.{Alive}
+use Rattle.wfc_domains.specs.Counters.{Table}
+use Rattle.wfc_domains.specs.Domains.{Flags}
+use Rattle.wfc_domains.specs.Store.{StoreView}
+
+-- value 0 at cell 0, values 1 and 2 at cell 1
+abbrev pub two_rows : Flags
+two_rows = record { cells = 2; values = 3; flags = true ∷ false ∷ false ∷ false ∷ true ∷ true ∷ [] }
+
+-- two cells, three values and four directions, with counts from 100 on
+abbrev pub numbered : Table
+numbered = record { cells = 2; values = 3; dirs = 4; counts = range_with_len 100 24 }
+
+-- the base value of the corner that has no support above it
+abbrev pub unsupported : Removal
+unsupported = record { cell = 2; value = 1; before = 3; cause = Arc 3 }
+
+-- what `Is 0 1` cuts there
+abbrev pub cut_first : Removal
+cut_first = record { cell = 0; value = 0; before = 2; cause = Assumed }
+
+-- what `Not 3 2` cuts there
+abbrev pub later : Removal
+later = record { cell = 3; value = 2; before = 2; cause = Assumed }
+
+-- a store of the corner after an opening and two levels
+abbrev pub two_levels : StoreView
+two_levels = record {
+  problem = corner;
+  standing = Is 0 1 ∷ Not 3 2 ∷ [];
+  spare = 4;
+  removals = unsupported ∷ cut_first ∷ later ∷ [];
+  marks = 1 ∷ 2 ∷ [];
+  verdict = Alive;
+}

@@ -1,0 +1,182 @@
+//! Support counters: how many supports each value has left beside each cell.
+
+ghost use Rattle.std.specs.Prelude.{◌≡◌, ◌+◌, ◌-◌, ◌*◌, ◌<◌, ◌≤◌, ◌^◌, IfOk, All, count_by, length, slice_set};
+ghost use Rattle.wfc_problem.specs.Network.{values, neighbour, supports_of};
+ghost use Rattle.wfc_problem.specs.Domains.{support_count, count_at};
+ghost use Rattle.wfc_domains.specs.Counters.{FitsTable, count_of, with_count, counters_of, counts_of, no_counts, place};
+ghost use Rattle.wfc_domains.specs.Domains.{Fits, has};
+ghost use Rattle.wfc_domains.specs.Loaded.{AreLoaded};
+
+use crate::domains::Domains;
+use crate::steps::Steps;
+use std::alloc::Global;
+use std::marker::Model;
+use std::sync::ledger::Ledger;
+use wfc_outside::NoMemory;
+use wfc_problem::Problem;
+
+/// One count for each cell, value and direction.
+#[derive(Drop)]
+pub struct Counters {
+    cells: u32,
+    values: usize,
+    dirs: usize,
+    counts: Vec<u16>,
+}
+
+impl Model for Counters {
+    ghost use Rattle.std.specs.Prelude.{◌≡◌, ◌*◌, length};
+    ghost use Rattle.wfc_domains.specs.Counters.{Table};
+
+    ghost Value = { Table };
+
+    ghost view = { λ a. record { cells = a.cells; values = a.values; dirs = a.dirs; counts = a.counts.items } };
+
+    ghost invariant = { λ a. length a.counts.items ≡ (a.cells * a.values) * a.dirs };
+}
+
+impl Counters {
+    /// A table of the problem's size, in which each count is 0.
+    pub fn new(alloc: Global, problem: &Problem) -> Result<Counters, NoMemory>
+        ensures ok { IfOk result (λ counters. counters ≡ no_counts problem.now) }
+    {
+        let cells = problem.cells();
+        let values = problem.values() as usize;
+        let dirs = problem.dirs() as usize;
+        let counts = vec![in alloc; 0; cells as usize * values * dirs]?;
+        Ok(Counters {
+            cells,
+            values,
+            dirs,
+            counts,
+        })
+    }
+
+    /// How many supports of `value` are counted beside `cell` in direction `dir`.
+    #[inline]
+    pub fn get(&self, cell: u32, value: u16, dir: u8) -> u32
+        requires cell_in { cell < self.now.cells }
+        requires value_in { value < self.now.values }
+        requires dir_in { dir < self.now.dirs }
+        ensures value { result ≡ count_of self.now cell value dir }
+    {
+        u32::from(
+            self.counts[(cell as usize * self.values + value as usize) * self.dirs + dir as usize],
+        )
+    }
+
+    /// Sets each entry to the number of supports that stand, 0 where there is no neighbour. Each entry is one step.
+    pub fn load<L: Ledger>(&mut self, problem: &Problem, domains: &Domains, steps: &mut Steps<L>)
+        requires domains { Fits problem.now domains.now }
+        requires table { FitsTable problem.now self.old }
+        ensures loaded { self.new ≡ counts_of problem.now (has domains.now) }
+        ensures steps { steps.new ≡ steps.old + counters_of problem.now }
+    {
+        for cell in 0..problem.cells() {
+            self.load_cell(problem, domains, cell, steps);
+        }
+    }
+
+    /// Sets the entries of one cell.
+    fn load_cell<L: Ledger>(
+        &mut self,
+        problem: &Problem,
+        domains: &Domains,
+        cell: u32,
+        steps: &mut Steps<L>,
+    )
+        requires domains { Fits problem.now domains.now }
+        requires cell_in { cell < problem.now.cells }
+        requires before { AreLoaded problem.now (has domains.now) self.old (place problem.now cell 0 0) }
+        ensures after { AreLoaded problem.now (has domains.now) self.new (place problem.now (cell + 1) 0 0) }
+        ensures steps { steps.new ≡ steps.old + values problem.now * problem.now.dirs }
+    {
+        for value in 0..problem.values() {
+            self.load_value(problem, domains, cell, value, steps);
+        }
+    }
+
+    /// Sets the entries of one value of one cell.
+    #[inline]
+    fn load_value<L: Ledger>(
+        &mut self,
+        problem: &Problem,
+        domains: &Domains,
+        cell: u32,
+        value: u16,
+        steps: &mut Steps<L>,
+    )
+        requires domains { Fits problem.now domains.now }
+        requires cell_in { cell < problem.now.cells }
+        requires value_in { value < values problem.now }
+        requires before { AreLoaded problem.now (has domains.now) self.old (place problem.now cell value 0) }
+        ensures after { AreLoaded problem.now (has domains.now) self.new (place problem.now cell value problem.now.dirs) }
+        ensures steps { steps.new ≡ steps.old + problem.now.dirs }
+    {
+        for dir in 0..problem.dirs() {
+            let count = count_beside(problem, domains, cell, value, dir);
+            self.set(cell, value, dir, count);
+            steps.tick();
+        }
+    }
+
+    #[inline]
+    fn set(&mut self, cell: u32, value: u16, dir: u8, count: u16)
+        requires cell_in { cell < self.old.cells }
+        requires value_in { value < self.old.values }
+        requires dir_in { dir < self.old.dirs }
+        ensures changed { self.new ≡ with_count self.old cell value dir count }
+    {
+        self.counts[(cell as usize * self.values + value as usize) * self.dirs + dir as usize] =
+            count;
+    }
+
+    /// One less. It is one step.
+    #[inline]
+    pub fn down<L: Ledger>(&mut self, cell: u32, value: u16, dir: u8, steps: &mut Steps<L>)
+        requires cell_in { cell < self.old.cells }
+        requires value_in { value < self.old.values }
+        requires dir_in { dir < self.old.dirs }
+        requires some { 0 < count_of self.old cell value dir }
+        ensures changed { self.new ≡ with_count self.old cell value dir (count_of self.old cell value dir - 1) }
+        ensures steps { steps.new ≡ steps.old + 1 }
+    {
+        self.counts[(cell as usize * self.values + value as usize) * self.dirs + dir as usize] -= 1;
+        steps.tick();
+    }
+
+    /// One more. It is one step.
+    #[inline]
+    pub fn up<L: Ledger>(&mut self, cell: u32, value: u16, dir: u8, steps: &mut Steps<L>)
+        requires cell_in { cell < self.old.cells }
+        requires value_in { value < self.old.values }
+        requires dir_in { dir < self.old.dirs }
+        requires limit { count_of self.old cell value dir < 4096 }
+        ensures changed { self.new ≡ with_count self.old cell value dir (count_of self.old cell value dir + 1) }
+        ensures steps { steps.new ≡ steps.old + 1 }
+    {
+        self.counts[(cell as usize * self.values + value as usize) * self.dirs + dir as usize] += 1;
+        steps.tick();
+    }
+}
+
+/// How many supports of the value stand beside the cell in a direction. Where all values stand there, they are not
+/// looked at.
+#[inline]
+pub fn count_beside(problem: &Problem, domains: &Domains, cell: u32, value: u16, dir: u8) -> u16
+    requires domains { Fits problem.now domains.now }
+    requires cell_in { cell < problem.now.cells }
+    requires value_in { value < values problem.now }
+    requires dir_in { dir < problem.now.dirs }
+    ensures value { result ≡ support_count problem.now (has domains.now) cell value dir }
+{
+    let Some(next) = problem.neighbour(cell, dir) else {
+        return 0;
+    };
+    let supports = problem.supports(value, dir);
+    if domains.size(next) == u32::from(problem.values()) {
+        supports.len() as u16
+    } else {
+        domains.count_among(next, supports)
+    }
+}

@@ -1,0 +1,83 @@
+//! What the definitions give on a small problem without symmetry. Each function does nothing; its
+//! contract is the law.
+
+ghost use Rattle.std.specs.Prelude.{◌≡◌, true, false, [], ◌∷◌, map, nat_lt};
+ghost use Rattle.std.specs.List.{range_with_len};
+ghost use Rattle.wfc_problem.specs.Corner.{corner};
+ghost use Rattle.wfc_problem.specs.Network.{in_base};
+ghost use Rattle.wfc_problem.specs.declared.Literal.TheVariants.{Is, Not};
+ghost use Rattle.wfc_domains.specs.Counters.{count_of, with_count, counts_of, no_counts, cost_at, cost_of};
+ghost use Rattle.wfc_domains.specs.Domains.{has, size_of, flags_of, base_of, less, Fits};
+ghost use Rattle.wfc_domains.specs.Removals.{without, IsUnsupported, IsCause, AreRemoved};
+ghost use Rattle.wfc_domains.specs.Sample.{two_rows, numbered, unsupported, cut_first, later, two_levels};
+ghost use Rattle.wfc_domains.specs.Store.{IsBefore, IsLeastUnsupported, IsLeastEmpty, mark_of, added_of, before_of, without_last};
+ghost use Rattle.wfc_domains.specs.declared.Cause.TheVariants.{Assumed, Arc};
+ghost use Rattle.wfc_domains.specs.declared.Verdict.TheVariants.{Alive};
+
+/// Flags are read row by row, and nothing stands out of range; a value less is one at its cell alone.
+pub fn domains_are_read()
+    ensures row { map (has two_rows 1) (range_with_len 0 4) ≡ false ∷ true ∷ true ∷ false ∷ [] }
+    ensures no_cell { has two_rows 2 0 ≡ false }
+    ensures sizes { map (size_of two_rows) (range_with_len 0 3) ≡ 1 ∷ 2 ∷ 0 ∷ [] }
+    ensures base { flags_of corner (in_base corner) ≡ base_of corner }
+    ensures fits { Fits corner (base_of corner) }
+    ensures fits_not { Fits corner two_rows → ⊥ }
+    ensures less { map (less (in_base corner) 1 2 1) (range_with_len 0 3) ≡ false ∷ true ∷ false ∷ [] }
+    ensures elsewhere { map (less (in_base corner) 1 2 3) (range_with_len 0 3) ≡ true ∷ false ∷ true ∷ [] }
+    ensures without { map (without (in_base corner) (unsupported ∷ cut_first ∷ []) 2) (range_with_len 0 3)
+        ≡ true ∷ false ∷ true ∷ [] }
+    ensures without_more { map (without (in_base corner) (unsupported ∷ cut_first ∷ []) 0) (range_with_len 0 3)
+        ≡ false ∷ true ∷ false ∷ [] }
+{}
+
+/// A value of the base that no value above supports; what is a true cause, and what is none.
+pub fn removals_are_judged()
+    ensures bare { IsUnsupported corner (in_base corner) 2 1 3 }
+    ensures supported { IsUnsupported corner (in_base corner) 2 0 3 → ⊥ }
+    ensures no_neighbour { IsUnsupported corner (in_base corner) 2 1 0 → ⊥ }
+    ensures assumed { IsCause corner (Is 0 1 ∷ []) (in_base corner) 0 0 Assumed }
+    ensures assumed_not { IsCause corner (Is 0 1 ∷ []) (in_base corner) 0 1 Assumed → ⊥ }
+    ensures cut_first { IsCause corner (Is 0 1 ∷ []) (in_base corner) 2 1 (Arc 3) → ⊥ }
+    ensures removed { AreRemoved corner [] (in_base corner) (unsupported ∷ []) }
+    ensures before { AreRemoved corner [] (in_base corner) (record unsupported { before = 2 } ∷ []) → ⊥ }
+    ensures once { AreRemoved corner [] (in_base corner) (unsupported ∷ unsupported ∷ []) → ⊥ }
+{}
+
+/// Levels are told apart by their marks; the cell counts before the value, and the value before the direction.
+pub fn levels_are_read()
+    ensures mark { mark_of (3 ∷ 5 ∷ 4 ∷ []) ≡ 4 }
+    ensures no_mark { mark_of [] ≡ 0 }
+    ensures added { added_of two_levels ≡ later ∷ [] }
+    ensures before { map (before_of two_levels 0) (range_with_len 0 3) ≡ false ∷ true ∷ false ∷ [] }
+    ensures before_later { map (before_of two_levels 3) (range_with_len 0 3) ≡ true ∷ false ∷ true ∷ [] }
+    ensures last { without_last two_levels ≡ record {
+      problem = corner;
+      standing = Is 0 1 ∷ [];
+      spare = 5;
+      removals = unsupported ∷ cut_first ∷ [];
+      marks = 1 ∷ [];
+      verdict = Alive;
+    } }
+    ensures cell { IsBefore 1 9 9 2 0 0 }
+    ensures value { IsBefore 2 0 5 2 1 3 }
+    ensures dir { IsBefore 2 1 2 2 1 3 }
+    ensures itself { IsBefore 2 1 3 2 1 3 → ⊥ }
+    ensures least_not { IsLeastUnsupported corner (in_base corner) (record unsupported { cell = 3 }) → ⊥ }
+    ensures least_empty { IsLeastEmpty corner (λ c v. nat_lt c 2) 2 }
+    ensures not_least { IsLeastEmpty corner (λ c v. nat_lt c 2) 3 → ⊥ }
+{}
+
+/// Counters are read by cell, value and direction; what a removal costs is what it lowers.
+pub fn counters_are_read()
+    ensures last { count_of numbered 1 2 3 ≡ 123 }
+    ensures inner { count_of numbered 0 1 2 ≡ 106 }
+    ensures set { count_of (with_count numbered 1 0 2 7) 1 0 2 ≡ 7 }
+    ensures kept { count_of (with_count numbered 1 0 2 7) 1 0 3 ≡ 115 }
+    ensures counts { map (count_of (counts_of corner (in_base corner)) 0 1) (range_with_len 0 4)
+        ≡ 0 ∷ 2 ∷ 1 ∷ 0 ∷ [] }
+    ensures removed { map (count_of (counts_of corner (in_base corner)) 1 0) (range_with_len 0 4)
+        ≡ 0 ∷ 0 ∷ 1 ∷ 0 ∷ [] }
+    ensures none { count_of (no_counts corner) 3 2 3 ≡ 0 }
+    ensures cost { cost_at corner 0 1 ≡ 3 }
+    ensures costs { cost_of corner (unsupported ∷ record cut_first { value = 1 } ∷ []) ≡ 4 }
+{}

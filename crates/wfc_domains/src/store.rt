@@ -1,0 +1,60 @@
+//! What every engine is and promises.
+
+ghost use Rattle.std.specs.Prelude.{◌≡◌, ◌<◌, length};
+ghost use Rattle.wfc_problem.specs.Domains.{IsLiteralIn};
+ghost use Rattle.wfc_domains.specs.declared.Verdict.TheVariants.{Alive};
+ghost use Rattle.wfc_domains.specs.Domains.{Fits, has, flags_of};
+ghost use Rattle.wfc_domains.specs.Store.{StoreView, IsSound, IsAssumed, IsUndone, left_of, added_of};
+
+use crate::domains::Domains;
+use crate::steps::Steps;
+use crate::{Removal, Verdict};
+use std::sync::ledger::Ledger;
+use wfc_problem::Literal;
+
+/// The greatest arc-consistent domains of a problem under literals that are put on and taken away, the last first.
+/// It takes all its memory where it is opened.
+pub trait Store: Drop {
+    /// Its problem, the literals that stand, the spare levels, the removals level by level, and the verdict.
+    ghost view: { Self → StoreView };
+
+    /// Puts a literal on, and closes the domains under it. It stops at the first cell that becomes empty.
+    fn assume<L: Ledger>(&mut self, literal: Literal, steps: &mut Steps<L>) -> Verdict
+        requires alive { (view self.old).verdict ≡ Alive }
+        requires literal_in { IsLiteralIn (view self.old).problem literal }
+        requires spare { 0 < (view self.old).spare }
+        ensures assumed { IsAssumed (view self.old) (view self.new) literal }
+        ensures sound { IsSound (view self.new) }
+        ensures verdict { result ≡ (view self.new).verdict };
+
+    /// Takes the last literal away, and all that followed from it.
+    fn undo<L: Ledger>(&mut self, steps: &mut Steps<L>)
+        requires some { 0 < length (view self.old).standing }
+        ensures undone { IsUndone (view self.old) (view self.new) }
+        ensures sound { IsSound (view self.new) };
+
+    /// Whether a cell is known to be empty, and which.
+    fn verdict(&self) -> Verdict
+        ensures value { result ≡ (view self.now).verdict }
+        ensures sound { IsSound (view self.now) };
+
+    /// The domains. While the verdict is alive they are the greatest.
+    fn domains(&self) -> &Domains
+        ensures value { result.now ≡ flags_of (view self.now).problem (left_of (view self.now)) }
+        ensures stands { has result.now ≡ left_of (view self.now) }
+        ensures fits { Fits (view self.now).problem result.now }
+        ensures sound { IsSound (view self.now) };
+
+    /// The removals of the last level in their order; those of the opening, where no literal stands.
+    fn added(&self) -> &[Removal]
+        ensures value { result.now ≡ added_of (view self.now) }
+        ensures sound { IsSound (view self.now) };
+
+    /// The literals that stand, in the order in which they were put on.
+    fn standing(&self) -> &[Literal]
+        ensures value { result.now ≡ (view self.now).standing };
+
+    /// How many more literals there is room for.
+    fn spare(&self) -> u32
+        ensures value { result ≡ (view self.now).spare };
+}
