@@ -1,0 +1,7 @@
+pub mod PlaceLemmas
+pub mod Steps
+pub mod Rolls
+pub mod Costs
+pub mod Closing
+pub mod Opening
+pub mod Engines

@@ -1,0 +1,219 @@
+-- The opening: each pair is looked at once.
+use Rattle.std.proofs.Common.{◌≡◌, ◌≢◌, ℕ, ◌+◌, ◌-◌, ◌*◌, ◌/◌, ◌%◌, ◌<◌, ◌≤◌, Bool, true, false, List, [], ◌∷◌, ◌++◌, length, take, refl, sym, ◌∙◌, ap, subst, arith, Option, Some, None, inl, inr, ◌⊎◌}
+use Rattle.std.specs.Prelude.{IsTrue, slice_get, slice_index}
+use Rattle.std.specs.List.{range_with_len}
+use Rattle.std.proofs.Math.Nat.{mul-le-mul_right}
+use Rattle.std.proofs.lemmas.Bool.{cases_lt, cases_eq, and_from}
+use Rattle.std.proofs.lemmas.List.FromFn.{get_or-map-range_with_len, length-map-range_with_len}
+use Rattle.std.proofs.lemmas.Nat.{same_from_place, mul-add-lt, div-mul-add, mod-mul-add}
+use Rattle.wfc_problem.specs.Network.{Network, values, neighbour, in_base, IsProblem}
+use Rattle.wfc_problem.specs.Domains.{Test, Within, base_with, support_count, IsArcConsistent}
+use Rattle.wfc_domains.specs.declared.Cause.TheVariants.{Arc}
+use Rattle.wfc_domains.specs.declared.Removal.{Removal}
+use Rattle.wfc_domains.specs.declared.Verdict.TheVariants.{Alive, Dead}
+use Rattle.wfc_domains.specs.declared.board.Board.{Board}
+use Rattle.wfc_domains.specs.Domains.{Flags, has, size_of, less, IsLess}
+use Rattle.wfc_domains.specs.Counters.{Table, FitsTable, count_of, counts_of, counters_of, place, place_in}
+use Rattle.wfc_domains.specs.Removals.{without, IsUnsupported}
+use Rattle.wfc_domains.specs.Store.{left_of, IsSound, IsOpening, IsLeastUnsupported, IsLeastEmpty, IsBefore}
+use Rattle.wfc_domains.specs.Board.{view_of, IsTraced, IsBoard, IsCut, IsFresh, lost, Loses}
+use Rattle.wfc_domains.proofs.Problems.{neighbour-dir, support_count-le, consistent-from_counts}
+use Rattle.wfc_domains.proofs.Places.{place_in-lt}
+use Rattle.wfc_domains.proofs.Removals.{less-within, without-in, without-within}
+use Rattle.wfc_domains.proofs.Boards.{board-lost, stands-in, not-alive}
+use Rattle.wfc_domains.proofs.Sound.{sound-from}
+use Rattle.wfc_ac4.specs.Places.{times}
+use Rattle.wfc_ac4.specs.State.{AreLowered, HaveSupport, IsBetween, IsScanned, counted}
+
+-- ---- counters as they are loaded
+
+pub loaded-fits : (P : Network) (D : Test) → FitsTable P (counts_of P D)
+loaded-fits P D = record {
+  same_cells = refl;
+  same_values = refl;
+  same_dirs = refl;
+  whole = length-map-range_with_len (λ i. support_count P D (i / P.dirs / values P) (i / P.dirs % values P) (i % P.dirs)) 0 (counters_of P);
+}
+
+pub loaded-count : (P : Network) (D : Test) (c v d : ℕ) → c < P.cells → v < values P → d < P.dirs → count_of (counts_of P D) c v d ≡ support_count P D c v d
+loaded-count P D c v d hc hv hd =
+    let i = place P c v d in
+    let q : i / P.dirs ≡ c * values P + v = div-mul-add (c * values P + v) P.dirs d hd in
+    let r : i % P.dirs ≡ d = mod-mul-add (c * values P + v) P.dirs d hd in
+    let x : i / P.dirs / values P ≡ c = ap (λ k. k / values P) q ∙ div-mul-add c (values P) v hv in
+    let y : i / P.dirs % values P ≡ v = ap (λ k. k % values P) q ∙ mod-mul-add c (values P) v hv in
+    get_or-map-range_with_len (λ j. support_count P D (j / P.dirs / values P) (j / P.dirs % values P) (j % P.dirs)) 0 (counters_of P) i i 0 (place_in-lt (values P) P.dirs c v d P.cells hc hv hd) (omega arith)
+    ∙ ap (λ a. support_count P D a (i / P.dirs % values P) (i % P.dirs)) x ∙ ap (λ a. support_count P D c a (i % P.dirs)) y ∙ ap (support_count P D c v) r
+
+pub loaded-lowered : (P : Network) (D : Test) (T : Table) → T ≡ counts_of P D → AreLowered P D [] T
+loaded-lowered P D T e = subst (λ t. AreLowered P D [] t) (sym e) (record {
+  fits = loaded-fits P D;
+  each = λ c v d hc hv hd.
+      let now = loaded-count P D c v d hc hv hd in
+      let none : times (place P c v d) [] ≡ 0 = refl in
+      omega arith;
+})
+
+-- ---- one pair looked at
+
+-- of the counters of the base, that of a value without support is 0
+base-count : (b : Board) (T : Table) (c v d : ℕ) → AreLowered b.problem.now (in_base b.problem.now) [] T → c < b.problem.now.cells → v < values b.problem.now → d < b.problem.now.dirs → count_of T c v d ≡ support_count b.problem.now (in_base b.problem.now) c v d
+base-count b T c v d h hc hv hd =
+    let now = h.each c v d hc hv hd in
+    let none : times (place b.problem.now c v d) [] ≡ 0 = refl in
+    omega arith
+
+-- with nothing removed the domains are the base
+base-stands : (b : Board) → IsTraced b → b.trail.removals ≡ [] → has b.domains ≡ in_base b.problem.now
+base-stands b t e = t.stands ∙ ap (without (in_base b.problem.now)) e
+
+-- nothing before the pair lacks a support
+least-here : (b : Board) (T : Table) (cell value dir : ℕ) → IsScanned b T (cell * values b.problem.now + value) → b.verdict ≡ Alive → b.trail.removals ≡ []
+    → ((e n : ℕ) → e < dir → neighbour b.problem.now cell e ≡ Some n → 0 < count_of T cell value e)
+    → (c v d : ℕ) → IsTrue (in_base b.problem.now c v) → IsUnsupported b.problem.now (in_base b.problem.now) c v d → IsBefore c v d cell value dir → ⊥
+least-here b T cell value dir h alive none earlier c v d t bare before =
+    let P = b.problem.now in
+    let stands : IsTrue (has b.domains c v) = ap (λ f. f c v) (base-stands b h.board.traced none) ∙ t in
+    let range = stands-in b h.board.traced c v stands in
+    let is = base-count b T c v d h.counters range.0 range.1 (neighbour-dir P c d bare.next bare.beside) in
+    let zero' : count_of T c v d ≡ 0 = is ∙ bare.none in
+    elim before [
+      | inl l ↦
+          let row : (c + 1) * values P ≤ cell * values P = mul-le-mul_right (values P) (let z : c + 1 ≤ cell = omega arith in z) in
+          let pos = h.supported alive c v d bare.next (omega (arith, row, range.1)) stands bare.beside in
+          absurd (omega arith)
+      | inr same ↦ elim same.1 [
+        | inl l ↦
+            let row = ap (λ x. x * values P) same.0 in
+            let pos = h.supported alive c v d bare.next (omega arith) stands bare.beside in
+            absurd (omega arith)
+        | inr both ↦
+            let pos = earlier d bare.next both.1 (ap (λ x. neighbour P x d) (sym same.0) ∙ bare.beside) in
+            let eq = ap (λ x. count_of T x v d) same.0 ∙ ap (λ x. count_of T cell x d) both.0 in
+            absurd (omega arith)
+      ]
+    ]
+
+first-push : (rs : List Removal) (r first : Removal) → slice_get (rs ++ r ∷ []) 0 ≡ Some first → (slice_get rs 0 ≡ Some first) ⊎ ((rs ≡ []) × (r ≡ first))
+first-push [] r first e = inr (refl, some e)
+  where
+    some : Some r ≡ Some first → r ≡ first
+    some e = cc
+first-push (x ∷ rs) r first e = inl e
+
+pub scanned-removed : (b b' : Board) (T : Table) (cell value dir next : ℕ) → IsScanned b T (cell * values b.problem.now + value) → b.verdict ≡ Alive
+    → cell < b.problem.now.cells → value < values b.problem.now → dir < b.problem.now.dirs → neighbour b.problem.now cell dir ≡ Some next → count_of T cell value dir ≡ 0
+    → ((e n : ℕ) → e < dir → neighbour b.problem.now cell e ≡ Some n → 0 < count_of T cell value e)
+    → Loses b b' cell value (Arc dir) → IsScanned b' T (cell * values b'.problem.now + value)
+scanned-removed b b' T cell value dir next h alive hc hv hd beside zero' earlier loses =
+    let P = b.problem.now in
+    let rs = b.trail.removals in
+    let D = b'.domains in
+    let l = loses.less in
+    let r : Removal = record { cell = cell; value = value; before = size_of b.domains cell; cause = Arc dir } in
+    let le = support_count-le P (left_of (view_of b)) (in_base P) cell value dir (without-within (in_base P) rs) in
+    let bare : IsUnsupported P (left_of (view_of b)) cell value dir = record { next = next; beside = beside; none = omega (arith, base-count b T cell value dir h.counters hc hv hd) } in
+    let left_cut : Within (left_of (view_of b)) (base_with P b.levels.standing) = λ x y t. h.cut alive x y (ap (λ f. f x y) h.board.traced.stands ∙ t) in
+    let within' : Within (has D) (has b.domains) = λ c' v' t. less-within (has b.domains) cell value c' v' (ap (λ f. f c' v') (sym l.each) ∙ t) in
+    subst (λ (x : Board). IsScanned x T (cell * values x.problem.now + value)) (sym loses.same) (record {
+      board = board-lost b D cell value (Arc dir) h.board alive l hc hv (left_cut, bare);
+      cut = λ _ x y t. h.cut alive x y (within' x y t);
+      counters = h.counters;
+      supported = λ _ c v d n i t e. h.supported alive c v d n i (within' c v t) e;
+      first = λ f e. elim (first-push rs r f e) [
+        | inl old ↦ h.first f old
+        | inr new ↦ subst (λ x. IsLeastUnsupported P (in_base P) x) new.1 (record { dir = dir; arc = refl; least = least-here b T cell value dir h alive new.0 earlier })
+      ];
+    })
+
+pub scanned-next : (b : Board) (T : Table) (c v : ℕ) → IsScanned b T (c * values b.problem.now + v) → v < values b.problem.now
+    → (b.verdict ≡ Alive → IsTrue (has b.domains c v) → (d n : ℕ) → neighbour b.problem.now c d ≡ Some n → 0 < count_of T c v d) → IsScanned b T (c * values b.problem.now + v + 1)
+scanned-next b T c v h hv here = record {
+  board = h.board;
+  cut = h.cut;
+  counters = h.counters;
+  supported = λ alive c' v' d n l t e. elim (cases_eq (c' * values b.problem.now + v') (c * values b.problem.now + v)) [
+    | inl same ↦
+        let range = stands-in b h.board.traced c' v' t in
+        let which = same_from_place c' v' c v (values b.problem.now) range.1 hv same in
+        let pos = here alive (sym (ap (λ x. has b.domains x v') which.0 ∙ ap (has b.domains c) which.1) ∙ t) d n (sym (ap (λ x. neighbour b.problem.now x d) which.0) ∙ e) in
+        let eq = ap (λ x. count_of T x v' d) which.0 ∙ ap (λ x. count_of T c x d) which.1 in
+        omega arith
+    | inr ne ↦ h.supported alive c' v' d n (omega arith) t e
+  ];
+  first = h.first;
+}
+
+pub scanned-at : (b : Board) (T : Table) (i j : ℕ) → IsScanned b T i → i ≡ j → IsScanned b T j
+scanned-at b T i j h e = subst (IsScanned b T) e h
+
+-- all looked at, nothing is worked off
+pub scanned-done : (b : Board) (T : Table) → IsScanned b T (b.problem.now.cells * values b.problem.now) → IsBetween b T 0
+scanned-done b T h = record {
+  board = h.board;
+  cut = h.cut;
+  counters = h.counters;
+  supported = λ alive c v d n t e.
+      let range = stands-in b h.board.traced c v t in
+      h.supported alive c v d n (omega (arith, mul-add-lt c (values b.problem.now) v b.problem.now.cells range.0 range.1)) t e;
+  in_log = omega arith;
+}
+
+-- before the first look
+pub scanned-none : (b : Board) (T : Table) (spare : ℕ) → IsFresh b spare → T ≡ counts_of b.problem.now (has b.domains) → IsScanned b T 0
+scanned-none b T spare f e = record {
+  board = f.board;
+  cut = λ _ c v t. subst (λ ls. IsTrue (base_with b.problem.now ls c v)) (sym (ap (λ l. l.standing) f.levels)) (and_from _ _ (ap (λ g. g c v) (sym base) ∙ t) refl);
+  counters = loaded-lowered b.problem.now (in_base b.problem.now) T (e ∙ ap (counts_of b.problem.now) base);
+  supported = λ alive c v d n l. absurd (omega arith);
+  first = λ r g. absurd (no_first (sym (ap (λ rs. slice_get rs 0) f.removals) ∙ g));
+}
+  where
+    base : has b.domains ≡ in_base b.problem.now
+    base = base-stands b f.board.traced f.removals
+
+    no_first : {r : Removal} → ◌≡◌ {A = Option Removal} None (Some r) → ⊥
+    no_first e = cc
+
+-- ---- an opening closed
+
+-- a longer log begins with the same removal
+pub first-grown : (rs more : List Removal) (r : Removal) → slice_get (rs ++ more) 0 ≡ Some r → (rs ≡ [] → more ≡ []) → slice_get rs 0 ≡ Some r
+first-grown [] more r e none = absurd (no_first (sym (ap (λ xs. slice_get xs 0) (none refl)) ∙ e))
+  where
+    no_first : ◌≡◌ {A = Option Removal} None (Some r) → ⊥
+    no_first e = cc
+first-grown (x ∷ rs) more r e none = e
+
+-- after a scan of an alive board and a closing of what it found
+pub opening-closed : (a s n : Board) (spare : ℕ) → IsFresh a spare → a.verdict ≡ Alive → s.problem ≡ a.problem → n.problem ≡ s.problem
+    → ((r : Removal) → slice_get s.trail.removals 0 ≡ Some r → IsLeastUnsupported s.problem.now (in_base s.problem.now) r)
+    → (more : List Removal) → n.trail.removals ≡ s.trail.removals ++ more → (s.trail.removals ≡ [] → n.trail.removals ≡ [])
+    → IsOpening n.problem.now n.trail.removals n.verdict
+opening-closed a s n spare f alive same_s same_n first more e idle = record {
+  empty = λ cell least. absurd (not-alive (sym (is_dead cell least) ∙ alive));
+  first = λ r g. subst (λ P. IsLeastUnsupported P (in_base P) r) (sym (ap (λ p. p.now) same_n))
+      (first r (first-grown s.trail.removals more r (sym (ap (λ xs. slice_get xs 0) e) ∙ g) (λ none. more-none none (sym (idle none) ∙ e))));
+}
+  where
+    P-same : n.problem.now ≡ a.problem.now
+    P-same = ap (λ p. p.now) (same_n ∙ same_s)
+
+    is_dead : (cell : ℕ) → IsLeastEmpty n.problem.now (in_base n.problem.now) cell → a.verdict ≡ Dead cell
+    is_dead cell least = (f.opening.empty cell (subst (λ P. IsLeastEmpty P (in_base P) cell) P-same least)).1
+
+    more-none : s.trail.removals ≡ [] → [] ≡ s.trail.removals ++ more → more ≡ []
+    more-none none g = sym (ap (λ xs. xs ++ more) none) ∙ sym g
+
+-- a dead board is as it was opened
+pub between-dead : (b : Board) (T : Table) (spare : ℕ) → IsFresh b spare → (b.verdict ≡ Alive → ⊥) → T ≡ counts_of b.problem.now (has b.domains) → IsBetween b T 0
+between-dead b T spare f dead e =
+    let s = scanned-none b T spare f e in
+    record { board = s.board; cut = s.cut; counters = s.counters; supported = λ alive. absurd (dead alive); in_log = omega arith }
+
+pub between-at : (b : Board) (T : Table) (i j : ℕ) → IsBetween b T i → i ≡ j → IsBetween b T j
+between-at b T i j h e = subst (IsBetween b T) e h
+
+-- the spare levels of a fresh board are its own
+pub fresh-own : (b : Board) (spare : ℕ) → IsFresh b spare → IsFresh b b.levels.spare
+fresh-own b spare f = subst (IsFresh b) (sym (ap (λ l. l.spare) f.levels)) f

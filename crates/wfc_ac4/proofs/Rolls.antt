@@ -1,0 +1,64 @@
+-- Removals taken back.
+use Rattle.std.proofs.Common.{◌≡◌, ℕ, ◌+◌, ◌-◌, ◌<◌, ◌≤◌, List, [], ◌∷◌, ◌++◌, length, take, refl, sym, ◌∙◌, ap, subst, arith}
+use Rattle.std.specs.Prelude.{IsTrue}
+use Rattle.std.proofs.lemmas.List.{take-append-le, take_all, take_at, take-take, length_push}
+use Rattle.wfc_problem.specs.Network.{Network, values, in_base}
+use Rattle.wfc_problem.specs.Domains.{Test}
+use Rattle.wfc_domains.specs.declared.Removal.{Removal}
+use Rattle.wfc_domains.specs.declared.board.Board.{Board}
+use Rattle.wfc_domains.specs.Domains.{less}
+use Rattle.wfc_domains.specs.Counters.{Table, place}
+use Rattle.wfc_domains.specs.Removals.{without}
+use Rattle.wfc_domains.specs.Board.{AreStood, IsTraced, Regains}
+use Rattle.wfc_problem.specs.Rounds.{depth_of}
+use Rattle.wfc_domains.proofs.Problems.{base-in}
+use Rattle.wfc_domains.proofs.Removals.{without-push, stood-few}
+use Rattle.wfc_ac4.specs.Places.{times}
+use Rattle.wfc_ac4.specs.State.{AreLowered, AreRaised, IsRolled, IsRaising, counted}
+use Rattle.wfc_ac4.proofs.Steps.{lowered-agree}
+
+-- a front of a front
+pub front-shorter : (old new all : List Removal) (r : Removal) → old ≡ new ++ r ∷ [] → old ≡ take (length old) all → new ≡ take (length new) all
+front-shorter old new all r e f =
+    sym (take_at new (r ∷ []) (length new) refl) ∙ ap (take (length new)) (sym e ∙ f) ∙ take-take (length new) (length old) all (omega (arith, ap length e, length_push new r))
+
+-- it was worked off: the counters are those without it
+pub start_raising : (b b' : Board) (T : Table) (head : ℕ) (r : Removal) → IsRolled b T head → Regains b b' r → length b'.trail.removals < head → IsRaising b'.problem.now (without (in_base b'.problem.now) b'.trail.removals) r.cell r.value [] T
+start_raising b b' T head r h g l =
+    let P = b.problem.now in
+    let rs = b'.trail.removals in
+    let all : take head b.trail.removals ≡ rs ++ r ∷ [] = take_all head b.trail.removals (omega (arith, ap length g.removals, length_push rs r)) ∙ g.removals in
+    let counters = lowered-agree P _ _ [] T h.counters (ap (without (in_base P)) all ∙ without-push (in_base P) rs r) in
+    subst (λ N. IsRaising N (without (in_base N) rs) r.cell r.value [] T) (sym (ap (λ (x : Board). x.problem.now) g.same)) (record {
+      problem = h.traced.problem;
+      counters = record {
+        fits = counters.fits;
+        each = λ c v d hc hv hd. let now = counters.each c v d hc hv hd in let none : times (place P c v d) [] ≡ 0 = refl in omega arith;
+      };
+      stood = g.stood;
+    })
+
+-- it was pending: no counter changes
+pub pending_back : (b b' : Board) (T : Table) (head : ℕ) (r : Removal) → IsRolled b T head → IsTraced b' → Regains b b' r → head ≤ length b'.trail.removals → IsRolled b' T head
+pending_back b b' T head r h t g l =
+    let same : b'.problem ≡ b.problem = ap (λ (x : Board). x.problem) g.same in
+    let P = b.problem.now in
+    record {
+      traced = t;
+      counters = subst (λ N. AreLowered N (without (in_base N) (take head b'.trail.removals)) [] T) (sym (ap (λ p. p.now) same))
+          (lowered-agree P _ _ [] T h.counters (ap (without (in_base P)) (ap (take head) g.removals ∙ take-append-le head b'.trail.removals (r ∷ []) l)));
+      in_log = l;
+    }
+
+-- worked off, its counters are raised
+pub worked_back : (b b' : Board) (T T' : Table) (head : ℕ) (r : Removal) → IsRolled b T head → IsTraced b' → Regains b b' r → length b'.trail.removals < head
+    → AreLowered b'.problem.now (without (in_base b'.problem.now) b'.trail.removals) [] T' → IsRolled b' T' (head - 1)
+worked_back b b' T T' head r h t g l counters = record {
+  traced = t;
+  counters = lowered-agree b'.problem.now _ _ [] T' counters (sym (ap (without (in_base b'.problem.now)) (take_all (head - 1) b'.trail.removals (omega (arith, h.in_log, ap length g.removals, length_push b'.trail.removals r)))));
+  in_log = omega (arith, h.in_log, ap length g.removals, length_push b'.trail.removals r);
+}
+
+-- a log has at most as many removals as there are pairs
+pub log-depth : (b : Board) → IsTraced b → length b.trail.removals ≤ depth_of b.problem.now
+log-depth b t = omega (arith, stood-few b.problem.now (in_base b.problem.now) b.trail.removals (λ c v s. base-in b.problem.now t.problem c v s) t.stood)

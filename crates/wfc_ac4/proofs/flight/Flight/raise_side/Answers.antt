@@ -1,0 +1,32 @@
+use Rattle.std.proofs.Common.{refl, sym, ◌∙◌, ap, subst, arith}
+use Rattle.wfc_ac4.specs.declared.flight.Flight.{Flight}
+use Rattle.wfc_ac4.proofs.Steps.{raise_step}
+use Rattle.wfc_ac4.proofs.flight.Flight.raise_side.Goals as goal
+
+pub up-requires-clause-cell_in : goal.up-requires-clause-cell_in
+up-requires-clause-cell_in g c =
+    let s = raise_step _ _ _ _ _ _ _ _ _ _ _ c.loop-w.invariant.raising c.requires.dir_in c.requires.beside c.supports-w-items.ensures.value c.loop-w-test.true refl c.opposite-back.ensures.value in
+    omega (arith, s.cell_in, c.loop-w.invariant.raising.counters.fits.same_cells)
+
+pub up-requires-clause-value_in : goal.up-requires-clause-value_in
+up-requires-clause-value_in g c =
+    let s = raise_step _ _ _ _ _ _ _ _ _ _ _ c.loop-w.invariant.raising c.requires.dir_in c.requires.beside c.supports-w-items.ensures.value c.loop-w-test.true refl c.opposite-back.ensures.value in
+    omega (arith, s.value_in, c.loop-w.invariant.raising.counters.fits.same_values)
+
+pub up-requires-clause-dir_in : goal.up-requires-clause-dir_in
+up-requires-clause-dir_in g c =
+    let s = raise_step _ _ _ _ _ _ _ _ _ _ _ c.loop-w.invariant.raising c.requires.dir_in c.requires.beside c.supports-w-items.ensures.value c.loop-w-test.true refl c.opposite-back.ensures.value in
+    omega (arith, s.dir_in, c.loop-w.invariant.raising.counters.fits.same_dirs)
+
+pub up-requires-clause-limit : goal.up-requires-clause-limit
+up-requires-clause-limit g c =
+    (raise_step _ _ _ _ _ _ _ _ _ _ _ c.loop-w.invariant.raising c.requires.dir_in c.requires.beside c.supports-w-items.ensures.value c.loop-w-test.true refl c.opposite-back.ensures.value).below_limit
+
+pub loop-w-preserved : goal.loop-w-preserved
+loop-w-preserved g c =
+    let s = raise_step _ _ _ _ _ _ _ _ _ _ _ c.loop-w.invariant.raising c.requires.dir_in c.requires.beside c.supports-w-items.ensures.value c.loop-w-test.true refl c.opposite-back.ensures.value in
+    record {
+      raising = rw c.up.ensures.changed s.after;
+      same = ap (λ (f : Flight). record f { counters = c.up.new.self }) c.loop-w.invariant.same;
+      steps = omega (arith, c.up.ensures.steps, c.loop-w.invariant.steps);
+    }

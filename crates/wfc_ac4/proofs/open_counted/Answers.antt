@@ -1,0 +1,44 @@
+use Rattle.std.proofs.Common.{◌≡◌, ◌≤◌, [], ap, ◌∙◌, sym, subst, refl, arith}
+use Rattle.wfc_problem.specs.Network.{Network}
+use Rattle.wfc_domains.specs.Domains.{has}
+use Rattle.wfc_domains.specs.Counters.{counts_of}
+use Rattle.wfc_domains.specs.Store.{mark_of}
+use Rattle.wfc_ac4.proofs.Engines.{between-sound}
+use Rattle.wfc_ac4.proofs.Opening.{fresh-own}
+use Rattle.wfc_ac4.proofs.open_counted.Goals as goal
+
+pub settle-requires : goal.settle-requires
+settle-requires g c =
+    let b = c.in_ok-board.board in
+    record {
+      fresh = fresh-own b _ c.in_ok-board.ensures.fresh;
+      loaded = c.load.ensures.loaded ∙ ap (λ P. counts_of P (has b.domains)) (sym c.in_ok-board.ensures.problem);
+      head = refl;
+    }
+
+pub invariant_of-result : goal.invariant_of-result
+invariant_of-result g c =
+    let e = c.settle.ensures in
+    let levels = e.levels ∙ c.in_ok-board.ensures.fresh.levels in
+    record {
+      sound = between-sound _ _ _ e.between e.closed (λ _. e.opening);
+      traced = e.between.board.traced;
+      levels = e.between.board.levels;
+      counters = e.between.counters;
+      in_log = e.between.in_log;
+      settled = e.closed;
+      marked = omega (arith, ap (λ l. mark_of l.marks) levels);
+    }
+
+pub returns : goal.returns
+returns g c =
+    let e = c.settle.ensures in
+    let levels = e.levels ∙ c.in_ok-board.ensures.fresh.levels in
+    record {
+      opened = record {
+        problem = ap (λ p. p.now) e.problem ∙ c.in_ok-board.ensures.problem;
+        standing = ap (λ l. l.standing) levels;
+        spare = ap (λ l. l.spare) levels;
+        sound = between-sound _ _ _ e.between e.closed (λ _. e.opening);
+      };
+    }

@@ -1,0 +1,8 @@
+use Rattle.std.proofs.Common.{◌≡◌}
+use Rattle.wfc_ac4.proofs.tests.side_by_side.Given as goal
+
+abbrev pub invariant-loop-turn : goal.invariant-loop-turn
+invariant-loop-turn g l = record {
+  engine : l.engine.problem ≡ l.problem;
+  plain : l.plain.problem ≡ l.problem;
+}

@@ -1,0 +1,22 @@
+-- What holds of an engine between two calls.
+use Rattle.std.specs.Prelude.{◌≡◌, ℕ, ◌≤◌, [], length}
+use Rattle.wfc_domains.specs.declared.Verdict.TheVariants.{Alive}
+use Rattle.wfc_domains.specs.Store.{StoreView, IsSound, mark_of}
+use Rattle.wfc_domains.specs.Board.{view_of, IsTraced, HasLevels}
+use Rattle.wfc_ac4.specs.State.{AreLowered, counted}
+use Rattle.wfc_ac4.specs.declared.Ac4.TheInside.{Inside}
+
+-- what contracts see of it
+abbrev pub seen : Inside → StoreView
+seen a = view_of a.flight.board
+
+-- the store is sound; the counters count what is not worked off; and while it is alive, and before the last literal,
+-- all is worked off
+pub record HoldsTogether (a : Inside) : Type 0 where
+  pub sound : IsSound (view_of a.flight.board)
+  pub traced : IsTraced a.flight.board
+  pub levels : HasLevels (view_of a.flight.board)
+  pub counters : AreLowered a.flight.board.problem.now (counted a.flight.board a.flight.head) [] a.flight.counters
+  pub in_log : a.flight.head ≤ length a.flight.board.trail.removals
+  pub settled : a.flight.board.verdict ≡ Alive → a.flight.head ≡ length a.flight.board.trail.removals
+  pub marked : mark_of a.flight.board.levels.marks ≤ a.flight.head

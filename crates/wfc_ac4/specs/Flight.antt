@@ -1,0 +1,39 @@
+-- What a flight's steps leave as it was.
+use Rattle.std.specs.Prelude.{◌≡◌, ℕ, ◌<◌, ◌∷◌, ◌++◌, [], length, min, take, Some}
+use Rattle.wfc_problem.specs.Network.{neighbour}
+use Rattle.wfc_domains.specs.Counters.{count_of}
+use Rattle.wfc_domains.specs.declared.Removal.{Removal}
+use Rattle.wfc_domains.specs.Board.{Grows}
+use Rattle.wfc_ac4.specs.declared.flight.Flight.{Flight}
+
+-- removals were added behind those that stood
+pub record GoesOn (old new : Flight) : Type 0 where
+  pub grows : Grows old.board new.board
+  pub head : new.head ≡ old.head
+
+-- only the counters changed
+abbrev pub Recounts : Flight → Flight → Type 0
+Recounts old new = new ≡ record old { counters = new.counters }
+
+-- the last removal was taken back; if it was worked off, the head went back too
+pub record IsShorter (old new : Flight) : Type 0 where
+  pub problem : new.board.problem ≡ old.board.problem
+  pub levels : new.board.levels ≡ old.board.levels
+  pub last : Removal
+  pub removals : old.board.trail.removals ≡ new.board.trail.removals ++ last ∷ []
+  pub head : new.head ≡ min old.head (length new.board.trail.removals)
+
+-- removals were taken back, until `mark` were left
+pub record IsRolledTo (old new : Flight) (mark : ℕ) : Type 0 where
+  pub problem : new.board.problem ≡ old.board.problem
+  pub levels : new.board.levels ≡ old.board.levels
+  pub removals : new.board.trail.removals ≡ take mark old.board.trail.removals
+  pub head : new.head ≡ min old.head mark
+
+-- the first direction in which the cell has a neighbour and its value's counter is 0
+pub record IsFirstBare (f : Flight) (cell value d : ℕ) : Type 0 where
+  pub next : ℕ
+  pub beside : neighbour f.board.problem.now cell d ≡ Some next
+  pub dir_in : d < f.board.problem.now.dirs
+  pub none : count_of f.counters cell value d ≡ 0
+  pub first : (e n : ℕ) → e < d → neighbour f.board.problem.now cell e ≡ Some n → 0 < count_of f.counters cell value e

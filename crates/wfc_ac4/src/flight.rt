@@ -1,0 +1,253 @@
+//! One removal worked off, and taken back.
+
+ghost use Rattle.std.specs.Prelude.{◌≡◌, ℕ, ◌+◌, ◌*◌, ◌<◌, ◌≤◌, ◌++◌, ◌↔◌, [], length, min, take, IsTrue, IfSome, IfNone, Some};
+ghost use Rattle.wfc_problem.specs.Network.{values, neighbour, supports_of, in_base};
+ghost use Rattle.wfc_domains.specs.declared.Verdict.TheVariants.{Alive};
+ghost use Rattle.wfc_domains.specs.Domains.{has};
+ghost use Rattle.wfc_domains.specs.Counters.{FitsTable, count_of, counts_of, cost_at, cost_of};
+ghost use Rattle.wfc_domains.specs.Removals.{without};
+ghost use Rattle.wfc_domains.specs.Store.{IsOpening};
+ghost use Rattle.wfc_domains.specs.Board.{Grows, IsFresh};
+ghost use Rattle.wfc_ac4.specs.Places.{places_upto, side_places, places_of};
+ghost use Rattle.wfc_ac4.specs.State.{IsWorking, IsBetween, IsRolled, IsRaising, IsScanned, AreLowered, counted};
+ghost use Rattle.wfc_ac4.specs.Flight.{GoesOn, Recounts, IsShorter, IsRolledTo, IsFirstBare};
+
+use std::sync::ledger::Ledger;
+use wfc_domains::{Board, Cause, Counters, Steps, is_alive};
+use wfc_problem::opposite;
+
+/// A board with its counters, and how many removals of its log are worked off.
+#[derive(Drop)]
+pub struct Flight<'p> {
+    pub board: Board<'p>,
+    pub counters: Counters,
+    pub head: usize,
+}
+
+impl<'p> Flight<'p> {
+    /// The value stands without support in this direction, and no cell is empty.
+    #[inline]
+    fn is_spent(&self, cell: u32, value: u16, dir: u8) -> bool
+        requires cell_in { cell < self.now.board.domains.cells }
+        requires value_in { value < self.now.board.domains.values }
+        requires counter_cell { cell < self.now.counters.cells }
+        requires counter_value { value < self.now.counters.values }
+        requires dir_in { dir < self.now.counters.dirs }
+        ensures value { IsTrue result ↔ ((count_of self.now.counters cell value dir ≡ 0)
+            × IsTrue (has self.now.board.domains cell value) × (self.now.board.verdict ≡ Alive)) }
+    {
+        let left = self.counters.get(cell, value, dir);
+        left == 0 && self.board.domains.has(cell, value) && is_alive(self.board.verdict)
+    }
+
+    /// Lowers the counters at one neighbour that count a removal, and removes what has no support left.
+    fn work_side<L: Ledger>(
+        &mut self,
+        cell: u32,
+        value: u16,
+        dir: u8,
+        next: u32,
+        steps: &mut Steps<L>,
+    )
+        requires value_in { value < values self.old.board.problem.now }
+        requires dir_in { dir < self.old.board.problem.now.dirs }
+        requires beside { neighbour self.old.board.problem.now cell dir ≡ Some next }
+        requires working { IsWorking self.old.board self.old.counters self.old.head cell value
+            (places_upto self.old.board.problem.now cell value dir) }
+        ensures working { IsWorking self.new.board self.new.counters self.new.head cell value
+            (places_upto self.new.board.problem.now cell value dir
+            ++ side_places self.new.board.problem.now value dir (Some next)) }
+        ensures goes_on { GoesOn self.old self.new }
+        ensures steps { steps.new ≡ steps.old + length (supports_of self.old.board.problem.now value dir) }
+    {
+        let back = opposite(dir);
+        let problem = self.board.problem;
+        for w in problem.supports(value, dir) {
+            self.counters.down(next, *w, back, steps);
+            if self.is_spent(next, *w, back) {
+                self.board.remove(next, *w, Cause::Arc(back));
+            }
+        }
+    }
+
+    /// Works off the removal at the head.
+    fn work_off<L: Ledger>(&mut self, steps: &mut Steps<L>)
+        requires between { IsBetween self.old.board self.old.counters self.old.head }
+        requires pending { self.old.head < length self.old.board.trail.removals }
+        ensures between { IsBetween self.new.board self.new.counters self.new.head }
+        ensures grows { Grows self.old.board self.new.board }
+        ensures head { self.new.head ≡ self.old.head + 1 }
+        ensures steps { steps.new + cost_of self.old.board.problem.now (take self.old.head self.old.board.trail.removals)
+            ≡ steps.old + cost_of self.old.board.problem.now (take (self.old.head + 1) self.old.board.trail.removals) }
+    {
+        let removal = self.board.trail.at(self.head);
+        let cell = removal.cell;
+        let value = removal.value;
+        let problem = self.board.problem;
+        for dir in 0..problem.dirs() {
+            if let Some(next) = problem.neighbour(cell, dir) {
+                self.work_side(cell, value, dir, next, steps);
+            }
+        }
+        self.head += 1;
+    }
+
+    /// Works off what is pending, until nothing is or a cell is empty.
+    pub fn close<L: Ledger>(&mut self, steps: &mut Steps<L>)
+        requires between { IsBetween self.old.board self.old.counters self.old.head }
+        ensures between { IsBetween self.new.board self.new.counters self.new.head }
+        ensures closed { self.new.board.verdict ≡ Alive → self.new.head ≡ length self.new.board.trail.removals }
+        ensures forward { self.old.head ≤ self.new.head }
+        ensures idle { self.old.board.trail.removals ≡ [] → self.new.board.trail.removals ≡ [] }
+        ensures grows { Grows self.old.board self.new.board }
+        ensures steps { steps.new + cost_of self.old.board.problem.now (take self.old.head self.new.board.trail.removals)
+            ≡ steps.old + cost_of self.old.board.problem.now (take self.new.head self.new.board.trail.removals) }
+    {
+        while is_alive(self.board.verdict) && self.head < self.board.trail.len() {
+            self.work_off(steps);
+        }
+    }
+
+    /// Raises the counters at one neighbour that count a value again.
+    fn raise_side<L: Ledger>(
+        &mut self,
+        cell: u32,
+        value: u16,
+        dir: u8,
+        next: u32,
+        steps: &mut Steps<L>,
+    )
+        requires value_in { value < values self.old.board.problem.now }
+        requires dir_in { dir < self.old.board.problem.now.dirs }
+        requires beside { neighbour self.old.board.problem.now cell dir ≡ Some next }
+        requires raising { IsRaising self.old.board.problem.now (without (in_base self.old.board.problem.now) self.old.board.trail.removals)
+            cell value (places_upto self.old.board.problem.now cell value dir) self.old.counters }
+        ensures raising { IsRaising self.old.board.problem.now (without (in_base self.old.board.problem.now) self.old.board.trail.removals)
+            cell value (places_upto self.old.board.problem.now cell value dir
+            ++ side_places self.old.board.problem.now value dir (Some next)) self.new.counters }
+        ensures same { Recounts self.old self.new }
+        ensures steps { steps.new ≡ steps.old + length (supports_of self.old.board.problem.now value dir) }
+    {
+        let back = opposite(dir);
+        let problem = self.board.problem;
+        for w in problem.supports(value, dir) {
+            self.counters.up(next, *w, back, steps);
+        }
+    }
+
+    /// Raises all counters that count a value again.
+    fn raise<L: Ledger>(&mut self, cell: u32, value: u16, steps: &mut Steps<L>)
+        requires cell_in { cell < self.old.board.problem.now.cells }
+        requires value_in { value < values self.old.board.problem.now }
+        requires raising { IsRaising self.old.board.problem.now (without (in_base self.old.board.problem.now) self.old.board.trail.removals)
+            cell value [] self.old.counters }
+        ensures counters { AreLowered self.old.board.problem.now
+            (without (in_base self.old.board.problem.now) self.old.board.trail.removals) [] self.new.counters }
+        ensures same { Recounts self.old self.new }
+        ensures steps { steps.new ≡ steps.old + cost_at self.old.board.problem.now cell value }
+    {
+        let problem = self.board.problem;
+        for dir in 0..problem.dirs() {
+            if let Some(next) = problem.neighbour(cell, dir) {
+                self.raise_side(cell, value, dir, next, steps);
+            }
+        }
+    }
+
+    /// Takes the last removal back. If it was worked off, the counters that count it are raised.
+    fn take_back<L: Ledger>(&mut self, steps: &mut Steps<L>)
+        requires rolled { IsRolled self.old.board self.old.counters self.old.head }
+        requires some { 0 < length self.old.board.trail.removals }
+        ensures rolled { IsRolled self.new.board self.new.counters self.new.head }
+        ensures shorter { IsShorter self.old self.new }
+        ensures steps { steps.new + cost_of self.old.board.problem.now self.new.board.trail.removals
+            ≤ steps.old + cost_of self.old.board.problem.now self.old.board.trail.removals }
+    {
+        let removal = self.board.take_back();
+        if self.head > self.board.trail.len() {
+            self.raise(removal.cell, removal.value, steps);
+            self.head -= 1;
+        }
+    }
+
+    /// Takes removals back, until as many as `mark` are left.
+    pub fn roll_back<L: Ledger>(&mut self, mark: usize, steps: &mut Steps<L>)
+        requires rolled { IsRolled self.old.board self.old.counters self.old.head }
+        requires within { mark ≤ length self.old.board.trail.removals }
+        ensures rolled { IsRolled self.new.board self.new.counters self.new.head }
+        ensures back { IsRolledTo self.old self.new mark }
+        ensures steps { steps.new + cost_of self.old.board.problem.now (take mark self.old.board.trail.removals)
+            ≤ steps.old + cost_of self.old.board.problem.now self.old.board.trail.removals }
+    {
+        while self.board.trail.len() > mark {
+            self.take_back(steps);
+        }
+    }
+
+    /// The first direction in which the cell has a neighbour and the value no support.
+    fn bare_side(&self, cell: u32, value: u16) -> Option<u8>
+        requires cell_in { cell < self.now.board.problem.now.cells }
+        requires value_in { value < values self.now.board.problem.now }
+        requires fits { FitsTable self.now.board.problem.now self.now.counters }
+        ensures some { IfSome result (λ d. IsFirstBare self.now cell value d) }
+        ensures none { IfNone result ((d n : ℕ) → neighbour self.now.board.problem.now cell d ≡ Some n
+            → 0 < count_of self.now.counters cell value d) }
+    {
+        for dir in 0..self.board.problem.dirs() {
+            if self.counters.get(cell, value, dir) == 0 {
+                if let Some(_) = self.board.problem.neighbour(cell, dir) {
+                    return Some(dir);
+                }
+            }
+        }
+        None
+    }
+
+    /// Removes a value that stands without support.
+    #[inline]
+    fn look_at(&mut self, cell: u32, value: u16)
+        requires cell_in { cell < self.old.board.problem.now.cells }
+        requires value_in { value < values self.old.board.problem.now }
+        requires scanned { IsScanned self.old.board self.old.counters (cell * values self.old.board.problem.now + value) }
+        ensures scanned { IsScanned self.new.board self.new.counters (cell * values self.new.board.problem.now + value + 1) }
+        ensures goes_on { GoesOn self.old self.new }
+    {
+        if is_alive(self.board.verdict) && self.board.domains.has(cell, value) {
+            if let Some(dir) = self.bare_side(cell, value) {
+                self.board.remove(cell, value, Cause::Arc(dir));
+            }
+        }
+    }
+
+    /// Closes the base domains, with the counters loaded.
+    pub fn settle<L: Ledger>(&mut self, steps: &mut Steps<L>)
+        requires fresh { IsFresh self.old.board self.old.board.levels.spare }
+        requires loaded { self.old.counters ≡ counts_of self.old.board.problem.now (has self.old.board.domains) }
+        requires head { self.old.head ≡ 0 }
+        ensures between { IsBetween self.new.board self.new.counters self.new.head }
+        ensures closed { self.new.board.verdict ≡ Alive → self.new.head ≡ length self.new.board.trail.removals }
+        ensures opening { IsOpening self.new.board.problem.now self.new.board.trail.removals self.new.board.verdict }
+        ensures problem { self.new.board.problem ≡ self.old.board.problem }
+        ensures levels { self.new.board.levels ≡ self.old.board.levels }
+    {
+        if is_alive(self.board.verdict) {
+            self.scan();
+            self.close(steps);
+        }
+    }
+
+    /// Looks at each value of each cell once, with the counters of the base domains.
+    fn scan(&mut self)
+        requires scanned { IsScanned self.old.board self.old.counters 0 }
+        ensures scanned { IsScanned self.new.board self.new.counters
+            (self.new.board.problem.now.cells * values self.new.board.problem.now) }
+        ensures goes_on { GoesOn self.old self.new }
+    {
+        let problem = self.board.problem;
+        for cell in 0..problem.cells() {
+            for value in 0..problem.values() {
+                self.look_at(cell, value);
+            }
+        }
+    }
+}
