@@ -1,0 +1,107 @@
+-- Draws: what is left of the values of a cell behind those that were looked at.
+use Rattle.std.proofs.Common.{◌≡◌, ℕ, suc, ◌+◌, ◌-◌, ◌%◌, ◌<◌, ◌≤◌, Bool, true, false, cond, List, [], ◌∷◌, filter, length, get_or, refl, sym, ◌∙◌, ap, arith}
+use Rattle.std.specs.Prelude.{Contains, nat_lt}
+use Rattle.std.specs.List.{range_with_len, sum_by}
+use Rattle.std.proofs.lemmas.Bool.{ltb-false, lt-ltb, le-ltb, cond-true, cond-false}
+use Rattle.std.proofs.lemmas.List.Sums.{get_or-le-sum_by, sum_by-cons}
+use Rattle.std.proofs.lemmas.List.{get_or_default}
+use Rattle.wfc_lists.proofs.Lists.{Contains_first, Contains_later}
+use Rattle.wfc_problem.specs.Domains.{Test}
+use Rattle.wfc_problem.specs.Network.{Network, IsProblem, weight_of}
+use Rattle.wfc_problem.specs.Sizes.{values_at}
+use Rattle.wfc_problem.proofs.CallerLemmas.{some_weight, values_at_stand}
+use Rattle.wfc_choose.specs.Draw.{drawn, first_above}
+
+-- the numbers from v up to n that pass
+abbrev pub rest_from : (ℕ → Bool) → ℕ → ℕ → List ℕ
+rest_from p v n = filter p (range_with_len v (n - v))
+
+-- behind the last there is none
+pub rest_end : (p : ℕ → Bool) (v n : ℕ) → n ≤ v → rest_from p v n ≡ []
+rest_end p v n l = let z : n - v ≡ 0 = omega arith in ap (λ (m : ℕ). filter p (range_with_len v m)) z
+
+-- one that passes is the first
+pub rest_taken : (p : ℕ → Bool) (v n : ℕ) → v < n → p v ≡ true → rest_from p v n ≡ v ∷ rest_from p (v + 1) n
+rest_taken p v n l is =
+    let s : n - v ≡ suc (n - (v + 1)) = omega arith in
+    ap (λ (m : ℕ). filter p (range_with_len v m)) s ∙ cond-true (p v) (v ∷ rest_from p (v + 1) n) (rest_from p (v + 1) n) is
+
+-- one that doesn't is none of them
+pub rest_passed : (p : ℕ → Bool) (v n : ℕ) → v < n → p v ≡ false → rest_from p v n ≡ rest_from p (v + 1) n
+rest_passed p v n l is =
+    let s : n - v ≡ suc (n - (v + 1)) = omega arith in
+    ap (λ (m : ℕ). filter p (range_with_len v m)) s ∙ cond-false (p v) (v ∷ rest_from p (v + 1) n) (rest_from p (v + 1) n) is
+
+-- ---- sums
+
+-- the weight of one that passes moves from the rest to the sum
+pub sum_taken : (P : Network) (p : ℕ → Bool) (v n sum total : ℕ) → v < n → p v ≡ true → sum + sum_by (weight_of P) (rest_from p v n) ≡ total
+    → (sum + weight_of P v) + sum_by (weight_of P) (rest_from p (v + 1) n) ≡ total
+sum_taken P p v n sum total l is whole =
+    omega (arith, whole, ap (sum_by (weight_of P)) (rest_taken p v n l is), sum_by-cons (weight_of P) v (rest_from p (v + 1) n))
+
+-- and one that doesn't pass changes neither
+pub sum_passed : (P : Network) (p : ℕ → Bool) (v n sum total : ℕ) → v < n → p v ≡ false → sum + sum_by (weight_of P) (rest_from p v n) ≡ total
+    → sum + sum_by (weight_of P) (rest_from p (v + 1) n) ≡ total
+sum_passed P p v n sum total l is whole = omega (arith, whole, ap (sum_by (weight_of P)) (rest_passed p v n l is))
+
+-- behind the last value the sum is whole
+pub sum_end : (P : Network) (p : ℕ → Bool) (v n sum total : ℕ) → n ≤ v → sum + sum_by (weight_of P) (rest_from p v n) ≡ total → sum ≡ total
+sum_end P p v n sum total l whole = let z : sum_by (weight_of P) (rest_from p v n) ≡ 0 = ap (sum_by (weight_of P)) (rest_end p v n l) in omega (arith, whole, z)
+
+-- ---- the first above
+
+-- where the running sum exceeds the number the value is the one
+pub above_here : (P : Network) (p : ℕ → Bool) (v n number running : ℕ) → v < n → p v ≡ true → number < running + weight_of P v
+    → first_above P number running (rest_from p v n) ≡ v
+above_here P p v n number running l is less =
+    ap (first_above P number running) (rest_taken p v n l is) ∙ cond-true _ v _ (lt-ltb number (running + weight_of P v) less)
+
+-- where it doesn't, the one stands behind
+pub above_taken : (P : Network) (p : ℕ → Bool) (v n number running : ℕ) → v < n → p v ≡ true → running + weight_of P v ≤ number
+    → first_above P number (running + weight_of P v) (rest_from p (v + 1) n) ≡ first_above P number running (rest_from p v n)
+above_taken P p v n number running l is le =
+    sym (ap (first_above P number running) (rest_taken p v n l is) ∙ cond-false _ v _ (le-ltb number (running + weight_of P v) le))
+
+-- and so it does where the value doesn't pass
+pub above_passed : (P : Network) (p : ℕ → Bool) (v n number running : ℕ) → v < n → p v ≡ false
+    → first_above P number running (rest_from p (v + 1) n) ≡ first_above P number running (rest_from p v n)
+above_passed P p v n number running l is = sym (ap (first_above P number running) (rest_passed p v n l is))
+
+-- ---- the values of a cell
+
+-- each has a weight
+pub weight_some : (P : Network) → IsProblem P → (D : Test) (c k : ℕ) → k < length (values_at P D c) → 0 < weight_of P (get_or (values_at P D c) k 0)
+weight_some P p D c k l =
+    let vs : List ℕ = values_at P D c in
+    some_weight P p (get_or vs k 0) (values_at_stand P D c (get_or vs k 0) (k, l, get_or_default vs k (get_or vs k 0) 0 l)).1
+
+-- so of a cell that isn't empty the sum is above 0
+pub sum_some : (P : Network) → IsProblem P → (D : Test) (c : ℕ) → 0 < length (values_at P D c) → 0 < sum_by (weight_of P) (values_at P D c)
+sum_some P p D c some =
+    omega (arith, weight_some P p D c 0 some, get_or-le-sum_by (weight_of P) (values_at P D c) 0 0 some)
+
+-- ---- what is drawn
+
+-- the first value, or one behind it
+first_if : (P : Network) (number running v : ℕ) (vs : List ℕ) (b : Bool) → nat_lt number (running + weight_of P v) ≡ b
+    → (nat_lt number (running + weight_of P v) ≡ false → Contains vs (first_above P number (running + weight_of P v) vs))
+    → Contains (v ∷ vs) (cond b v (first_above P number (running + weight_of P v) vs))
+first_if P number running v vs true is rest = Contains_first v vs
+first_if P number running v vs false is rest = Contains_later v vs _ (rest is)
+
+-- where the whole sum exceeds the number, one of the values is found
+first_Contains : (P : Network) (number running : ℕ) (vs : List ℕ) → running ≤ number → number < running + sum_by (weight_of P) vs
+    → Contains vs (first_above P number running vs)
+first_Contains P number running [] low high = absurd (omega arith)
+first_Contains P number running (v ∷ vs) low high =
+    first_if P number running v vs (nat_lt number (running + weight_of P v)) refl
+    (λ above. first_Contains P number (running + weight_of P v) vs (ltb-false number (running + weight_of P v) above) (omega (arith, high, sum_by-cons (weight_of P) v vs)))
+
+-- of a cell that isn't empty one of its values is drawn
+pub drawn_one : (P : Network) → IsProblem P → (D : Test) (c word : ℕ) → 0 < length (values_at P D c) → Contains (values_at P D c) (drawn P (values_at P D c) word)
+unfolding drawn
+drawn_one P p D c word some =
+    let vs : List ℕ = values_at P D c in
+    let above : 0 < sum_by (weight_of P) vs = sum_some P p D c some in
+    first_Contains P (word % sum_by (weight_of P) vs) 0 vs (omega arith) (omega arith)

@@ -1,0 +1,4 @@
+pub mod CallerLemmas
+pub mod DrawLemmas
+pub mod IndexLemmas
+pub mod PickLemmas

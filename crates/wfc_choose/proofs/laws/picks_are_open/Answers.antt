@@ -1,0 +1,5 @@
+use Rattle.wfc_choose.proofs.PickLemmas.{picked_open, picked_none, picked_least, picked_first}
+use Rattle.wfc_choose.proofs.laws.picks_are_open.Goals as goal
+
+pub returns : goal.returns
+returns c = record { is_open = picked_open; none = picked_none; least = picked_least; first = picked_first }

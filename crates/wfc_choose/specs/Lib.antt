@@ -1,0 +1,4 @@
+pub mod Pick
+pub mod Draw
+pub mod Told
+pub mod Index

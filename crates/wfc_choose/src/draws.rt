@@ -1,0 +1,50 @@
+//! The value that a word draws.
+
+ghost use Rattle.std.specs.Prelude.{◌≡◌, ◌+◌, ◌*◌, ◌<◌, ◌≤◌, IsTrue};
+ghost use Rattle.std.specs.List.{sum_by};
+ghost use Rattle.wfc_problem.specs.Network.{weight_of};
+ghost use Rattle.wfc_problem.specs.Sizes.{values_at, size_at};
+ghost use Rattle.wfc_domains.specs.Domains.{Fits, has};
+ghost use Rattle.wfc_choose.specs.Draw.{drawn};
+
+use wfc_domains::Domains;
+use wfc_problem::Problem;
+
+/// The value that a word draws of those that stand at a cell: the first in rising order at which the running sum of
+/// the weights exceeds the word modulo the whole sum. It goes through the values twice, and takes no memory.
+pub fn draw(problem: &Problem, domains: &Domains, cell: u32, word: u64) -> u16
+    requires fits { Fits problem.now domains.now }
+    requires cell_in { cell < problem.now.cells }
+    requires some { 0 < size_at problem.now (has domains.now) cell }
+    ensures exact { result ≡ drawn problem.now (values_at problem.now (has domains.now) cell) word }
+    ensures stands { IsTrue (has domains.now cell result) }
+{
+    let number = word % weights_at(problem, domains, cell);
+    let mut running: u64 = 0;
+    for value in 0..problem.values() {
+        if domains.has(cell, value) {
+            running += u64::from(problem.weight(value));
+            if number < running {
+                return value;
+            }
+        }
+    }
+    unreachable!()
+}
+
+/// The sum of the weights of the values that stand at a cell.
+fn weights_at(problem: &Problem, domains: &Domains, cell: u32) -> u64
+    requires fits { Fits problem.now domains.now }
+    requires cell_in { cell < problem.now.cells }
+    requires some { 0 < size_at problem.now (has domains.now) cell }
+    ensures value { result ≡ sum_by (weight_of problem.now) (values_at problem.now (has domains.now) cell) }
+    ensures some { 0 < result }
+{
+    let mut sum: u64 = 0;
+    for value in 0..problem.values() {
+        if domains.has(cell, value) {
+            sum += u64::from(problem.weight(value));
+        }
+    }
+    sum
+}

@@ -1,0 +1,58 @@
+//! What the definitions imply. Each function does nothing; its contract is the law.
+
+ghost use Rattle.std.specs.Prelude.{◌≡◌, ℕ, ◌<◌, ◌≤◌, ◌↔◌, List, [], ◌∷◌, length, Option, Some, None, Contains, IsFalse, slice_index};
+ghost use Rattle.wfc_choose.specs.Draw.{drawn};
+ghost use Rattle.wfc_choose.specs.Pick.{Rule, picked, urge};
+ghost use Rattle.wfc_choose.specs.declared.RuleKind.TheVariants.{Scanline, Fewest, Ranked};
+ghost use Rattle.wfc_choose.specs.declared.TheConstants.{NO_RANK};
+ghost use Rattle.wfc_problem.specs.Domains.{Test};
+ghost use Rattle.wfc_problem.specs.Network.{Network, IsProblem};
+ghost use Rattle.wfc_problem.specs.Sizes.{is_dead, sizes_of, values_at, size_at};
+
+/// The picked cell is one with two values or more, and none is picked only where there is no such cell. No other
+/// comes before it by the rule, and none below it is level with it.
+pub fn picks_are_open()
+    ensures is_open { (rule : Rule) (sizes : List ℕ) (c : ℕ) → picked rule sizes ≡ Some c →
+        (c < length sizes) × (2 ≤ slice_index sizes c) }
+    ensures none { (rule : Rule) (sizes : List ℕ) (c : ℕ) → picked rule sizes ≡ None → c < length sizes →
+        slice_index sizes c ≤ 1 }
+    ensures least { (rule : Rule) (sizes : List ℕ) (c other : ℕ) → picked rule sizes ≡ Some c →
+        other < length sizes → 2 ≤ slice_index sizes other → urge rule sizes c ≤ urge rule sizes other }
+    ensures first { (rule : Rule) (sizes : List ℕ) (c other : ℕ) → picked rule sizes ≡ Some c →
+        other < length sizes → 2 ≤ slice_index sizes other → urge rule sizes other ≡ urge rule sizes c → c ≤ other }
+{}
+
+/// Where no cell is empty, none is picked exactly where each has one value.
+pub fn none_picked_means_single()
+    ensures single { (P : Network) (rule : Rule) (D : Test) → IsFalse (is_dead P D) →
+        (picked rule (sizes_of P D) ≡ None) ↔ ((c : ℕ) → c < P.cells → size_at P D c ≡ 1) }
+{}
+
+/// Of a cell that isn't empty one of its values is drawn.
+pub fn draws_are_values()
+    ensures one { (P : Network) → IsProblem P → (D : Test) (c word : ℕ) → 0 < size_at P D c →
+        Contains (values_at P D c) (drawn P (values_at P D c) word) }
+{}
+
+/// Each kind of rule picks its own cell of the sizes 1, 5, 0, 3, 2, 2, and none of 1, 0, 1. A cell without a rank comes
+/// last, and of cells with one rank the least comes first.
+pub fn small_picks()
+    ensures scanline { picked (record { kind = Scanline; ranks = [] }) (1 ∷ 5 ∷ 0 ∷ 3 ∷ 2 ∷ 2 ∷ []) ≡ Some 1 }
+    ensures fewest { picked (record { kind = Fewest; ranks = [] }) (1 ∷ 5 ∷ 0 ∷ 3 ∷ 2 ∷ 2 ∷ []) ≡ Some 4 }
+    ensures ranked { picked (record { kind = Ranked; ranks = 0 ∷ 9 ∷ 0 ∷ 8 ∷ [] }) (1 ∷ 5 ∷ 0 ∷ 3 ∷ 2 ∷ 2 ∷ []) ≡ Some 3 }
+    ensures level { picked (record { kind = Ranked; ranks = 0 ∷ 9 ∷ 0 ∷ 9 ∷ [] }) (1 ∷ 5 ∷ 0 ∷ 3 ∷ 2 ∷ 2 ∷ []) ≡ Some 1 }
+    ensures unranked { picked (record { kind = Ranked; ranks = [] }) (1 ∷ 1 ∷ 0 ∷ 3 ∷ 2 ∷ 2 ∷ []) ≡ Some 3 }
+    ensures none { picked (record { kind = Fewest; ranks = [] }) (1 ∷ 0 ∷ 1 ∷ []) ≡ None }
+    ensures empty { picked (record { kind = Scanline; ranks = [] }) [] ≡ None }
+{}
+
+/// Of the values 0 and 2 of weights 3 and 5 the words 2, 3, 7 and 8 draw 0, 2, 2 and 0: 8 goes round.
+pub fn small_draws()
+    ensures drawn { let P : Network = record { cells = 1; dirs = 4; neighbours = []; weights = 3 ∷ 1 ∷ 5 ∷ []; supports = []; base = [] } in
+        drawn P (0 ∷ 2 ∷ []) 2 ∷ drawn P (0 ∷ 2 ∷ []) 3 ∷ drawn P (0 ∷ 2 ∷ []) 7 ∷ drawn P (0 ∷ 2 ∷ []) 8 ∷ [] ≡ 0 ∷ 2 ∷ 2 ∷ 0 ∷ [] }
+{}
+
+/// The rank of a cell without one.
+pub fn numbers()
+    ensures rank { NO_RANK ≡ 4294967295 }
+{}
