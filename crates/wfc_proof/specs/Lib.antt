@@ -1,0 +1,3 @@
+pub mod Journal
+-- passed on from the crate below
+pub use Rattle.wfc_outside.specs.Count
