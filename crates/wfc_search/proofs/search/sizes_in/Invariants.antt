@@ -1,0 +1,10 @@
+use Rattle.std.proofs.Common.{◌≡◌, take}
+use Rattle.wfc_domains.specs.Store.{StoreView, left_of}
+use Rattle.wfc_problem.specs.Sizes.{sizes_of}
+use Rattle.wfc_search.proofs.search.sizes_in.Given as goal
+
+-- the sizes of the cells before this one
+abbrev pub invariant-loop-cell : goal.invariant-loop-cell
+invariant-loop-cell g l =
+    let store : StoreView = g.S.Store.view l.store in
+    l.sizes.items ≡ take l.cell (sizes_of store.problem (left_of store))

@@ -1,0 +1,45 @@
+-- Two small problems, on which laws try the definitions.
+use Rattle.std.specs.Prelude.{ℕ, true, List, [], ◌∷◌, Option, Some, None}
+use Rattle.rand_core.specs.Stream.{Stream}
+use Rattle.wfc_choose.specs.Pick.{Rule}
+use Rattle.wfc_choose.specs.declared.RuleKind.TheVariants.{Scanline}
+use Rattle.wfc_problem.specs.declared.TheConstants.{NO_CELL}
+use Rattle.wfc_problem.specs.declared.Literal.{Literal}
+use Rattle.wfc_problem.specs.Network.{Network}
+use Rattle.wfc_search.specs.Run.{State}
+use Rattle.wfc_search.specs.declared.Outcome.{Outcome}
+
+-- two cells side by side, whose values 0 and 1 of weights 1 and 3 must differ
+unfoldable pub pair : Network
+pair = record {
+  cells = 2;
+  dirs = 4;
+  neighbours = NO_CELL ∷ NO_CELL ∷ 1 ∷ NO_CELL ∷ 0 ∷ NO_CELL ∷ NO_CELL ∷ NO_CELL ∷ [];
+  weights = 1 ∷ 3 ∷ [];
+  supports = (1 ∷ []) ∷ [] ∷ (1 ∷ []) ∷ [] ∷ (0 ∷ []) ∷ [] ∷ (0 ∷ []) ∷ [] ∷ [];
+  base = true ∷ true ∷ true ∷ true ∷ [];
+}
+
+-- three cells in a ring, of which neighbours must differ
+unfoldable pub ring : Network
+ring = record {
+  cells = 3;
+  dirs = 4;
+  neighbours = 2 ∷ NO_CELL ∷ 1 ∷ NO_CELL ∷ 0 ∷ NO_CELL ∷ 2 ∷ NO_CELL ∷ 1 ∷ NO_CELL ∷ 0 ∷ NO_CELL ∷ [];
+  weights = 1 ∷ 3 ∷ [];
+  supports = (1 ∷ []) ∷ [] ∷ (1 ∷ []) ∷ [] ∷ (0 ∷ []) ∷ [] ∷ (0 ∷ []) ∷ [] ∷ [];
+  base = true ∷ true ∷ true ∷ true ∷ true ∷ true ∷ [];
+}
+
+-- each word is 2
+unfoldable pub twos : Stream
+twos = record { u32_after = λ cs. 2; u64_after = λ cs. 2; bytes_after = λ cs n. [] }
+
+-- the rule that takes the least cell
+abbrev pub scanline : Rule
+scanline = record { kind = Scanline; ranks = [] }
+
+-- an outcome with the literals, retractions and draws of its state
+abbrev pub summary : Option (Outcome × State) → Option (Outcome × List Literal × ℕ × ℕ)
+summary None = None
+summary (Some (outcome, s)) = Some (outcome, s.standing, s.retractions, s.draws)

@@ -1,0 +1,118 @@
+//! What the definitions give on small problems. Each function does nothing; its contract is the law.
+
+ghost use Rattle.std.specs.Prelude.{◌≡◌, ℕ, true, false, List, [], ◌∷◌, map, Option, Some, None};
+ghost use Rattle.wfc_domains.specs.Store.{StoreView};
+ghost use Rattle.wfc_domains.specs.declared.Cause.TheVariants.{Assumed, Arc};
+ghost use Rattle.wfc_domains.specs.declared.Removal.{Removal};
+ghost use Rattle.wfc_domains.specs.declared.Verdict.TheVariants.{Alive, Dead};
+ghost use Rattle.wfc_problem.specs.Rounds.{greatest, depth_of};
+ghost use Rattle.wfc_problem.specs.declared.Literal.TheVariants.{Is, Not};
+ghost use Rattle.wfc_proof.specs.declared.Line.TheVariants.{Remove, Try, Empty, End, Found, Out};
+ghost use Rattle.wfc_search.specs.Between.{Cuts, IsBetween, ways_left, work_left};
+ghost use Rattle.wfc_search.specs.Run.{last_choice, most_turns, outcome_of};
+ghost use Rattle.wfc_search.specs.Search.{draws_after, outcome_after};
+ghost use Rattle.wfc_search.specs.Small.{pair, ring, twos, scanline, summary};
+ghost use Rattle.wfc_search.specs.Telling.{end_line, level_lines, opening_lines, removal_lines, turn_lines};
+ghost use Rattle.wfc_search.specs.Volume.{at_least_one, product, volume_of};
+ghost use Rattle.wfc_search.specs.declared.Outcome.TheVariants.{Map, NoMap, Spent};
+ghost use Rattle.wfc_search.specs.declared.Turn.TheVariants.{Chose, Retracted, Ended};
+ghost use Rattle.wfc_search.specs.declared.TheConstants.{MAX_BUDGET};
+
+/// The largest budget, and products.
+pub fn numbers()
+    ensures budget { MAX_BUDGET ≡ 1000000000 }
+    ensures product { product (2 ∷ 3 ∷ 5 ∷ []) ≡ 30 }
+    ensures nothing { product [] ≡ 1 }
+    ensures empty { product (2 ∷ 0 ∷ 5 ∷ []) ≡ 0 }
+    ensures at_least_one { map at_least_one (0 ∷ 1 ∷ 3 ∷ []) ≡ 1 ∷ 1 ∷ 3 ∷ [] }
+{}
+
+/// The last choice is the last `Is`, with what stands before it.
+pub fn last_choices()
+    ensures last { last_choice (Is 0 1 ∷ Not 2 1 ∷ Is 1 5 ∷ Not 2 0 ∷ Not 3 4 ∷ [])
+        ≡ Some (record { before = Is 0 1 ∷ Not 2 1 ∷ []; cell = 1; value = 5 }) }
+    ensures none { last_choice (Not 2 1 ∷ Not 3 4 ∷ []) ≡ None }
+{}
+
+/// A pair of cells that differ has a map, in which a word of 2 draws value 1 of weight 3 first. A ring of three cells
+/// that differ has none: without a budget the run is spent at once, and with one it finds out.
+pub fn small_runs()
+    ensures pair { summary (outcome_of pair scanline 0 twos) ≡ Some (Map, Is 0 1 ∷ [], 0, 1) }
+    ensures spent { summary (outcome_of ring scanline 0 twos) ≡ Some (Spent, Is 0 1 ∷ [], 0, 1) }
+    ensures none { summary (outcome_of ring scanline 1 twos) ≡ Some (NoMap, Not 0 1 ∷ [], 1, 1) }
+    ensures volumes { map volume_of (pair ∷ ring ∷ []) ≡ 4 ∷ 8 ∷ [] }
+    ensures turns { most_turns ring 1 ≡ 14 }
+{}
+
+/// A literal cuts what stands, and a choice has another value beside its own. What is left to try, and to do.
+pub fn literals_cut()
+    ensures choice { Cuts ring (greatest ring []) (Is 0 1) }
+    ensures only { Cuts pair (greatest pair (Is 0 1 ∷ [])) (Is 1 0) → ⊥ }
+    ensures gone { Cuts pair (greatest pair (Is 0 1 ∷ [])) (Not 1 1) → ⊥ }
+    ensures last { Cuts pair (greatest pair (Is 0 1 ∷ [])) (Not 1 0) }
+    ensures outside { Cuts ring (greatest ring []) (Not 3 0) → ⊥ }
+    ensures between { IsBetween ring 1 [] 0 }
+    ensures too_many { IsBetween ring 1 [] 2 → ⊥ }
+    ensures ways { ways_left ring [] ∷ ways_left ring (Is 0 1 ∷ []) ∷ ways_left ring (Not 0 1 ∷ []) ∷ [] ≡ 8 ∷ 2 ∷ 1 ∷ [] }
+    ensures work { work_left ring 1 (Is 0 1 ∷ []) 0 ∷ work_left ring 1 (Not 0 1 ∷ []) 1 ∷ [] ≡ 12 ∷ 5 ∷ [] }
+{}
+
+/// Of the removals those for want of support are told, in their order, and then the cell that is empty. Before the first
+/// turn the opening is told; a choice tells its value first, a retraction no line of its own, and an end its line.
+pub fn lines_are_told()
+    ensures removals { removal_lines (record { cell = 4; value = 2; before = 3; cause = Assumed }
+        ∷ record { cell = 5; value = 1; before = 2; cause = Arc 3 } ∷ record { cell = 5; value = 0; before = 1; cause = Arc 0 } ∷ [])
+        ≡ Remove 5 1 3 ∷ Remove 5 0 0 ∷ [] }
+    ensures level { level_lines (record {
+      problem = ring;
+      standing = Not 0 1 ∷ [];
+      spare = 5;
+      marks = 1 ∷ [];
+      verdict = Dead 6;
+      removals = record { cell = 7; value = 7; before = 2; cause = Arc 1 } ∷ record { cell = 5; value = 1; before = 2; cause = Arc 3 } ∷ [];
+    })
+        ≡ Remove 5 1 3 ∷ Empty 6 ∷ [] }
+    ensures opening { opening_lines (record {
+      problem = ring;
+      standing = [];
+      spare = 6;
+      marks = [];
+      verdict = Alive;
+      removals = record { cell = 5; value = 1; before = 2; cause = Arc 3 } ∷ [];
+    }) ≡ Remove 5 1 3 ∷ [] }
+    ensures no_opening { opening_lines (record {
+      problem = ring;
+      standing = Not 0 1 ∷ [];
+      spare = 6;
+      marks = 0 ∷ [];
+      verdict = Alive;
+      removals = record { cell = 5; value = 1; before = 2; cause = Arc 3 } ∷ [];
+    }) ≡ [] }
+    ensures choice { turn_lines (Chose 3 8) (record {
+      problem = ring;
+      standing = Is 3 8 ∷ [];
+      spare = 6;
+      marks = 0 ∷ [];
+      verdict = Dead 6;
+      removals = record { cell = 5; value = 1; before = 2; cause = Arc 3 } ∷ [];
+    }) ≡ Try 3 8 ∷ Remove 5 1 3 ∷ Empty 6 ∷ [] }
+    ensures retraction { turn_lines (Retracted 3 8) (record {
+      problem = ring;
+      standing = Not 3 8 ∷ [];
+      spare = 6;
+      marks = 0 ∷ [];
+      verdict = Alive;
+      removals = record { cell = 5; value = 1; before = 2; cause = Arc 3 } ∷ [];
+    }) ≡ Remove 5 1 3 ∷ [] }
+    ensures ends { map end_line (Map ∷ NoMap ∷ Spent ∷ []) ≡ Found ∷ End ∷ Out ∷ [] }
+    ensures end { turn_lines (Ended Spent) (record {
+      problem = ring;
+      standing = [];
+      spare = 6;
+      marks = [];
+      verdict = Dead 6;
+      removals = record { cell = 5; value = 1; before = 2; cause = Arc 3 } ∷ [];
+    }) ≡ Out ∷ [] }
+    ensures draws { map (λ turn. draws_after turn 7) (Chose 3 8 ∷ Retracted 3 8 ∷ Ended Map ∷ []) ≡ 8 ∷ 7 ∷ 7 ∷ [] }
+    ensures outcomes { map outcome_after (Chose 3 8 ∷ Retracted 3 8 ∷ Ended Spent ∷ []) ≡ None ∷ None ∷ Some Spent ∷ [] }
+{}
