@@ -1,31 +1,22 @@
 -- How the steps of `fill` follow from those of its devices.
-use Rattle.std.proofs.Common.{◌≡◌, ℕ, ◌<◌, List, length, ap, sym, ◌∙◌, subst, refl, arith, Result, Err, []}
-use Rattle.std.proofs.lemmas.List.{take_all}
-use Rattle.wfc_outside.specs.Count.{HasRisen}
+use Rattle.std.proofs.Common.{◌≡◌, ℕ, ◌<◌, List, length, ap, sym, ◌∙◌, subst, refl, Result, Err, []}
 use Rattle.wfc_outside.specs.Folder.{FolderView, IsMissing, IsFaultOf}
 use Rattle.wfc_outside.specs.Whole.{IsLongerThan}
-use Rattle.wfc_outside.specs.Sink.{SinkView, after_bytes, IsFault, IsFaultAfterFront}
+use Rattle.wfc_outside.specs.Sink.{SinkView}
 use Rattle.wfc_outside.specs.declared.whole.ReadFault.{ReadFault}
 use Rattle.wfc_outside.specs.declared.whole.ReadFault.TheVariants.{Missing, Failed, TooLong, NoMemory}
 use Rattle.wfc_cli.specs.Request.{Request}
 use Rattle.wfc_cli.specs.Answer.{EndsRequest, IsLegalMap, IsLeastMap}
 use Rattle.wfc_cli.specs.Order.{IsAtMost}
-use Rattle.wfc_cli.specs.PlainRules.{plain_rules}
+use Rattle.wfc_model.specs.Legal.{plain_rules}
 use Rattle.wfc_model.specs.Raster.{Raster, raster_of, numbers_of}
 use Rattle.wfc_model.specs.Legal.{IsLegalPicture}
-use Rattle.wfc_model.proofs.Rasters.{numbers_of-raster_of}
+use Rattle.wfc_model.proofs.CallerLemmas.{numbers_of-raster_of}
 use Rattle.wfc_grid.specs.Grid.{GridView, IsGrid, is_cell, raster_of_grid}
 use Rattle.std.specs.List.{All, Contains}
 use Rattle.std.proofs.Common.{◌*◌, true}
 use Rattle.std.proofs.lemmas.List.Elements.{All-weaker, All-contains}
 use Rattle.wfc_cli.specs.declared.fault.Fault.TheVariants.{Read}
-
--- a fault behind the whole text is one behind a front of it
-pub fault_behind : (old mid new : SinkView) (text : List ℕ) → mid ≡ after_bytes old text → IsFault mid new → IsFaultAfterFront old new text
-fault_behind old mid new text same fault = record {
-  front = (length text, fault.same ∙ ap (λ (s : SinkView). s.told) same ∙ ap (λ xs. (after_bytes old xs).told) (sym (take_all (length text) text (omega arith))));
-  counted = subst (λ faults. HasRisen faults new.faults) (ap (λ (s : SinkView). s.faults) same) fault.counted;
-}
 
 -- why a file isn't read ends the request
 pub ends_unread : {T : Type 0} (request : Request) (before after : FolderView) (out : SinkView) (r : Result T ReadFault)
@@ -74,9 +65,7 @@ found_least request inside sample map cells same bytes wide high many legal leas
 pub found_grid : (sample map : GridView) (cells : List ℕ) → IsGrid sample → cells ≡ sample.bytes → 0 < map.width → 0 < map.height → length map.bytes ≡ map.width * map.height
     → All (Contains cells) map.bytes → IsGrid map
 found_grid sample map cells grid bytes wide high many from_sample = record {
-  wide = wide;
-  high = high;
-  full = many;
+  filled = record { some_column = wide; some_row = high; as_many = many };
   printable = All-weaker (Contains cells) (λ b. is_cell b ≡ true)
       (λ b within. All-contains (λ b. is_cell b ≡ true) sample.bytes b grid.printable (subst (λ xs. Contains xs b) bytes within)) map.bytes from_sample;
 }

@@ -3,15 +3,15 @@ use Rattle.std.proofs.Common.{◌≡◌, ℕ, ◌<◌, ◌≢◌, ◌⊎◌, inl
 use Rattle.std.specs.Result.{MatchResult, IsErr}
 use Rattle.std.specs.Option.{MatchOption}
 use Rattle.wfc_model.specs.Raster.{Raster}
-use Rattle.wfc_outside.specs.Folder.{File, FolderView, file_of, IsToldAs, IsMissing, IsFaultOf}
+use Rattle.wfc_outside.specs.Count.{HasRisen}
+use Rattle.wfc_outside.specs.Folder.{File, FolderView, file_of, IsToldAs, IsMissing}
 use Rattle.wfc_outside.specs.Sink.{SinkView, after_bytes, after_finish, IsFaultAfterFront}
 use Rattle.wfc_outside.specs.declared.whole.ReadFault.TheVariants as reading
 use Rattle.wfc_grid.specs.declared.reading.GridFault.{GridFault}
 use Rattle.wfc_grid.specs.declared.reading.GridFault.TheVariants as grid
 use Rattle.wfc_grid.specs.Grid.{GridView}
-use Rattle.wfc_grid.specs.Fault.{fault_of}
-use Rattle.wfc_grid.proofs.Grids.{one_grid, spelled-right}
-use Rattle.wfc_text.specs.Line.{lines_of}
+use Rattle.wfc_grid.specs.Reading.{grid_of}
+use Rattle.wfc_grid.proofs.CallerLemmas.{one_grid, grid_read}
 use Rattle.wfc_cli.specs.Request.{Request, request_of}
 use Rattle.wfc_cli.specs.Fault.{Ending, fault_status, grid_status, status_of}
 use Rattle.wfc_cli.specs.Answer.{AreUntouched, CausesGridFault, Devices, EndsRequest, EndsWords, FromFile, HasNoMap, HasSmallSample, HasSmallSize, IsAnswer, IsLeastMap, IsLeastText, IsLegalMap, IsSample, IsTask, TellsEnding, named_file}
@@ -56,10 +56,10 @@ same_sample : (file : List ℕ) (a b : GridView) → IsSample file a → IsSampl
 same_sample file a b first second = one_grid file a b first.spelled second.spelled
 
 -- a fault of a grid is one of a text that spells no sample
-no_sample : (file : List ℕ) (fault : GridFault) → fault_of (lines_of file) ≡ Some fault → HasNoSample file
+no_sample : (file : List ℕ) (fault : GridFault) → grid_of file ≡ Err fault → HasNoSample file
 no_sample file fault first sample read =
-    let none : fault_of (lines_of file) ≡ None = spelled-right file sample read.spelled read.small in
-    let both : Some fault ≡ None = sym first ∙ none in cc
+    let made : grid_of file ≡ Ok sample = grid_read file sample read.spelled read.small in
+    let both : Err fault ≡ Ok sample = sym first ∙ made in cc
 
 -- the statuses of a grid's faults
 data GridStatus (k : ℕ) : Type 0 where
@@ -310,7 +310,7 @@ takes_front words before after err_old err_new status answer request file given 
 -- a file that is told isn't missing
 not_missing : (words : List (List ℕ)) (before after : FolderView) (request : Request) (file : List ℕ) → IsGiven words before request file → IsMissing before after request.file → ⊥
 not_missing words before after request file given missing =
-    let lacks : file_of given.files request.file ≡ None = subst (λ (contents : Option (List File)). MatchOption contents (IsFaultOf before after request.file) (λ files. file_of files request.file ≡ None)) given.told missing in
+    let lacks : file_of given.files request.file ≡ None = subst (λ (contents : Option (List File)). MatchOption contents (HasRisen (before.faults request.file) (after.faults request.file)) (λ files. file_of files request.file ≡ None)) given.told missing.lacking in
     let both : None ≡ Some file = sym lacks ∙ given.there in cc
 
 -- where there is a sample with sides that are long enough, nothing of the input stands in the way

@@ -1,5 +1,5 @@
 -- What a call of the program may answer, and why: one case for each way to end.
-use Rattle.std.specs.Prelude.{◌≡◌, ℕ, ◌*◌, ◌<◌, ◌≤◌, ◌⊎◌, List, [], length, Some, Result, Ok, Err, MatchResult}
+use Rattle.std.specs.Prelude.{◌≡◌, ℕ, ◌*◌, ◌<◌, ◌≤◌, ◌⊎◌, List, [], length, Result, Ok, Err, MatchResult}
 use Rattle.wfc_model.specs.Raster.{Raster, numbers_of}
 use Rattle.wfc_model.specs.Legal.{IsLegalPicture}
 use Rattle.wfc_outside.specs.Folder.{FolderView, IsToldAs, IsMissing, IsFaultOf}
@@ -9,10 +9,9 @@ use Rattle.wfc_grid.specs.declared.reading.GridFault.{GridFault}
 use Rattle.wfc_grid.specs.declared.reading.GridFault.TheVariants as grid
 use Rattle.wfc_grid.specs.Grid.{GridView, raster_of_grid}
 use Rattle.wfc_grid.specs.Spelling.{SpellsGrid, grid_text}
-use Rattle.wfc_grid.specs.Fault.{fault_of}
-use Rattle.wfc_text.specs.Line.{lines_of}
+use Rattle.wfc_grid.specs.Reading.{grid_of}
 use Rattle.wfc_cli.specs.Order.{IsAtMost}
-use Rattle.wfc_cli.specs.PlainRules.{plain_rules}
+use Rattle.wfc_model.specs.Legal.{plain_rules}
 use Rattle.wfc_cli.specs.Request.{Request, request_of}
 use Rattle.wfc_cli.specs.ErrorLine.{fault_text, line}
 use Rattle.wfc_cli.specs.Fault.{Ending, status_of}
@@ -67,7 +66,7 @@ HasSmallSize request file = (sample : GridView) × IsSample file sample × (requ
 -- a fault of a grid is the first one in its lines; memory may run out on any bytes
 abbrev pub CausesGridFault : List ℕ → GridFault → Type 0
 CausesGridFault file grid.NoMemory = Unit {0}
-CausesGridFault file fault = (length file ≤ 16777216) × (fault_of (lines_of file) ≡ Some fault)
+CausesGridFault file fault = (length file ≤ 16777216) × (grid_of file ≡ Err fault)
 
 -- the bytes of the file are the cause of the fault
 abbrev pub Causes : Request → List ℕ → Fault → Type 0

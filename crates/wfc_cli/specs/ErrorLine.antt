@@ -1,7 +1,5 @@
 -- The line that the error stream gets where a call ends without its answer.
-use Rattle.std.specs.Prelude.{◌≡◌, ℕ, List, ◌++◌, codes, decimal, Result, MatchResult}
-use Rattle.wfc_outside.specs.Sink.{SinkView, after_bytes, IsFaultAfterFront}
-use Rattle.wfc_outside.specs.declared.SinkFault.{SinkFault}
+use Rattle.std.specs.Prelude.{List, ◌++◌, codes, decimal, ℕ}
 use Rattle.wfc_outside.specs.declared.whole.ReadFault.{ReadFault}
 use Rattle.wfc_outside.specs.declared.whole.ReadFault.TheVariants as reading
 use Rattle.wfc_grid.specs.declared.reading.GridFault.{GridFault}
@@ -57,7 +55,3 @@ fault_text SampleBelowN file = about (codes "learn SampleBelowN") file
 fault_text SizeBelowN file = codes "build SizeBelowN"
 fault_text Out file = codes "device Failed out"
 fault_text NoMemory file = memory_text
-
--- the sink took these bytes, or a front of them and then met a counted fault
-abbrev pub Puts : SinkView → SinkView → List ℕ → Result (Unit {0}) SinkFault → Type 0
-Puts old new bytes result = MatchResult result (λ _. new ≡ after_bytes old bytes) (λ _. IsFaultAfterFront old new bytes)

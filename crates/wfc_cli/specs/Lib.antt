@@ -1,5 +1,4 @@
 pub mod Order
-pub mod PlainRules
 pub mod Request
 pub mod RequestView
 pub mod Fault

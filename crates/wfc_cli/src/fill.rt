@@ -12,10 +12,7 @@ use crate::search::{Sample, least_map};
 use crate::words::FillRequest;
 use std::alloc::Global;
 use wfc_grid::{Grid, read, write};
-use wfc_outside::{Folder, NoMemory, Sink, read_all, write_all};
-
-/// How many bytes a sample's file may have.
-const FILE_LIMIT: u64 = 16_777_216;
+use wfc_outside::{Folder, MAX_FILE_BYTES, NoMemory, Sink, read_all, write_all};
 
 /// Reads the sample, and writes the text of the least legal map of the size asked for.
 pub(crate) fn fill<F: Folder, O: Sink>(
@@ -27,7 +24,7 @@ pub(crate) fn fill<F: Folder, O: Sink>(
     requires in_range { IsInRange (request_view request.now) }
     ensures ends { EndsRequest (request_view request.now) (record { folder = F.seen folder.old; out = O.seen out.old }) (record { folder = F.seen folder.new; out = O.seen out.new }) result }
 {
-    let file = read_all(alloc, folder, request.file, FILE_LIMIT)?;
+    let file = read_all(alloc, folder, request.file, MAX_FILE_BYTES)?;
     let text = map_text(alloc, request, &file)?;
     put_answer(out, &text)?;
     Ok(())

@@ -2,8 +2,8 @@
 
 ghost use Rattle.std.specs.Prelude.{◌≡◌, ◌++◌, ◌≤◌, codes, decimal};
 ghost use Rattle.std.specs.List.{flat_map};
-ghost use Rattle.wfc_outside.specs.Sink.{SinkView};
-ghost use Rattle.wfc_cli.specs.ErrorLine.{Puts, about, command_text, fault_text, grid_fault_text, line, memory_text, reading_text};
+ghost use Rattle.wfc_outside.specs.Sink.{Puts};
+ghost use Rattle.wfc_cli.specs.ErrorLine.{about, command_text, fault_text, grid_fault_text, line, memory_text, reading_text};
 
 use crate::fault::{CommandFault, Fault, ValueName};
 use itoa::Buffer;
@@ -13,7 +13,6 @@ use wfc_outside::{ReadFault, Sink, SinkFault, write_all};
 /// Writes the line of a fault of a command whose words name this file.
 pub(crate) fn tell<E: Sink>(err: &mut E, fault: &Fault, file: &[u8]) -> Result<(), SinkFault>
     ensures told { Puts (E.seen err.old) (E.seen err.new) (line (fault_text fault.now file.now)) result }
-    ensures counts { (E.seen err.old).faults ≤ (E.seen err.new).faults }
 {
     match fault {
         Fault::NoMap => plain(err, b"no map"),
@@ -29,7 +28,6 @@ pub(crate) fn tell<E: Sink>(err: &mut E, fault: &Fault, file: &[u8]) -> Result<(
 
 fn tell_command<E: Sink>(err: &mut E, fault: &CommandFault) -> Result<(), SinkFault>
     ensures told { Puts (E.seen err.old) (E.seen err.new) (line (command_text fault.now)) result }
-    ensures counts { (E.seen err.old).faults ≤ (E.seen err.new).faults }
 {
     match fault {
         CommandFault::Refused => plain(err, b"command refused"),
@@ -43,7 +41,6 @@ fn tell_command<E: Sink>(err: &mut E, fault: &CommandFault) -> Result<(), SinkFa
 
 fn tell_reading<E: Sink>(err: &mut E, fault: &ReadFault, file: &[u8]) -> Result<(), SinkFault>
     ensures told { Puts (E.seen err.old) (E.seen err.new) (line (reading_text fault.now file.now)) result }
-    ensures counts { (E.seen err.old).faults ≤ (E.seen err.new).faults }
 {
     match fault {
         ReadFault::Missing => named(err, b"device Missing", file),
@@ -55,7 +52,6 @@ fn tell_reading<E: Sink>(err: &mut E, fault: &ReadFault, file: &[u8]) -> Result<
 
 fn tell_grid<E: Sink>(err: &mut E, fault: &GridFault, file: &[u8]) -> Result<(), SinkFault>
     ensures told { Puts (E.seen err.old) (E.seen err.new) (line (grid_fault_text fault.now file.now)) result }
-    ensures counts { (E.seen err.old).faults ≤ (E.seen err.new).faults }
 {
     match fault {
         GridFault::Empty => named(err, b"grid Empty", file),
@@ -68,7 +64,6 @@ fn tell_grid<E: Sink>(err: &mut E, fault: &GridFault, file: &[u8]) -> Result<(),
 
 fn tell_ragged<E: Sink>(err: &mut E, number: u32, file: &[u8]) -> Result<(), SinkFault>
     ensures told { Puts (E.seen err.old) (E.seen err.new) (line (about (codes "grid Ragged line=" ++ decimal number) file.now)) result }
-    ensures counts { (E.seen err.old).faults ≤ (E.seen err.new).faults }
 {
     let mut buffer = Buffer::new();
     let number = buffer.format(number).as_bytes();
@@ -85,7 +80,6 @@ fn tell_bad_byte<E: Sink>(
     file: &[u8],
 ) -> Result<(), SinkFault>
     ensures told { Puts (E.seen err.old) (E.seen err.new) (line (about (codes "grid BadByte line=" ++ decimal number ++ codes " column=" ++ decimal column) file.now)) result }
-    ensures counts { (E.seen err.old).faults ≤ (E.seen err.new).faults }
 {
     let mut buffer = Buffer::new();
     let mut column_buffer = Buffer::new();
@@ -108,7 +102,6 @@ fn tell_bad_byte<E: Sink>(
 /// Writes the line of a text.
 fn plain<E: Sink>(err: &mut E, text: &[u8]) -> Result<(), SinkFault>
     ensures told { Puts (E.seen err.old) (E.seen err.new) (line text.now) result }
-    ensures counts { (E.seen err.old).faults ≤ (E.seen err.new).faults }
 {
     put(err, &[b"wfc: ", text, b"\n"])
 }
@@ -116,7 +109,6 @@ fn plain<E: Sink>(err: &mut E, text: &[u8]) -> Result<(), SinkFault>
 /// Writes the line of a text that speaks of a file.
 fn named<E: Sink>(err: &mut E, text: &[u8], file: &[u8]) -> Result<(), SinkFault>
     ensures told { Puts (E.seen err.old) (E.seen err.new) (line (about text.now file.now)) result }
-    ensures counts { (E.seen err.old).faults ≤ (E.seen err.new).faults }
 {
     put(err, &[b"wfc: ", text, b" file=", file, b"\n"])
 }
@@ -124,7 +116,6 @@ fn named<E: Sink>(err: &mut E, text: &[u8], file: &[u8]) -> Result<(), SinkFault
 /// Writes the parts, one behind another.
 fn put<E: Sink>(err: &mut E, parts: &[&[u8]]) -> Result<(), SinkFault>
     ensures put { Puts (E.seen err.old) (E.seen err.new) (flat_map (λ part. part.now) parts.now) result }
-    ensures counts { (E.seen err.old).faults ≤ (E.seen err.new).faults }
 {
     for part in parts {
         write_all(err, part)?;

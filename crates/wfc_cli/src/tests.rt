@@ -1,10 +1,11 @@
 ghost use Rattle.std.specs.Prelude.{◌≤◌};
+ghost use Rattle.wfc_outside.specs.MemoryFolder.{seen_folder};
 
 use crate::{Fault, refuse, run};
 use std::alloc::{AllocError, Global};
 use std::process::Abort;
 use std::test::Fail;
-use wfc_outside::{MemoryFolder, MemorySink};
+use wfc_outside::{Folder, FolderFault, MemoryFolder, MemorySink};
 
 /// The files of the tests.
 const FILES: [(&str, &str); 8] = [
@@ -76,7 +77,7 @@ fn check_in_pieces(rt: &(impl Abort + AllocGlobal), piece: usize, row: Row) -> R
     check(rt, row, folder, out, err)
 }
 
-static ROWS: [Row; 31] = [
+static ROWS: [Row; 32] = [
     ("fill chk.txt 2 2 2", 0, "ab\nba\n", ""),
     ("fill chk.txt 02 0002 2", 0, "ab\nba\n", ""),
     // The one window disagrees with itself one column on.
@@ -95,6 +96,7 @@ static ROWS: [Row; 31] = [
     ("fill - 2 2 2", 3, "", "wfc: command refused\n"),
     ("fill chk.ppm 7 2 2", 3, "", "wfc: command refused\n"),
     ("fill chk.PPM 2 2 2", 3, "", "wfc: command refused\n"),
+    ("fill chk.txt 7 2 2", 3, "", "wfc: command value MODEL\n"),
     ("fill chk.txt 7 0 2", 3, "", "wfc: command value MODEL\n"),
     ("fill chk.txt 0 2 2", 3, "", "wfc: command value MODEL\n"),
     (
@@ -237,6 +239,66 @@ fn sinks_fail(rt: HostRuntime) -> Result<(), Fail> {
     check_failing_sink(&rt, 2, 5, "ab", "wfc: device Failed out\n")?;
     check_failing_sink(&rt, 3, 5, "ab\nb", "wfc: device Failed out\n")?;
     check_failing_sink(&rt, 4, 0, "ab\nba\n", "")
+}
+
+/// The last flush fails: the whole answer was taken, and the call says that its device failed.
+#[test]
+fn sinks_fail_to_finish(rt: HostRuntime) -> Result<(), Fail> {
+    let folder = folder_of(rt.alloc(), 100)?;
+    let mut out = sink_of(rt.alloc(), 2)?;
+    out.fail_finish();
+    let err = sink_of(rt.alloc(), 100)?;
+    let row = (
+        "fill chk.txt 2 2 2",
+        5,
+        "ab\nba\n",
+        "wfc: device Failed out\n",
+    );
+    check(&rt, row, folder, out, err)
+}
+
+/// A folder in memory that counts its calls, and those among them that ask for another file than the named one.
+#[derive(Drop)]
+struct Recorder {
+    folder: MemoryFolder,
+    named: &'static str,
+    calls: u32,
+    others: u32,
+}
+
+impl Folder for Recorder {
+    ghost seen = { λ f. seen_folder f.folder };
+
+    fn read_at(&mut self, name: &str, at: u64, buf: &mut [u8]) -> Result<usize, FolderFault> {
+        self.calls = self.calls.saturating_add(1);
+        if name != self.named {
+            self.others = self.others.saturating_add(1);
+        }
+        Folder::read_at(&mut self.folder, name, at, buf)
+    }
+}
+
+#[test]
+fn no_file_is_read_that_is_not_named(rt: HostRuntime) -> Result<(), Fail> {
+    for (line, status, _, _) in ROWS {
+        let mut folder = Recorder {
+            folder: folder_of(rt.alloc(), 100)?,
+            named: line.split_whitespace().nth(1).unwrap_or(""),
+            calls: 0,
+            others: 0,
+        };
+        let mut out = sink_of(rt.alloc(), 100)?;
+        let mut err = sink_of(rt.alloc(), 100)?;
+        let words = words_of(rt.alloc(), line)?;
+        assert_eq!(rt;
+            run(rt.alloc(), &words, &mut folder, &mut out, &mut err),
+            status,
+            "{line}"
+        );
+        assert_eq!(rt; folder.others, 0, "{line}");
+        assert_eq!(rt; folder.calls == 0, status == 3, "{line}");
+    }
+    Ok(())
 }
 
 /// Runs a command whose error stream has room for eight bytes, and takes seven at a time.
