@@ -13,8 +13,6 @@ mod painting;
 mod pins;
 mod problem;
 mod supports;
-#[cfg(test)]
-mod tests;
 
 pub use painting::picture_of;
 pub use problem::build;
