@@ -7,7 +7,7 @@ use Rattle.std.proofs.lemmas.List.Sums.{get_or-le-sum_by, sum_by-cons}
 use Rattle.std.proofs.lemmas.List.{get_or_default}
 use Rattle.wfc_lists.proofs.Lists.{Contains_first, Contains_later}
 use Rattle.wfc_problem.specs.Domains.{Test}
-use Rattle.wfc_problem.specs.Network.{Network, IsProblem, weight_of}
+use Rattle.wfc_problem.specs.Network.{Network, IsProblem, value_weight}
 use Rattle.wfc_problem.specs.Sizes.{values_at}
 use Rattle.wfc_problem.proofs.CallerLemmas.{some_weight, values_at_stand}
 use Rattle.wfc_choose.specs.Draw.{drawn, first_above}
@@ -35,33 +35,33 @@ rest_passed p v n l is =
 -- ---- sums
 
 -- the weight of one that passes moves from the rest to the sum
-pub sum_taken : (P : Network) (p : ℕ → Bool) (v n sum total : ℕ) → v < n → p v ≡ true → sum + sum_by (weight_of P) (rest_from p v n) ≡ total
-    → (sum + weight_of P v) + sum_by (weight_of P) (rest_from p (v + 1) n) ≡ total
+pub sum_taken : (P : Network) (p : ℕ → Bool) (v n sum total : ℕ) → v < n → p v ≡ true → sum + sum_by (value_weight P) (rest_from p v n) ≡ total
+    → (sum + value_weight P v) + sum_by (value_weight P) (rest_from p (v + 1) n) ≡ total
 sum_taken P p v n sum total l is whole =
-    omega (arith, whole, ap (sum_by (weight_of P)) (rest_taken p v n l is), sum_by-cons (weight_of P) v (rest_from p (v + 1) n))
+    omega (arith, whole, ap (sum_by (value_weight P)) (rest_taken p v n l is), sum_by-cons (value_weight P) v (rest_from p (v + 1) n))
 
 -- and one that doesn't pass changes neither
-pub sum_passed : (P : Network) (p : ℕ → Bool) (v n sum total : ℕ) → v < n → p v ≡ false → sum + sum_by (weight_of P) (rest_from p v n) ≡ total
-    → sum + sum_by (weight_of P) (rest_from p (v + 1) n) ≡ total
-sum_passed P p v n sum total l is whole = omega (arith, whole, ap (sum_by (weight_of P)) (rest_passed p v n l is))
+pub sum_passed : (P : Network) (p : ℕ → Bool) (v n sum total : ℕ) → v < n → p v ≡ false → sum + sum_by (value_weight P) (rest_from p v n) ≡ total
+    → sum + sum_by (value_weight P) (rest_from p (v + 1) n) ≡ total
+sum_passed P p v n sum total l is whole = omega (arith, whole, ap (sum_by (value_weight P)) (rest_passed p v n l is))
 
 -- behind the last value the sum is whole
-pub sum_end : (P : Network) (p : ℕ → Bool) (v n sum total : ℕ) → n ≤ v → sum + sum_by (weight_of P) (rest_from p v n) ≡ total → sum ≡ total
-sum_end P p v n sum total l whole = let z : sum_by (weight_of P) (rest_from p v n) ≡ 0 = ap (sum_by (weight_of P)) (rest_end p v n l) in omega (arith, whole, z)
+pub sum_end : (P : Network) (p : ℕ → Bool) (v n sum total : ℕ) → n ≤ v → sum + sum_by (value_weight P) (rest_from p v n) ≡ total → sum ≡ total
+sum_end P p v n sum total l whole = let z : sum_by (value_weight P) (rest_from p v n) ≡ 0 = ap (sum_by (value_weight P)) (rest_end p v n l) in omega (arith, whole, z)
 
 -- ---- the first above
 
 -- where the running sum exceeds the number the value is the one
-pub above_here : (P : Network) (p : ℕ → Bool) (v n number running : ℕ) → v < n → p v ≡ true → number < running + weight_of P v
+pub above_here : (P : Network) (p : ℕ → Bool) (v n number running : ℕ) → v < n → p v ≡ true → number < running + value_weight P v
     → first_above P number running (rest_from p v n) ≡ v
 above_here P p v n number running l is less =
-    ap (first_above P number running) (rest_taken p v n l is) ∙ cond-true _ v _ (lt-ltb number (running + weight_of P v) less)
+    ap (first_above P number running) (rest_taken p v n l is) ∙ cond-true _ v _ (lt-ltb number (running + value_weight P v) less)
 
 -- where it doesn't, the one stands behind
-pub above_taken : (P : Network) (p : ℕ → Bool) (v n number running : ℕ) → v < n → p v ≡ true → running + weight_of P v ≤ number
-    → first_above P number (running + weight_of P v) (rest_from p (v + 1) n) ≡ first_above P number running (rest_from p v n)
+pub above_taken : (P : Network) (p : ℕ → Bool) (v n number running : ℕ) → v < n → p v ≡ true → running + value_weight P v ≤ number
+    → first_above P number (running + value_weight P v) (rest_from p (v + 1) n) ≡ first_above P number running (rest_from p v n)
 above_taken P p v n number running l is le =
-    sym (ap (first_above P number running) (rest_taken p v n l is) ∙ cond-false _ v _ (le-ltb number (running + weight_of P v) le))
+    sym (ap (first_above P number running) (rest_taken p v n l is) ∙ cond-false _ v _ (le-ltb number (running + value_weight P v) le))
 
 -- and so it does where the value doesn't pass
 pub above_passed : (P : Network) (p : ℕ → Bool) (v n number running : ℕ) → v < n → p v ≡ false
@@ -71,37 +71,37 @@ above_passed P p v n number running l is = sym (ap (first_above P number running
 -- ---- the values of a cell
 
 -- each has a weight
-pub weight_some : (P : Network) → IsProblem P → (D : Test) (c k : ℕ) → k < length (values_at P D c) → 0 < weight_of P (get_or (values_at P D c) k 0)
+pub weight_some : (P : Network) → IsProblem P → (D : Test) (c k : ℕ) → k < length (values_at P D c) → 0 < value_weight P (get_or (values_at P D c) k 0)
 weight_some P p D c k l =
     let vs : List ℕ = values_at P D c in
     some_weight P p (get_or vs k 0) (values_at_stand P D c (get_or vs k 0) (k, l, get_or_default vs k (get_or vs k 0) 0 l)).1
 
 -- so of a cell that isn't empty the sum is above 0
-pub sum_some : (P : Network) → IsProblem P → (D : Test) (c : ℕ) → 0 < length (values_at P D c) → 0 < sum_by (weight_of P) (values_at P D c)
+pub sum_some : (P : Network) → IsProblem P → (D : Test) (c : ℕ) → 0 < length (values_at P D c) → 0 < sum_by (value_weight P) (values_at P D c)
 sum_some P p D c some =
-    omega (arith, weight_some P p D c 0 some, get_or-le-sum_by (weight_of P) (values_at P D c) 0 0 some)
+    omega (arith, weight_some P p D c 0 some, get_or-le-sum_by (value_weight P) (values_at P D c) 0 0 some)
 
 -- ---- what is drawn
 
 -- the first value, or one behind it
-first_if : (P : Network) (number running v : ℕ) (vs : List ℕ) (b : Bool) → nat_lt number (running + weight_of P v) ≡ b
-    → (nat_lt number (running + weight_of P v) ≡ false → Contains vs (first_above P number (running + weight_of P v) vs))
-    → Contains (v ∷ vs) (cond b v (first_above P number (running + weight_of P v) vs))
+first_if : (P : Network) (number running v : ℕ) (vs : List ℕ) (b : Bool) → nat_lt number (running + value_weight P v) ≡ b
+    → (nat_lt number (running + value_weight P v) ≡ false → Contains vs (first_above P number (running + value_weight P v) vs))
+    → Contains (v ∷ vs) (cond b v (first_above P number (running + value_weight P v) vs))
 first_if P number running v vs true is rest = Contains_first v vs
 first_if P number running v vs false is rest = Contains_later v vs _ (rest is)
 
 -- where the whole sum exceeds the number, one of the values is found
-first_Contains : (P : Network) (number running : ℕ) (vs : List ℕ) → running ≤ number → number < running + sum_by (weight_of P) vs
+first_Contains : (P : Network) (number running : ℕ) (vs : List ℕ) → running ≤ number → number < running + sum_by (value_weight P) vs
     → Contains vs (first_above P number running vs)
 first_Contains P number running [] low high = absurd (omega arith)
 first_Contains P number running (v ∷ vs) low high =
-    first_if P number running v vs (nat_lt number (running + weight_of P v)) refl
-    (λ above. first_Contains P number (running + weight_of P v) vs (ltb-false number (running + weight_of P v) above) (omega (arith, high, sum_by-cons (weight_of P) v vs)))
+    first_if P number running v vs (nat_lt number (running + value_weight P v)) refl
+    (λ above. first_Contains P number (running + value_weight P v) vs (ltb-false number (running + value_weight P v) above) (omega (arith, high, sum_by-cons (value_weight P) v vs)))
 
 -- of a cell that isn't empty one of its values is drawn
 pub drawn_one : (P : Network) → IsProblem P → (D : Test) (c word : ℕ) → 0 < length (values_at P D c) → Contains (values_at P D c) (drawn P (values_at P D c) word)
 unfolding drawn
 drawn_one P p D c word some =
     let vs : List ℕ = values_at P D c in
-    let above : 0 < sum_by (weight_of P) vs = sum_some P p D c some in
-    first_Contains P (word % sum_by (weight_of P) vs) 0 vs (omega arith) (omega arith)
+    let above : 0 < sum_by (value_weight P) vs = sum_some P p D c some in
+    first_Contains P (word % sum_by (value_weight P) vs) 0 vs (omega arith) (omega arith)

@@ -1,14 +1,14 @@
 -- The value that a word draws.
 use Rattle.std.specs.Prelude.{ℕ, List, [], ◌∷◌, ◌+◌, ◌%◌, nat_lt, if◌then◌else◌}
 use Rattle.std.specs.List.{sum_by}
-use Rattle.wfc_problem.specs.Network.{Network, weight_of}
+use Rattle.wfc_problem.specs.Network.{Network, value_weight}
 
 -- the first of the values whose running sum of weights, counted on from `running`, exceeds the number
 abbrev pub first_above : Network → ℕ → ℕ → List ℕ → ℕ
 first_above P number running [] = 0
 first_above P number running (v ∷ vs) =
-    if nat_lt number (running + weight_of P v) then v else first_above P number (running + weight_of P v) vs
+    if nat_lt number (running + value_weight P v) then v else first_above P number (running + value_weight P v) vs
 
 -- the first of the values whose running sum of weights exceeds the word modulo the sum of all their weights
 unfoldable pub drawn : Network → List ℕ → ℕ → ℕ
-drawn P values word = first_above P (word % sum_by (weight_of P) values) 0 values
+drawn P values word = first_above P (word % sum_by (value_weight P) values) 0 values

@@ -2,7 +2,7 @@
 
 ghost use Rattle.std.specs.Prelude.{◌≡◌, ◌+◌, ◌*◌, ◌<◌, ◌≤◌, IsTrue};
 ghost use Rattle.std.specs.List.{sum_by};
-ghost use Rattle.wfc_problem.specs.Network.{weight_of};
+ghost use Rattle.wfc_problem.specs.Network.{value_weight};
 ghost use Rattle.wfc_problem.specs.Sizes.{values_at, size_at};
 ghost use Rattle.wfc_domains.specs.Domains.{Fits, has};
 ghost use Rattle.wfc_choose.specs.Draw.{drawn};
@@ -37,7 +37,7 @@ fn weights_at(problem: &Problem, domains: &Domains, cell: u32) -> u64
     requires fits { Fits problem.now domains.now }
     requires cell_in { cell < problem.now.cells }
     requires some { 0 < size_at problem.now (has domains.now) cell }
-    ensures value { result ≡ sum_by (weight_of problem.now) (values_at problem.now (has domains.now) cell) }
+    ensures value { result ≡ sum_by (value_weight problem.now) (values_at problem.now (has domains.now) cell) }
     ensures some { 0 < result }
 {
     let mut sum: u64 = 0;

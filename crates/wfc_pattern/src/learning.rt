@@ -1,6 +1,7 @@
 //! Learning: all windows of a sample, and which of them are different.
 ghost use Rattle.std.specs.Prelude.{◌≡◌, ℕ, ◌*◌, ◌<◌, ◌≤◌, false, IfOk, MatchBool, ⊤, length, IfSome, IfNone};
 ghost use Rattle.wfc_outside.specs.Gives.{Gives};
+ghost use Rattle.wfc_picture.specs.declared.palette.TheConstants.{MAX_PIXELS};
 ghost use Rattle.wfc_model.specs.Raster.{IsRaster, height_of};
 ghost use Rattle.wfc_model.specs.Window.{starts};
 ghost use Rattle.wfc_model.specs.Learned.{arising, learned};
@@ -51,7 +52,7 @@ pub fn learn(
     requires small_side { n ≤ 6 }
     requires some_image { 0 < symmetry }
     requires eight_images { symmetry ≤ 8 }
-    requires limit { picture.now.width * height_of picture.now ≤ 1048576 }
+    requires limit { picture.now.width * height_of picture.now ≤ MAX_PIXELS }
     ensures exact { Gives NoMemory (λ patterns. patterns) result (patterns_of picture.now n symmetry wrap) }
 {
     if is_below_n(picture, n, wrap) {
@@ -87,7 +88,7 @@ fn tally_of(
     requires some_side { 0 < n }
     requires some_image { 0 < symmetry }
     requires eight_images { symmetry ≤ 8 }
-    requires limit { picture.now.width * height_of picture.now ≤ 1048576 }
+    requires limit { picture.now.width * height_of picture.now ≤ MAX_PIXELS }
     requires room { is_below_n picture.now n wrap ≡ false }
     ensures tallied { IfOk result (λ found. IfSome found (λ tally. tally
         ≡ tallied (arising picture.now n symmetry wrap))) }
@@ -117,7 +118,7 @@ fn count_patterns(
     requires small_side { n ≤ 6 }
     requires some_image { 0 < symmetry }
     requires eight_images { symmetry ≤ 8 }
-    requires limit { picture.now.width * height_of picture.now ≤ 1048576 }
+    requires limit { picture.now.width * height_of picture.now ≤ MAX_PIXELS }
     requires room { is_below_n picture.now n wrap ≡ false }
     ensures value { IfOk result (λ count. count ≡ length (learned picture.now n symmetry wrap)) }
 {

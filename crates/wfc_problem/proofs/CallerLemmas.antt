@@ -6,7 +6,7 @@ use Rattle.wfc_lists.proofs.Tables.{row_below}
 use Rattle.wfc_model.specs.Direction.{opposite}
 use Rattle.wfc_model.proofs.DirectionLemmas.{opposite_below}
 use Rattle.wfc_problem.specs.declared.TheConstants.{MAX_PAIRS, MAX_VALUES, MAX_WEIGHT}
-use Rattle.wfc_problem.specs.Network.{Network, values, weight_of, neighbour, supports_of, IsProblem}
+use Rattle.wfc_problem.specs.Network.{Network, values, value_weight, neighbour, supports_of, IsProblem}
 use Rattle.wfc_problem.proofs.Tables.{neighbour_read}
 pub use Rattle.wfc_problem.proofs.Tables.{IsRead, neighbour_read, neighbour_is, neighbour_not_none, neighbour_dir, supports_at, supports_past, supports_inside, flag_at, flag_past, flag_inside, base_inside}
 pub use Rattle.wfc_problem.proofs.Supports.{support_in, supports_le, supports_few, ok_both}
@@ -73,11 +73,11 @@ pub base_table : (P : Network) → IsProblem P → length P.base ≡ P.cells * v
 base_table P p = p.sized.base_table
 
 -- a value has a weight
-pub some_weight : (P : Network) → IsProblem P → (v : ℕ) → v < values P → 0 < weight_of P v
+pub some_weight : (P : Network) → IsProblem P → (v : ℕ) → v < values P → 0 < value_weight P v
 some_weight P p = p.weighed.some_weight
 
 -- of at most 16,777,216
-pub small_weight : (P : Network) → IsProblem P → (v : ℕ) → v < values P → weight_of P v ≤ MAX_WEIGHT
+pub small_weight : (P : Network) → IsProblem P → (v : ℕ) → v < values P → value_weight P v ≤ MAX_WEIGHT
 small_weight P p = p.weighed.small_weight
 
 -- the supports of a value rise

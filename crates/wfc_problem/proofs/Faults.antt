@@ -7,7 +7,7 @@ use Rattle.wfc_model.specs.Direction.{opposite}
 use Rattle.wfc_problem.specs.declared.Part.TheVariants.{Cells, Neighbours, Weights, Supports, Base}
 use Rattle.wfc_problem.specs.declared.ProblemFault.TheVariants.{TooLarge, NotSymmetric, BadIndex, NotBack, Lengths, BadWeight}
 use Rattle.wfc_problem.specs.declared.TheConstants.{MAX_PAIRS, MAX_VALUES, MAX_WEIGHT, NO_CELL}
-use Rattle.wfc_problem.specs.Network.{Network, values, weight_of, neighbour, supports_of, ok, IsSized, IsIndexed, IsWeighed, IsProblem}
+use Rattle.wfc_problem.specs.Network.{Network, values, value_weight, neighbour, supports_of, ok, HasTables, IsIndexed, IsWeighed, IsProblem}
 use Rattle.wfc_problem.specs.Fault.{first_failing, lengths_fault, size_fault, neighbours_fault, supports_fault, weight_fault, back_fault, symmetry_fault, problem_fault_of, is_entry, is_weight, rises, leads_back, returns, names_cell, is_mutual}
 use Rattle.wfc_problem.specs.Symmetry.{IsEarliest}
 use Rattle.std.proofs.lemmas.Bool.{cases_lt, cases_eq, and_parts, and_from, or_cases, or_left, or_right, eqb-true, eq-eqb, ltb-true, lt-ltb, leb-true, le-leb, not-false, not_from_true}
@@ -38,7 +38,7 @@ symmetry_is P o earliest = ap (option_map (λ p. NotSymmetric p.0 p.1)) (earlies
 -- ---- what each check shows
 
 -- the counts and lengths, and the number of pairs
-pub sized : (P : Network) → lengths_fault P ≡ None → size_fault P ≡ None → IsSized P
+pub sized : (P : Network) → lengths_fault P ≡ None → size_fault P ≡ None → HasTables P
 sized P lengths size =
     let a = both_none _ _ lengths in
     let b = both_none _ _ a.1 in
@@ -101,10 +101,10 @@ indexed P neighbours supports = record {
 pub weighed : (P : Network) → weight_fault P ≡ None → IsWeighed P
 weighed P none = record { some_weight = λ v l. (each v l).0; small_weight = λ v l. (each v l).1 }
   where
-    each : (v : ℕ) → v < values P → (0 < weight_of P v) × (weight_of P v ≤ MAX_WEIGHT)
+    each : (v : ℕ) → v < values P → (0 < value_weight P v) × (value_weight P v ≤ MAX_WEIGHT)
     each v l =
         let parts = and_parts _ _ (not-false _ (position_fails (λ w. not (is_weight w)) P.weights (map_none (λ v. BadWeight v) _ none) v 0 l)) in
-        (ltb-true 0 (weight_of P v) parts.0, leb-true (weight_of P v) MAX_WEIGHT parts.1)
+        (ltb-true 0 (value_weight P v) parts.0, leb-true (value_weight P v) MAX_WEIGHT parts.1)
 
 -- the cell that is named
 names_cell_is : (c : ℕ) (o : Option ℕ) → names_cell c o ≡ true → o ≡ Some c
@@ -112,7 +112,7 @@ names_cell_is c None t = cc
 names_cell_is c (Some n) t = ap (λ (m : ℕ). Some m) (eqb-true n c t)
 
 -- the ways back
-pub goes_back : (P : Network) → IsSized P → back_fault P ≡ None → (c d n : ℕ) → neighbour P c d ≡ Some n → neighbour P n (opposite d) ≡ Some c
+pub goes_back : (P : Network) → HasTables P → back_fault P ≡ None → (c d n : ℕ) → neighbour P c d ≡ Some n → neighbour P n (opposite d) ≡ Some c
 goes_back P s none c d n e =
     let r = neighbour_read P c d n e in
     let l = row_below c d P.dirs P.cells (omega (arith, r.inside, s.neighbours_table)) in
@@ -120,7 +120,7 @@ goes_back P s none c d n e =
     names_cell_is c (neighbour P n (opposite d)) (sym (ap (returns P c d) e) ∙ t)
 
 -- the symmetry
-pub goes_both_ways : (P : Network) → IsSized P → symmetry_fault P ≡ None → (v w d : ℕ) → Contains (supports_of P v d) w → Contains (supports_of P w (opposite d)) v
+pub goes_both_ways : (P : Network) → HasTables P → symmetry_fault P ≡ None → (v w d : ℕ) → Contains (supports_of P v d) w → Contains (supports_of P w (opposite d)) v
 goes_both_ways P s none v w d k =
     let at = supports_inside P v d w k in
     let l = row_below v d P.dirs (values P) (omega (arith, at.1, s.supports_table)) in
@@ -205,7 +205,7 @@ supports_none P p = maps (λ at. BadIndex Supports at) _ (position_none (λ ws. 
 -- the weights
 weights_none : (P : Network) → IsProblem P → weight_fault P ≡ None
 weights_none P p = maps (λ v. BadWeight v) _ (position_none (λ w. not (is_weight w)) P.weights 0
-    (λ k l. not_from_true _ (and_from _ _ (lt-ltb 0 (weight_of P k) (p.weighed.some_weight k l)) (le-leb (weight_of P k) MAX_WEIGHT (p.weighed.small_weight k l)))))
+    (λ k l. not_from_true _ (and_from _ _ (lt-ltb 0 (value_weight P k) (p.weighed.some_weight k l)) (le-leb (value_weight P k) MAX_WEIGHT (p.weighed.small_weight k l)))))
 
 -- the ways back
 leads_true : (P : Network) → IsProblem P → (c d : ℕ) → leads_back P c d ≡ true

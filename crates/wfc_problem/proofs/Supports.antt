@@ -9,7 +9,7 @@ use Rattle.wfc_lists.proofs.Lists.{has_Contains, Contains_has}
 use Rattle.wfc_model.specs.Direction.{opposite}
 use Rattle.wfc_model.proofs.DirectionLemmas.{opposite-opposite}
 use Rattle.wfc_problem.specs.declared.TheConstants.{MAX_VALUES}
-use Rattle.wfc_problem.specs.Network.{Network, values, supports_of, ok, IsSized, IsIndexed, IsProblem}
+use Rattle.wfc_problem.specs.Network.{Network, values, supports_of, ok, HasTables, IsIndexed, IsProblem}
 
 -- number k of a rising list is at least k
 rising_ge : (xs : List ℕ) → IsStrictlyIncreasing xs → (k : ℕ) → k < length xs → k ≤ get_or xs k 0
@@ -43,7 +43,7 @@ supports_le P i v d = elim (cases_lt 0 (length xs)) [
     k = length xs - 1
 
 -- so there are at most 4,096
-pub supports_few : (P : Network) → IsSized P → IsIndexed P → (v d : ℕ) → length (supports_of P v d) ≤ MAX_VALUES
+pub supports_few : (P : Network) → HasTables P → IsIndexed P → (v d : ℕ) → length (supports_of P v d) ≤ MAX_VALUES
 supports_few P s i v d = omega (arith, supports_le P i v d, s.few_values)
 
 -- what may stand beside a value has the value beside it the other way

@@ -20,8 +20,8 @@ abbrev pub values : Network → ℕ
 values P = length P.weights
 
 -- the weight of value v, 0 where there is no such value
-abbrev pub weight_of : Network → ℕ → ℕ
-weight_of P v = slice_index P.weights v
+abbrev pub value_weight : Network → ℕ → ℕ
+value_weight P v = slice_index P.weights v
 
 -- the cell that an entry of the neighbour table names, if any
 abbrev pub named : ℕ → Option ℕ
@@ -52,7 +52,7 @@ abbrev pub in_base : Network → ℕ → ℕ → Bool
 in_base P c v = has_flag (values P) P.base c v
 
 -- the counts are within the limits, and the tables have their lengths, so that each entry can be read
-pub record IsSized (P : Network) : Type 0 where
+pub record HasTables (P : Network) : Type 0 where
   pub some_cell : 0 < P.cells
   pub few_cells : P.cells ≤ MAX_PAIRS
   pub four_or_six : (P.dirs ≡ 4) ⊎ (P.dirs ≡ 6)
@@ -71,14 +71,14 @@ pub record IsIndexed (P : Network) : Type 0 where
 
 -- each weight is 1 to 16,777,216
 pub record IsWeighed (P : Network) : Type 0 where
-  pub some_weight : (v : ℕ) → v < values P → 0 < weight_of P v
-  pub small_weight : (v : ℕ) → v < values P → weight_of P v ≤ MAX_WEIGHT
+  pub some_weight : (v : ℕ) → v < values P → 0 < value_weight P v
+  pub small_weight : (v : ℕ) → v < values P → value_weight P v ≤ MAX_WEIGHT
 
 -- a problem: at least one cell, four or six directions, 1 to 4,096 values with weights 1 to 16,777,216,
 -- at most 8,388,608 pairs; a neighbour's neighbour the other way is the cell, and what may stand beside
 -- v in a direction has v beside it the other way
 pub record IsProblem (P : Network) : Type 0 where
-  pub sized : IsSized P
+  pub sized : HasTables P
   pub indexed : IsIndexed P
   pub weighed : IsWeighed P
   pub back : (c d n : ℕ) → neighbour P c d ≡ Some n → neighbour P n (opposite d) ≡ Some c

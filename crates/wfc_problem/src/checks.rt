@@ -6,7 +6,7 @@ ghost use Rattle.std.specs.List.Sorted.{IsStrictlyIncreasing};
 ghost use Rattle.std.specs.Result.{result_err};
 ghost use Rattle.wfc_model.specs.Direction.{opposite};
 ghost use Rattle.wfc_problem.specs.Fault.{problem_fault_of, lengths_fault, size_fault, neighbours_fault, supports_fault, weight_fault, back_fault, symmetry_fault, rises, leads_back, first_failing, is_entry, is_weight};
-ghost use Rattle.wfc_problem.specs.Network.{IsSized, IsIndexed, values};
+ghost use Rattle.wfc_problem.specs.Network.{HasTables, IsIndexed, values};
 
 use crate::symmetry::check_symmetry;
 use crate::{MAX_PAIRS, MAX_VALUES, MAX_WEIGHT, NO_CELL, Part, Parts, ProblemFault, opposite};
@@ -59,7 +59,7 @@ fn check_size(parts: &Parts) -> Result<(), ProblemFault>
 }
 
 fn check_neighbours(parts: &Parts) -> Result<(), ProblemFault>
-    requires sized { IsSized parts.now }
+    requires sized { HasTables parts.now }
     ensures value { result_err result ≡ neighbours_fault parts.now }
 {
     match first_wrong_entry(&parts.neighbours, parts.cells) {
@@ -81,7 +81,7 @@ fn first_wrong_entry(entries: &[u32], cells: u32) -> Option<usize>
 }
 
 fn check_supports(parts: &Parts) -> Result<(), ProblemFault>
-    requires sized { IsSized parts.now }
+    requires sized { HasTables parts.now }
     ensures value { result_err result ≡ supports_fault parts.now }
 {
     match first_wrong_list(&parts.supports, parts.weights.len()) {
@@ -116,7 +116,7 @@ fn rises_below(numbers: &[u16], limit: usize) -> bool
 }
 
 fn check_weights(parts: &Parts) -> Result<(), ProblemFault>
-    requires sized { IsSized parts.now }
+    requires sized { HasTables parts.now }
     ensures value { result_err result ≡ weight_fault parts.now }
 {
     match first_wrong_weight(&parts.weights) {
@@ -134,7 +134,7 @@ fn first_wrong_weight(weights: &[u32]) -> Option<usize>
 }
 
 fn check_ways_back(parts: &Parts) -> Result<(), ProblemFault>
-    requires sized { IsSized parts.now }
+    requires sized { HasTables parts.now }
     requires indexed { IsIndexed parts.now }
     ensures value { result_err result ≡ back_fault parts.now }
 {
@@ -148,7 +148,7 @@ fn check_ways_back(parts: &Parts) -> Result<(), ProblemFault>
 
 /// The first direction in which the cell's neighbour doesn't lead back.
 fn first_one_way(parts: &Parts, cell: u32) -> Option<u8>
-    requires sized { IsSized parts.now }
+    requires sized { HasTables parts.now }
     requires indexed { IsIndexed parts.now }
     requires cell_in { cell < parts.now.cells }
     ensures value { result ≡ first_failing (leads_back parts.now cell) parts.now.dirs }
@@ -159,7 +159,7 @@ fn first_one_way(parts: &Parts, cell: u32) -> Option<u8>
 /// Whether the cell beside `cell` in direction `dir`, if there is one, has `cell` beside it the
 /// other way.
 fn leads_back(parts: &Parts, cell: u32, dir: u8) -> bool
-    requires sized { IsSized parts.now }
+    requires sized { HasTables parts.now }
     requires indexed { IsIndexed parts.now }
     requires cell_in { cell < parts.now.cells }
     requires dir_in { dir < parts.now.dirs }

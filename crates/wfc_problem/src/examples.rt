@@ -7,7 +7,7 @@ ghost use Rattle.wfc_problem.specs.Assignment.{IsLegalAssignment, LiesIn};
 ghost use Rattle.wfc_problem.specs.Corner.{corner};
 ghost use Rattle.wfc_problem.specs.Domains.{IsSupported, IsArcConsistent, IsDead, IsLiteralIn, HasOnly, base_with, leaves, support_count};
 ghost use Rattle.wfc_problem.specs.Fault.{problem_fault_of, size_fault};
-ghost use Rattle.wfc_problem.specs.Network.{IsProblem, values, weight_of, neighbour, supports_of, ok, in_base};
+ghost use Rattle.wfc_problem.specs.Network.{IsProblem, values, value_weight, neighbour, supports_of, ok, in_base};
 ghost use Rattle.wfc_problem.specs.Rounds.{depth_of, greatest};
 ghost use Rattle.wfc_problem.specs.Sizes.{first_values, is_dead, sizes_of, values_at};
 ghost use Rattle.wfc_problem.specs.declared.Literal.TheVariants.{Is, Not};
@@ -18,7 +18,7 @@ ghost use Rattle.wfc_problem.specs.declared.ProblemFault.TheVariants.{TooLarge, 
 /// The tables are read row by row, and nothing is there out of range.
 pub fn tables_are_read()
     ensures values { values corner ≡ 3 }
-    ensures weights { map (weight_of corner) (range_with_len 0 4) ≡ 5 ∷ 1 ∷ 3 ∷ 0 ∷ [] }
+    ensures weights { map (value_weight corner) (range_with_len 0 4) ≡ 5 ∷ 1 ∷ 3 ∷ 0 ∷ [] }
     ensures neighbours { map (neighbour corner 0) (range_with_len 0 5)
         ≡ None ∷ Some 2 ∷ Some 1 ∷ None ∷ None ∷ [] }
     ensures no_cell { neighbour corner 4 0 ≡ None }

@@ -9,7 +9,7 @@ ghost use Rattle.std.specs.Result.{result_err};
 ghost use Rattle.wfc_model.specs.Direction.{opposite};
 ghost use Rattle.wfc_problem.specs.Fault.{problem_fault_of};
 ghost use Rattle.wfc_problem.specs.Rounds.{depth_of};
-ghost use Rattle.wfc_problem.specs.Network.{values, weight_of, neighbour, supports_of, ok, in_base, IsProblem};
+ghost use Rattle.wfc_problem.specs.Network.{values, value_weight, neighbour, supports_of, ok, in_base, IsProblem};
 
 mod checks;
 pub mod examples;
@@ -289,7 +289,7 @@ impl Problem {
     #[inline]
     pub fn weight(&self, value: u16) -> u32
         requires value_in { value < values self.now }
-        ensures value { result ≡ weight_of self.now value }
+        ensures value { result ≡ value_weight self.now value }
         ensures problem { IsProblem self.now }
     {
         self.parts.weights[value as usize]

@@ -9,7 +9,7 @@ ghost use Rattle.std.specs.Prelude.{◌≡◌, ℕ, ◌+◌, ◌*◌, ◌<◌, �
 ghost use Rattle.std.specs.Result.{result_err};
 ghost use Rattle.wfc_model.specs.Direction.{opposite};
 ghost use Rattle.wfc_problem.specs.Fault.{is_mutual, symmetry_fault};
-ghost use Rattle.wfc_problem.specs.Network.{IsSized, IsIndexed, ok, values};
+ghost use Rattle.wfc_problem.specs.Network.{HasTables, IsIndexed, ok, values};
 ghost use Rattle.wfc_problem.specs.Symmetry.{IsEarliest, IsEndOf, AreBefore, ArePassed, IsPassed, HasReached, HaveReached};
 
 use crate::{MAX_VALUES, Parts, ProblemFault, opposite};
@@ -18,7 +18,7 @@ use crate::{MAX_VALUES, Parts, ProblemFault, opposite};
 const BLOCK: u16 = 128;
 
 pub fn check_symmetry(parts: &Parts) -> Result<(), ProblemFault>
-    requires sized { IsSized parts.now }
+    requires sized { HasTables parts.now }
     requires indexed { IsIndexed parts.now }
     ensures value { result_err result ≡ symmetry_fault parts.now }
 {
@@ -31,7 +31,7 @@ pub fn check_symmetry(parts: &Parts) -> Result<(), ProblemFault>
 /// The least value that supports one that doesn't support it, and the first direction in which it
 /// does so.
 fn first_one_sided(parts: &Parts) -> Option<(u16, u8)>
-    requires sized { IsSized parts.now }
+    requires sized { HasTables parts.now }
     requires indexed { IsIndexed parts.now }
     ensures value { IsEarliest (is_mutual parts.now) (values parts.now) parts.now.dirs result }
 {
@@ -53,7 +53,7 @@ fn first_one_sided(parts: &Parts) -> Option<(u16, u8)>
 /// Supports are looked at in blocks of neighbouring values, so that few lists are read at a time
 /// the other way.
 fn end_of_mutual(parts: &Parts, dir: u8, end: u16) -> u16
-    requires sized { IsSized parts.now }
+    requires sized { HasTables parts.now }
     requires indexed { IsIndexed parts.now }
     requires dir_in { dir < parts.now.dirs }
     requires end_in { end ≤ values parts.now }
@@ -70,7 +70,7 @@ fn end_of_mutual(parts: &Parts, dir: u8, end: u16) -> u16
 /// Goes on over the supports below `high` of the values below `end`, up to the first value that one
 /// of them lacks.
 fn end_of_block(parts: &Parts, dir: u8, high: u16, end: u16, passed: &mut [u16]) -> u16
-    requires sized { IsSized parts.now }
+    requires sized { HasTables parts.now }
     requires indexed { IsIndexed parts.now }
     requires dir_in { dir < parts.now.dirs }
     requires end_in { end ≤ values parts.now }
@@ -100,7 +100,7 @@ fn passed_below(
     passed: u16,
     places: &mut [u16],
 ) -> Option<u16>
-    requires sized { IsSized parts.now }
+    requires sized { HasTables parts.now }
     requires indexed { IsIndexed parts.now }
     requires value_in { value < values parts.now }
     requires dir_in { dir < parts.now.dirs }
@@ -126,7 +126,7 @@ fn passed_below(
 /// Whether `value` is among those that may stand beside `other`. The place in that list goes on to
 /// the first that isn't below `value`: values come in rising order, so no place has to go back.
 fn supports_back(parts: &Parts, other: u16, dir: u8, value: u16, places: &mut [u16]) -> bool
-    requires sized { IsSized parts.now }
+    requires sized { HasTables parts.now }
     requires indexed { IsIndexed parts.now }
     requires other_in { other < values parts.now }
     requires dir_in { dir < parts.now.dirs }

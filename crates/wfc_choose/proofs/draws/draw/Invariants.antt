@@ -1,6 +1,6 @@
 use Rattle.std.proofs.Common.{◌≡◌, ◌+◌, ◌*◌, ◌≤◌}
 use Rattle.std.specs.List.{sum_by}
-use Rattle.wfc_problem.specs.Network.{values, weight_of}
+use Rattle.wfc_problem.specs.Network.{values, value_weight}
 use Rattle.wfc_problem.specs.Sizes.{values_at}
 use Rattle.wfc_domains.specs.Domains.{has}
 use Rattle.wfc_choose.specs.Draw.{first_above}
@@ -10,8 +10,8 @@ use Rattle.wfc_choose.proofs.draws.draw.Given as goal
 -- what is drawn stands behind the values so far
 abbrev pub invariant-loop-value : goal.invariant-loop-value
 invariant-loop-value l = record {
-  whole : l.running + sum_by (weight_of l.problem) (rest_from (has l.domains l.cell) l.value (values l.problem))
-      ≡ sum_by (weight_of l.problem) (values_at l.problem (has l.domains) l.cell);
+  whole : l.running + sum_by (value_weight l.problem) (rest_from (has l.domains l.cell) l.value (values l.problem))
+      ≡ sum_by (value_weight l.problem) (values_at l.problem (has l.domains) l.cell);
   behind : first_above l.problem l.number l.running (rest_from (has l.domains l.cell) l.value (values l.problem))
       ≡ first_above l.problem l.number 0 (values_at l.problem (has l.domains) l.cell);
   below : l.running ≤ l.number;

@@ -1,6 +1,6 @@
 use Rattle.std.proofs.Common.{◌≡◌, ◌+◌, ◌*◌, ◌≤◌}
 use Rattle.std.specs.List.{sum_by}
-use Rattle.wfc_problem.specs.Network.{values, weight_of}
+use Rattle.wfc_problem.specs.Network.{values, value_weight}
 use Rattle.wfc_problem.specs.Sizes.{values_at}
 use Rattle.wfc_domains.specs.Domains.{has}
 use Rattle.wfc_choose.proofs.DrawLemmas.{rest_from}
@@ -9,7 +9,7 @@ use Rattle.wfc_choose.proofs.draws.weights_at.Given as goal
 -- with the weights of the values behind it the sum is whole
 abbrev pub invariant-loop-value : goal.invariant-loop-value
 invariant-loop-value l = record {
-  whole : l.sum + sum_by (weight_of l.problem) (rest_from (has l.domains l.cell) l.value (values l.problem))
-      ≡ sum_by (weight_of l.problem) (values_at l.problem (has l.domains) l.cell);
+  whole : l.sum + sum_by (value_weight l.problem) (rest_from (has l.domains l.cell) l.value (values l.problem))
+      ≡ sum_by (value_weight l.problem) (values_at l.problem (has l.domains) l.cell);
   small : l.sum ≤ 16777216 * l.value;
 }
