@@ -1,0 +1,2 @@
+pub mod Layout
+pub use Rattle.wfc_model.specs.Raster
