@@ -1,0 +1,5 @@
+pub mod Commands
+pub mod Request
+pub mod RequestView
+pub mod Rows
+pub mod Values

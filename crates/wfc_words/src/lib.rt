@@ -1,0 +1,16 @@
+//! The words of each command. A command is a row of a table, which `clap` reads as one simple command; what the words
+//! mean is `clap`'s definition of it.
+#![tactic(auto)]
+
+mod asked;
+mod commands;
+mod fault;
+mod kinds;
+mod reading;
+mod simple;
+mod values;
+
+pub use asked::Request;
+pub use fault::{CommandFault, ValueName};
+pub use kinds::{CommandKind, SourceModel};
+pub use reading::request;
