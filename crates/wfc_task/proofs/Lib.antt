@@ -1,0 +1,5 @@
+pub mod PlanLemmas
+pub mod WordLemmas
+pub mod StepLemmas
+pub mod DemoLemmas
+pub mod TaskLemmas

@@ -1,0 +1,61 @@
+-- How the code of tasks goes by their plans: each exit, and the end.
+use Rattle.std.proofs.Common.{◌≡◌, ℕ, List, Option, Result, Ok, Err, ap, ◌∙◌, inl, subst, refl}
+use Rattle.wfc_outside.specs.Folder.{FolderView}
+use Rattle.wfc_model.specs.Raster.{Raster}
+use Rattle.wfc_picture.specs.declared.symbol.Symbol.{Symbol}
+use Rattle.wfc_grid.specs.Grid.{GridView}
+use Rattle.wfc_pattern.specs.Patterns.{PatternsView}
+use Rattle.wfc_problem.specs.Network.{Network}
+use Rattle.wfc_pins.specs.PinView.{PinView}
+use Rattle.wfc_pins.specs.declared.steps.StepLine.{StepLine}
+use Rattle.wfc_choose.specs.declared.RuleKind.{RuleKind}
+use Rattle.wfc_render.specs.declared.form.Layout.{Layout}
+use Rattle.wfc_words.specs.RequestView.{RequestView}
+use Rattle.wfc_task.specs.declared.fault.Source.{Source}
+use Rattle.wfc_task.specs.declared.fault.Source.TheVariants.{Sample, Pins, Steps}
+use Rattle.wfc_task.specs.declared.fault.Fault.{Fault}
+use Rattle.wfc_task.specs.declared.fault.Fault.TheVariants.{Refused}
+use Rattle.wfc_task.specs.declared.fault.Refusal.{Refusal}
+use Rattle.wfc_task.specs.declared.task.Taught.{Taught}
+use Rattle.wfc_task.specs.Plan.{Plan, Goes, GivesStep, done, step, and_then}
+use Rattle.wfc_task.specs.Steps.{chosen, coloured, fitting, grid_in, laid, pins_in, posed, steps_in, taught}
+use Rattle.wfc_task.specs.Task.{Task, learn, fill, domains, file_plan, grid_plan, picture_plan, sample_plan, pins_file_plan, pins_plan, problem_plan, steps_file_plan, steps_plan, learn_plan, fill_plan, domains_plan}
+use Rattle.wfc_task.proofs.PlanLemmas.{refused, goes_step, goes_on, goes_out, goes_done}
+
+-- a step behind a plan that came to something, as the last
+pub then_step : {A B : Type 0} (plan : Plan A) (next : A → Result B Refusal) (before after : FolderView) (value : A) (result : Result B Refusal)
+    → Goes plan before after (Ok value) → GivesStep (next value) result → Goes (and_then plan (λ value. step (next value))) before after (refused result)
+then_step plan next before after value result first gives =
+    goes_on plan (λ value. step (next value)) before after after value (refused result) first (goes_step (next value) result after gives)
+
+-- a step that refuses, and goes no further
+pub step_out : {A B : Type 0} (wanted : Result A Refusal) (next : A → Plan B) (folder : FolderView) (refusal : Refusal)
+    → GivesStep wanted (Err refusal) → Goes (and_then (step wanted) next) folder folder (Err (Refused refusal))
+step_out wanted next folder refusal gives = goes_out (step wanted) next folder folder (Refused refusal) (goes_step wanted (Err refusal) folder gives)
+
+-- a step that came to something, and goes on
+pub step_on : {A B : Type 0} (wanted : Result A Refusal) (next : A → Plan B) (before after : FolderView) (value : A) (result : Result B Fault)
+    → GivesStep wanted (Ok value) → Goes (next value) before after result → Goes (and_then (step wanted) next) before after result
+step_on wanted next before after value result gives rest = goes_on (step wanted) next before before after value result (goes_step wanted (Ok value) before gives) rest
+
+-- what follows the picture of a sample, and what follows a sample in `fill` and in `domains`
+abbrev pub behind_picture : RequestView → Raster × List Symbol → Plan Taught
+behind_picture asked made = and_then (step (taught asked made.0)) (λ patterns. done (record { patterns = patterns; palette = made.1 }))
+
+abbrev pub behind_layout : RequestView → Taught → Layout → Plan Task
+behind_layout asked lesson layout = and_then (problem_plan asked lesson) (λ P. done (fill lesson.patterns lesson.palette layout P))
+
+abbrev pub behind_sample : RequestView → Taught → Plan Task
+behind_sample asked lesson = and_then (step (laid asked)) (behind_layout asked lesson)
+
+abbrev pub behind_problem : RequestView → Network → Plan Task
+behind_problem asked P = and_then (steps_plan asked.steps P) (λ steps. done (domains P steps))
+
+abbrev pub behind_lesson : RequestView → Taught → Plan Task
+behind_lesson asked lesson = and_then (problem_plan asked lesson) (behind_problem asked)
+
+-- a chooser that is there, and what follows in `fill`
+pub behind_chooser : (kinds : List RuleKind) (asked : RequestView) (rule : RuleKind) (before after : FolderView) (given : Unit {0}) (result : Result Task Fault)
+    → Ok given ≡ chosen kinds rule → rule ≡ asked.rule → Goes (and_then (sample_plan asked) (behind_sample asked)) before after result → Goes (fill_plan kinds asked) before after result
+behind_chooser kinds asked rule before after given result there same rest =
+    step_on (chosen kinds asked.rule) (λ _. and_then (sample_plan asked) (behind_sample asked)) before after given result (inl (there ∙ ap (chosen kinds) same)) rest

@@ -1,0 +1,18 @@
+-- What a request has to say, so that a sample can be learned from and a map made.
+use Rattle.std.specs.Prelude.{ℕ, ◌<◌, ◌≤◌}
+use Rattle.wfc_words.specs.RequestView.{RequestView}
+use Rattle.wfc_task.specs.Built.{side_of}
+
+-- a window has a side of 1 to 6, and one to eight of its images are learned
+pub record IsSampleAsked (asked : RequestView) : Type 0 where
+  pub some_side : 0 < side_of asked.source
+  pub small_side : side_of asked.source ≤ 6
+  pub some_image : 0 < asked.symmetry
+  pub eight_images : asked.symmetry ≤ 8
+
+-- the sides of the map are 1 to 4,096
+pub record IsOutputAsked (asked : RequestView) : Type 0 where
+  pub some_width : 0 < asked.width
+  pub some_height : 0 < asked.height
+  pub width_limit : asked.width ≤ 4096
+  pub height_limit : asked.height ≤ 4096

@@ -1,0 +1,38 @@
+-- Which requests are answered: those for the windows of a character grid, and demonstrations.
+use Rattle.std.specs.Prelude.{ℕ, Bool, true, false, not, ◌&&◌, ◌||◌, List, nat_eq, codes}
+use Rattle.std.specs.List.{ends_with}
+use Rattle.wfc_words.specs.RequestView.{RequestView}
+use Rattle.wfc_words.specs.declared.kinds.CommandKind.{CommandKind}
+use Rattle.wfc_words.specs.declared.kinds.CommandKind.TheVariants.{Learn, Fill, Domains, Demo}
+use Rattle.wfc_words.specs.declared.kinds.SourceModel.{SourceModel}
+use Rattle.wfc_words.specs.declared.kinds.SourceModel.TheVariants.{Overlap, Tiles}
+
+-- whether a file is named as a picture in colours
+abbrev pub is_picture_name : List ℕ → Bool
+is_picture_name name = ends_with nat_eq name (codes ".ppm") || ends_with nat_eq name (codes ".PPM")
+
+-- whether the map is made of windows
+abbrev pub is_of_windows : SourceModel → Bool
+is_of_windows (Overlap n) = true
+is_of_windows Tiles = false
+
+-- whether the sample is a character grid whose windows are asked for
+abbrev pub is_of_grid : RequestView → Bool
+is_of_grid asked = is_of_windows asked.source && not (is_picture_name asked.file)
+
+-- whether a command with this request is answered
+abbrev pub is_built_by : CommandKind → RequestView → Bool
+is_built_by Learn asked = is_of_grid asked
+is_built_by Fill asked = is_of_grid asked
+is_built_by Domains asked = is_of_grid asked
+is_built_by Demo asked = true
+is_built_by _ asked = false
+
+-- whether a request is answered
+abbrev pub is_built : RequestView → Bool
+is_built asked = is_built_by asked.command asked
+
+-- the side of a window, and 0 where the map is of tiles
+abbrev pub side_of : SourceModel → ℕ
+side_of (Overlap n) = n
+side_of Tiles = 0

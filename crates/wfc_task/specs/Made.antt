@@ -1,0 +1,33 @@
+-- What the code makes, as tasks.
+use Rattle.std.specs.Prelude.{◌≡◌, ℕ, Result, Ok, Err}
+use Rattle.wfc_task.specs.declared.fault.Fault.{Fault}
+use Rattle.wfc_task.specs.declared.fault.Refusal.{Refusal}
+use Rattle.wfc_task.specs.declared.fault.Class.TheVariants.{Memory}
+use Rattle.wfc_task.specs.Fault.{class_of}
+use Rattle.wfc_task.specs.declared.task.Taught.{Taught}
+use Rattle.wfc_task.specs.declared.task.Filling.{Filling}
+use Rattle.wfc_task.specs.declared.task.Stepping.{Stepping}
+use Rattle.wfc_task.specs.declared.task.Demo.{Demo}
+use Rattle.wfc_task.specs.Demo.{demo_patterns, demo_problem}
+use Rattle.wfc_task.specs.Task.{Task, learn, fill, domains, demo}
+
+abbrev pub learn_made : Result Taught Fault → Result Task Fault
+learn_made (Ok made) = Ok (learn made.patterns made.palette)
+learn_made (Err fault) = Err fault
+
+abbrev pub fill_made : Result Filling Fault → Result Task Fault
+fill_made (Ok made) = Ok (fill made.patterns made.palette made.layout made.problem)
+fill_made (Err fault) = Err fault
+
+abbrev pub domains_made : Result Stepping Fault → Result Task Fault
+domains_made (Ok made) = Ok (domains made.problem made.steps.items)
+domains_made (Err fault) = Err fault
+
+abbrev pub demo_made : Result Demo Fault → Result Task Fault
+demo_made (Ok made) = Ok (demo made.patterns made.problem)
+demo_made (Err fault) = Err fault
+
+-- a demonstration is made as its number says, or memory ran out
+abbrev pub IsDemoMade : ℕ → Result Demo Refusal → Type 0
+IsDemoMade number (Ok made) = (made.patterns ≡ demo_patterns number) × (made.problem ≡ demo_problem number)
+IsDemoMade number (Err refusal) = class_of refusal ≡ Memory

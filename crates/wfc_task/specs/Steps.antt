@@ -1,0 +1,87 @@
+-- The steps of tasks that read no file, each with its first fault.
+use Rattle.std.specs.Prelude.{ℕ, Bool, true, false, List, map, Option, None, Some, Result, Ok, Err, if◌then◌else◌}
+use Rattle.std.specs.List.{list_any}
+use Rattle.wfc_outside.specs.Gives.{result_map}
+use Rattle.wfc_model.specs.Raster.{Raster}
+use Rattle.wfc_grid.specs.Grid.{GridView}
+use Rattle.wfc_grid.specs.Reading.{grid_of}
+use Rattle.wfc_picture.specs.Palette.{indexed}
+use Rattle.wfc_picture.specs.declared.symbol.Symbol.{Symbol}
+use Rattle.wfc_picture.specs.declared.symbol.Symbol.TheVariants.{Char}
+use Rattle.wfc_picture.specs.declared.symbol.Kind.TheVariants as kind
+use Rattle.wfc_pattern.specs.Learning.{patterns_of}
+use Rattle.wfc_pattern.specs.Patterns.{PatternsView}
+use Rattle.wfc_problem.specs.Network.{Network}
+use Rattle.wfc_pins.specs.PinView.{PinView}
+use Rattle.wfc_pins.specs.Pins.{pins_of}
+use Rattle.wfc_pins.specs.Steps.{steps_of, range_fault}
+use Rattle.wfc_pins.specs.declared.steps.StepLine.{StepLine}
+use Rattle.wfc_pins.specs.declared.steps.RangeFault.{RangeFault}
+use Rattle.wfc_overlap.specs.Built.{built}
+use Rattle.wfc_overlap.specs.Sample.{output_with}
+use Rattle.wfc_choose.specs.declared.RuleKind.{RuleKind}
+use Rattle.wfc_choose.specs.declared.RuleKind.TheVariants.{Scanline, Fewest, Ranked}
+use Rattle.wfc_render.specs.Layout.{layout_of}
+use Rattle.wfc_render.specs.declared.form.Layout.{Layout}
+use Rattle.wfc_words.specs.RequestView.{RequestView}
+use Rattle.wfc_task.specs.declared.fault.Source.{Source}
+use Rattle.wfc_task.specs.declared.fault.Refusal.{Refusal}
+use Rattle.wfc_task.specs.declared.fault.Refusal.TheVariants.{Chooser, Grid, Colours, Learn, Render, Pins, Build, Steps, Range}
+use Rattle.wfc_task.specs.Built.{side_of}
+
+-- a result whose fault is refused
+abbrev pub or_refuse : {T E : Type 0} → (E → Refusal) → Result T E → Result T Refusal
+or_refuse refusal (Ok value) = Ok value
+or_refuse refusal (Err fault) = Err (refusal fault)
+
+-- whether two kinds of rule are one
+abbrev pub same_rule : RuleKind → RuleKind → Bool
+same_rule Scanline Scanline = true
+same_rule Fewest Fewest = true
+same_rule Ranked Ranked = true
+same_rule _ _ = false
+
+-- a chooser of this kind is there
+abbrev pub chosen : List RuleKind → RuleKind → Result (Unit {0}) Refusal
+chosen kinds rule = if list_any (same_rule rule) kinds then Ok tt else Err (Chooser rule)
+
+-- the grid that a file spells
+abbrev pub grid_in : Source → List ℕ → Result GridView Refusal
+grid_in source text = or_refuse (Grid source) (grid_of text)
+
+-- what the pixels of a grid show
+abbrev pub symbols_of : GridView → List Symbol
+symbols_of grid = map (λ byte. Char byte) grid.bytes
+
+-- the picture of a grid in numbers, and the palette that says what they stand for
+abbrev pub coloured : GridView → Result (Raster × List Symbol) Refusal
+coloured grid = or_refuse Colours (indexed (symbols_of grid) grid.width)
+
+-- what a picture teaches by a request
+abbrev pub taught : RequestView → Raster → Result PatternsView Refusal
+taught asked picture = or_refuse Learn (patterns_of picture (side_of asked.source) asked.symmetry asked.wrap_in)
+
+-- how the map is written
+abbrev pub laid : RequestView → Result Layout Refusal
+laid asked = or_refuse Render (layout_of kind.Grid asked.form asked.width asked.height 1)
+
+-- the pins and bans that a file has
+abbrev pub pins_in : List ℕ → Result (List PinView) Refusal
+pins_in text = or_refuse Pins (pins_of text)
+
+-- the problem of learned patterns and the lines of a pins file
+abbrev pub posed : RequestView → PatternsView → List Symbol → List PinView → Result Network Refusal
+posed asked patterns palette lines = or_refuse Build (built patterns palette (output_with asked.width asked.height asked.wrap_out) lines)
+
+-- the steps that a file has
+abbrev pub steps_in : List ℕ → Result (List StepLine) Refusal
+steps_in text = or_refuse Steps (steps_of text)
+
+-- the steps, unless this is the fault of one
+abbrev pub unless_out : List StepLine → Option RangeFault → Result (List StepLine) Refusal
+unless_out steps None = Ok steps
+unless_out steps (Some fault) = Err (Range fault)
+
+-- steps that are all in the problem
+abbrev pub fitting : Network → List StepLine → Result (List StepLine) Refusal
+fitting P steps = unless_out steps (range_fault P steps)

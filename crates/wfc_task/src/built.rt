@@ -1,0 +1,51 @@
+//! Which requests are answered.
+
+ghost use Rattle.std.specs.Prelude.{◌≡◌};
+ghost use Rattle.wfc_task.specs.Built.{is_built, is_of_grid, is_of_windows, is_picture_name, side_of};
+
+use wfc_words::{CommandKind, Request, SourceModel};
+
+/// Whether the request is answered: one for the windows of a character grid, or a demonstration.
+pub fn is_built(request: &Request) -> bool
+    ensures value { result ≡ is_built request.now }
+{
+    match request.command {
+        CommandKind::Learn | CommandKind::Fill | CommandKind::Domains => is_of_grid(request),
+        CommandKind::Demo => true,
+        CommandKind::Refute | CommandKind::Check | CommandKind::Upgrade => false,
+    }
+}
+
+/// Whether the sample is a character grid whose windows are asked for.
+fn is_of_grid(request: &Request) -> bool
+    ensures value { result ≡ is_of_grid request.now }
+{
+    is_of_windows(request.source) && !is_picture_name(request.file().as_bytes())
+}
+
+/// Whether the map is made of windows.
+fn is_of_windows(source: SourceModel) -> bool
+    ensures value { result ≡ is_of_windows source }
+{
+    match source {
+        SourceModel::Overlap { .. } => true,
+        SourceModel::Tiles => false,
+    }
+}
+
+/// Whether a file is named as a picture in colours.
+fn is_picture_name(name: &[u8]) -> bool
+    ensures value { result ≡ is_picture_name name.now }
+{
+    name.ends_with(b".ppm") || name.ends_with(b".PPM")
+}
+
+/// The side of a window, in pixels; 0 where the map is of tiles.
+pub(crate) fn side_of(source: SourceModel) -> u32
+    ensures value { result ≡ side_of source }
+{
+    match source {
+        SourceModel::Overlap { n } => n,
+        SourceModel::Tiles => 0,
+    }
+}

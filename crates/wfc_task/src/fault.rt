@@ -1,0 +1,200 @@
+//! The faults of a task, each with the file that it stands in, and their statuses.
+
+ghost use Rattle.std.specs.Prelude.{◌≡◌};
+
+use wfc_choose::RuleKind;
+use wfc_grid::GridFault;
+use wfc_outside::{NoMemory, ReadFault};
+use wfc_pattern::LearnFault;
+use wfc_picture::PaletteFault;
+use wfc_pins::{BuildFault, PinFault, RangeFault, StepFault};
+use wfc_render::RenderFault;
+
+/// What a file is to a command.
+#[derive(Clone, Copy, Debug, PartialEq, Eq)]
+pub enum Source {
+    Sample,
+    Pins,
+    Steps,
+}
+
+/// What a step refuses that reads nothing.
+#[derive(Clone, Copy, Debug, PartialEq, Eq)]
+pub enum Refusal {
+    /// The words ask for what this program doesn't do yet.
+    NotBuilt,
+    /// No chooser goes by this rule.
+    Chooser { rule: RuleKind },
+    /// A file spells no grid.
+    Grid { source: Source, fault: GridFault },
+    /// The sample has no palette.
+    Colours { fault: PaletteFault },
+    /// The sample teaches no patterns.
+    Learn { fault: LearnFault },
+    /// The map has no layout.
+    Render { fault: RenderFault },
+    /// A line of the pins file is at fault.
+    Pins { fault: PinFault },
+    /// There is no problem.
+    Build { fault: BuildFault },
+    /// A line of the steps file is at fault.
+    Steps { fault: StepFault },
+    /// A step isn't in the problem.
+    Range { fault: RangeFault },
+    /// Memory ran out.
+    NoMemory,
+}
+
+/// Why a command has no answer.
+#[derive(Clone, Copy, Debug, PartialEq, Eq)]
+pub enum Fault {
+    /// A file wasn't read.
+    Unread { source: Source, fault: ReadFault },
+    /// A step refused what it was given.
+    Refused { refusal: Refusal },
+}
+
+/// What refusals of one status have in common.
+#[derive(Clone, Copy, Debug, PartialEq, Eq)]
+pub enum Class {
+    /// The words are at fault.
+    Words,
+    /// A file, a size or a limit is at fault.
+    Input,
+    /// Memory ran out.
+    Memory,
+    /// A chooser is missing.
+    NoChooser,
+}
+
+impl Refusal {
+    ghost use Rattle.wfc_task.specs.Fault.{class_of};
+
+    /// Its class.
+    pub fn class(&self) -> Class
+        ensures value { result ≡ class_of self.now }
+    {
+        match self {
+            Refusal::NotBuilt => Class::Words,
+            Refusal::Chooser { .. } => Class::NoChooser,
+            Refusal::Grid { fault, .. } => grid_class(*fault),
+            Refusal::Colours { fault } => colours_class(*fault),
+            Refusal::Learn { fault } => learn_class(*fault),
+            Refusal::Pins { fault } => pins_class(*fault),
+            Refusal::Build { fault } => build_class(*fault),
+            Refusal::Steps { fault } => steps_class(*fault),
+            Refusal::Render { .. } | Refusal::Range { .. } => Class::Input,
+            Refusal::NoMemory => Class::Memory,
+        }
+    }
+}
+
+ghost use Rattle.wfc_task.specs.Fault.{build_class, class_status, colours_class, grid_class, learn_class, pins_class, steps_class};
+
+fn grid_class(fault: GridFault) -> Class
+    ensures value { result ≡ grid_class fault }
+{
+    match fault {
+        GridFault::NoMemory => Class::Memory,
+        _ => Class::Input,
+    }
+}
+
+fn colours_class(fault: PaletteFault) -> Class
+    ensures value { result ≡ colours_class fault }
+{
+    match fault {
+        PaletteFault::NoMemory => Class::Memory,
+        _ => Class::Input,
+    }
+}
+
+fn learn_class(fault: LearnFault) -> Class
+    ensures value { result ≡ learn_class fault }
+{
+    match fault {
+        LearnFault::NoMemory => Class::Memory,
+        _ => Class::Input,
+    }
+}
+
+fn pins_class(fault: PinFault) -> Class
+    ensures value { result ≡ pins_class fault }
+{
+    match fault {
+        PinFault::NoMemory => Class::Memory,
+        _ => Class::Input,
+    }
+}
+
+fn build_class(fault: BuildFault) -> Class
+    ensures value { result ≡ build_class fault }
+{
+    match fault {
+        BuildFault::NoMemory => Class::Memory,
+        _ => Class::Input,
+    }
+}
+
+fn steps_class(fault: StepFault) -> Class
+    ensures value { result ≡ steps_class fault }
+{
+    match fault {
+        StepFault::NoMemory => Class::Memory,
+        _ => Class::Input,
+    }
+}
+
+impl Class {
+    /// The exit status.
+    pub fn status(self) -> u8
+        ensures value { result ≡ class_status self }
+    {
+        match self {
+            Class::Words => 3,
+            Class::Input => 4,
+            Class::Memory => 6,
+            Class::NoChooser => 7,
+        }
+    }
+}
+
+impl Fault {
+    ghost use Rattle.wfc_task.specs.Fault.{status_of};
+
+    /// The exit status.
+    pub fn status(&self) -> u8
+        ensures value { result ≡ status_of self.now }
+    {
+        match self {
+            Fault::Unread { fault, .. } => match fault {
+                ReadFault::Missing | ReadFault::Failed => 5,
+                ReadFault::TooLong => 4,
+                ReadFault::NoMemory => 6,
+            },
+            Fault::Refused { refusal } => refusal.class().status(),
+        }
+    }
+}
+
+impl From<NoMemory> for Refusal {
+    ghost use Rattle.std.specs.Prelude.{◌≡◌};
+    ghost use Rattle.wfc_task.specs.declared.fault.Refusal.TheVariants as refusals;
+
+    ghost from_gives = { λ _ refusal. refusal ≡ refusals.NoMemory };
+
+    fn from(_error: NoMemory) -> Refusal {
+        Refusal::NoMemory
+    }
+}
+
+impl From<Refusal> for Fault {
+    ghost use Rattle.std.specs.Prelude.{◌≡◌};
+    ghost use Rattle.wfc_task.specs.declared.fault.Fault.TheVariants.{Refused};
+
+    ghost from_gives = { λ refusal result. result ≡ Refused refusal };
+
+    fn from(refusal: Refusal) -> Fault {
+        Fault::Refused { refusal }
+    }
+}

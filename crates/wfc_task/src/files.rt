@@ -1,0 +1,147 @@
+//! The files of a request, and what they hold.
+
+ghost use Rattle.std.specs.Prelude.{◌≡◌, ◌*◌, ◌≤◌, length, IfOk, All};
+ghost use Rattle.std.specs.Option.{option_map};
+ghost use Rattle.wfc_outside.specs.Gives.{result_map};
+ghost use Rattle.wfc_model.specs.Raster.{height_of};
+ghost use Rattle.wfc_pins.specs.Steps.{IsStepIn};
+ghost use Rattle.wfc_pins.specs.declared.steps.StepLine.{StepLine};
+ghost use Rattle.wfc_task.specs.Asked.{IsSampleAsked, IsOutputAsked};
+ghost use Rattle.wfc_task.specs.Plan.{Goes};
+ghost use Rattle.wfc_task.specs.Task.{file_plan, grid_plan, picture_plan, pins_file_plan, pins_plan, problem_plan, sample_plan, steps_file_plan, steps_plan};
+
+use crate::fault::{Fault, Source};
+use crate::steps::{coloured, fitting, grid, pins_in, posed, steps_in, taught};
+use crate::task::Taught;
+use std::alloc::Global;
+use wfc_grid::{Grid, MAX_CELLS};
+use wfc_outside::{Folder, MAX_FILE_BYTES, read_all};
+use wfc_picture::{MAX_PIXELS, Palette, Picture};
+use wfc_pins::{PinLine, StepLine};
+use wfc_problem::Problem;
+use wfc_words::Request;
+
+/// The whole of a file.
+fn file<F: Folder>(
+    alloc: Global,
+    folder: &mut F,
+    source: Source,
+    name: &str,
+) -> Result<Vec<u8>, Fault>
+    ensures goes { Goes (file_plan source name.now) (F.seen folder.old) (F.seen folder.new) (result_map (λ bytes. bytes.items) result) }
+    ensures short { IfOk result (λ bytes. length bytes.items ≤ MAX_FILE_BYTES) }
+{
+    match read_all(alloc, folder, name, MAX_FILE_BYTES) {
+        Ok(bytes) => Ok(bytes),
+        Err(fault) => Err(Fault::Unread { source, fault }),
+    }
+}
+
+/// The grid of a file.
+fn grid_file<F: Folder>(
+    alloc: Global,
+    folder: &mut F,
+    source: Source,
+    name: &str,
+) -> Result<Grid, Fault>
+    ensures goes { Goes (grid_plan source name.now) (F.seen folder.old) (F.seen folder.new) result }
+    ensures small { IfOk result (λ grid. grid.width * grid.height ≤ MAX_CELLS) }
+{
+    let bytes = file(alloc, folder, source, name)?;
+    let grid = grid(alloc, source, &bytes)?;
+    Ok(grid)
+}
+
+/// The picture of the sample in numbers, and its palette.
+fn picture<F: Folder>(
+    alloc: Global,
+    request: &Request,
+    folder: &mut F,
+) -> Result<(Picture, Palette), Fault>
+    ensures goes { Goes (picture_plan request.now) (F.seen folder.old) (F.seen folder.new) result }
+    ensures small { IfOk result (λ made. made.0.width * height_of made.0 ≤ MAX_PIXELS) }
+{
+    let grid = grid_file(alloc, folder, Source::Sample, request.file())?;
+    let made = coloured(alloc, grid)?;
+    Ok(made)
+}
+
+/// What the sample teaches.
+pub(crate) fn sample<F: Folder>(
+    alloc: Global,
+    request: &Request,
+    folder: &mut F,
+) -> Result<Taught, Fault>
+    requires sample { IsSampleAsked request.now }
+    ensures goes { Goes (sample_plan request.now) (F.seen folder.old) (F.seen folder.new) result }
+{
+    let (picture, palette) = picture(alloc, request, folder)?;
+    let patterns = taught(alloc, request, &picture)?;
+    Ok(Taught { palette, patterns })
+}
+
+/// The pins and bans of a pins file.
+fn pins_file<F: Folder>(alloc: Global, folder: &mut F, name: &str) -> Result<Vec<PinLine>, Fault>
+    ensures goes { Goes (pins_file_plan name.now) (F.seen folder.old) (F.seen folder.new) (result_map (λ lines. lines.items) result) }
+{
+    let bytes = file(alloc, folder, Source::Pins, name)?;
+    let lines = pins_in(alloc, &bytes)?;
+    Ok(lines)
+}
+
+/// The pins and bans of the pins file, if one is named.
+fn pins<F: Folder>(alloc: Global, folder: &mut F, name: Option<&str>) -> Result<Vec<PinLine>, Fault>
+    ensures goes { Goes (pins_plan (option_map (λ text. text.now) name.entry)) (F.seen folder.old) (F.seen folder.new) (result_map (λ lines. lines.items) result) }
+{
+    match name {
+        Some(name) => pins_file(alloc, folder, name),
+        None => Ok(Vec::new(alloc)),
+    }
+}
+
+/// The problem of what the sample teaches, by the pins file.
+pub(crate) fn problem<F: Folder>(
+    alloc: Global,
+    request: &Request,
+    taught: &Taught,
+    folder: &mut F,
+) -> Result<Problem, Fault>
+    requires output { IsOutputAsked request.now }
+    ensures goes { Goes (problem_plan request.now taught.now) (F.seen folder.old) (F.seen folder.new) result }
+{
+    let lines = pins(alloc, folder, request.pins())?;
+    let problem = posed(alloc, request, taught, &lines)?;
+    Ok(problem)
+}
+
+/// The steps of a steps file, which are all in the problem.
+fn steps_file<F: Folder>(
+    alloc: Global,
+    folder: &mut F,
+    name: &str,
+    problem: &Problem,
+) -> Result<Vec<StepLine>, Fault>
+    ensures goes { Goes (steps_file_plan name.now problem.now) (F.seen folder.old) (F.seen folder.new) (result_map (λ steps. steps.items) result) }
+    ensures inside { IfOk result (λ steps. All (λ (line : StepLine). IsStepIn problem.now line.step) steps.items) }
+{
+    let bytes = file(alloc, folder, Source::Steps, name)?;
+    let steps = steps_in(alloc, &bytes)?;
+    let steps = fitting(problem, steps)?;
+    Ok(steps)
+}
+
+/// The steps of the steps file, if one is named.
+pub(crate) fn steps<F: Folder>(
+    alloc: Global,
+    folder: &mut F,
+    name: Option<&str>,
+    problem: &Problem,
+) -> Result<Vec<StepLine>, Fault>
+    ensures goes { Goes (steps_plan (option_map (λ text. text.now) name.entry) problem.now) (F.seen folder.old) (F.seen folder.new) (result_map (λ steps. steps.items) result) }
+    ensures inside { IfOk result (λ steps. All (λ (line : StepLine). IsStepIn problem.now line.step) steps.items) }
+{
+    match name {
+        Some(name) => steps_file(alloc, folder, name, problem),
+        None => Ok(Vec::new(alloc)),
+    }
+}

@@ -1,0 +1,13 @@
+//! The task of a request: what is read for it and refused, in order, and what it comes to.
+#![tactic(auto)]
+
+mod built;
+mod demo;
+mod fault;
+mod files;
+mod steps;
+mod task;
+
+pub use built::is_built;
+pub use fault::{Class, Fault, Refusal, Source};
+pub use task::{Demo, Filling, Stepping, Taught, demo_task, domains_task, fill_task, learn_task};

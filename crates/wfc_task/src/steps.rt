@@ -1,0 +1,226 @@
+//! The steps of tasks that read no file.
+
+ghost use Rattle.std.specs.Prelude.{◌≡◌, ◌*◌, ◌%◌, ◌<◌, ◌≤◌, length, map, Contains, IfOk, OnOk, All};
+ghost use Rattle.wfc_outside.specs.Gives.{result_map};
+ghost use Rattle.wfc_model.specs.Raster.{height_of};
+ghost use Rattle.wfc_picture.specs.Palette.{indexed};
+ghost use Rattle.wfc_pattern.specs.Learning.{patterns_of};
+ghost use Rattle.wfc_pins.specs.Steps.{IsStepIn};
+ghost use Rattle.wfc_pins.specs.declared.steps.StepLine.{StepLine};
+ghost use Rattle.wfc_overlap.specs.Built.{built};
+ghost use Rattle.wfc_overlap.specs.Sample.{output_with};
+ghost use Rattle.wfc_task.specs.Asked.{IsSampleAsked, IsOutputAsked};
+ghost use Rattle.wfc_task.specs.Plan.{GivesStep};
+ghost use Rattle.wfc_task.specs.Steps.{chosen, coloured, fitting, grid_in, laid, or_refuse, pins_in, posed, same_rule, steps_in, symbols_of, taught};
+ghost use Rattle.wfc_task.specs.declared.fault.Refusal.TheVariants.{Build, Colours, Learn};
+
+use crate::built::side_of;
+use crate::fault::{Refusal, Source};
+use crate::task::Taught;
+use std::alloc::Global;
+use wfc_choose::RuleKind;
+use wfc_grid::{Grid, MAX_CELLS};
+use wfc_outside::{MAX_FILE_BYTES, NoMemory};
+use wfc_overlap::build;
+use wfc_pattern::{Patterns, learn};
+use wfc_picture::{Kind, MAX_PIXELS, Palette, Picture, Symbol};
+use wfc_pins::{PinLine, StepLine, read_pins, read_steps, steps_fit};
+use wfc_problem::Problem;
+use wfc_render::{Layout, layout};
+use wfc_words::Request;
+
+/// Whether a chooser goes by the rule, where these are the kinds of all of them.
+pub(crate) fn chosen(kinds: &[RuleKind], rule: RuleKind) -> Result<(), Refusal>
+    ensures exact { result ≡ chosen kinds.now rule }
+    ensures there { OnOk result (Contains kinds.now rule) }
+{
+    if kinds.contains(&rule) {
+        Ok(())
+    } else {
+        Err(Refusal::Chooser { rule })
+    }
+}
+
+/// The grid that the bytes of a file spell.
+pub(crate) fn grid(alloc: Global, source: Source, bytes: &[u8]) -> Result<Grid, Refusal>
+    requires short { length bytes.now ≤ MAX_FILE_BYTES }
+    ensures exact { GivesStep (grid_in source bytes.now) result }
+    ensures small { IfOk result (λ grid. grid.width * grid.height ≤ MAX_CELLS) }
+{
+    match wfc_grid::read(alloc, bytes) {
+        Ok(grid) => Ok(grid),
+        Err(fault) => Err(Refusal::Grid { source, fault }),
+    }
+}
+
+/// The picture of a sample in numbers, and its palette.
+pub(crate) fn coloured(alloc: Global, grid: Grid) -> Result<(Picture, Palette), Refusal>
+    requires small { grid.width * grid.height ≤ MAX_CELLS }
+    ensures exact { GivesStep (coloured grid) result }
+    ensures small { IfOk result (λ made. made.0.width * height_of made.0 ≤ MAX_PIXELS) }
+{
+    let width = grid.width;
+    let symbols = symbols(alloc, grid)?;
+    indexed(alloc, &symbols, width)
+}
+
+/// What the pixels of a grid show. The grid is let go.
+fn symbols(alloc: Global, grid: Grid) -> Result<Vec<Symbol>, NoMemory>
+    ensures value { IfOk result (λ symbols. symbols.items ≡ symbols_of grid) }
+{
+    let bytes = grid.cells();
+    let mut symbols = Vec::with_capacity(alloc, bytes.len())?;
+    for byte in bytes {
+        symbols.push(Symbol::Char(*byte))?;
+    }
+    Ok(symbols)
+}
+
+/// The picture of these symbols in numbers, and its palette.
+pub(crate) fn indexed(
+    alloc: Global,
+    symbols: &[Symbol],
+    width: u32,
+) -> Result<(Picture, Palette), Refusal>
+    requires some_column { 0 < width }
+    requires rows { length symbols.now % width ≡ 0 }
+    requires some_pixel { 0 < length symbols.now }
+    requires limit { length symbols.now ≤ MAX_PIXELS }
+    ensures exact { GivesStep (or_refuse Colours (indexed symbols.now width)) result }
+    ensures small { IfOk result (λ made. made.0.width * height_of made.0 ≤ MAX_PIXELS) }
+{
+    match Palette::index(alloc, symbols, width) {
+        Ok(made) => Ok(made),
+        Err(fault) => Err(Refusal::Colours { fault }),
+    }
+}
+
+/// What a picture teaches by the request.
+pub(crate) fn taught(
+    alloc: Global,
+    request: &Request,
+    picture: &Picture,
+) -> Result<Patterns, Refusal>
+    requires sample { IsSampleAsked request.now }
+    requires small { picture.now.width * height_of picture.now ≤ MAX_PIXELS }
+    ensures exact { GivesStep (taught request.now picture.now) result }
+{
+    let n = side_of(request.source);
+    learned(alloc, picture, n, request.symmetry, request.wrap_in)
+}
+
+/// What a picture teaches: its windows of `n` by `n` pixels, each in its first `symmetry` images.
+pub(crate) fn learned(
+    alloc: Global,
+    picture: &Picture,
+    n: u32,
+    symmetry: u8,
+    wrap: bool,
+) -> Result<Patterns, Refusal>
+    requires some_side { 0 < n }
+    requires small_side { n ≤ 6 }
+    requires some_image { 0 < symmetry }
+    requires eight_images { symmetry ≤ 8 }
+    requires small { picture.now.width * height_of picture.now ≤ MAX_PIXELS }
+    ensures exact { GivesStep (or_refuse Learn (patterns_of picture.now n symmetry wrap)) result }
+{
+    match learn(alloc, picture, n, symmetry, wrap) {
+        Ok(patterns) => Ok(patterns),
+        Err(fault) => Err(Refusal::Learn { fault }),
+    }
+}
+
+/// How the map is written.
+pub(crate) fn laid(request: &Request) -> Result<Layout, Refusal>
+    requires output { IsOutputAsked request.now }
+    ensures exact { result ≡ laid request.now }
+{
+    match layout(Kind::Grid, request.form, request.width, request.height, 1) {
+        Ok(layout) => Ok(layout),
+        Err(fault) => Err(Refusal::Render { fault }),
+    }
+}
+
+/// The pins and bans of the bytes of a pins file.
+pub(crate) fn pins_in(alloc: Global, bytes: &[u8]) -> Result<Vec<PinLine>, Refusal>
+    requires short { length bytes.now ≤ MAX_FILE_BYTES }
+    ensures exact { GivesStep (pins_in bytes.now) (result_map (λ lines. lines.items) result) }
+{
+    match read_pins(alloc, bytes) {
+        Ok(lines) => Ok(lines),
+        Err(fault) => Err(Refusal::Pins { fault }),
+    }
+}
+
+/// The problem of what a sample teaches and the lines of a pins file.
+pub(crate) fn posed(
+    alloc: Global,
+    request: &Request,
+    taught: &Taught,
+    lines: &[PinLine],
+) -> Result<Problem, Refusal>
+    requires output { IsOutputAsked request.now }
+    ensures exact { GivesStep (posed request.now taught.now.patterns taught.now.palette lines.now) result }
+{
+    let output = Output {
+        width: request.width,
+        height: request.height,
+        wrap: request.wrap_out,
+    };
+    posed_for(alloc, &taught.patterns, &taught.palette, output, lines)
+}
+
+/// A map that is to be made: its sides, in pixels, and whether it wraps.
+#[derive(Clone, Copy)]
+pub(crate) struct Output {
+    pub width: u32,
+    pub height: u32,
+    pub wrap: bool,
+}
+
+/// The problem of patterns and the lines of a pins file.
+pub(crate) fn posed_for(
+    alloc: Global,
+    patterns: &Patterns,
+    palette: &Palette,
+    output: Output,
+    lines: &[PinLine],
+) -> Result<Problem, Refusal>
+    requires some_width { 0 < output.width }
+    requires some_height { 0 < output.height }
+    requires width_limit { output.width ≤ 4096 }
+    requires height_limit { output.height ≤ 4096 }
+    ensures exact { GivesStep (or_refuse Build (built patterns.now palette.now (output_with output.width output.height output.wrap) lines.now)) result }
+{
+    let Output {
+        width,
+        height,
+        wrap,
+    } = output;
+    match build(alloc, patterns, palette, width, height, wrap, lines) {
+        Ok(problem) => Ok(problem),
+        Err(fault) => Err(Refusal::Build { fault }),
+    }
+}
+
+/// The steps of the bytes of a steps file.
+pub(crate) fn steps_in(alloc: Global, bytes: &[u8]) -> Result<Vec<StepLine>, Refusal>
+    requires short { length bytes.now ≤ MAX_FILE_BYTES }
+    ensures exact { GivesStep (steps_in bytes.now) (result_map (λ steps. steps.items) result) }
+{
+    match read_steps(alloc, bytes) {
+        Ok(steps) => Ok(steps),
+        Err(fault) => Err(Refusal::Steps { fault }),
+    }
+}
+
+/// The steps, if they are all in the problem.
+pub(crate) fn fitting(problem: &Problem, steps: Vec<StepLine>) -> Result<Vec<StepLine>, Refusal>
+    ensures exact { result_map (λ steps. steps.items) result ≡ fitting problem.now steps.items }
+    ensures inside { IfOk result (λ steps. All (λ (line : StepLine). IsStepIn problem.now line.step) steps.items) }
+{
+    match steps_fit(&steps, problem) {
+        Ok(()) => Ok(steps),
+        Err(fault) => Err(Refusal::Range { fault }),
+    }
+}
