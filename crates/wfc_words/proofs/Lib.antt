@@ -1,2 +1,3 @@
 pub mod MatchLemmas
+pub mod RangeLemmas
 pub mod SimpleLemmas

@@ -1,5 +1,5 @@
 -- What `clap` answers is what the definition says.
-use Rattle.std.proofs.Common.{◌≡◌, ◌∙◌, ◌⊎◌, inl, inr, ap, ap₂, sym, refl, true, List, [], ◌∷◌, Result, Ok, Err}
+use Rattle.std.proofs.Common.{◌≡◌, ◌∙◌, ◌⊎◌, inl, inr, ap, ap₂, sym, refl, true, List, [], ◌∷◌, Result, Ok, Err, Some}
 use Rattle.clap.specs.Kinds.{HasKind, IsAmong, Kinds}
 use Rattle.clap.specs.Faults.{fault_of, is_simple_and_free}
 use Rattle.clap.specs.Matches.{found_of}
@@ -11,7 +11,7 @@ use Rattle.clap.specs.declared.error.kind.ErrorKind.{ErrorKind}
 use Rattle.clap.specs.declared.error.kind.ErrorKind.TheVariants.{OutOfMemory}
 use Rattle.clap.specs.declared.parser.matches.ArgMatches.{ArgMatches}
 use Rattle.wfc_outside.specs.Gives.{Gives}
-use Rattle.wfc_words.specs.Commands.{app_of_command, command_row}
+use Rattle.wfc_words.specs.Commands.{app_of_command, command_named, command_row}
 use Rattle.wfc_words.specs.Request.{fault_by, matches_by, unless_refused}
 use Rattle.wfc_words.specs.declared.fault.CommandFault.{CommandFault}
 use Rattle.wfc_words.specs.declared.fault.CommandFault.TheVariants.{NoMemory, Refused}
@@ -37,6 +37,16 @@ commands_are_free Refute = refl
 commands_are_free Check = refl
 commands_are_free Upgrade = refl
 commands_are_free Demo = refl
+
+-- the name of a command names it
+pub commands_are_named : (kind : CommandKind) → command_named (command_row kind).name ≡ Some kind
+commands_are_named Learn = refl
+commands_are_named Fill = refl
+commands_are_named Domains = refl
+commands_are_named Refute = refl
+commands_are_named Check = refl
+commands_are_named Upgrade = refl
+commands_are_named Demo = refl
 
 -- a fault in place of what was found
 abbrev pub err : {X : Type 0} → CommandFault → Result X CommandFault

@@ -1,4 +1,5 @@
 pub mod Commands
+pub mod InRange
 pub mod Request
 pub mod RequestView
 pub mod Rows

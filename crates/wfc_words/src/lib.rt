@@ -6,6 +6,7 @@ mod asked;
 mod commands;
 mod fault;
 mod kinds;
+pub mod laws;
 mod reading;
 mod simple;
 mod values;
@@ -14,3 +15,6 @@ pub use asked::Request;
 pub use fault::{CommandFault, ValueName};
 pub use kinds::{CommandKind, SourceModel};
 pub use reading::request;
+
+#[cfg(test)]
+mod tests;

@@ -6,6 +6,7 @@ ghost use Rattle.std.specs.String.{string_bytes};
 ghost use Rattle.clap.specs.Matches.{found_of};
 ghost use Rattle.clap.specs.Walk.{rows_of};
 ghost use Rattle.wfc_outside.specs.Gives.{Gives};
+ghost use Rattle.wfc_words.specs.InRange.{IsInRange};
 ghost use Rattle.wfc_words.specs.Request.{request_by, request_found, request_of, request_with, texts};
 
 use crate::asked::Request;
@@ -21,6 +22,7 @@ use std::alloc::{AllocError, Global};
 /// read by `clap` as one simple command.
 pub fn request(alloc: Global, words: &[String]) -> Result<Request, CommandFault>
     ensures exact { Gives CommandFault.NoMemory (λ asked. asked) result (request_of (texts words.now)) }
+    ensures in_range { IfOk result IsInRange }
 {
     let [name, rest @ ..] = words else {
         return Err(CommandFault::Refused);
