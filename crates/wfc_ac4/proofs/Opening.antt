@@ -144,6 +144,35 @@ scanned-next b T c v h hv here = record {
   first = h.first;
 }
 
+-- a cell whose values all have support in each direction needs no look
+pub scanned-row : (b : Board) (T : Table) (cell : ℕ) → IsScanned b T (cell * values b.problem.now) → ((v d : ℕ) → v < T.values → d < T.dirs → 0 < count_of T cell v d) → IsScanned b T ((cell + 1) * values b.problem.now)
+scanned-row b T cell h here = record {
+  board = h.board;
+  cut = h.cut;
+  counters = h.counters;
+  supported = λ alive c v d n l t e.
+      let P = b.problem.now in
+      let range = stands-in b h.board.traced c v t in
+      elim (cases_lt (c * values P + v) (cell * values P)) [
+        | inl before ↦ h.supported alive c v d n before t e
+        | inr after ↦
+            let same : c ≡ cell = cell-is P c v cell range.1 after l in
+            let pos = here v d (omega (arith, range.1, h.counters.fits.same_values)) (omega (arith, neighbour-dir P c d n e, h.counters.fits.same_dirs)) in
+            let eq = ap (λ x. count_of T x v d) same in
+            omega arith
+      ];
+  first = h.first;
+}
+  where
+    cell-is : (P : Network) (c v cell : ℕ) → v < values P → cell * values P ≤ c * values P + v → c * values P + v < (cell + 1) * values P → c ≡ cell
+    cell-is P c v cell hv low high = elim (cases_lt c cell) [
+      | inl less ↦ let rows : (c + 1) * values P ≤ cell * values P = mul-le-mul_right (values P) (let z : c + 1 ≤ cell = omega arith in z) in absurd (omega arith)
+      | inr at_least ↦ elim (cases_lt cell c) [
+        | inl more ↦ let rows : (cell + 1) * values P ≤ c * values P = mul-le-mul_right (values P) (let z : cell + 1 ≤ c = omega arith in z) in absurd (omega arith)
+        | inr at_most ↦ omega arith
+      ]
+    ]
+
 pub scanned-at : (b : Board) (T : Table) (i j : ℕ) → IsScanned b T i → i ≡ j → IsScanned b T j
 scanned-at b T i j h e = subst (IsScanned b T) e h
 

@@ -48,6 +48,10 @@ with-same T n w d x c v e same inside = ap (slice_index (set T.counts (place_in 
 pub with-other : (T : Table) (n w d x c v e : ℕ) → place_in T.values T.dirs c v e ≢ place_in T.values T.dirs n w d → count_of (with_count T n w d x) c v e ≡ count_of T c v e
 with-other T n w d x c v e ne = get_or-set_other T.counts (place_in T.values T.dirs n w d) (place_in T.values T.dirs c v e) x 0 ne
 
+-- a counter that is lowered has one less
+lowered-left : (T : Table) (n w d : ℕ) → 0 < count_of T n w d → count_of (with_count T n w d (count_of T n w d - 1)) n w d ≡ count_of T n w d - 1
+lowered-left T n w d pos = with-same T n w d (count_of T n w d - 1) n w d refl (in_list T.counts (place_in T.values T.dirs n w d) pos)
+
 -- a place that is not, or is, another's
 flag-is : (a b : ℕ) → a ≡ b → cond {A = ℕ} (a == b) 1 0 ≡ 1
 flag-is a b e = ap (λ t. cond {A = ℕ} t 1 0) (eq-eqb a b e)
@@ -283,10 +287,10 @@ side_at b a T head c v d n k w turned xs same h hd e is_xs l is_w is_back =
 -- the state after the k-th support, where it is removed
 pub step_removed : (b b' : Board) (T T' : Table) (head c v : ℕ) (lowered : List ℕ) (next : Network → List ℕ) (n w d : ℕ)
     → IsWorking b T head c v lowered → SideStep b.problem.now lowered (next b.problem.now) c v n w d T
-    → T' ≡ with_count T n w d (count_of T n w d - 1) → b.verdict ≡ Alive → count_of T' n w d ≡ 0 → Loses b b' n w (Arc d)
+    → T' ≡ with_count T n w d (count_of T n w d - 1) → b.verdict ≡ Alive → count_of T n w d ≡ 1 → Loses b b' n w (Arc d)
     → IsWorking b' T' head c v (next b'.problem.now)
-step_removed b b' T T' head c v lowered next n w d h s is_table alive none_left loses =
-    let z = subst (λ t. count_of t n w d ≡ 0) is_table none_left in
+step_removed b b' T T' head c v lowered next n w d h s is_table alive one_left loses =
+    let z : count_of (with_count T n w d (count_of T n w d - 1)) n w d ≡ 0 = omega (arith, lowered-left T n w d s.above_zero) in
     let r = working-removed b b'.domains T head c v lowered n w d h alive s.cell_in s.value_in s.dir_in s.above_zero s.beside s.part z loses.less in
     subst (λ (x : Board). IsWorking x T' head c v (next x.problem.now)) (sym loses.same)
     (subst (λ t. IsWorking (lost b b'.domains n w (Arc d)) t head c v (next b.problem.now)) (sym is_table)
@@ -295,13 +299,13 @@ step_removed b b' T T' head c v lowered next n w d h s is_table alive none_left 
 -- and where it is not
 pub step_lowered : (b : Board) (T T' : Table) (head c v : ℕ) (lowered next : List ℕ) (n w d : ℕ)
     → IsWorking b T head c v lowered → SideStep b.problem.now lowered next c v n w d T
-    → T' ≡ with_count T n w d (count_of T n w d - 1) → (b.verdict ≡ Alive → count_of T' n w d ≡ 0 → IsTrue (has b.domains n w) → ⊥)
+    → T' ≡ with_count T n w d (count_of T n w d - 1) → (b.verdict ≡ Alive → count_of T n w d ≡ 1 → IsTrue (has b.domains n w) → ⊥)
     → IsWorking b T' head c v next
 step_lowered b T T' head c v lowered next n w d h s is_table keeps =
     let r = working-lowered b T head c v lowered n w d h s.value_in s.dir_in s.above_zero
     (λ alive t. elim (cases_lt 0 (count_of (with_count T n w d (count_of T n w d - 1)) n w d)) [
       | inl l ↦ l
-      | inr l ↦ absurd (keeps alive (ap (λ t'. count_of t' n w d) is_table ∙ (let z : count_of (with_count T n w d (count_of T n w d - 1)) n w d ≡ 0 = omega arith in z)) t)
+      | inr l ↦ absurd (keeps alive (omega (arith, lowered-left T n w d s.above_zero, s.above_zero)) t)
     ]) in
     subst (λ t. IsWorking b t head c v next) (sym is_table) (subst (λ xs. IsWorking b (with_count T n w d (count_of T n w d - 1)) head c v xs) s.next_is r)
 

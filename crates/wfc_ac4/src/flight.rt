@@ -1,10 +1,10 @@
 //! One removal worked off, and taken back.
 
-ghost use Rattle.std.specs.Prelude.{◌≡◌, ℕ, ◌+◌, ◌*◌, ◌<◌, ◌≤◌, ◌++◌, ◌↔◌, [], length, min, take, IsTrue, IfSome, IfNone, Some};
+ghost use Rattle.std.specs.Prelude.{◌≡◌, ℕ, ◌+◌, ◌-◌, ◌*◌, ◌<◌, ◌≤◌, ◌++◌, ◌↔◌, [], length, min, take, IsTrue, IfSome, IfNone, Some};
 ghost use Rattle.wfc_problem.specs.Network.{values, neighbour, supports_of, in_base};
 ghost use Rattle.wfc_domains.specs.declared.Verdict.TheVariants.{Alive};
 ghost use Rattle.wfc_domains.specs.Domains.{has};
-ghost use Rattle.wfc_domains.specs.Counters.{FitsTable, count_of, counts_of, cost_at, cost_of};
+ghost use Rattle.wfc_domains.specs.Counters.{FitsTable, count_of, with_count, counts_of, cost_at, cost_of};
 ghost use Rattle.wfc_domains.specs.Removals.{without};
 ghost use Rattle.wfc_domains.specs.Store.{IsOpening};
 ghost use Rattle.wfc_domains.specs.Board.{Grows, IsFresh};
@@ -24,22 +24,34 @@ pub struct Flight<'p> {
     pub head: usize,
 }
 
-impl<'p> Flight<'p> {
-    /// The value stands without support in this direction, and no cell is empty.
-    #[inline]
-    fn is_spent(&self, cell: u32, value: u16, dir: u8) -> bool
-        requires cell_in { cell < self.now.board.domains.cells }
-        requires value_in { value < self.now.board.domains.values }
-        requires counter_cell { cell < self.now.counters.cells }
-        requires counter_value { value < self.now.counters.values }
-        requires dir_in { dir < self.now.counters.dirs }
-        ensures value { IsTrue result ↔ ((count_of self.now.counters cell value dir ≡ 0)
-            × IsTrue (has self.now.board.domains cell value) × (self.now.board.verdict ≡ Alive)) }
-    {
-        let left = self.counters.get(cell, value, dir);
-        left == 0 && self.board.domains.has(cell, value) && is_alive(self.board.verdict)
-    }
+/// Lowers a counter, and says whether its value stands without support then, and no cell is empty.
+#[inline]
+fn lower<L: Ledger>(
+    board: &Board<'_>,
+    counters: &mut Counters,
+    cell: u32,
+    value: u16,
+    dir: u8,
+    steps: &mut Steps<L>,
+) -> bool
+    requires cell_in { cell < board.now.domains.cells }
+    requires value_in { value < board.now.domains.values }
+    requires counter_cell { cell < counters.old.cells }
+    requires counter_value { value < counters.old.values }
+    requires dir_in { dir < counters.old.dirs }
+    requires some { 0 < count_of counters.old cell value dir }
+    ensures spent { IsTrue result ↔ ((count_of counters.old cell value dir ≡ 1)
+        × IsTrue (has board.now.domains cell value) × (board.now.verdict ≡ Alive)) }
+    ensures changed { counters.new ≡ with_count counters.old cell value dir
+        (count_of counters.old cell value dir - 1) }
+    ensures steps { steps.new ≡ steps.old + 1 }
+{
+    let left = counters.down(cell, value, dir, steps);
+    // One comparison says both that none is left and that the value stands, since neither can be foretold alone.
+    left < u32::from(board.domains.has(cell, value)) && is_alive(board.verdict)
+}
 
+impl<'p> Flight<'p> {
     /// Lowers the counters at one neighbour that count a removal, and removes what has no support left.
     fn work_side<L: Ledger>(
         &mut self,
@@ -63,8 +75,7 @@ impl<'p> Flight<'p> {
         let back = opposite(dir);
         let problem = self.board.problem;
         for w in problem.supports(value, dir) {
-            self.counters.down(next, *w, back, steps);
-            if self.is_spent(next, *w, back) {
+            if lower(&self.board, &mut self.counters, next, *w, back, steps) {
                 self.board.remove(next, *w, Cause::Arc(back));
             }
         }
@@ -243,11 +254,24 @@ impl<'p> Flight<'p> {
             (self.new.board.problem.now.cells * values self.new.board.problem.now) }
         ensures goes_on { GoesOn self.old self.new }
     {
-        let problem = self.board.problem;
-        for cell in 0..problem.cells() {
-            for value in 0..problem.values() {
-                self.look_at(cell, value);
-            }
+        for cell in 0..self.board.problem.cells() {
+            self.scan_cell(cell);
+        }
+    }
+
+    /// Looks at each value of a cell, unless each has support in all directions.
+    fn scan_cell(&mut self, cell: u32)
+        requires cell_in { cell < self.old.board.problem.now.cells }
+        requires scanned { IsScanned self.old.board self.old.counters (cell * values self.old.board.problem.now) }
+        ensures scanned { IsScanned self.new.board self.new.counters
+            ((cell + 1) * values self.new.board.problem.now) }
+        ensures goes_on { GoesOn self.old self.new }
+    {
+        if !self.counters.has_none(cell) {
+            return;
+        }
+        for value in 0..self.board.problem.values() {
+            self.look_at(cell, value);
         }
     }
 }

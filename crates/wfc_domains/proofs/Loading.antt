@@ -1,18 +1,21 @@
 -- The counters set one after another.
-use Rattle.std.proofs.Common.{◌≡◌, ℕ, ◌+◌, ◌*◌, ◌<◌, ◌≤◌, Bool, List, length, get_or, set, sym, ◌∙◌, ap, subst, arith, inl, inr}
+use Rattle.std.proofs.Common.{◌≡◌, ℕ, ◌+◌, ◌-◌, ◌*◌, ◌<◌, ◌≤◌, Bool, Some, refl, List, length, get_or, take, drop, set, sym, ◌∙◌, ap, subst, arith, inl, inr}
 use Rattle.std.specs.Prelude.{count_by, filter}
 use Rattle.std.specs.List.{range_with_len}
-use Rattle.std.proofs.lemmas.Bool.{cases_eq}
+use Rattle.std.proofs.lemmas.Bool.{cases_eq, cases_lt}
 use Rattle.std.proofs.Math.Nat.{mul-le-mul_right}
-use Rattle.std.proofs.lemmas.List.{length-set, get_or-set_same, get_or-set_other}
+use Rattle.std.proofs.lemmas.List.{length-set, length-take, length-drop, get_or-take, get_or-drop, get_or-set_same, get_or-set_other}
+use Rattle.std.proofs.lemmas.Nat.{mul-add-lt}
 use Rattle.std.proofs.lemmas.List.Sums.{length-filter}
 use Rattle.std.proofs.lemmas.List.FromFn.{length-range_with_len}
 use Rattle.wfc_lists.proofs.Counts.{count_by_all, count_by_whole}
 use Rattle.wfc_lists.proofs.Ranges.{range_at}
-use Rattle.wfc_problem.specs.Network.{Network, values}
-use Rattle.wfc_problem.specs.Domains.{Test, support_count}
-use Rattle.wfc_domains.specs.Counters.{Table, with_count, counts_of, place_in, place}
-use Rattle.wfc_domains.specs.Loaded.{AreLoaded}
+use Rattle.wfc_problem.specs.Network.{Network, values, neighbour, supports_of, IsProblem}
+use Rattle.wfc_problem.specs.Domains.{Test, count_at, support_count}
+use Rattle.wfc_domains.specs.Domains.{Flags, has, size_of}
+use Rattle.wfc_domains.specs.Counters.{Table, with_count, count_of, counts_of, place_in, place}
+use Rattle.wfc_domains.specs.Loaded.{AreLoaded, IsSurrounded, IsCopied}
+use Rattle.wfc_domains.proofs.Problems.{supports-below}
 use Rattle.wfc_domains.proofs.Places.{place-same, place_in-lt, place-is, counts_are}
 
 -- one more
@@ -55,3 +58,90 @@ full-count n p xs whole small = count_by_all p xs (λ k d l.
     let all : count_by p (range_with_len 0 n) ≡ length (range_with_len 0 n) = sym (length-filter p (range_with_len 0 n)) ∙ whole ∙ sym (length-range_with_len 0 n) in
     let here = count_by_whole p (range_with_len 0 n) all v 0 (omega (arith, length-range_with_len 0 n)) in
     ap p (sym (range_at n v hv)) ∙ here)
+
+-- where all values stand at the neighbour, all supports stand there
+pub full-support : (P : Network) → IsProblem P → (D : Flags) (c v d n : ℕ) → d < P.dirs → neighbour P c d ≡ Some n → size_of D n ≡ D.values → D.values ≡ values P
+    → support_count P (has D) c v d ≡ length (supports_of P v d)
+full-support P p D c v d n hd beside whole same =
+    ap (count_at P (has D) v d) beside
+    ∙ full-count D.values (has D n) (supports_of P v d) whole (λ k e l. omega (arith, supports-below P p v d (supports_of P v d) refl hd k e l))
+
+-- where a place of a row stands
+pub place_in-row : (n k c v d : ℕ) → place_in n k c v d ≡ c * (n * k) + (v * k + d)
+place_in-row n k c v d = omega arith
+
+-- a place before a cell's row is that of an earlier cell, or else it is in the row
+pub place-row : (P : Network) (c v d cell : ℕ) → v < values P → d < P.dirs → place P c v d < place P (cell + 1) 0 0 → c ≤ cell
+place-row P c v d cell hv hd l = elim (cases_lt cell c) [
+  | inl more ↦
+      let rows : (cell + 1) * (values P * P.dirs) ≤ c * (values P * P.dirs) = mul-le-mul_right (values P * P.dirs) (let z : cell + 1 ≤ c = omega arith in z) in
+      absurd (omega (arith, place_in-row (values P) P.dirs c v d, place_in-row (values P) P.dirs (cell + 1) 0 0))
+  | inr l' ↦ l'
+]
+
+-- a cell's counters copied from an earlier cell, where all supports stand beside both
+pub loaded-copied : (P : Network) (D : Test) (T T' : Table) (from to : ℕ) → AreLoaded P D T (place P to 0 0) → from < to → to < P.cells → IsSurrounded P D from P.dirs → IsSurrounded P D to P.dirs → IsCopied T T' from to
+    → AreLoaded P D T' (place P (to + 1) 0 0)
+loaded-copied P D T T' from to h earlier to_in like here copy = record {
+  fits = record {
+    same_cells = copy.same_cells ∙ h.fits.same_cells;
+    same_values = copy.same_values ∙ h.fits.same_values;
+    same_dirs = copy.same_dirs ∙ h.fits.same_dirs;
+    whole = copy.same_length ∙ h.fits.whole;
+  };
+  below = λ c v d hc hv hd l.
+      let hv' : v < T.values = omega (arith, h.fits.same_values) in
+      let hd' : d < T.dirs = omega (arith, h.fits.same_dirs) in
+      elim (cases_lt c to) [
+        | inl before ↦ copy.others c v d before hv' hd' ∙ h.below c v d hc hv hd (row-before c v d before hv hd)
+        | inr after ↦
+            let same : c ≡ to = omega (arith, place-row P c v d to hv hd l) in
+            ap (λ x. count_of T' x v d) same ∙ copy.copied v d hv' hd'
+            ∙ h.below from v d (omega arith) hv hd (row-before from v d earlier hv hd) ∙ like v d hd ∙ sym (here v d hd)
+            ∙ ap (λ x. support_count P D x v d) (sym same)
+      ];
+}
+  where
+    row-before : (c v d : ℕ) → c < to → v < values P → d < P.dirs → place P c v d < place P to 0 0
+    row-before c v d l hv hd = omega (arith, place_in-lt (values P) P.dirs c v d to l hv hd)
+
+-- the numbers of a cell's row are its counts
+pub row-positive : (n k cells cell : ℕ) (xs ys : List ℕ) → ys ≡ xs → length xs ≡ (cells * n) * k → cell < cells
+    → ((i : ℕ) → i < length (take (cell * (n * k) + n * k - cell * (n * k)) (drop (cell * (n * k)) ys)) → 0 < get_or (take (cell * (n * k) + n * k - cell * (n * k)) (drop (cell * (n * k)) ys)) i 0)
+    → (v d : ℕ) → v < n → d < k → 0 < get_or xs (place_in n k cell v d) 0
+row-positive n k cells cell xs ys same whole hc h v d hv hd =
+    let start = cell * (n * k) in
+    let m = start + n * k - start in
+    let i = v * k + d in
+    let inside : i < n * k = omega (arith, mul-add-lt v k d n hv hd) in
+    let short : i < m = omega arith in
+    let rows : (cell + 1) * (n * k) ≤ cells * (n * k) = mul-le-mul_right (n * k) (let z : cell + 1 ≤ cells = omega arith in z) in
+    let long : i < length (take m (drop start ys)) = omega (arith, length-take m (drop start ys), length-drop start ys, ap length same) in
+    let pos = h i long in
+    let read : get_or (take m (drop start ys)) i 0 ≡ get_or xs (place_in n k cell v d) 0 = get_or-take m (drop start ys) i 0 short ∙ get_or-drop start ys i 0 ∙ ap (λ zs. get_or zs (start + i) 0) same ∙ ap (λ j. get_or xs j 0) (sym (place_in-row n k cell v d)) in
+    omega arith
+
+-- a row fits at each cell
+pub row-in : (n k cells from to places : ℕ) → places ≡ (cells * n) * k → to < cells → to * (n * k) + (from * (n * k) + n * k - from * (n * k)) ≤ places
+row-in n k cells from to places whole h =
+    let rows : (to + 1) * (n * k) ≤ cells * (n * k) = mul-le-mul_right (n * k) (let z : to + 1 ≤ cells = omega arith in z) in
+    omega arith
+
+-- a row that was copied from another
+pub copied-row : (T : Table) (ys : List ℕ) (from to : ℕ) → ((j x : ℕ) → to * (T.values * T.dirs) ≤ j → j < to * (T.values * T.dirs) + (from * (T.values * T.dirs) + T.values * T.dirs - from * (T.values * T.dirs))
+    → get_or ys j x ≡ get_or T.counts (from * (T.values * T.dirs) + (j - to * (T.values * T.dirs))) x)
+    → ((j x : ℕ) → j < to * (T.values * T.dirs) → get_or ys j x ≡ get_or T.counts j x) → length ys ≡ length T.counts → IsCopied T (record T { counts = ys }) from to
+copied-row T ys from to copied below long = record {
+  same_cells = refl;
+  same_values = refl;
+  same_dirs = refl;
+  same_length = long;
+  copied = λ v d hv hd.
+      let n = T.values in
+      let k = T.dirs in
+      let inside = mul-add-lt v k d n hv hd in
+      let at : place_in n k to v d ≡ to * (n * k) + (v * k + d) = place_in-row n k to v d in
+      copied (place_in n k to v d) 0 (omega arith) (omega arith)
+      ∙ ap (λ j. get_or T.counts j 0) (let e : from * (n * k) + (place_in n k to v d - to * (n * k)) ≡ place_in n k from v d = omega (arith, place_in-row n k from v d) in e);
+  others = λ c v d hc hv hd. below (place_in T.values T.dirs c v d) 0 (omega (arith, place_in-lt T.values T.dirs c v d to hc hv hd, place_in-row T.values T.dirs to 0 0));
+}

@@ -1,6 +1,6 @@
 -- Counters that are loaded one after another.
-use Rattle.std.specs.Prelude.{◌≡◌, ℕ, ◌<◌}
-use Rattle.wfc_problem.specs.Network.{Network, values}
+use Rattle.std.specs.Prelude.{◌≡◌, ℕ, ◌<◌, length}
+use Rattle.wfc_problem.specs.Network.{Network, values, supports_of}
 use Rattle.wfc_problem.specs.Domains.{Test, support_count}
 use Rattle.wfc_domains.specs.Counters.{Table, FitsTable, count_of, place}
 
@@ -8,3 +8,21 @@ use Rattle.wfc_domains.specs.Counters.{Table, FitsTable, count_of, place}
 pub record AreLoaded (P : Network) (D : Test) (T : Table) (i : ℕ) : Type 0 where
   pub fits : FitsTable P T
   pub below : (c v d : ℕ) → c < P.cells → v < values P → d < P.dirs → place P c v d < i → count_of T c v d ≡ support_count P D c v d
+
+-- all supports stand beside c in the first k directions
+abbrev pub IsSurrounded : Network → Test → ℕ → ℕ → Type 0
+IsSurrounded P D c k = (v d : ℕ) → d < k → support_count P D c v d ≡ length (supports_of P v d)
+
+-- c is before the cell, and all supports stand beside it
+pub record IsLike (P : Network) (D : Test) (cell c : ℕ) : Type 0 where
+  pub earlier : c < cell
+  pub surrounded : IsSurrounded P D c P.dirs
+
+-- the counts of one cell became those of another
+pub record IsCopied (old new : Table) (from to : ℕ) : Type 0 where
+  pub same_cells : new.cells ≡ old.cells
+  pub same_values : new.values ≡ old.values
+  pub same_dirs : new.dirs ≡ old.dirs
+  pub same_length : length new.counts ≡ length old.counts
+  pub copied : (v d : ℕ) → v < old.values → d < old.dirs → count_of new to v d ≡ count_of old from v d
+  pub others : (c v d : ℕ) → c < to → v < old.values → d < old.dirs → count_of new c v d ≡ count_of old c v d

@@ -1,11 +1,11 @@
 //! Support counters: how many supports each value has left beside each cell.
 
-ghost use Rattle.std.specs.Prelude.{◌≡◌, ◌+◌, ◌-◌, ◌*◌, ◌<◌, ◌≤◌, ◌^◌, IfOk, All, count_by, length, slice_set};
+ghost use Rattle.std.specs.Prelude.{◌≡◌, ℕ, ◌+◌, ◌-◌, ◌*◌, ◌<◌, ◌≤◌, ◌^◌, IfOk, IfSome, IsTrue, IsFalse, All, count_by, length, slice_index, slice_set};
 ghost use Rattle.wfc_problem.specs.Network.{values, neighbour, supports_of};
 ghost use Rattle.wfc_problem.specs.Domains.{support_count, count_at};
 ghost use Rattle.wfc_domains.specs.Counters.{FitsTable, count_of, with_count, counters_of, counts_of, no_counts, place};
 ghost use Rattle.wfc_domains.specs.Domains.{Fits, has};
-ghost use Rattle.wfc_domains.specs.Loaded.{AreLoaded};
+ghost use Rattle.wfc_domains.specs.Loaded.{AreLoaded, IsSurrounded, IsLike, IsCopied};
 
 use crate::domains::Domains;
 use crate::steps::Steps;
@@ -65,6 +65,17 @@ impl Counters {
         )
     }
 
+    /// Whether an entry of the cell is 0.
+    pub fn has_none(&self, cell: u32) -> bool
+        requires cell_in { cell < self.now.cells }
+        ensures some { IsFalse result → (v d : ℕ) → v < self.now.values → d < self.now.dirs
+            → 0 < count_of self.now cell v d }
+    {
+        let row = self.values * self.dirs;
+        let start = cell as usize * row;
+        has_zero(&self.counts[start..start + row])
+    }
+
     /// Sets each entry to the number of supports that stand, 0 where there is no neighbour. Each entry is one step.
     pub fn load<L: Ledger>(&mut self, problem: &Problem, domains: &Domains, steps: &mut Steps<L>)
         requires domains { Fits problem.now domains.now }
@@ -72,9 +83,52 @@ impl Counters {
         ensures loaded { self.new ≡ counts_of problem.now (has domains.now) }
         ensures steps { steps.new ≡ steps.old + counters_of problem.now }
     {
+        let mut like = None;
         for cell in 0..problem.cells() {
-            self.load_cell(problem, domains, cell, steps);
+            like = self.load_like(problem, domains, cell, like, steps);
         }
+    }
+
+    /// Sets the entries of one cell: where all values stand on all sides of it, those of the last such cell.
+    fn load_like<L: Ledger>(
+        &mut self,
+        problem: &Problem,
+        domains: &Domains,
+        cell: u32,
+        like: Option<u32>,
+        steps: &mut Steps<L>,
+    ) -> Option<u32>
+        requires domains { Fits problem.now domains.now }
+        requires cell_in { cell < problem.now.cells }
+        requires like { IfSome like (IsLike problem.now (has domains.now) cell) }
+        requires before { AreLoaded problem.now (has domains.now) self.old (place problem.now cell 0 0) }
+        ensures like { IfSome result (IsLike problem.now (has domains.now) (cell + 1)) }
+        ensures after { AreLoaded problem.now (has domains.now) self.new (place problem.now (cell + 1) 0 0) }
+        ensures steps { steps.new ≡ steps.old + values problem.now * problem.now.dirs }
+    {
+        if !is_surrounded(problem, domains, cell) {
+            self.load_cell(problem, domains, cell, steps);
+            return like;
+        }
+        match like {
+            Some(earlier) => self.copy_cell(earlier, cell, steps),
+            None => self.load_cell(problem, domains, cell, steps),
+        }
+        Some(cell)
+    }
+
+    /// Sets the entries of one cell to those of another. Each entry is one step.
+    fn copy_cell<L: Ledger>(&mut self, from: u32, to: u32, steps: &mut Steps<L>)
+        requires from_in { from < self.old.cells }
+        requires to_in { to < self.old.cells }
+        ensures copied { IsCopied self.old self.new from to }
+        ensures steps { steps.new ≡ steps.old + self.old.values * self.old.dirs }
+    {
+        let row = self.values * self.dirs;
+        let start = from as usize * row;
+        let dest = to as usize * row;
+        self.counts.copy_within(start..start + row, dest);
+        steps.add(row as u64);
     }
 
     /// Sets the entries of one cell.
@@ -131,18 +185,22 @@ impl Counters {
             count;
     }
 
-    /// One less. It is one step.
+    /// One less, and how many are left. It is one step.
     #[inline]
-    pub fn down<L: Ledger>(&mut self, cell: u32, value: u16, dir: u8, steps: &mut Steps<L>)
+    pub fn down<L: Ledger>(&mut self, cell: u32, value: u16, dir: u8, steps: &mut Steps<L>) -> u32
         requires cell_in { cell < self.old.cells }
         requires value_in { value < self.old.values }
         requires dir_in { dir < self.old.dirs }
         requires some { 0 < count_of self.old cell value dir }
+        ensures left { result + 1 ≡ count_of self.old cell value dir }
         ensures changed { self.new ≡ with_count self.old cell value dir (count_of self.old cell value dir - 1) }
         ensures steps { steps.new ≡ steps.old + 1 }
     {
-        self.counts[(cell as usize * self.values + value as usize) * self.dirs + dir as usize] -= 1;
+        let place = (cell as usize * self.values + value as usize) * self.dirs + dir as usize;
+        let left = self.counts[place] - 1;
+        self.counts[place] = left;
         steps.tick();
+        u32::from(left)
     }
 
     /// One more. It is one step.
@@ -157,6 +215,47 @@ impl Counters {
     {
         self.counts[(cell as usize * self.values + value as usize) * self.dirs + dir as usize] += 1;
         steps.tick();
+    }
+}
+
+/// Whether a number is 0.
+fn has_zero(numbers: &[u16]) -> bool
+    ensures none { IsFalse result → (k : ℕ) → k < length numbers.now → 0 < slice_index numbers.now k }
+{
+    let mut found = false;
+    for number in numbers {
+        if *number == 0 {
+            found = true;
+        }
+    }
+    found
+}
+
+/// Whether the cell has a neighbour in each direction, at which all values stand.
+fn is_surrounded(problem: &Problem, domains: &Domains, cell: u32) -> bool
+    requires domains { Fits problem.now domains.now }
+    requires cell_in { cell < problem.now.cells }
+    ensures all { IsTrue result → IsSurrounded problem.now (has domains.now) cell problem.now.dirs }
+{
+    for dir in 0..problem.dirs() {
+        if !is_filled(problem, domains, cell, dir) {
+            return false;
+        }
+    }
+    true
+}
+
+/// Whether the cell has a neighbour in a direction, at which all values stand.
+fn is_filled(problem: &Problem, domains: &Domains, cell: u32, dir: u8) -> bool
+    requires domains { Fits problem.now domains.now }
+    requires cell_in { cell < problem.now.cells }
+    requires dir_in { dir < problem.now.dirs }
+    ensures all { IsTrue result → (v : ℕ) →
+        support_count problem.now (has domains.now) cell v dir ≡ length (supports_of problem.now v dir) }
+{
+    match problem.neighbour(cell, dir) {
+        None => false,
+        Some(next) => domains.size(next) == u32::from(problem.values()),
     }
 }
 

@@ -6,7 +6,7 @@ use std::marker::Model;
 use std::sync::ledger::{Blank, Book, Ledger, Share};
 
 /// How many steps were taken. One step is one change of one support counter, or one entry in a loading of all
-/// counters. It takes no bytes, and only `tick` changes it.
+/// counters. It takes no bytes, and only `tick` and `add` change it.
 #[derive(Drop)]
 pub struct Steps<L: Ledger> {
     book: Book<L>,
@@ -41,5 +41,13 @@ impl<L: Ledger> Steps<L> {
         ensures one { self.new ≡ self.old + 1 }
     {
         self.book.add(&mut self.share, 1);
+    }
+
+    /// So many more steps.
+    #[inline]
+    pub fn add(&mut self, count: u64)
+        ensures more { self.new ≡ self.old + count }
+    {
+        self.book.add(&mut self.share, count);
     }
 }

@@ -7,76 +7,71 @@ use Rattle.wfc_domains.proofs.Boards.{board-room, grows-more, grows-lost}
 use Rattle.wfc_ac4.specs.Places.{places_upto, side_places}
 use Rattle.wfc_ac4.proofs.Steps.{side_at, step_removed, step_lowered}
 use Rattle.wfc_ac4.proofs.flight.Flight.work_side.Goals as goal
-use Rattle.wfc_ac4.proofs.flight.Flight.work_side.Goals.{then-is_spent, else-is_spent}
+use Rattle.wfc_ac4.proofs.flight.Flight.work_side.Goals.{then-lower, else-lower}
 
-pub down-requires-clause-cell_in : goal.down-requires-clause-cell_in
-down-requires-clause-cell_in g c =
+pub lower-requires-clause-cell_in : goal.lower-requires-clause-cell_in
+lower-requires-clause-cell_in g c =
+    let h = c.loop-w.invariant in
+    let s = side_at _ c.args.self.now.board _ _ _ _ _ _ _ _ _ _ h.goes_on.grows.problem h.working c.requires.dir_in c.requires.beside c.supports-w-items.ensures.value c.loop-w-test.true refl c.opposite-back.ensures.value in
+    omega (arith, s.cell_in, h.working.board.traced.same_cells)
+
+pub lower-requires-clause-value_in : goal.lower-requires-clause-value_in
+lower-requires-clause-value_in g c =
+    let h = c.loop-w.invariant in
+    let s = side_at _ c.args.self.now.board _ _ _ _ _ _ _ _ _ _ h.goes_on.grows.problem h.working c.requires.dir_in c.requires.beside c.supports-w-items.ensures.value c.loop-w-test.true refl c.opposite-back.ensures.value in
+    omega (arith, s.value_in, h.working.board.traced.same_values)
+
+pub lower-requires-clause-counter_cell : goal.lower-requires-clause-counter_cell
+lower-requires-clause-counter_cell g c =
     let h = c.loop-w.invariant in
     let s = side_at _ c.args.self.now.board _ _ _ _ _ _ _ _ _ _ h.goes_on.grows.problem h.working c.requires.dir_in c.requires.beside c.supports-w-items.ensures.value c.loop-w-test.true refl c.opposite-back.ensures.value in
     omega (arith, s.cell_in, h.working.counters.fits.same_cells)
 
-pub down-requires-clause-value_in : goal.down-requires-clause-value_in
-down-requires-clause-value_in g c =
+pub lower-requires-clause-counter_value : goal.lower-requires-clause-counter_value
+lower-requires-clause-counter_value g c =
     let h = c.loop-w.invariant in
     let s = side_at _ c.args.self.now.board _ _ _ _ _ _ _ _ _ _ h.goes_on.grows.problem h.working c.requires.dir_in c.requires.beside c.supports-w-items.ensures.value c.loop-w-test.true refl c.opposite-back.ensures.value in
     omega (arith, s.value_in, h.working.counters.fits.same_values)
 
-pub down-requires-clause-dir_in : goal.down-requires-clause-dir_in
-down-requires-clause-dir_in g c =
+pub lower-requires-clause-dir_in : goal.lower-requires-clause-dir_in
+lower-requires-clause-dir_in g c =
     let h = c.loop-w.invariant in
     let s = side_at _ c.args.self.now.board _ _ _ _ _ _ _ _ _ _ h.goes_on.grows.problem h.working c.requires.dir_in c.requires.beside c.supports-w-items.ensures.value c.loop-w-test.true refl c.opposite-back.ensures.value in
     omega (arith, s.dir_in, h.working.counters.fits.same_dirs)
 
-pub down-requires-clause-some : goal.down-requires-clause-some
-down-requires-clause-some g c =
+pub lower-requires-clause-some : goal.lower-requires-clause-some
+lower-requires-clause-some g c =
     let h = c.loop-w.invariant in
-    (side_at _ c.args.self.now.board _ _ _ _ _ _ _ _ _ _ h.goes_on.grows.problem h.working c.requires.dir_in c.requires.beside c.supports-w-items.ensures.value c.loop-w-test.true refl c.opposite-back.ensures.value).above_zero
+    let s = side_at _ c.args.self.now.board _ _ _ _ _ _ _ _ _ _ h.goes_on.grows.problem h.working c.requires.dir_in c.requires.beside c.supports-w-items.ensures.value c.loop-w-test.true refl c.opposite-back.ensures.value in
+    s.above_zero
 
 pub loop-w-preserved : goal.loop-w-preserved
 loop-w-preserved g c =
     let h = c.loop-w.invariant in
     let s = side_at _ c.args.self.now.board _ _ _ _ _ _ _ _ _ _ h.goes_on.grows.problem h.working c.requires.dir_in c.requires.beside c.supports-w-items.ensures.value c.loop-w-test.true refl c.opposite-back.ensures.value in
-    elim c.if-is_spent.branch [
-      | then-is_spent w ↦
-          let spent = c.is_spent.ensures.value.0 w.if-is_spent.true in
+    elim c.if-lower.branch [
+      | then-lower w ↦
+          let spent = c.lower.ensures.spent.0 w.if-lower.true in
           let r = w.remove.ensures.removed in
           let next = step_removed _ _ _ _ _ _ _ _ (λ (P : Network). places_upto P c.args.cell c.args.value c.args.dir ++ take (c.loop-w.w-index + 1) (side_places P c.args.value c.args.dir (Some c.args.next))) _ _ _
-          h.working s c.down.ensures.changed spent.2 spent.0 r in
+          h.working s c.lower.ensures.changed spent.2 spent.0 r in
           rw (w.self-is) (record {
             working = next;
             goes_on = record {
               grows = grows-more h.goes_on.grows (subst (Grows c.loop-w.self.board) (sym r.same) (grows-lost c.loop-w.self.board _ _ _ _));
               head = h.goes_on.head;
             };
-            steps = omega (arith, c.down.ensures.steps, h.steps);
+            steps = omega (arith, c.lower.ensures.steps, h.steps);
           })
-      | else-is_spent w ↦
-          let next = step_lowered _ _ _ _ _ _ _ _ _ _ _ h.working s c.down.ensures.changed
-          (λ alive none_left stands. true≢false (sym (c.is_spent.ensures.value.1 (none_left, stands, alive)) ∙ w.if-is_spent.false)) in
+      | else-lower w ↦
+          let next = step_lowered _ _ _ _ _ _ _ _ _ _ _ h.working s c.lower.ensures.changed
+          (λ alive one_left stands. true≢false (sym (c.lower.ensures.spent.1 (one_left, stands, alive)) ∙ w.if-lower.false)) in
           rw (w.self-is) (record {
             working = next;
             goes_on = record { grows = h.goes_on.grows; head = h.goes_on.head };
-            steps = omega (arith, c.down.ensures.steps, h.steps);
+            steps = omega (arith, c.lower.ensures.steps, h.steps);
           })
     ]
-
-pub is_spent-requires-clause-value_in : goal.is_spent-requires-clause-value_in
-is_spent-requires-clause-value_in g c =
-    let h = c.loop-w.invariant in
-    let s = side_at _ c.args.self.now.board _ _ _ _ _ _ _ _ _ _ h.goes_on.grows.problem h.working c.requires.dir_in c.requires.beside c.supports-w-items.ensures.value c.loop-w-test.true refl c.opposite-back.ensures.value in
-    omega (arith, s.value_in, h.working.board.traced.same_values)
-
-pub is_spent-requires-clause-counter_cell : goal.is_spent-requires-clause-counter_cell
-is_spent-requires-clause-counter_cell g c =
-    let h = c.loop-w.invariant in
-    let s = side_at _ c.args.self.now.board _ _ _ _ _ _ _ _ _ _ h.goes_on.grows.problem h.working c.requires.dir_in c.requires.beside c.supports-w-items.ensures.value c.loop-w-test.true refl c.opposite-back.ensures.value in
-    omega (arith, s.cell_in, h.working.counters.fits.same_cells, ap (λ t. t.cells) c.down.ensures.changed)
-
-pub is_spent-requires-clause-counter_value : goal.is_spent-requires-clause-counter_value
-is_spent-requires-clause-counter_value g c =
-    let h = c.loop-w.invariant in
-    let s = side_at _ c.args.self.now.board _ _ _ _ _ _ _ _ _ _ h.goes_on.grows.problem h.working c.requires.dir_in c.requires.beside c.supports-w-items.ensures.value c.loop-w-test.true refl c.opposite-back.ensures.value in
-    omega (arith, s.value_in, h.working.counters.fits.same_values, ap (λ t. t.values) c.down.ensures.changed)
 
 pub remove-requires-clause-cell_in : goal.remove-requires-clause-cell_in
 remove-requires-clause-cell_in g c =
@@ -92,4 +87,4 @@ remove-requires-clause-value_in g c =
 
 pub remove-requires-clause-room : goal.remove-requires-clause-room
 remove-requires-clause-room g c =
-    board-room c.loop-w.self.board c.loop-w.invariant.working.board.traced _ _ (c.is_spent.ensures.value.0 c.if-is_spent.true).1
+    board-room c.loop-w.self.board c.loop-w.invariant.working.board.traced _ _ (c.lower.ensures.spent.0 c.if-lower.true).1
