@@ -1,2 +1,11 @@
+pub mod Block
+pub mod Gathering
 pub mod Layout
+pub mod Learned
+pub mod Map
+pub mod Numbers
+pub use Rattle.wfc_domains.specs.Domains
+pub use Rattle.wfc_grid.specs.Spelling
 pub use Rattle.wfc_model.specs.Raster
+pub use Rattle.wfc_outside.specs.Sink
+pub use Rattle.wfc_pattern.specs.Patterns

@@ -1,9 +1,15 @@
 //! Laws of the definitions, each a function with no body whose contract is the law. They run nothing.
 
-ghost use Rattle.std.specs.Prelude.{◌≡◌, ℕ, ◌∷◌, [], None, Some, Ok, Err, Option, map};
+ghost use Rattle.std.specs.Prelude.{◌≡◌, ℕ, ◌∷◌, ◌++◌, [], None, Some, Ok, Err, Option, codes, map, nat_lt, true, false};
 ghost use Rattle.wfc_picture.specs.declared.symbol.Kind.{Kind};
 ghost use Rattle.wfc_picture.specs.declared.symbol.Kind.TheVariants as kinds;
+ghost use Rattle.wfc_picture.specs.Small.{rgb};
+ghost use Rattle.wfc_picture.specs.declared.symbol.Symbol.TheVariants.{Char};
+ghost use Rattle.wfc_render.specs.Block.{block_text, domain_text};
 ghost use Rattle.wfc_render.specs.Layout.{IsLayout, form_for, forms_of, layout_of, pixels_of};
+ghost use Rattle.wfc_render.specs.Learned.{learned_text};
+ghost use Rattle.wfc_render.specs.Map.{is_of_kind, symbol_at, text_in};
+ghost use Rattle.wfc_render.specs.Numbers.{spaced_numbers};
 ghost use Rattle.wfc_render.specs.declared.form.Form.{Form};
 ghost use Rattle.wfc_render.specs.declared.form.Form.TheVariants.{P6, P3, Grid, Cells};
 ghost use Rattle.wfc_render.specs.declared.form.Layout.{Layout};
@@ -53,4 +59,39 @@ pub fn layouts_by_example()
         Ok (record { kind = kinds.Ppm 9; form = P3; width = 512; height = 128; side = 16 }) }
     ensures more { layout_of (kinds.Ppm 9) (Some Cells) 4096 17 17 ≡ Err (TooLarge 20123648) }
     ensures differs { layout_of kinds.Grid (Some P6) 4096 4096 64 ≡ Err FormDiffers }
+{}
+
+/// Which symbols a kind of sample can show: a grid the printable bytes.
+pub fn kinds_by_example()
+    ensures printable { map (is_of_kind kinds.Grid) (Char 32 ∷ Char 126 ∷ []) ≡ true ∷ true ∷ [] }
+    ensures others { map (is_of_kind kinds.Grid) (Char 31 ∷ Char 127 ∷ rgb 1 2 3 ∷ []) ≡ false ∷ false ∷ false ∷ [] }
+    ensures plain { is_of_kind kinds.Plain (Char 97) ≡ false }
+    ensures symbol { map (symbol_at (Char 98 ∷ rgb 1 2 3 ∷ [])) (1 ∷ 0 ∷ 2 ∷ []) ≡ rgb 1 2 3 ∷ Char 98 ∷ Char 32 ∷ [] }
+{}
+
+/// A map of three by two in both forms: row by row the bytes of the symbols, or the numbers with one blank between each two.
+pub fn maps_by_example()
+    ensures grid { text_in Grid (Char 98 ∷ Char 97 ∷ Char 32 ∷ [])
+        (record { width = 3; rows = (0 ∷ 1 ∷ 2 ∷ []) ∷ (1 ∷ 1 ∷ 0 ∷ []) ∷ [] }) ≡ codes "ba \naab\n" }
+    ensures cells { text_in Cells (Char 98 ∷ Char 97 ∷ Char 32 ∷ [])
+        (record { width = 3; rows = (0 ∷ 1 ∷ 2 ∷ []) ∷ (1 ∷ 1 ∷ 0 ∷ []) ∷ [] }) ≡ codes "0 1 2\n1 1 0\n" }
+    ensures numbers { spaced_numbers (10 ∷ 0 ∷ 4095 ∷ []) ≡ codes "10 0 4095" }
+    ensures one { spaced_numbers (7 ∷ []) ≡ codes "7" }
+{}
+
+/// Two patterns of side 2 over a blank and a colour.
+pub fn learned_by_example()
+    ensures two { learned_text
+        (record { n = 2; windows = (0 ∷ 1 ∷ 1 ∷ 1 ∷ []) ∷ (1 ∷ 0 ∷ 0 ∷ 1 ∷ []) ∷ []; weights = 12 ∷ 3 ∷ [] })
+        (Char 32 ∷ rgb 1 20 3 ∷ []) ≡ codes "overlap 2\ncolours 2\n0 " ++ 92
+        ∷ codes "s\n1 1,20,3\npatterns 2\n0 12: 0 1 1 1\n1 3: 1 0 0 1\n" }
+{}
+
+/// Blocks of three values and two cells, where a value stands at each cell below it, and of dead domains.
+pub fn blocks_by_example()
+    ensures shown { block_text 7 (Some nat_lt) 3 2 ≡ codes "step 7\n0: 1 2\n1: 2\n" }
+    ensures empty { block_text 10 (Some nat_lt) 2 2 ≡ codes "step 10\n0: 1\n1:\n" }
+    ensures dead { block_text 7 None 3 2 ≡ codes "step 7\ndead\n" }
+    ensures steps { domain_text (Some nat_lt ∷ None ∷ []) 3 2
+        ≡ codes "step 0\n0: 1 2\n1: 2\nstep 1\ndead\n" }
 {}

@@ -1,9 +1,19 @@
 //! The bytes of maps and of the texts about samples and domains.
 #![tactic(auto)]
 
+mod blocks;
 mod form;
+mod gathering;
 pub mod laws;
 mod layouts;
+mod learned;
+mod maps;
 
+pub use blocks::write_block;
 pub use form::{Form, Layout, RenderFault};
 pub use layouts::{MAX_MAP_PIXELS, MAX_OUTPUT_SIDE, MAX_TILE_SIDE, layout};
+pub use learned::learned_overlap;
+pub use maps::picture_bytes;
+
+#[cfg(test)]
+mod tests;

@@ -1,0 +1,3 @@
+pub mod GatheringLemmas
+pub mod MapLemmas
+pub mod RangeLemmas

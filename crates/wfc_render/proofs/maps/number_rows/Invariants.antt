@@ -1,0 +1,8 @@
+-- The rows so far are written.
+use Rattle.std.proofs.Common.{◌≡◌, map, take}
+use Rattle.wfc_grid.specs.Spelling.{grid_text}
+use Rattle.wfc_render.specs.Numbers.{spaced_numbers}
+use Rattle.wfc_render.proofs.maps.number_rows.Given as goal
+
+abbrev pub invariant-loop-y : goal.invariant-loop-y
+invariant-loop-y l = l.text.items ≡ grid_text (map spaced_numbers (take l.y l.picture.rows))

@@ -1,0 +1,53 @@
+-- The text of a map.
+use Rattle.std.specs.Prelude.{◌≡◌, ℕ, ◌<◌, Bool, false, List, [], length, map, All, slice_index_or}
+use Rattle.std.specs.List.{AllPass}
+use Rattle.wfc_grid.specs.Grid.{is_cell}
+use Rattle.wfc_grid.specs.Spelling.{grid_text}
+use Rattle.wfc_model.specs.Raster.{Raster, IsSized, numbers_of}
+use Rattle.wfc_picture.specs.declared.symbol.Kind.{Kind}
+use Rattle.wfc_picture.specs.declared.symbol.Kind.TheVariants as kinds
+use Rattle.wfc_picture.specs.declared.symbol.Symbol.{Symbol}
+use Rattle.wfc_picture.specs.declared.symbol.Symbol.TheVariants.{Char, Rgb}
+use Rattle.wfc_render.specs.Layout.{IsLayout}
+use Rattle.wfc_render.specs.Numbers.{spaced_numbers}
+use Rattle.wfc_render.specs.declared.form.Form.{Form}
+use Rattle.wfc_render.specs.declared.form.Form.TheVariants.{P6, P3, Grid, Cells}
+use Rattle.wfc_render.specs.declared.form.Layout.{Layout}
+
+-- whether a sample of this kind can show the symbol
+abbrev pub is_of_kind : Kind → Symbol → Bool
+is_of_kind kinds.Grid (Char byte) = is_cell byte
+is_of_kind _ _ = false
+
+-- the symbol with a number, and a blank where there is none
+abbrev pub symbol_at : List Symbol → ℕ → Symbol
+symbol_at palette number = slice_index_or palette number (Char 0x20)
+
+-- the byte of a character, and a blank for a colour
+abbrev pub byte_of : Symbol → ℕ
+byte_of (Char byte) = byte
+byte_of (Rgb colour) = 0x20
+
+-- the bytes of the symbols with these numbers
+abbrev pub bytes_of : List Symbol → List ℕ → List ℕ
+bytes_of palette numbers = map (λ number. byte_of (symbol_at palette number)) numbers
+
+-- the text of a map in a form: row by row the bytes of its symbols, or its numbers with one blank between each two
+abbrev pub text_in : Form → List Symbol → Raster → List ℕ
+text_in Grid palette m = grid_text (map (bytes_of palette) m.rows)
+text_in Cells palette m = grid_text (map spaced_numbers m.rows)
+text_in P6 palette m = []
+text_in P3 palette m = []
+
+-- the text of a map of palette numbers
+abbrev pub map_text : Layout → List Symbol → Raster → List ℕ
+map_text layout palette m = text_in layout.form palette m
+
+-- a map of pixels, whose numbers are of a palette of symbols of its layout's kind
+pub record IsWritten (layout : Layout) (palette : List Symbol) (m : Raster) : Type 0 where
+  pub answered : IsLayout layout
+  pub pixels : layout.side ≡ 1
+  pub kind : AllPass (is_of_kind layout.kind) palette
+  pub some_symbol : 0 < length palette
+  pub sized : IsSized m layout.width layout.height
+  pub numbers : All (λ number. number < length palette) (numbers_of m)
