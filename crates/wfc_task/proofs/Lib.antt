@@ -3,3 +3,4 @@ pub mod WordLemmas
 pub mod StepLemmas
 pub mod DemoLemmas
 pub mod TaskLemmas
+pub mod FillingLemmas

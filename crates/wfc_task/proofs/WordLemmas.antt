@@ -1,8 +1,46 @@
 -- Plans that refuse nothing for the words: which they are, and that a call which goes by one never ends with the status of the words.
-use Rattle.std.proofs.Common.{◌≡◌, ℕ, ◌⊎◌, inl, inr, List, Option, Result, Ok, Err, ap, sym, ◌∙◌, subst, refl, arith}
+use Rattle.std.proofs.Common.{◌≡◌, ℕ, ◌⊎◌, inl, inr, Bool, true, false, if◌then◌else◌, List, Option, None, Some, Result, Ok, Err, ap, sym, ◌∙◌, subst, refl, arith}
 use Rattle.wfc_outside.specs.Folder.{FolderView}
 use Rattle.wfc_outside.specs.declared.whole.ReadFault.{ReadFault}
 use Rattle.wfc_outside.specs.declared.whole.ReadFault.TheVariants as reading
+use Rattle.std.specs.List.{list_any}
+use Rattle.wfc_grid.specs.Reading.{grid_of}
+use Rattle.wfc_grid.specs.declared.reading.GridFault.{GridFault}
+use Rattle.wfc_grid.specs.declared.reading.GridFault.TheVariants as grids
+use Rattle.wfc_picture.specs.Palette.{indexed}
+use Rattle.wfc_picture.specs.declared.palette.PaletteFault.{PaletteFault}
+use Rattle.wfc_picture.specs.declared.palette.PaletteFault.TheVariants as palettes
+use Rattle.wfc_picture.specs.declared.symbol.Kind.TheVariants as kind
+use Rattle.wfc_pattern.specs.Learning.{patterns_of}
+use Rattle.wfc_pattern.specs.declared.learning.LearnFault.{LearnFault}
+use Rattle.wfc_pattern.specs.declared.learning.LearnFault.TheVariants as learning
+use Rattle.wfc_problem.specs.Network.{Network}
+use Rattle.wfc_pins.specs.Pins.{pins_of}
+use Rattle.wfc_pins.specs.Steps.{range_fault, steps_of}
+use Rattle.wfc_pins.specs.declared.pins.PinFault.{PinFault}
+use Rattle.wfc_pins.specs.declared.pins.PinFault.TheVariants as pins
+use Rattle.wfc_pins.specs.declared.fault.BuildFault.{BuildFault}
+use Rattle.wfc_pins.specs.declared.fault.BuildFault.TheVariants as builds
+use Rattle.wfc_pins.specs.declared.steps.StepLine.{StepLine}
+use Rattle.wfc_pins.specs.declared.steps.StepFault.{StepFault}
+use Rattle.wfc_pins.specs.declared.steps.StepFault.TheVariants as steps
+use Rattle.wfc_pins.specs.declared.steps.RangeFault.{RangeFault}
+use Rattle.wfc_overlap.specs.Built.{built}
+use Rattle.wfc_overlap.specs.Sample.{output_with}
+use Rattle.wfc_choose.specs.declared.RuleKind.{RuleKind}
+use Rattle.wfc_choose.specs.declared.RuleKind.TheVariants as rules
+use Rattle.wfc_render.specs.Layout.{layout_of}
+use Rattle.wfc_words.specs.RequestView.{RequestView}
+use Rattle.wfc_words.specs.declared.kinds.CommandKind.{CommandKind}
+use Rattle.wfc_words.specs.declared.kinds.CommandKind.TheVariants as commands
+use Rattle.wfc_task.specs.declared.fault.Source.TheVariants.{Sample}
+use Rattle.wfc_task.specs.declared.fault.Refusal.TheVariants.{NotBuilt, Chooser, Grid, Colours, Learn, Render, Pins, Build, Steps, Range}
+use Rattle.wfc_task.specs.declared.task.Taught.{Taught}
+use Rattle.wfc_task.specs.Built.{is_built, is_built_by, side_of}
+use Rattle.wfc_task.specs.Demo.{demo_patterns, demo_problem}
+use Rattle.wfc_task.specs.Steps.{chosen, coloured, fitting, grid_in, laid, or_refuse, posed, same_rule, steps_in, symbols_of, taught, unless_out}
+use Rattle.wfc_task.specs.Task.{Task, learn, fill, domains, demo, picture_plan, sample_plan, pins_plan, problem_plan, steps_plan, learn_plan, fill_plan, domains_plan, demo_plan, plan_by, plan_of}
+use Rattle.wfc_task.proofs.TaskLemmas.{behind_lesson, behind_layout, behind_picture, behind_problem, behind_sample}
 use Rattle.wfc_task.specs.declared.fault.Source.{Source}
 use Rattle.wfc_task.specs.declared.fault.Fault.{Fault}
 use Rattle.wfc_task.specs.declared.fault.Fault.TheVariants.{Unread, Refused}
@@ -52,3 +90,119 @@ never_3 plan before after fault never (inl follows) three = by_plan plan before 
     by_plan (read source name limit next) before after fault never (inl goes_on) three = by_plan (next goes_on.0) before after fault (never goes_on.0) goes_on.2 three
     by_plan (read source name limit next) before after fault never (inr unread) three =
         let same : fault ≡ Unread source unread.0 = cc (unread.2) in not_3 unread.0 (sym (ap status_of same) ∙ three)
+
+-- a step never refuses for the words, if its faults don't
+never_step : {T : Type 0} (result : Result T Refusal) → ((refusal : Refusal) → result ≡ Err refusal → NotWords refusal) → NeverWords (step result)
+never_step (Ok value) never = tt
+never_step (Err refusal) never = never refusal refl
+
+-- the same of a step that refuses the faults of another call
+never_refused : {T E : Type 0} (refusal : E → Refusal) (result : Result T E) → ((fault : E) → NotWords (refusal fault)) → NeverWords (step (or_refuse refusal result))
+never_refused refusal (Ok value) never = tt
+never_refused refusal (Err fault) never = never fault
+
+-- the classes of faults
+grids_never : (source : Source) (fault : GridFault) → NotWords (Grid source fault)
+grids_never source grids.Empty words = cc
+grids_never source (grids.Ragged line) words = cc
+grids_never source (grids.BadByte line column) words = cc
+grids_never source grids.TooLarge words = cc
+grids_never source grids.NoMemory words = cc
+
+colours_never : (fault : PaletteFault) → NotWords (Colours fault)
+colours_never (palettes.TooManyColours at) words = cc
+colours_never palettes.NoMemory words = cc
+
+lessons_never : (fault : LearnFault) → NotWords (Learn fault)
+lessons_never learning.SampleBelowN words = cc
+lessons_never (learning.TooManyPatterns count) words = cc
+lessons_never learning.NoMemory words = cc
+
+pins_never : (fault : PinFault) → NotWords (Pins fault)
+pins_never (pins.BadLine line) words = cc
+pins_never pins.NoMemory words = cc
+
+builds_never : (fault : BuildFault) → NotWords (Build fault)
+builds_never builds.SizeBelowN words = cc
+builds_never (builds.PinOutside line) words = cc
+builds_never (builds.UnknownSymbol line) words = cc
+builds_never (builds.TooLarge product) words = cc
+builds_never builds.NoMemory words = cc
+builds_never (builds.PinInHole line) words = cc
+
+steps_never : (fault : StepFault) → NotWords (Steps fault)
+steps_never (steps.BadLine line) words = cc
+steps_never (steps.NothingToUndo line) words = cc
+steps_never steps.NoMemory words = cc
+
+-- the plans that are shared
+chosen_never : (kinds : List RuleKind) (rule : RuleKind) → NeverWords (step (chosen kinds rule))
+chosen_never kinds rule = by_test (list_any (same_rule rule) kinds)
+  where
+    by_test : (there : Bool) → NeverWords (step (let result : Result (Unit {0}) Refusal = if there then Ok tt else Err (Chooser rule) in result))
+    by_test true = tt
+    by_test false = λ words. cc
+
+sample_never : (asked : RequestView) → NeverWords (sample_plan asked)
+sample_never asked =
+    never_then (picture_plan asked) (behind_picture asked)
+    (λ bytes. never_then (step (grid_in Sample bytes)) (λ grid. step (coloured grid)) (never_refused (Grid Sample) (grid_of bytes) (grids_never Sample)) (λ grid. never_refused Colours (indexed (symbols_of grid) grid.width) colours_never))
+    (λ made. never_then (step (taught asked made.0)) (λ patterns. let end : Plan Taught = done (record { patterns = patterns; palette = made.1 }) in end) (never_refused Learn (patterns_of made.0 (side_of asked.source) asked.symmetry asked.wrap_in) lessons_never) (λ patterns. tt))
+
+pins_plan_never : (name : Option (List ℕ)) → NeverWords (pins_plan name)
+pins_plan_never None = tt
+pins_plan_never (Some name) = λ bytes. never_refused Pins (pins_of bytes) pins_never
+
+problem_never : (asked : RequestView) (lesson : Taught) → NeverWords (problem_plan asked lesson)
+problem_never asked lesson =
+    never_then (pins_plan asked.pins) (λ lines. step (posed asked lesson.patterns lesson.palette lines)) (pins_plan_never asked.pins)
+    (λ lines. never_refused Build (built lesson.patterns lesson.palette (output_with asked.width asked.height asked.wrap_out) lines) builds_never)
+
+steps_plan_never : (name : Option (List ℕ)) (P : Network) → NeverWords (steps_plan name P)
+steps_plan_never None P = tt
+steps_plan_never (Some name) P = λ bytes. never_then (step (steps_in bytes)) (λ steps. step (fitting P steps)) (never_refused Steps (steps_of bytes) steps_never) (λ steps. by_fault steps (range_fault P steps))
+  where
+    by_fault : (steps : List StepLine) (fault : Option RangeFault) → NeverWords (step (unless_out steps fault))
+    by_fault steps None = tt
+    by_fault steps (Some fault) = λ words. cc
+
+-- each command
+learn_never : (asked : RequestView) → NeverWords (learn_plan asked)
+learn_never asked = never_then (sample_plan asked) (λ lesson. let end : Plan Task = done (learn lesson.patterns lesson.palette) in end) (sample_never asked) (λ lesson. tt)
+
+fill_never : (kinds : List RuleKind) (asked : RequestView) → NeverWords (fill_plan kinds asked)
+fill_never kinds asked =
+    never_then (step (chosen kinds asked.rule)) (λ _. and_then (sample_plan asked) (behind_sample asked)) (chosen_never kinds asked.rule) (λ _.
+    never_then (sample_plan asked) (behind_sample asked) (sample_never asked) (λ lesson.
+    never_then (step (laid asked)) (behind_layout asked lesson) (never_refused Render (layout_of kind.Grid asked.form asked.width asked.height 1) (λ fault words. cc)) (λ layout.
+    never_then (problem_plan asked lesson) (λ P. let end : Plan Task = done (fill lesson.patterns lesson.palette layout P) in end) (problem_never asked lesson) (λ P. tt))))
+
+domains_never : (asked : RequestView) → NeverWords (domains_plan asked)
+domains_never asked =
+    never_then (sample_plan asked) (behind_lesson asked) (sample_never asked) (λ lesson.
+    never_then (problem_plan asked lesson) (behind_problem asked) (problem_never asked lesson) (λ P.
+    never_then (steps_plan asked.steps P) (λ steps. let end : Plan Task = done (domains P steps) in end) (steps_plan_never asked.steps P) (λ steps. tt)))
+
+demo_never : (kinds : List RuleKind) (asked : RequestView) → NeverWords (demo_plan kinds asked)
+demo_never kinds asked = never_then (step (chosen kinds rules.Fewest)) (λ _. let end : Plan Task = done (demo (demo_patterns asked.number) (demo_problem asked.number)) in end) (chosen_never kinds rules.Fewest) (λ _. tt)
+
+-- a request that isn't answered is refused at once
+pub unbuilt_plan : (kinds : List RuleKind) (asked : RequestView) → is_built asked ≡ false → plan_of kinds asked ≡ refuse NotBuilt
+unbuilt_plan kinds asked unbuilt = rw unbuilt refl
+
+-- the status of the words comes of such a request alone
+pub words_unbuilt : (kinds : List RuleKind) (asked : RequestView) (before after : FolderView) (fault : Fault) → Goes (plan_of kinds asked) before after (Err fault) → status_of fault ≡ 3 → is_built asked ≡ false
+words_unbuilt kinds asked before after fault goes three = by_test (is_built asked) refl goes
+  where
+    by_command : (command : CommandKind) → is_built_by command asked ≡ true → NeverWords (plan_by command kinds asked)
+    by_command commands.Learn is = learn_never asked
+    by_command commands.Fill is = fill_never kinds asked
+    by_command commands.Domains is = domains_never asked
+    by_command commands.Demo is = demo_never kinds asked
+    by_command commands.Refute is = absurd (cc)
+    by_command commands.Check is = absurd (cc)
+    by_command commands.Upgrade is = absurd (cc)
+
+    by_test : (built : Bool) → is_built asked ≡ built → Goes (if built then plan_by asked.command kinds asked else refuse NotBuilt) before after (Err fault) → is_built asked ≡ false
+    by_test false is goes = is
+    by_test true is goes = absurd (never_3 (plan_by asked.command kinds asked) before after fault (by_command asked.command is) goes three)

@@ -6,3 +6,4 @@ pub mod Steps
 pub mod Demo
 pub mod Task
 pub mod Made
+pub mod Filling

@@ -4,9 +4,11 @@ ghost use Rattle.std.specs.Prelude.{◌≡◌, ◌*◌, ◌≤◌, length, IfOk,
 ghost use Rattle.std.specs.Option.{option_map};
 ghost use Rattle.wfc_outside.specs.Gives.{result_map};
 ghost use Rattle.wfc_model.specs.Raster.{height_of};
+ghost use Rattle.wfc_pattern.specs.Patterns.{IsPatterns};
 ghost use Rattle.wfc_pins.specs.Steps.{IsStepIn};
 ghost use Rattle.wfc_pins.specs.declared.steps.StepLine.{StepLine};
 ghost use Rattle.wfc_task.specs.Asked.{IsSampleAsked, IsOutputAsked};
+ghost use Rattle.wfc_task.specs.Filling.{IsLesson, IsNumbered, IsPosed};
 ghost use Rattle.wfc_task.specs.Plan.{Goes};
 ghost use Rattle.wfc_task.specs.Task.{file_plan, grid_plan, picture_plan, pins_file_plan, pins_plan, problem_plan, sample_plan, steps_file_plan, steps_plan};
 
@@ -59,6 +61,7 @@ fn picture<F: Folder>(
     folder: &mut F,
 ) -> Result<(Picture, Palette), Fault>
     ensures goes { Goes (picture_plan request.now) (F.seen folder.old) (F.seen folder.new) result }
+    ensures numbered { IfOk result (λ made. IsNumbered made.0 made.1) }
     ensures small { IfOk result (λ made. made.0.width * height_of made.0 ≤ MAX_PIXELS) }
 {
     let grid = grid_file(alloc, folder, Source::Sample, request.file())?;
@@ -74,6 +77,7 @@ pub(crate) fn sample<F: Folder>(
 ) -> Result<Taught, Fault>
     requires sample { IsSampleAsked request.now }
     ensures goes { Goes (sample_plan request.now) (F.seen folder.old) (F.seen folder.new) result }
+    ensures lesson { IfOk result IsLesson }
 {
     let (picture, palette) = picture(alloc, request, folder)?;
     let patterns = taught(alloc, request, &picture)?;
@@ -106,8 +110,10 @@ pub(crate) fn problem<F: Folder>(
     taught: &Taught,
     folder: &mut F,
 ) -> Result<Problem, Fault>
+    requires patterns { IsPatterns taught.now.patterns }
     requires output { IsOutputAsked request.now }
     ensures goes { Goes (problem_plan request.now taught.now) (F.seen folder.old) (F.seen folder.new) result }
+    ensures posed { IfOk result (IsPosed request.now taught.now.patterns) }
 {
     let lines = pins(alloc, folder, request.pins())?;
     let problem = posed(alloc, request, taught, &lines)?;

@@ -5,11 +5,13 @@ ghost use Rattle.wfc_outside.specs.Gives.{result_map};
 ghost use Rattle.wfc_model.specs.Raster.{height_of};
 ghost use Rattle.wfc_picture.specs.Palette.{indexed};
 ghost use Rattle.wfc_pattern.specs.Learning.{patterns_of};
+ghost use Rattle.wfc_pattern.specs.Patterns.{IsPatterns};
 ghost use Rattle.wfc_pins.specs.Steps.{IsStepIn};
 ghost use Rattle.wfc_pins.specs.declared.steps.StepLine.{StepLine};
 ghost use Rattle.wfc_overlap.specs.Built.{built};
 ghost use Rattle.wfc_overlap.specs.Sample.{output_with};
 ghost use Rattle.wfc_task.specs.Asked.{IsSampleAsked, IsOutputAsked};
+ghost use Rattle.wfc_task.specs.Filling.{IsNumbered, IsPosed};
 ghost use Rattle.wfc_task.specs.Plan.{GivesStep};
 ghost use Rattle.wfc_task.specs.Steps.{chosen, coloured, fitting, grid_in, laid, or_refuse, pins_in, posed, same_rule, steps_in, symbols_of, taught};
 ghost use Rattle.wfc_task.specs.declared.fault.Refusal.TheVariants.{Build, Colours, Learn};
@@ -57,6 +59,7 @@ pub(crate) fn grid(alloc: Global, source: Source, bytes: &[u8]) -> Result<Grid, 
 pub(crate) fn coloured(alloc: Global, grid: Grid) -> Result<(Picture, Palette), Refusal>
     requires small { grid.width * grid.height ≤ MAX_CELLS }
     ensures exact { GivesStep (coloured grid) result }
+    ensures numbered { IfOk result (λ made. IsNumbered made.0 made.1) }
     ensures small { IfOk result (λ made. made.0.width * height_of made.0 ≤ MAX_PIXELS) }
 {
     let width = grid.width;
@@ -159,8 +162,10 @@ pub(crate) fn posed(
     taught: &Taught,
     lines: &[PinLine],
 ) -> Result<Problem, Refusal>
+    requires patterns { IsPatterns taught.now.patterns }
     requires output { IsOutputAsked request.now }
     ensures exact { GivesStep (posed request.now taught.now.patterns taught.now.palette lines.now) result }
+    ensures posed { IfOk result (IsPosed request.now taught.now.patterns) }
 {
     let output = Output {
         width: request.width,

@@ -5,6 +5,7 @@ ghost use Rattle.wfc_choose.specs.declared.RuleKind.TheVariants.{Fewest};
 ghost use Rattle.wfc_pins.specs.Steps.{IsStepIn};
 ghost use Rattle.wfc_pins.specs.declared.steps.StepLine.{StepLine};
 ghost use Rattle.wfc_task.specs.Asked.{IsSampleAsked, IsOutputAsked};
+ghost use Rattle.wfc_task.specs.Filling.{IsFilling};
 ghost use Rattle.wfc_task.specs.Plan.{Goes};
 ghost use Rattle.wfc_task.specs.Task.{demo_plan, domains_plan, fill_plan, learn_plan};
 ghost use Rattle.wfc_task.specs.Made.{demo_made, domains_made, fill_made, learn_made};
@@ -78,6 +79,7 @@ pub fn fill_task<F: Folder>(
     requires output { IsOutputAsked request.now }
     ensures goes { Goes (fill_plan kinds.now request.now) (F.seen folder.old) (F.seen folder.new) (fill_made result) }
     ensures chooser { OnOk result (Contains kinds.now request.now.rule) }
+    ensures filling { IfOk result (IsFilling request.now) }
 {
     chosen(kinds, request.rule)?;
     let taught = sample(alloc, request, folder)?;

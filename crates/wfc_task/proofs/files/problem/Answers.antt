@@ -4,10 +4,8 @@ use Rattle.wfc_task.specs.Task.{pins_plan}
 use Rattle.wfc_task.proofs.TaskLemmas.{then_step}
 use Rattle.wfc_task.proofs.files.problem.Goals as goal
 
-pub returns-in_err-problem : goal.returns-in_err-problem
-returns-in_err-problem g c =
+pub returns-in_err-problem-clause-goes : goal.returns-in_err-problem-clause-goes
+returns-in_err-problem-clause-goes g c =
     let p = err_from_is_err_and c.from_residual-in_err-problem.result c.from_residual-in_err-problem.ensures.1 in
     let asked = c.args.request.now in
-    record {
-      goes = rw (p.1, p.2) (then_step (pins_plan asked.pins) (posed asked c.args.taught.now.patterns c.args.taught.now.palette) _ _ _ _ (rw c.pins.ensures.value at c.in_ok-lines.ensures.goes) (rw c.deref.ensures.value at c.in_err-problem.ensures.exact));
-    }
+    rw (p.1, p.2) (then_step (pins_plan asked.pins) (posed asked c.args.taught.now.patterns c.args.taught.now.palette) _ _ _ _ (rw c.pins.ensures.value at c.in_ok-lines.ensures.goes) (rw c.deref.ensures.value at c.in_err-problem.ensures.exact))
