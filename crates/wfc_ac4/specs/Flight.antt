@@ -1,10 +1,14 @@
 -- What a flight's steps leave as it was.
 use Rattle.std.specs.Prelude.{◌≡◌, ℕ, ◌<◌, ◌∷◌, ◌++◌, [], length, min, take, Some}
 use Rattle.wfc_problem.specs.Network.{neighbour}
-use Rattle.wfc_domains.specs.Counters.{count_of}
+use Rattle.wfc_domains.specs.Counters.{count_of, cost_of}
 use Rattle.wfc_domains.specs.declared.Removal.{Removal}
 use Rattle.wfc_domains.specs.Board.{Grows}
 use Rattle.wfc_ac4.specs.declared.flight.Flight.{Flight}
+
+-- by the problem of one flight, how many counters count the first removals in the log of another
+abbrev pub front_cost : Flight → Flight → ℕ → ℕ
+front_cost f g k = cost_of f.board.problem.now (take k g.board.trail.removals)
 
 -- removals were added behind those that stood
 pub record GoesOn (old new : Flight) : Type 0 where

@@ -10,7 +10,7 @@ ghost use Rattle.wfc_domains.specs.Store.{IsOpening};
 ghost use Rattle.wfc_domains.specs.Board.{Grows, IsFresh};
 ghost use Rattle.wfc_ac4.specs.Places.{places_upto, side_places, places_of};
 ghost use Rattle.wfc_ac4.specs.State.{IsWorking, IsBetween, IsRolled, IsRaising, IsScanned, AreLowered, counted};
-ghost use Rattle.wfc_ac4.specs.Flight.{GoesOn, Recounts, IsShorter, IsRolledTo, IsFirstBare};
+ghost use Rattle.wfc_ac4.specs.Flight.{front_cost, GoesOn, Recounts, IsShorter, IsRolledTo, IsFirstBare};
 
 use std::sync::ledger::Ledger;
 use wfc_domains::{Board, Cause, Counters, Steps, is_alive};
@@ -47,12 +47,14 @@ fn lower<L: Ledger>(
     ensures steps { steps.new ≡ steps.old + 1 }
 {
     let left = counters.down(cell, value, dir, steps);
-    // One comparison says both that none is left and that the value stands, since neither can be foretold alone.
+    // One comparison says both that none is left and that the value stands: neither can be foretold
+    // alone.
     left < u32::from(board.domains.has(cell, value)) && is_alive(board.verdict)
 }
 
 impl<'p> Flight<'p> {
-    /// Lowers the counters at one neighbour that count a removal, and removes what has no support left.
+    /// Lowers the counters at one neighbour that count a removal, and removes what has no support
+    /// left.
     fn work_side<L: Ledger>(
         &mut self,
         cell: u32,
@@ -70,7 +72,8 @@ impl<'p> Flight<'p> {
             (places_upto self.new.board.problem.now cell value dir
             ++ side_places self.new.board.problem.now value dir (Some next)) }
         ensures goes_on { GoesOn self.old self.new }
-        ensures steps { steps.new ≡ steps.old + length (supports_of self.old.board.problem.now value dir) }
+        ensures steps { steps.new
+            ≡ steps.old + length (supports_of self.old.board.problem.now value dir) }
     {
         let back = opposite(dir);
         let problem = self.board.problem;
@@ -88,8 +91,8 @@ impl<'p> Flight<'p> {
         ensures between { IsBetween self.new.board self.new.counters self.new.head }
         ensures grows { Grows self.old.board self.new.board }
         ensures head { self.new.head ≡ self.old.head + 1 }
-        ensures steps { steps.new + cost_of self.old.board.problem.now (take self.old.head self.old.board.trail.removals)
-            ≡ steps.old + cost_of self.old.board.problem.now (take (self.old.head + 1) self.old.board.trail.removals) }
+        ensures steps { steps.new + front_cost self.old self.old self.old.head
+            ≡ steps.old + front_cost self.old self.old (self.old.head + 1) }
     {
         let removal = self.board.trail.at(self.head);
         let cell = removal.cell;
@@ -107,12 +110,13 @@ impl<'p> Flight<'p> {
     pub fn close<L: Ledger>(&mut self, steps: &mut Steps<L>)
         requires between { IsBetween self.old.board self.old.counters self.old.head }
         ensures between { IsBetween self.new.board self.new.counters self.new.head }
-        ensures closed { self.new.board.verdict ≡ Alive → self.new.head ≡ length self.new.board.trail.removals }
+        ensures closed { self.new.board.verdict ≡ Alive → self.new.head
+            ≡ length self.new.board.trail.removals }
         ensures forward { self.old.head ≤ self.new.head }
         ensures idle { self.old.board.trail.removals ≡ [] → self.new.board.trail.removals ≡ [] }
         ensures grows { Grows self.old.board self.new.board }
-        ensures steps { steps.new + cost_of self.old.board.problem.now (take self.old.head self.new.board.trail.removals)
-            ≡ steps.old + cost_of self.old.board.problem.now (take self.new.head self.new.board.trail.removals) }
+        ensures steps { steps.new + front_cost self.old self.new self.old.head
+            ≡ steps.old + front_cost self.old self.new self.new.head }
     {
         while is_alive(self.board.verdict) && self.head < self.board.trail.len() {
             self.work_off(steps);
@@ -131,13 +135,16 @@ impl<'p> Flight<'p> {
         requires value_in { value < values self.old.board.problem.now }
         requires dir_in { dir < self.old.board.problem.now.dirs }
         requires beside { neighbour self.old.board.problem.now cell dir ≡ Some next }
-        requires raising { IsRaising self.old.board.problem.now (without (in_base self.old.board.problem.now) self.old.board.trail.removals)
-            cell value (places_upto self.old.board.problem.now cell value dir) self.old.counters }
-        ensures raising { IsRaising self.old.board.problem.now (without (in_base self.old.board.problem.now) self.old.board.trail.removals)
-            cell value (places_upto self.old.board.problem.now cell value dir
-            ++ side_places self.old.board.problem.now value dir (Some next)) self.new.counters }
+        requires raising { IsRaising self.old.board.problem.now (without (in_base
+            self.old.board.problem.now) self.old.board.trail.removals) cell value (places_upto
+            self.old.board.problem.now cell value dir) self.old.counters }
+        ensures raising { IsRaising self.old.board.problem.now (without (in_base
+            self.old.board.problem.now) self.old.board.trail.removals) cell value (places_upto
+            self.old.board.problem.now cell value dir ++ side_places self.old.board.problem.now
+            value dir (Some next)) self.new.counters }
         ensures same { Recounts self.old self.new }
-        ensures steps { steps.new ≡ steps.old + length (supports_of self.old.board.problem.now value dir) }
+        ensures steps { steps.new
+            ≡ steps.old + length (supports_of self.old.board.problem.now value dir) }
     {
         let back = opposite(dir);
         let problem = self.board.problem;
@@ -150,10 +157,11 @@ impl<'p> Flight<'p> {
     fn raise<L: Ledger>(&mut self, cell: u32, value: u16, steps: &mut Steps<L>)
         requires cell_in { cell < self.old.board.problem.now.cells }
         requires value_in { value < values self.old.board.problem.now }
-        requires raising { IsRaising self.old.board.problem.now (without (in_base self.old.board.problem.now) self.old.board.trail.removals)
-            cell value [] self.old.counters }
-        ensures counters { AreLowered self.old.board.problem.now
-            (without (in_base self.old.board.problem.now) self.old.board.trail.removals) [] self.new.counters }
+        requires raising { IsRaising self.old.board.problem.now (without (in_base
+            self.old.board.problem.now) self.old.board.trail.removals) cell value []
+            self.old.counters }
+        ensures counters { AreLowered self.old.board.problem.now (without (in_base
+            self.old.board.problem.now) self.old.board.trail.removals) [] self.new.counters }
         ensures same { Recounts self.old self.new }
         ensures steps { steps.new ≡ steps.old + cost_at self.old.board.problem.now cell value }
     {
@@ -187,7 +195,7 @@ impl<'p> Flight<'p> {
         requires within { mark ≤ length self.old.board.trail.removals }
         ensures rolled { IsRolled self.new.board self.new.counters self.new.head }
         ensures back { IsRolledTo self.old self.new mark }
-        ensures steps { steps.new + cost_of self.old.board.problem.now (take mark self.old.board.trail.removals)
+        ensures steps { steps.new + front_cost self.old self.old mark
             ≤ steps.old + cost_of self.old.board.problem.now self.old.board.trail.removals }
     {
         while self.board.trail.len() > mark {
@@ -201,8 +209,8 @@ impl<'p> Flight<'p> {
         requires value_in { value < values self.now.board.problem.now }
         requires fits { FitsTable self.now.board.problem.now self.now.counters }
         ensures some { IfSome result (λ d. IsFirstBare self.now cell value d) }
-        ensures none { IfNone result ((d n : ℕ) → neighbour self.now.board.problem.now cell d ≡ Some n
-            → 0 < count_of self.now.counters cell value d) }
+        ensures none { IfNone result ((d n : ℕ) → neighbour self.now.board.problem.now cell d
+            ≡ Some n → 0 < count_of self.now.counters cell value d) }
     {
         for dir in 0..self.board.problem.dirs() {
             if self.counters.get(cell, value, dir) == 0 {
@@ -219,8 +227,10 @@ impl<'p> Flight<'p> {
     fn look_at(&mut self, cell: u32, value: u16)
         requires cell_in { cell < self.old.board.problem.now.cells }
         requires value_in { value < values self.old.board.problem.now }
-        requires scanned { IsScanned self.old.board self.old.counters (cell * values self.old.board.problem.now + value) }
-        ensures scanned { IsScanned self.new.board self.new.counters (cell * values self.new.board.problem.now + value + 1) }
+        requires scanned { IsScanned self.old.board self.old.counters
+            (cell * values self.old.board.problem.now + value) }
+        ensures scanned { IsScanned self.new.board self.new.counters
+            (cell * values self.new.board.problem.now + value + 1) }
         ensures goes_on { GoesOn self.old self.new }
     {
         if is_alive(self.board.verdict) && self.board.domains.has(cell, value) {
@@ -233,11 +243,14 @@ impl<'p> Flight<'p> {
     /// Closes the base domains, with the counters loaded.
     pub fn settle<L: Ledger>(&mut self, steps: &mut Steps<L>)
         requires fresh { IsFresh self.old.board self.old.board.levels.spare }
-        requires loaded { self.old.counters ≡ counts_of self.old.board.problem.now (has self.old.board.domains) }
+        requires loaded { self.old.counters
+            ≡ counts_of self.old.board.problem.now (has self.old.board.domains) }
         requires head { self.old.head ≡ 0 }
         ensures between { IsBetween self.new.board self.new.counters self.new.head }
-        ensures closed { self.new.board.verdict ≡ Alive → self.new.head ≡ length self.new.board.trail.removals }
-        ensures opening { IsOpening self.new.board.problem.now self.new.board.trail.removals self.new.board.verdict }
+        ensures closed { self.new.board.verdict ≡ Alive → self.new.head
+            ≡ length self.new.board.trail.removals }
+        ensures opening { IsOpening self.new.board.problem.now self.new.board.trail.removals
+            self.new.board.verdict }
         ensures problem { self.new.board.problem ≡ self.old.board.problem }
         ensures levels { self.new.board.levels ≡ self.old.board.levels }
     {
@@ -262,7 +275,8 @@ impl<'p> Flight<'p> {
     /// Looks at each value of a cell, unless each has support in all directions.
     fn scan_cell(&mut self, cell: u32)
         requires cell_in { cell < self.old.board.problem.now.cells }
-        requires scanned { IsScanned self.old.board self.old.counters (cell * values self.old.board.problem.now) }
+        requires scanned { IsScanned self.old.board self.old.counters (cell * values
+            self.old.board.problem.now) }
         ensures scanned { IsScanned self.new.board self.new.counters
             ((cell + 1) * values self.new.board.problem.now) }
         ensures goes_on { GoesOn self.old self.new }

@@ -56,7 +56,8 @@ impl<'p> Ac4<'p> {
     /// every direction, 0 where there is no neighbour. It holds while the verdict is alive.
     #[inline]
     pub fn counters(&self) -> &Counters
-        ensures value { self.now.verdict ≡ Alive → result.now ≡ counts_of self.now.problem (left_of self.now) }
+        ensures value { self.now.verdict ≡ Alive → result.now
+            ≡ counts_of self.now.problem (left_of self.now) }
         ensures fits { FitsTable self.now.problem result.now }
     {
         &self.flight.counters

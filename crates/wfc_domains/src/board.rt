@@ -115,9 +115,11 @@ impl<'p> Board<'p> {
     fn cut_to(&mut self, cell: u32, value: u16)
         requires board { IsBoard self.old }
         requires cell_in { cell < self.old.problem.now.cells }
-        requires cut { (other : ℕ) → other ≢ value → leaves_all self.old.levels.standing cell other ≡ false }
+        requires cut { (other : ℕ) → other ≢ value → leaves_all self.old.levels.standing cell other
+            ≡ false }
         ensures board { IsBoard self.new }
-        ensures alone { self.new.verdict ≡ Alive → (other : ℕ) → IsTrue (has self.new.domains cell other) → other ≡ value }
+        ensures alone { self.new.verdict ≡ Alive → (other : ℕ)
+            → IsTrue (has self.new.domains cell other) → other ≡ value }
         ensures grows { Grows self.old self.new }
     {
         for other in 0..self.problem.values() {
@@ -132,7 +134,8 @@ impl<'p> Board<'p> {
     fn is_other(&self, cell: u32, other: u16, value: u16) -> bool
         requires cell_in { cell < self.now.domains.cells }
         requires value_in { other < self.now.domains.values }
-        ensures value { IsTrue result ↔ ((self.now.verdict ≡ Alive) × (other ≢ value) × IsTrue (has self.now.domains cell other)) }
+        ensures value { IsTrue result ↔ ((self.now.verdict ≡ Alive) × (other ≢ value)
+            × IsTrue (has self.now.domains cell other)) }
     {
         is_alive(self.verdict) && other != value && self.domains.has(cell, other)
     }

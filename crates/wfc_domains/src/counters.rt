@@ -101,9 +101,11 @@ impl Counters {
         requires domains { Fits problem.now domains.now }
         requires cell_in { cell < problem.now.cells }
         requires like { IfSome like (IsLike problem.now (has domains.now) cell) }
-        requires before { AreLoaded problem.now (has domains.now) self.old (place problem.now cell 0 0) }
+        requires before { AreLoaded problem.now (has domains.now) self.old (place problem.now cell 0
+            0) }
         ensures like { IfSome result (IsLike problem.now (has domains.now) (cell + 1)) }
-        ensures after { AreLoaded problem.now (has domains.now) self.new (place problem.now (cell + 1) 0 0) }
+        ensures after { AreLoaded problem.now (has domains.now) self.new (place problem.now (cell +
+            1) 0 0) }
         ensures steps { steps.new ≡ steps.old + values problem.now * problem.now.dirs }
     {
         if !is_surrounded(problem, domains, cell) {
@@ -141,8 +143,10 @@ impl Counters {
     )
         requires domains { Fits problem.now domains.now }
         requires cell_in { cell < problem.now.cells }
-        requires before { AreLoaded problem.now (has domains.now) self.old (place problem.now cell 0 0) }
-        ensures after { AreLoaded problem.now (has domains.now) self.new (place problem.now (cell + 1) 0 0) }
+        requires before { AreLoaded problem.now (has domains.now) self.old (place problem.now cell 0
+            0) }
+        ensures after { AreLoaded problem.now (has domains.now) self.new (place problem.now (cell +
+            1) 0 0) }
         ensures steps { steps.new ≡ steps.old + values problem.now * problem.now.dirs }
     {
         for value in 0..problem.values() {
@@ -163,8 +167,10 @@ impl Counters {
         requires domains { Fits problem.now domains.now }
         requires cell_in { cell < problem.now.cells }
         requires value_in { value < values problem.now }
-        requires before { AreLoaded problem.now (has domains.now) self.old (place problem.now cell value 0) }
-        ensures after { AreLoaded problem.now (has domains.now) self.new (place problem.now cell value problem.now.dirs) }
+        requires before { AreLoaded problem.now (has domains.now) self.old (place problem.now cell
+            value 0) }
+        ensures after { AreLoaded problem.now (has domains.now) self.new (place problem.now cell
+            value problem.now.dirs) }
         ensures steps { steps.new ≡ steps.old + problem.now.dirs }
     {
         for dir in 0..problem.dirs() {
@@ -193,7 +199,8 @@ impl Counters {
         requires dir_in { dir < self.old.dirs }
         requires some { 0 < count_of self.old cell value dir }
         ensures left { result + 1 ≡ count_of self.old cell value dir }
-        ensures changed { self.new ≡ with_count self.old cell value dir (count_of self.old cell value dir - 1) }
+        ensures changed { self.new
+            ≡ with_count self.old cell value dir (count_of self.old cell value dir - 1) }
         ensures steps { steps.new ≡ steps.old + 1 }
     {
         let place = (cell as usize * self.values + value as usize) * self.dirs + dir as usize;
@@ -210,7 +217,8 @@ impl Counters {
         requires value_in { value < self.old.values }
         requires dir_in { dir < self.old.dirs }
         requires limit { count_of self.old cell value dir < 4096 }
-        ensures changed { self.new ≡ with_count self.old cell value dir (count_of self.old cell value dir + 1) }
+        ensures changed { self.new
+            ≡ with_count self.old cell value dir (count_of self.old cell value dir + 1) }
         ensures steps { steps.new ≡ steps.old + 1 }
     {
         self.counts[(cell as usize * self.values + value as usize) * self.dirs + dir as usize] += 1;
@@ -220,7 +228,8 @@ impl Counters {
 
 /// Whether a number is 0.
 fn has_zero(numbers: &[u16]) -> bool
-    ensures none { IsFalse result → (k : ℕ) → k < length numbers.now → 0 < slice_index numbers.now k }
+    ensures none { IsFalse result → (k : ℕ) → k < length numbers.now
+        → 0 < slice_index numbers.now k }
 {
     let mut found = false;
     for number in numbers {
@@ -250,8 +259,8 @@ fn is_filled(problem: &Problem, domains: &Domains, cell: u32, dir: u8) -> bool
     requires domains { Fits problem.now domains.now }
     requires cell_in { cell < problem.now.cells }
     requires dir_in { dir < problem.now.dirs }
-    ensures all { IsTrue result → (v : ℕ) →
-        support_count problem.now (has domains.now) cell v dir ≡ length (supports_of problem.now v dir) }
+    ensures all { IsTrue result → (v : ℕ) → support_count problem.now (has domains.now) cell v dir
+        ≡ length (supports_of problem.now v dir) }
 {
     match problem.neighbour(cell, dir) {
         None => false,

@@ -22,12 +22,14 @@ pub fn domains_are_read()
     ensures base { flags_of corner (in_base corner) ≡ base_of corner }
     ensures fits { Fits corner (base_of corner) }
     ensures fits_not { Fits corner two_rows → ⊥ }
-    ensures less { map (less (in_base corner) 1 2 1) (range_with_len 0 3) ≡ false ∷ true ∷ false ∷ [] }
-    ensures elsewhere { map (less (in_base corner) 1 2 3) (range_with_len 0 3) ≡ true ∷ false ∷ true ∷ [] }
-    ensures without { map (without (in_base corner) (unsupported ∷ cut_first ∷ []) 2) (range_with_len 0 3)
-        ≡ true ∷ false ∷ true ∷ [] }
-    ensures without_more { map (without (in_base corner) (unsupported ∷ cut_first ∷ []) 0) (range_with_len 0 3)
-        ≡ false ∷ true ∷ false ∷ [] }
+    ensures less { map (less (in_base corner) 1 2 1) (range_with_len 0 3) ≡ false ∷ true ∷ false
+        ∷ [] }
+    ensures elsewhere { map (less (in_base corner) 1 2 3) (range_with_len 0 3) ≡ true ∷ false ∷ true
+        ∷ [] }
+    ensures without { map (without (in_base corner) (unsupported ∷ cut_first
+        ∷ []) 2) (range_with_len 0 3) ≡ true ∷ false ∷ true ∷ [] }
+    ensures without_more { map (without (in_base corner) (unsupported ∷ cut_first
+        ∷ []) 0) (range_with_len 0 3) ≡ false ∷ true ∷ false ∷ [] }
 {}
 
 /// A value of the base that no value above supports; what is a true cause, and what is none.
@@ -39,7 +41,8 @@ pub fn removals_are_judged()
     ensures assumed_not { IsCause corner (Is 0 1 ∷ []) (in_base corner) 0 1 Assumed → ⊥ }
     ensures cut_first { IsCause corner (Is 0 1 ∷ []) (in_base corner) 2 1 (Arc 3) → ⊥ }
     ensures removed { AreRemoved corner [] (in_base corner) (unsupported ∷ []) }
-    ensures before { AreRemoved corner [] (in_base corner) (record unsupported { before = 2 } ∷ []) → ⊥ }
+    ensures before { AreRemoved corner [] (in_base corner) (record unsupported { before = 2 } ∷ [])
+        → ⊥ }
     ensures once { AreRemoved corner [] (in_base corner) (unsupported ∷ unsupported ∷ []) → ⊥ }
 {}
 
@@ -49,7 +52,8 @@ pub fn levels_are_read()
     ensures no_mark { mark_of [] ≡ 0 }
     ensures added { added_of two_levels ≡ later ∷ [] }
     ensures before { map (before_of two_levels 0) (range_with_len 0 3) ≡ false ∷ true ∷ false ∷ [] }
-    ensures before_later { map (before_of two_levels 3) (range_with_len 0 3) ≡ true ∷ false ∷ true ∷ [] }
+    ensures before_later { map (before_of two_levels 3) (range_with_len 0 3) ≡ true ∷ false ∷ true
+        ∷ [] }
     ensures last { without_last two_levels ≡ record {
       problem = corner;
       standing = Is 0 1 ∷ [];
@@ -62,7 +66,8 @@ pub fn levels_are_read()
     ensures value { IsBefore 2 0 5 2 1 3 }
     ensures dir { IsBefore 2 1 2 2 1 3 }
     ensures itself { IsBefore 2 1 3 2 1 3 → ⊥ }
-    ensures least_not { IsLeastUnsupported corner (in_base corner) (record unsupported { cell = 3 }) → ⊥ }
+    ensures least_not { IsLeastUnsupported corner (in_base corner) (record unsupported { cell = 3 })
+        → ⊥ }
     ensures least_empty { IsLeastEmpty corner (λ c v. nat_lt c 2) 2 }
     ensures not_least { IsLeastEmpty corner (λ c v. nat_lt c 2) 3 → ⊥ }
 {}

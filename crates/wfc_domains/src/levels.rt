@@ -33,7 +33,8 @@ impl Model for Levels {
 impl Levels {
     /// No literal, and room for so many.
     pub fn new(alloc: Global, levels: u32) -> Result<Levels, NoMemory>
-        ensures ok { IfOk result (λ made. made ≡ record { standing = []; marks = []; spare = levels }) }
+        ensures ok { IfOk result (λ made. made
+            ≡ record { standing = []; marks = []; spare = levels }) }
     {
         Ok(Levels {
             standing: Vec::with_capacity(alloc, levels as usize)?,

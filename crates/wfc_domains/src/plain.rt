@@ -129,7 +129,8 @@ fn close(board: &mut Board)
     ensures board { IsBoard board.new }
     ensures cut { IsCut board.new }
     ensures first { FirstIsLeast board.old → FirstIsLeast board.new }
-    ensures consistent { board.new.verdict ≡ Alive → IsArcConsistent board.new.problem.now (left_of (view_of board.new)) }
+    ensures consistent { board.new.verdict ≡ Alive
+        → IsArcConsistent board.new.problem.now (left_of (view_of board.new)) }
     ensures grows { Grows board.old board.new }
     ensures dead { (board.old.verdict ≡ Alive → ⊥) → board.new ≡ board.old }
 {
@@ -148,8 +149,10 @@ fn sweep(board: &mut Board) -> bool
     ensures cut { IsCut board.new }
     ensures first { FirstIsLeast board.old → FirstIsLeast board.new }
     ensures grows { Grows board.old board.new }
-    ensures done { IsTrue result → board.new.verdict ≡ Alive → IsArcConsistent board.new.problem.now (left_of (view_of board.new)) }
-    ensures more { IsFalse result → length board.old.trail.removals < length board.new.trail.removals }
+    ensures done { IsTrue result → board.new.verdict ≡ Alive
+        → IsArcConsistent board.new.problem.now (left_of (view_of board.new)) }
+    ensures more { IsFalse result
+        → length board.old.trail.removals < length board.new.trail.removals }
 {
     let before = board.trail.len();
     let problem = board.problem;
@@ -170,10 +173,10 @@ fn look_at(board: &mut Board, cell: u32, value: u16)
     ensures board { IsBoard board.new }
     ensures cut { IsCut board.new }
     ensures grows { Grows board.old board.new }
-    ensures swept { (start : ℕ) → IsSwept board.old start (cell * values board.old.problem.now + value)
-        → IsSwept board.new start (cell * values board.new.problem.now + value + 1) }
-    ensures first { (start : ℕ) → IsSwept board.old start (cell * values board.old.problem.now + value)
-        → FirstIsLeast board.old → FirstIsLeast board.new }
+    ensures swept { (start : ℕ) → IsSwept board.old start (cell * values board.old.problem.now +
+        value) → IsSwept board.new start (cell * values board.new.problem.now + value + 1) }
+    ensures first { (start : ℕ) → IsSwept board.old start (cell * values board.old.problem.now +
+        value) → FirstIsLeast board.old → FirstIsLeast board.new }
 {
     if is_alive(board.verdict) && board.domains.has(cell, value) {
         if let Some(dir) = bare_side(board, cell, value) {
@@ -187,7 +190,8 @@ fn bare_side(board: &Board, cell: u32, value: u16) -> Option<u8>
     requires cell_in { cell < board.now.problem.now.cells }
     requires value_in { value < values board.now.problem.now }
     requires traced { IsTraced board.now }
-    ensures some { IfSome result (λ d. IsFirstUnsupported board.now.problem.now (has board.now.domains) cell value d) }
+    ensures some { IfSome result (λ d. IsFirstUnsupported board.now.problem.now (has
+        board.now.domains) cell value d) }
     ensures none { IfNone result ((d n : ℕ) → neighbour board.now.problem.now cell d ≡ Some n
         → 0 < support_count board.now.problem.now (has board.now.domains) cell value d) }
 {

@@ -3,24 +3,16 @@ use Rattle.wfc_ac4.specs.declared.flight.Flight.{Flight}
 use Rattle.wfc_ac4.proofs.Steps.{raise_step}
 use Rattle.wfc_ac4.proofs.flight.Flight.raise_side.Goals as goal
 
-pub up-requires-clause-cell_in : goal.up-requires-clause-cell_in
-up-requires-clause-cell_in g c =
+pub up-requires : goal.up-requires
+up-requires g c =
+    let fits = c.loop-w.invariant.raising.counters.fits in
     let s = raise_step _ _ _ _ _ _ _ _ _ _ _ c.loop-w.invariant.raising c.requires.dir_in c.requires.beside c.supports-w-items.ensures.value c.loop-w-test.true refl c.opposite-back.ensures.value in
-    omega (arith, s.cell_in, c.loop-w.invariant.raising.counters.fits.same_cells)
-
-pub up-requires-clause-value_in : goal.up-requires-clause-value_in
-up-requires-clause-value_in g c =
-    let s = raise_step _ _ _ _ _ _ _ _ _ _ _ c.loop-w.invariant.raising c.requires.dir_in c.requires.beside c.supports-w-items.ensures.value c.loop-w-test.true refl c.opposite-back.ensures.value in
-    omega (arith, s.value_in, c.loop-w.invariant.raising.counters.fits.same_values)
-
-pub up-requires-clause-dir_in : goal.up-requires-clause-dir_in
-up-requires-clause-dir_in g c =
-    let s = raise_step _ _ _ _ _ _ _ _ _ _ _ c.loop-w.invariant.raising c.requires.dir_in c.requires.beside c.supports-w-items.ensures.value c.loop-w-test.true refl c.opposite-back.ensures.value in
-    omega (arith, s.dir_in, c.loop-w.invariant.raising.counters.fits.same_dirs)
-
-pub up-requires-clause-limit : goal.up-requires-clause-limit
-up-requires-clause-limit g c =
-    (raise_step _ _ _ _ _ _ _ _ _ _ _ c.loop-w.invariant.raising c.requires.dir_in c.requires.beside c.supports-w-items.ensures.value c.loop-w-test.true refl c.opposite-back.ensures.value).below_limit
+    record {
+      cell_in = omega (arith, s.cell_in, fits.same_cells);
+      value_in = omega (arith, s.value_in, fits.same_values);
+      dir_in = omega (arith, s.dir_in, fits.same_dirs);
+      limit = s.below_limit;
+    }
 
 pub loop-w-preserved : goal.loop-w-preserved
 loop-w-preserved g c =

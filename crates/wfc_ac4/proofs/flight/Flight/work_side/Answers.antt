@@ -9,41 +9,20 @@ use Rattle.wfc_ac4.proofs.Steps.{side_at, step_removed, step_lowered}
 use Rattle.wfc_ac4.proofs.flight.Flight.work_side.Goals as goal
 use Rattle.wfc_ac4.proofs.flight.Flight.work_side.Goals.{then-lower, else-lower}
 
-pub lower-requires-clause-cell_in : goal.lower-requires-clause-cell_in
-lower-requires-clause-cell_in g c =
+pub lower-requires : goal.lower-requires
+lower-requires g c =
     let h = c.loop-w.invariant in
     let s = side_at _ c.args.self.now.board _ _ _ _ _ _ _ _ _ _ h.goes_on.grows.problem h.working c.requires.dir_in c.requires.beside c.supports-w-items.ensures.value c.loop-w-test.true refl c.opposite-back.ensures.value in
-    omega (arith, s.cell_in, h.working.board.traced.same_cells)
-
-pub lower-requires-clause-value_in : goal.lower-requires-clause-value_in
-lower-requires-clause-value_in g c =
-    let h = c.loop-w.invariant in
-    let s = side_at _ c.args.self.now.board _ _ _ _ _ _ _ _ _ _ h.goes_on.grows.problem h.working c.requires.dir_in c.requires.beside c.supports-w-items.ensures.value c.loop-w-test.true refl c.opposite-back.ensures.value in
-    omega (arith, s.value_in, h.working.board.traced.same_values)
-
-pub lower-requires-clause-counter_cell : goal.lower-requires-clause-counter_cell
-lower-requires-clause-counter_cell g c =
-    let h = c.loop-w.invariant in
-    let s = side_at _ c.args.self.now.board _ _ _ _ _ _ _ _ _ _ h.goes_on.grows.problem h.working c.requires.dir_in c.requires.beside c.supports-w-items.ensures.value c.loop-w-test.true refl c.opposite-back.ensures.value in
-    omega (arith, s.cell_in, h.working.counters.fits.same_cells)
-
-pub lower-requires-clause-counter_value : goal.lower-requires-clause-counter_value
-lower-requires-clause-counter_value g c =
-    let h = c.loop-w.invariant in
-    let s = side_at _ c.args.self.now.board _ _ _ _ _ _ _ _ _ _ h.goes_on.grows.problem h.working c.requires.dir_in c.requires.beside c.supports-w-items.ensures.value c.loop-w-test.true refl c.opposite-back.ensures.value in
-    omega (arith, s.value_in, h.working.counters.fits.same_values)
-
-pub lower-requires-clause-dir_in : goal.lower-requires-clause-dir_in
-lower-requires-clause-dir_in g c =
-    let h = c.loop-w.invariant in
-    let s = side_at _ c.args.self.now.board _ _ _ _ _ _ _ _ _ _ h.goes_on.grows.problem h.working c.requires.dir_in c.requires.beside c.supports-w-items.ensures.value c.loop-w-test.true refl c.opposite-back.ensures.value in
-    omega (arith, s.dir_in, h.working.counters.fits.same_dirs)
-
-pub lower-requires-clause-some : goal.lower-requires-clause-some
-lower-requires-clause-some g c =
-    let h = c.loop-w.invariant in
-    let s = side_at _ c.args.self.now.board _ _ _ _ _ _ _ _ _ _ h.goes_on.grows.problem h.working c.requires.dir_in c.requires.beside c.supports-w-items.ensures.value c.loop-w-test.true refl c.opposite-back.ensures.value in
-    s.above_zero
+    let fits = h.working.counters.fits in
+    let traced = h.working.board.traced in
+    record {
+      cell_in = omega (arith, s.cell_in, traced.same_cells);
+      value_in = omega (arith, s.value_in, traced.same_values);
+      counter_cell = omega (arith, s.cell_in, fits.same_cells);
+      counter_value = omega (arith, s.value_in, fits.same_values);
+      dir_in = omega (arith, s.dir_in, fits.same_dirs);
+      some = s.above_zero;
+    }
 
 pub loop-w-preserved : goal.loop-w-preserved
 loop-w-preserved g c =
