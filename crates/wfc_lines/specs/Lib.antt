@@ -1,0 +1,11 @@
+pub mod Build
+pub mod Command
+pub mod Grid
+pub mod Learn
+pub mod Line
+pub mod Outcome
+pub mod Palette
+pub mod Pins
+pub mod Reading
+pub mod Render
+pub mod Steps

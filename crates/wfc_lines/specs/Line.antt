@@ -1,0 +1,14 @@
+-- The forms of a line.
+use Rattle.std.specs.Prelude.{ℕ, List, ◌++◌, codes, decimal}
+
+-- a text as a line of the program
+abbrev pub line : List ℕ → List ℕ
+line text = codes "wfc: " ++ text ++ codes "\n"
+
+-- a text and the name of the file that it speaks of
+abbrev pub about : List ℕ → List ℕ → List ℕ
+about text file = text ++ codes " file=" ++ file
+
+-- a text, the number straight behind it, and the name of the file that it speaks of
+abbrev pub numbered_text : List ℕ → ℕ → List ℕ → List ℕ
+numbered_text text n file = about (text ++ decimal n) file

@@ -1,0 +1,18 @@
+-- The texts of a command that ends without a fault of its input.
+use Rattle.std.specs.Prelude.{ℕ, List, ◌++◌, codes, decimal}
+
+abbrev pub no_map_text : List ℕ
+no_map_text = codes "no map"
+
+abbrev pub no_domains_text : List ℕ
+no_domains_text = codes "no consistent domains"
+
+abbrev pub text_of_budget : ℕ → List ℕ
+text_of_budget budget = codes "budget spent budget=" ++ decimal budget
+
+-- the answer could not be written
+abbrev pub out_failed_text : List ℕ
+out_failed_text = codes "device Failed out"
+
+abbrev pub no_memory_text : List ℕ
+no_memory_text = codes "out of memory"

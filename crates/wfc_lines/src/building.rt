@@ -1,0 +1,30 @@
+//! The lines of a request without a problem.
+
+ghost use Rattle.std.specs.Prelude.{◌≡◌};
+ghost use Rattle.wfc_outside.specs.Sink.{Puts};
+ghost use Rattle.wfc_lines.specs.Line.{line};
+ghost use Rattle.wfc_lines.specs.Build.{text_of_build};
+
+use crate::line::{count, numbered, plain};
+use crate::outcome::no_memory;
+use wfc_outside::{Sink, SinkFault};
+use wfc_pins::BuildFault;
+
+/// Puts why a request has no problem; the file is that of the pins.
+pub fn build<E: Sink>(err: &mut E, fault: BuildFault, file: &str) -> Result<(), SinkFault>
+    ensures told { Puts (E.seen err.old) (E.seen err.new) (line (text_of_build fault file.now)) result }
+{
+    match fault {
+        BuildFault::SizeBelowN => plain(err, "build SizeBelowN"),
+        BuildFault::PinOutside { line } => numbered(err, "build PinOutside line=", line, file),
+        BuildFault::UnknownSymbol { line } => numbered(
+            err,
+            "build UnknownSymbol line=",
+            line,
+            file,
+        ),
+        BuildFault::TooLarge { product } => count(err, "build TooLarge product=", product),
+        BuildFault::NoMemory => no_memory(err),
+        BuildFault::PinInHole { line } => numbered(err, "build PinInHole line=", line, file),
+    }
+}

@@ -1,0 +1,20 @@
+//! The lines of a map without a layout.
+
+ghost use Rattle.std.specs.Prelude.{◌≡◌};
+ghost use Rattle.wfc_outside.specs.Sink.{Puts};
+ghost use Rattle.wfc_lines.specs.Line.{line};
+ghost use Rattle.wfc_lines.specs.Render.{text_of_render};
+
+use crate::line::{count, plain};
+use wfc_outside::{Sink, SinkFault};
+use wfc_render::RenderFault;
+
+/// Puts why a map has no layout.
+pub fn render<E: Sink>(err: &mut E, fault: RenderFault) -> Result<(), SinkFault>
+    ensures told { Puts (E.seen err.old) (E.seen err.new) (line (text_of_render fault)) result }
+{
+    match fault {
+        RenderFault::FormDiffers => plain(err, "render FormDiffers"),
+        RenderFault::TooLarge { pixels } => count(err, "render TooLarge pixels=", pixels),
+    }
+}

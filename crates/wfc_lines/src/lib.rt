@@ -1,0 +1,32 @@
+//! The one line that the error stream gets where a command ends without its answer: a call a kind of line.
+//!
+//! A line is `wfc: `, a text and LF. Each call puts the whole line, or a front of it and then a fault of the sink was
+//! counted. None takes memory.
+#![tactic(auto)]
+
+mod building;
+mod commands;
+mod grids;
+mod layouts;
+mod learning;
+mod line;
+mod outcome;
+mod palettes;
+mod pin_files;
+mod reads;
+mod step_files;
+
+pub use building::build;
+pub use commands::{chooser, command};
+pub use grids::grid;
+pub use layouts::render;
+pub use learning::learn;
+pub use line::{count, named, numbered, plain};
+pub use outcome::{budget_spent, no_domains, no_map, no_memory, out_failed};
+pub use palettes::palette;
+pub use pin_files::pins;
+pub use reads::reading;
+pub use step_files::{range, steps};
+
+#[cfg(test)]
+mod tests;

@@ -1,0 +1,64 @@
+//! The forms of a line.
+
+ghost use Rattle.std.specs.Prelude.{◌≡◌, ◌++◌, decimal};
+ghost use Rattle.std.specs.List.{flat_map};
+ghost use Rattle.wfc_outside.specs.Sink.{Puts};
+ghost use Rattle.wfc_lines.specs.Line.{about, line, numbered_text};
+
+use itoa::Buffer;
+use wfc_outside::{Sink, SinkFault, write_all};
+
+/// Puts the line of a text.
+pub fn plain<E: Sink>(err: &mut E, text: &str) -> Result<(), SinkFault>
+    ensures told { Puts (E.seen err.old) (E.seen err.new) (line text.now) result }
+{
+    put(err, &[b"wfc: ", text.as_bytes(), b"\n"])
+}
+
+/// Puts the line of a text and the number straight behind it.
+pub fn count<E: Sink>(err: &mut E, text: &str, n: u64) -> Result<(), SinkFault>
+    ensures told { Puts (E.seen err.old) (E.seen err.new) (line (text.now ++ decimal n)) result }
+{
+    let mut buffer = Buffer::new();
+    let number = buffer.format(n).as_bytes();
+    put(err, &[b"wfc: ", text.as_bytes(), number, b"\n"])
+}
+
+/// Puts the line of a text that speaks of a file.
+pub fn named<E: Sink>(err: &mut E, text: &str, file: &str) -> Result<(), SinkFault>
+    ensures told { Puts (E.seen err.old) (E.seen err.new) (line (about text.now file.now)) result }
+{
+    put(
+        err,
+        &[b"wfc: ", text.as_bytes(), b" file=", file.as_bytes(), b"\n"],
+    )
+}
+
+/// Puts the line of a text, the number straight behind it, and the file that it speaks of.
+pub fn numbered<E: Sink>(err: &mut E, text: &str, n: u32, file: &str) -> Result<(), SinkFault>
+    ensures told { Puts (E.seen err.old) (E.seen err.new) (line (numbered_text text.now n file.now)) result }
+{
+    let mut buffer = Buffer::new();
+    let number = buffer.format(n).as_bytes();
+    put(
+        err,
+        &[
+            b"wfc: ",
+            text.as_bytes(),
+            number,
+            b" file=",
+            file.as_bytes(),
+            b"\n",
+        ],
+    )
+}
+
+/// Puts the parts, one behind another.
+pub(crate) fn put<E: Sink>(err: &mut E, parts: &[&[u8]]) -> Result<(), SinkFault>
+    ensures put { Puts (E.seen err.old) (E.seen err.new) (flat_map (λ part. part.now) parts.now) result }
+{
+    for part in parts {
+        write_all(err, part)?;
+    }
+    Ok(())
+}

@@ -1,0 +1,22 @@
+//! The lines of a file that was not read.
+
+ghost use Rattle.std.specs.Prelude.{◌≡◌};
+ghost use Rattle.wfc_outside.specs.Sink.{Puts};
+ghost use Rattle.wfc_lines.specs.Line.{line};
+ghost use Rattle.wfc_lines.specs.Reading.{text_of_reading};
+
+use crate::line::named;
+use crate::outcome::no_memory;
+use wfc_outside::{ReadFault, Sink, SinkFault};
+
+/// Puts why a file was not read.
+pub fn reading<E: Sink>(err: &mut E, fault: ReadFault, file: &str) -> Result<(), SinkFault>
+    ensures told { Puts (E.seen err.old) (E.seen err.new) (line (text_of_reading fault file.now)) result }
+{
+    match fault {
+        ReadFault::Missing => named(err, "device Missing", file),
+        ReadFault::Failed => named(err, "device Failed", file),
+        ReadFault::TooLong => named(err, "file TooLong", file),
+        ReadFault::NoMemory => no_memory(err),
+    }
+}

@@ -1,0 +1,162 @@
+//! The lines of every kind, by a table, and a front of a line where the sink is full.
+
+use crate::{
+    budget_spent, build, chooser, command, grid, learn, no_domains, no_map, no_memory, out_failed,
+    palette, pins, range, reading, render, steps,
+};
+use std::test::Fail;
+use wfc_choose::RuleKind;
+use wfc_grid::GridFault;
+use wfc_outside::{MemorySink, ReadFault, SinkFault};
+use wfc_pattern::LearnFault;
+use wfc_picture::PaletteFault;
+use wfc_pins::{BuildFault, PinFault, RangeFault, StepFault};
+use wfc_render::RenderFault;
+use wfc_words::{CommandFault, ValueName};
+
+/// Each kind of line.
+#[derive(Clone, Copy)]
+enum Kind {
+    NoMap,
+    NoDomains,
+    Budget(u32),
+    Out,
+    NoMemory,
+    Command(CommandFault),
+    Chooser(RuleKind),
+    Reading(ReadFault),
+    Grid(GridFault),
+    Palette(PaletteFault),
+    Learn(LearnFault),
+    Render(RenderFault),
+    Pins(PinFault),
+    Steps(StepFault),
+    Range(RangeFault),
+    Build(BuildFault),
+}
+
+fn put(sink: &mut MemorySink, kind: Kind, file: &str) -> Result<(), SinkFault> {
+    match kind {
+        Kind::NoMap => no_map(sink),
+        Kind::NoDomains => no_domains(sink),
+        Kind::Budget(budget) => budget_spent(sink, budget),
+        Kind::Out => out_failed(sink),
+        Kind::NoMemory => no_memory(sink),
+        Kind::Command(fault) => command(sink, fault),
+        Kind::Chooser(rule) => chooser(sink, rule),
+        Kind::Reading(fault) => reading(sink, fault, file),
+        Kind::Grid(fault) => grid(sink, fault, file),
+        Kind::Palette(fault) => palette(sink, fault, file),
+        Kind::Learn(fault) => learn(sink, fault, file),
+        Kind::Render(fault) => render(sink, fault),
+        Kind::Pins(fault) => pins(sink, fault, file),
+        Kind::Steps(fault) => steps(sink, fault, file),
+        Kind::Range(fault) => range(sink, fault, file),
+        Kind::Build(fault) => build(sink, fault, file),
+    }
+}
+
+#[test]
+fn puts_lines(rt: HostRuntime) -> Result<(), Fail> {
+    let cases: [(Kind, &str); 29] = [
+        (Kind::NoMap, "no map"),
+        (Kind::NoDomains, "no consistent domains"),
+        (Kind::Budget(1_000_000), "budget spent budget=1000000"),
+        (Kind::Out, "device Failed out"),
+        (Kind::NoMemory, "out of memory"),
+        (Kind::Command(CommandFault::Refused), "command refused"),
+        (Kind::Command(CommandFault::NoMemory), "out of memory"),
+        (
+            Kind::Command(CommandFault::Value {
+                name: ValueName::Model,
+            }),
+            "command value MODEL",
+        ),
+        (
+            Kind::Command(CommandFault::Value {
+                name: ValueName::Symmetry,
+            }),
+            "command value symmetry",
+        ),
+        (
+            Kind::Chooser(RuleKind::Ranked),
+            "chooser missing rule=ranked",
+        ),
+        (
+            Kind::Reading(ReadFault::Missing),
+            "device Missing file=a.txt",
+        ),
+        (Kind::Reading(ReadFault::Failed), "device Failed file=a.txt"),
+        (Kind::Reading(ReadFault::TooLong), "file TooLong file=a.txt"),
+        (Kind::Grid(GridFault::Empty), "grid Empty file=a.txt"),
+        (
+            Kind::Grid(GridFault::Ragged { line: 2 }),
+            "grid Ragged line=2 file=a.txt",
+        ),
+        (
+            Kind::Grid(GridFault::BadByte {
+                line: 3,
+                column: 14,
+            }),
+            "grid BadByte line=3 column=14 file=a.txt",
+        ),
+        (Kind::Grid(GridFault::TooLarge), "grid TooLarge file=a.txt"),
+        (
+            Kind::Palette(PaletteFault::TooManyColours { at: 70 }),
+            "palette TooManyColours at=70 file=a.txt",
+        ),
+        (
+            Kind::Learn(LearnFault::SampleBelowN),
+            "learn SampleBelowN file=a.txt",
+        ),
+        (
+            Kind::Learn(LearnFault::TooManyPatterns { count: 4097 }),
+            "learn TooManyPatterns count=4097 file=a.txt",
+        ),
+        (Kind::Render(RenderFault::FormDiffers), "render FormDiffers"),
+        (
+            Kind::Render(RenderFault::TooLarge { pixels: 16_777_217 }),
+            "render TooLarge pixels=16777217",
+        ),
+        (
+            Kind::Pins(PinFault::BadLine { line: 1 }),
+            "pins BadLine line=1 file=a.txt",
+        ),
+        (
+            Kind::Steps(StepFault::NothingToUndo { line: 1 }),
+            "steps NothingToUndo line=1 file=a.txt",
+        ),
+        (
+            Kind::Range(RangeFault::OutOfRange { line: 5 }),
+            "steps OutOfRange line=5 file=a.txt",
+        ),
+        (Kind::Build(BuildFault::SizeBelowN), "build SizeBelowN"),
+        (
+            Kind::Build(BuildFault::TooLarge { product: 8_392_704 }),
+            "build TooLarge product=8392704",
+        ),
+        (
+            Kind::Build(BuildFault::PinOutside { line: 1 }),
+            "build PinOutside line=1 file=a.txt",
+        ),
+        (
+            Kind::Build(BuildFault::UnknownSymbol { line: 2 }),
+            "build UnknownSymbol line=2 file=a.txt",
+        ),
+    ];
+    for (kind, wanted) in cases {
+        let mut sink = MemorySink::new(rt.alloc(), 7, 100).ok().ok_or("memory")?;
+        assert!(rt; put(&mut sink, kind, "a.txt").is_ok());
+        let line = format!(in rt.alloc(); "wfc: {wanted}\n")?;
+        assert!(rt; sink.bytes() == line.as_bytes(), "of {wanted:?}");
+    }
+    Ok(())
+}
+
+#[test]
+fn puts_a_front(rt: HostRuntime) -> Result<(), Fail> {
+    let mut sink = MemorySink::new(rt.alloc(), 7, 12).ok().ok_or("memory")?;
+    assert!(rt; put(&mut sink, Kind::Reading(ReadFault::Missing), "a.txt").is_err());
+    assert!(rt; sink.bytes() == b"wfc: device ".as_slice());
+    Ok(())
+}
