@@ -1,10 +1,10 @@
--- What is built of learned patterns, an output and the lines of a pins file: a problem, or the first fault.
-use Rattle.std.specs.Prelude.{ℕ, ◌*◌, ◌&&◌, ◌||◌, nat_lt, List, length, map, position, Result, Err, if◌then◌else◌}
+-- What is built of learned patterns, an output and the lines of a pins file: a problem, or the
+-- first fault.
+use Rattle.std.specs.Prelude.{ℕ, ◌&&◌, ◌||◌, nat_lt, List, map, position, Result, Err, if◌then◌else◌}
 use Rattle.std.specs.Option.{ok_or, option_map}
 use Rattle.std.specs.Str.{bytes_eq}
 use Rattle.wfc_outside.specs.Gives.{result_map}
 use Rattle.wfc_model.specs.Legal.{Pin}
-use Rattle.wfc_model.specs.Window.{places}
 use Rattle.wfc_pattern.specs.Patterns.{PatternsView}
 use Rattle.wfc_picture.specs.Symbol.{symbol_text}
 use Rattle.wfc_picture.specs.declared.symbol.Symbol.{Symbol}
@@ -14,6 +14,7 @@ use Rattle.wfc_pins.specs.declared.fault.BuildFault.{BuildFault}
 use Rattle.wfc_pins.specs.declared.fault.BuildFault.TheVariants.{SizeBelowN, PinOutside, UnknownSymbol, TooLarge}
 use Rattle.wfc_problem.specs.Network.{Network}
 use Rattle.wfc_problem.specs.declared.TheConstants.{MAX_PAIRS}
+use Rattle.wfc_overlap.specs.Bridge.{pairs}
 use Rattle.wfc_overlap.specs.Sample.{Output, problem_of_sample}
 
 -- the texts of a palette's symbols, in their order
@@ -24,24 +25,23 @@ texts_of palette = map symbol_text palette
 abbrev pub pin_with : PinView → ℕ → Pin
 pin_with line number = record { keep = line.keep; column = line.x; row = line.y; number = number }
 
--- the pin that a line means: its place has to be inside, and its symbol one of these texts, whose position is its number
+-- the pin that a line means: its place has to be inside, and its symbol one of these texts, whose
+-- position is its number
 abbrev pub pin_in : List (List ℕ) → ℕ → ℕ → PinView → Result Pin BuildFault
 pin_in texts width height line =
     if nat_lt line.x width && nat_lt line.y height
-    then ok_or (option_map (pin_with line) (position (λ text. bytes_eq text line.symbol) texts)) (UnknownSymbol line.line)
+    then ok_or (option_map (pin_with line) (position (λ text. bytes_eq text line.symbol) texts))
+    (UnknownSymbol line.line)
     else Err (PinOutside line.line)
 
 -- the pins that the lines mean, or the fault of the first line that has one
 abbrev pub pins_in : List (List ℕ) → ℕ → ℕ → List PinView → Result (List Pin) BuildFault
 pins_in texts width height lines = all_in_order (map (pin_in texts width height) lines)
 
--- how many pairs of a place and a pattern there are
-abbrev pub pairs : PatternsView → Output → ℕ
-pairs patterns output = length (places output.width output.height patterns.n output.wrap) * length patterns.windows
-
 -- the problem, but for a side below that of a window, for too many pairs, and for a line at fault
 abbrev pub built : PatternsView → List Symbol → Output → List PinView → Result Network BuildFault
 built patterns palette output lines =
     if nat_lt output.width patterns.n || nat_lt output.height patterns.n then Err SizeBelowN
     else (if nat_lt MAX_PAIRS (pairs patterns output) then Err (TooLarge (pairs patterns output))
-    else result_map (problem_of_sample patterns output) (pins_in (texts_of palette) output.width output.height lines))
+    else result_map (problem_of_sample patterns output)
+    (pins_in (texts_of palette) output.width output.height lines))

@@ -4,3 +4,4 @@ pub mod Sides
 pub mod Flags
 pub mod Layout
 pub mod Built
+pub mod Small

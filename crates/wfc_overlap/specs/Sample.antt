@@ -1,4 +1,5 @@
--- The constraint problem of a sample: a cell for each place of the output, and the learned patterns as values.
+-- The constraint problem of a sample: a cell for each place of the output, and the learned patterns
+-- as values.
 use Rattle.std.specs.Prelude.{ℕ, ◌+◌, ◌-◌, ◌*◌, ◌%◌, ◌==◌, Bool, not, ◌&&◌, ◌||◌, nat_le, nat_lt, List, length, map, filter, slice_index, if◌then◌else◌}
 use Rattle.std.specs.List.{flat_map, list_all, range_with_len}
 use Rattle.wfc_model.specs.Direction.{left_by, down_by, right_by, up_by}
@@ -23,9 +24,11 @@ output_with width height wrap = record { width = width; height = height; wrap = 
 abbrev pub stepped : ℕ → ℕ → ℕ → ℕ → ℕ
 stepped count forth back at = (at + forth + count - back) % count
 
--- whether the step leads to another that there is: modulo their number always, else not past either end
+-- whether the step leads to another that there is: modulo their number always, else not past either
+-- end
 abbrev pub is_there : ℕ → Bool → ℕ → ℕ → ℕ → Bool
-is_there count wrap forth back at = wrap || (nat_le back (at + forth) && nat_lt (at + forth) (count + back))
+is_there count wrap forth back at =
+    wrap || (nat_le back (at + forth) && nat_lt (at + forth) (count + back))
 
 -- the number of the place in a column and a row, counted row by row
 abbrev pub cell_of : ℕ → ℕ → ℕ → ℕ
@@ -36,41 +39,78 @@ abbrev pub beside : ℕ → Output → ℕ × ℕ → ℕ → ℕ
 beside n output place d =
     let columns = starts output.width n output.wrap in
     let rows = starts output.height n output.wrap in
-    if is_there columns output.wrap (right_by d) (left_by d) place.0 && is_there rows output.wrap (down_by d) (up_by d) place.1
-    then cell_of columns (stepped columns (right_by d) (left_by d) place.0) (stepped rows (down_by d) (up_by d) place.1)
+    if is_there columns output.wrap (right_by d) (left_by d) place.0
+    && is_there rows output.wrap (down_by d) (up_by d) place.1
+    then cell_of columns (stepped columns (right_by d) (left_by d) place.0)
+    (stepped rows (down_by d) (up_by d) place.1)
     else NO_CELL
+
+-- the cells beside a place, direction by direction
+abbrev pub all_beside : ℕ → Output → ℕ × ℕ → List ℕ
+all_beside n output place = map (λ d. beside n output place d) (range_with_len 0 4)
+
+-- the cells beside each place
+abbrev pub neighbour_table : ℕ → Output → List ℕ
+neighbour_table n output =
+    flat_map (λ place. all_beside n output place)
+    (places output.width output.height n output.wrap)
 
 -- the patterns that agree with p in a direction, rising
 abbrev pub agreeing : PatternsView → ℕ → ℕ → List ℕ
-agreeing patterns p d = filter (λ q. agrees patterns.n (window_at patterns p) (window_at patterns q) d) (range_with_len 0 (length patterns.windows))
+agreeing patterns p d =
+    filter (λ q. agrees patterns.n (window_at patterns p) (window_at patterns q) d)
+    (range_with_len 0 (length patterns.windows))
+
+-- the patterns that agree with p, direction by direction
+abbrev pub all_agreeing : PatternsView → ℕ → List (List ℕ)
+all_agreeing patterns p = map (λ d. agreeing patterns p d) (range_with_len 0 4)
+
+-- the patterns that agree with each
+abbrev pub support_table : PatternsView → List (List ℕ)
+support_table patterns =
+    flat_map (λ p. all_agreeing patterns p) (range_with_len 0 (length patterns.windows))
 
 -- whether a number suits a pin: a kept one is the pin's, and a banned one isn't
 abbrev pub suits : Pin → ℕ → Bool
 suits pin number = if pin.keep then number == pin.number else not (number == pin.number)
 
--- whether the number in column i and row j of a window at a place suits a pin, where it stands on the pin's pixel
+-- whether the number in column i and row j of a window at a place suits a pin, where it stands on
+-- the pin's pixel
 abbrev pub suits_at : ℕ → Output → ℕ × ℕ → List ℕ → Pin → ℕ → ℕ → Bool
 suits_at n output place w pin i j =
-    not ((place.0 + i) % output.width == pin.column && (place.1 + j) % output.height == pin.row) || suits pin (slice_index w (j * n + i))
+    not ((place.0 + i) % output.width == pin.column && (place.1 + j) % output.height == pin.row)
+    || suits pin (slice_index w (j * n + i))
+
+-- whether each number in column i of a window suits it
+abbrev pub suits_in_column : ℕ → Output → ℕ × ℕ → List ℕ → Pin → ℕ → Bool
+suits_in_column n output place w pin i =
+    list_all (λ j. suits_at n output place w pin i j) (range_with_len 0 n)
 
 -- whether a window at a place meets a pin or a ban: each of its numbers suits it
 abbrev pub is_met : ℕ → Output → ℕ × ℕ → List ℕ → Pin → Bool
-is_met n output place w pin = list_all (λ i. list_all (λ j. suits_at n output place w pin i j) (range_with_len 0 n)) (range_with_len 0 n)
+is_met n output place w pin =
+    list_all (λ i. suits_in_column n output place w pin i) (range_with_len 0 n)
 
 -- whether it meets all of them
 abbrev pub meets : ℕ → Output → ℕ × ℕ → List ℕ → List Pin → Bool
 meets n output place w pins = list_all (λ pin. is_met n output place w pin) pins
 
--- a cell for each place of the output, row by row, beside it the places one step away, the patterns with their weights,
--- beside each the patterns that agree with it, and at each cell those that meet the pins and bans
+-- for each place and window whether it meets them there
+abbrev pub base_table : ℕ → Output → List (List ℕ) → List Pin → List Bool
+base_table n output windows pins =
+    flat_map (λ place. map (λ w. meets n output place w pins) windows)
+    (places output.width output.height n output.wrap)
+
+-- a cell for each place of the output, row by row, beside it the places one step away, the patterns
+-- with their weights, beside each the patterns that agree with it, and at each cell those that meet
+-- the pins and bans
 abbrev pub problem_of_sample : PatternsView → Output → List Pin → Network
 problem_of_sample patterns output pins =
-    let all = places output.width output.height patterns.n output.wrap in
     record {
-      cells = length all;
+      cells = length (places output.width output.height patterns.n output.wrap);
       dirs = 4;
-      neighbours = flat_map (λ place. map (λ d. beside patterns.n output place d) (range_with_len 0 4)) all;
+      neighbours = neighbour_table patterns.n output;
       weights = patterns.weights;
-      supports = flat_map (λ p. map (λ d. agreeing patterns p d) (range_with_len 0 4)) (range_with_len 0 (length patterns.windows));
-      base = flat_map (λ place. map (λ w. meets patterns.n output place w pins) patterns.windows) all;
+      supports = support_table patterns;
+      base = base_table patterns.n output patterns.windows pins;
     }

@@ -1,14 +1,11 @@
 //! Which patterns each place may have: those that meet every pin and ban.
 
-ghost use Rattle.std.specs.Prelude.{◌≡◌, ℕ, ◌+◌, ◌*◌, ◌%◌, ◌<◌, ◌≤◌, ◌&&◌, ◌⊎◌, length, map, replicate, slice_index, slice_index_or, false, true, Some, All, IfOk, IfSome};
-ghost use Rattle.std.specs.List.{flat_map, list_all, range_with_len};
-ghost use Rattle.wfc_model.specs.Legal.{Pin};
-ghost use Rattle.wfc_model.specs.Window.{places, starts};
-ghost use Rattle.wfc_pattern.specs.Patterns.{window_at};
+ghost use Rattle.std.specs.Prelude.{◌≡◌, ℕ, ◌+◌, ◌*◌, ◌%◌, ◌<◌, ◌≤◌, ◌&&◌, length, replicate, slice_index, true, Some, IfOk, IfSome};
+ghost use Rattle.wfc_model.specs.Window.{starts};
 ghost use Rattle.wfc_overlap.specs.Bridge.{AreInside};
-ghost use Rattle.wfc_overlap.specs.Flags.{AreCut, IsTable, flag};
+ghost use Rattle.wfc_overlap.specs.Flags.{AreCut, AreOutsideRow, IsRowCut, IsTable};
 ghost use Rattle.wfc_overlap.specs.Layout.{output_of};
-ghost use Rattle.wfc_overlap.specs.Sample.{is_met, meets, suits, suits_at};
+ghost use Rattle.wfc_overlap.specs.Sample.{base_table, is_met, suits, suits_at, suits_in_column};
 
 use crate::layout::Layout;
 use crate::mark::Mark;
@@ -25,7 +22,8 @@ pub(crate) fn base(
 ) -> Result<Vec<bool>, NoMemory>
     requires n { layout.n ≡ patterns.now.n }
     requires inside { AreInside (output_of layout) marks.now }
-    ensures value { IfOk result (λ flags. flags.items ≡ flat_map (λ place. map (λ w. meets layout.n (output_of layout) place w marks.now) patterns.now.windows) (places layout.width layout.height layout.n layout.wrap)) }
+    ensures value { IfOk result (λ flags. flags.items
+        ≡ base_table layout.n (output_of layout) patterns.now.windows marks.now) }
 {
     let count = patterns.count() as usize;
     let mut flags = all_set(alloc, layout.cells() as usize * count)?;
@@ -48,7 +46,8 @@ fn cut(flags: &mut [bool], patterns: &Patterns, layout: Layout, mark: &Mark)
     requires table { IsTable patterns.now (output_of layout) flags.old }
     requires column_in { mark.now.column < layout.width }
     requires row_in { mark.now.row < layout.height }
-    ensures cut { AreCut patterns.now (output_of layout) flags.old flags.new (λ place w. is_met layout.n (output_of layout) place w mark.now) }
+    ensures cut { AreCut patterns.now (output_of layout) flags.old flags.new
+        (λ place w. is_met layout.n (output_of layout) place w mark.now) }
 {
     for i in 0..layout.n {
         cut_column(flags, patterns, layout, mark, i);
@@ -62,14 +61,16 @@ fn cut_column(flags: &mut [bool], patterns: &Patterns, layout: Layout, mark: &Ma
     requires column_in { mark.now.column < layout.width }
     requires row_in { mark.now.row < layout.height }
     requires i_in { i < layout.n }
-    ensures cut { AreCut patterns.now (output_of layout) flags.old flags.new (λ place w. list_all (λ j. suits_at layout.n (output_of layout) place w mark.now i j) (range_with_len 0 layout.n)) }
+    ensures cut { AreCut patterns.now (output_of layout) flags.old flags.new
+        (λ place w. suits_in_column layout.n (output_of layout) place w mark.now i) }
 {
     for j in 0..layout.n {
         cut_entry(flags, patterns, layout, mark, i, j);
     }
 }
 
-/// The same where column `i` of row `j` of a window has the pixel, at the one place where it has, if there is one.
+/// The same where column `i` of row `j` of a window has the pixel, at the one place where it has,
+/// if there is one.
 fn cut_entry(flags: &mut [bool], patterns: &Patterns, layout: Layout, mark: &Mark, i: u32, j: u32)
     requires n { layout.n ≡ patterns.now.n }
     requires table { IsTable patterns.now (output_of layout) flags.old }
@@ -77,7 +78,8 @@ fn cut_entry(flags: &mut [bool], patterns: &Patterns, layout: Layout, mark: &Mar
     requires row_in { mark.now.row < layout.height }
     requires i_in { i < layout.n }
     requires j_in { j < layout.n }
-    ensures cut { AreCut patterns.now (output_of layout) flags.old flags.new (λ place w. suits_at layout.n (output_of layout) place w mark.now i j) }
+    ensures cut { AreCut patterns.now (output_of layout) flags.old flags.new
+        (λ place w. suits_at layout.n (output_of layout) place w mark.now i j) }
 {
     let Some(x) = start_of(mark.column, i, layout.n, layout.width, layout.wrap) else {
         return;
@@ -92,11 +94,13 @@ fn cut_entry(flags: &mut [bool], patterns: &Patterns, layout: Layout, mark: &Mar
 
 /// Takes away at a place the patterns whose number at an entry doesn't suit the pin or ban.
 fn cut_place(flags: &mut [bool], patterns: &Patterns, mark: &Mark, cell: usize, entry: usize)
-    requires row { cell * length patterns.now.windows + length patterns.now.windows ≤ length flags.old }
+    requires row { cell * length patterns.now.windows + length patterns.now.windows
+        ≤ length flags.old }
     requires entry { entry < patterns.now.n * patterns.now.n }
     ensures as_long { length flags.new ≡ length flags.old }
-    ensures here { (v : ℕ) → v < length patterns.now.windows → flag (length patterns.now.windows) flags.new cell v ≡ (flag (length patterns.now.windows) flags.old cell v && suits mark.now (slice_index (window_at patterns.now v) entry)) }
-    ensures others { (k : ℕ) → (k < cell * length patterns.now.windows) ⊎ (cell * length patterns.now.windows + length patterns.now.windows ≤ k) → slice_index_or flags.new k false ≡ slice_index_or flags.old k false }
+    ensures here { IsRowCut patterns.now flags.old flags.new cell
+        (λ w. suits mark.now (slice_index w entry)) }
+    ensures others { AreOutsideRow flags.old flags.new cell (length patterns.now.windows) }
 {
     let first = cell * patterns.count() as usize;
     for v in 0..patterns.count() {

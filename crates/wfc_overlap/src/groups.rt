@@ -1,8 +1,7 @@
 //! Patterns, grouped by the numbers that they share with the patterns beside them.
 
-ghost use Rattle.std.specs.Prelude.{◌≡◌, ℕ, ◌+◌, ◌*◌, ◌<◌, ◌≤◌, ◌++◌, [], ◌∷◌, List, length, nat_eq, if◌then◌else◌, IfOk, OnOk};
-ghost use Rattle.std.specs.Cmp.Lexicographic.{pointwise};
-ghost use Rattle.wfc_overlap.specs.Sides.{IsGrouped, members, part, side};
+ghost use Rattle.std.specs.Prelude.{◌≡◌, ℕ, ◌+◌, ◌*◌, ◌<◌, ◌≤◌, [], List, length, IfOk, OnOk};
+ghost use Rattle.wfc_overlap.specs.Sides.{IsAdded, IsGrouped, members, part, side};
 
 use indexmap::IndexMap;
 use std::alloc::Global;
@@ -35,7 +34,7 @@ impl Groups {
 
     /// Puts a member behind those of its key.
     fn add(&mut self, alloc: Global, key: Vec<u32>, member: u16) -> Result<(), NoMemory>
-        ensures added { OnOk result ((k : List ℕ) → members self.new k ≡ members self.old k ++ (if pointwise nat_eq k key.items then member ∷ [] else [])) }
+        ensures added { OnOk result (IsAdded self.old self.new key.items member) }
     {
         if let Some(members) = self.groups.get_mut(key.as_slice()) {
             members.push(member)?;
@@ -102,7 +101,8 @@ fn part(
     requires small_side { n ≤ 6 }
     requires columns_in { left + columns ≤ n }
     requires rows_in { top + rows ≤ n }
-    ensures value { IfOk result (λ numbers. numbers.items ≡ part n window.now left top columns rows) }
+    ensures value { IfOk result (λ numbers. numbers.items
+        ≡ part n window.now left top columns rows) }
 {
     let mut numbers = Vec::with_capacity(alloc, columns * rows)?;
     for row in 0..rows {

@@ -3,7 +3,8 @@
 ghost use Rattle.std.specs.Prelude.{◌≡◌, ◌*◌, ◌<◌, ◌≤◌};
 ghost use Rattle.wfc_model.specs.Window.{starts};
 
-/// An output that has room for a window of side `n`, and at how many columns and rows a window begins.
+/// An output that has room for a window of side `n`, and at how many columns and rows a window
+/// begins.
 #[derive(Clone, Copy)]
 pub(crate) struct Layout {
     pub n: u32,
@@ -27,7 +28,6 @@ impl Layout {
     ghost use Rattle.std.specs.Prelude.{length};
     ghost use Rattle.wfc_model.specs.Window.{places};
     ghost use Rattle.wfc_overlap.specs.Layout.{output_of};
-    ghost use Rattle.wfc_overlap.specs.Sample.{Output};
 
     /// The layout of an output.
     pub(crate) fn new(n: u32, width: u32, height: u32, wrap: bool) -> Layout
@@ -51,7 +51,8 @@ impl Layout {
 
     /// How many places there are.
     pub(crate) fn cells(&self) -> u32
-        ensures value { result ≡ length (places self.now.width self.now.height self.now.n self.now.wrap) }
+        ensures value { result
+            ≡ length (places self.now.width self.now.height self.now.n self.now.wrap) }
         ensures product { result ≡ self.now.rows * self.now.columns }
     {
         self.rows * self.columns

@@ -1,9 +1,11 @@
 //! The constraint problem of a sample, and why its legal assignments are the legal pictures.
 //!
-//! A cell stands for a place of the output at which a window begins, and its value for the pattern that stands there.
+//! A cell stands for a place of the output at which a window begins, and its value for the pattern
+//! that stands there.
 #![tactic(auto)]
 
 mod base;
+pub mod examples;
 mod groups;
 pub mod laws;
 mod layout;

@@ -16,5 +16,10 @@ impl Model for Mark {
 
     ghost Value = { Pin };
 
-    ghost view = { λ m. record { keep = m.keep; column = m.column; row = m.row; number = m.number } };
+    ghost view = { λ m. record {
+      keep = m.keep;
+      column = m.column;
+      row = m.row;
+      number = m.number;
+    } };
 }

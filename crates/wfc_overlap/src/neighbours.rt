@@ -1,11 +1,10 @@
 //! What lies beside each place.
 
-ghost use Rattle.std.specs.Prelude.{◌≡◌, ◌<◌, ◌++◌, map, OnOk, IfOk};
+ghost use Rattle.std.specs.Prelude.{◌≡◌, ◌<◌, ◌++◌, OnOk, IfOk};
 ghost use Rattle.std.specs.Option.{ForSome};
-ghost use Rattle.std.specs.List.{flat_map, range_with_len};
-ghost use Rattle.wfc_model.specs.Window.{places};
-ghost use Rattle.wfc_overlap.specs.Layout.{along, cell_in, output_of};
-ghost use Rattle.wfc_overlap.specs.Sample.{beside};
+ghost use Rattle.std.specs.List.{flat_map};
+ghost use Rattle.wfc_overlap.specs.Layout.{along, cell_in, output_of, row_places};
+ghost use Rattle.wfc_overlap.specs.Sample.{all_beside, neighbour_table};
 
 use crate::layout::Layout;
 use std::alloc::Global;
@@ -14,7 +13,8 @@ use wfc_problem::NO_CELL;
 
 /// For each place and direction the place that lies there, or `NO_CELL`.
 pub(crate) fn neighbours(alloc: Global, layout: Layout) -> Result<Vec<u32>, NoMemory>
-    ensures value { IfOk result (λ table. table.items ≡ flat_map (λ place. map (λ d. beside layout.n (output_of layout) place d) (range_with_len 0 4)) (places layout.width layout.height layout.n layout.wrap)) }
+    ensures value { IfOk result (λ table. table.items
+        ≡ neighbour_table layout.n (output_of layout)) }
 {
     let mut table = Vec::with_capacity(alloc, layout.cells() as usize * 4)?;
     for y in 0..layout.rows {
@@ -26,7 +26,8 @@ pub(crate) fn neighbours(alloc: Global, layout: Layout) -> Result<Vec<u32>, NoMe
 /// Writes what lies beside the places of a row behind the table.
 fn push_row(table: &mut Vec<u32>, layout: Layout, y: u32) -> Result<(), NoMemory>
     requires y_in { y < layout.rows }
-    ensures row { OnOk result (table.new.items ≡ table.old.items ++ flat_map (λ place. map (λ d. beside layout.n (output_of layout) place d) (range_with_len 0 4)) (map (λ x. (x, y)) (range_with_len 0 layout.columns))) }
+    ensures row { OnOk result (table.new.items ≡ table.old.items
+        ++ flat_map (all_beside layout.n (output_of layout)) (row_places layout.columns y)) }
 {
     for x in 0..layout.columns {
         push_place(table, layout, x, y)?;
@@ -38,7 +39,8 @@ fn push_row(table: &mut Vec<u32>, layout: Layout, y: u32) -> Result<(), NoMemory
 fn push_place(table: &mut Vec<u32>, layout: Layout, x: u32, y: u32) -> Result<(), NoMemory>
     requires x_in { x < layout.columns }
     requires y_in { y < layout.rows }
-    ensures place { OnOk result (table.new.items ≡ table.old.items ++ map (λ d. beside layout.n (output_of layout) (x, y) d) (range_with_len 0 4)) }
+    ensures place { OnOk result (table.new.items
+        ≡ table.old.items ++ all_beside layout.n (output_of layout) (x, y)) }
 {
     let left = before(x, layout.columns, layout.wrap);
     let right = after(x, layout.columns, layout.wrap);

@@ -1,14 +1,11 @@
 //! The picture that an assignment of patterns to places paints.
 
-ghost use Rattle.std.specs.Prelude.{◌≡◌, ◌<◌, ◌≤◌, ◌-◌, ◌++◌, List, length, min, map, All, IfOk, OnOk};
-ghost use Rattle.std.specs.List.{range_with_len};
-ghost use Rattle.wfc_model.specs.Legal.{IsLegalPicture, Pin, Rules};
-ghost use Rattle.wfc_model.specs.Raster.{IsFilled, Raster, raster_of};
+ghost use Rattle.std.specs.Prelude.{◌≡◌, ◌<◌, ◌≤◌, ◌-◌, ◌++◌, length, min, All, IfOk, OnOk};
+ghost use Rattle.wfc_model.specs.Raster.{IsFilled, raster_of};
 ghost use Rattle.wfc_model.specs.Window.{places};
-ghost use Rattle.wfc_problem.specs.Assignment.{IsLegalAssignment};
-ghost use Rattle.wfc_overlap.specs.Bridge.{AreInside, HasWindowsOf, IsRoom, IsTaughtBy, picture_of, pixel_of};
+ghost use Rattle.wfc_overlap.specs.Bridge.{IsLegalWith, ShowsAssigned, picture_of, pixel_of, row_of};
 ghost use Rattle.wfc_overlap.specs.Layout.{output_of};
-ghost use Rattle.wfc_overlap.specs.Sample.{output_with, problem_of_sample};
+ghost use Rattle.wfc_overlap.specs.Sample.{output_with};
 
 use crate::layout::Layout;
 use std::alloc::Global;
@@ -16,8 +13,8 @@ use wfc_outside::NoMemory;
 use wfc_pattern::Patterns;
 use wfc_picture::Picture;
 
-/// The picture of `width` by `height` colour numbers that an assignment paints: one pattern for each place at which a
-/// window begins, row by row.
+/// The picture of `width` by `height` colour numbers that an assignment paints: one pattern for
+/// each place at which a window begins, row by row.
 pub fn picture_of(
     alloc: Global,
     patterns: &Patterns,
@@ -32,14 +29,15 @@ pub fn picture_of(
     requires height_limit { height ≤ 4096 }
     requires each_place { length assignment.now ≡ length (places width height patterns.now.n wrap) }
     requires values { All (λ v. v < length patterns.now.windows) assignment.now }
-    ensures exact { IfOk result (λ picture. picture ≡ picture_of patterns.now (output_with width height wrap) assignment.now) }
+    ensures exact { IfOk result (λ picture. picture
+        ≡ picture_of patterns.now (output_with width height wrap) assignment.now) }
 
-    // Of an assignment that is legal for a sample's problem, the picture is legal, with the assigned windows.
-    ensures legal { (sample : Raster) (rules : Rules) (pins : List Pin) → IsRoom patterns.now (output_with width height wrap) → IsTaughtBy sample rules patterns.now (output_with width height wrap)
-        → AreInside (output_with width height wrap) pins → IsLegalAssignment (problem_of_sample patterns.now (output_with width height wrap) pins) assignment.now
-        → IfOk result (IsLegalPicture sample rules pins width height) }
-    ensures windows { (pins : List Pin) → IsRoom patterns.now (output_with width height wrap) → IsLegalAssignment (problem_of_sample patterns.now (output_with width height wrap) pins) assignment.now
-        → IfOk result (HasWindowsOf patterns.now (output_with width height wrap) assignment.now) }
+    // Of an assignment that is legal for a sample's problem, the picture is legal, with the
+    // assigned windows.
+    ensures legal { IfOk result
+        (IsLegalWith patterns.now (output_with width height wrap) assignment.now) }
+    ensures windows { IfOk result
+        (ShowsAssigned patterns.now (output_with width height wrap) assignment.now) }
 {
     let layout = Layout::new(patterns.n(), width, height, wrap);
     let mut numbers = Vec::with_capacity(alloc, width as usize * height as usize)?;
@@ -66,10 +64,12 @@ fn push_row(
     y: u32,
 ) -> Result<(), NoMemory>
     requires n { layout.n ≡ patterns.now.n }
-    requires each_place { length assignment.now ≡ length (places layout.width layout.height layout.n layout.wrap) }
+    requires each_place { length assignment.now
+        ≡ length (places layout.width layout.height layout.n layout.wrap) }
     requires values { All (λ v. v < length patterns.now.windows) assignment.now }
     requires y_in { y < layout.height }
-    ensures row { OnOk result (numbers.new.items ≡ numbers.old.items ++ map (λ x. pixel_of patterns.now (output_of layout) assignment.now x y) (range_with_len 0 layout.width)) }
+    ensures row { OnOk result (numbers.new.items
+        ≡ numbers.old.items ++ row_of patterns.now (output_of layout) assignment.now y) }
 {
     for x in 0..layout.width {
         numbers.push(number_at(patterns, layout, assignment, x, y))?;
@@ -80,7 +80,8 @@ fn push_row(
 /// The number of a pixel: what the pattern of the nearest place has there.
 fn number_at(patterns: &Patterns, layout: Layout, assignment: &[u16], x: u32, y: u32) -> u32
     requires n { layout.n ≡ patterns.now.n }
-    requires each_place { length assignment.now ≡ length (places layout.width layout.height layout.n layout.wrap) }
+    requires each_place { length assignment.now
+        ≡ length (places layout.width layout.height layout.n layout.wrap) }
     requires values { All (λ v. v < length patterns.now.windows) assignment.now }
     requires x_in { x < layout.width }
     requires y_in { y < layout.height }

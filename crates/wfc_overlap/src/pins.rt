@@ -22,8 +22,10 @@ pub(crate) fn marks(
     height: u32,
     pins: &[PinLine],
 ) -> Result<Vec<Mark>, BuildFault>
-    ensures exact { Gives BuildFault.NoMemory (λ marks. marks.items) result (pins_in (texts_of palette.now) width height pins.now) }
-    ensures inside { IfOk result (λ marks. All (λ (pin : Pin). (pin.column < width) × (pin.row < height)) marks.items) }
+    ensures exact { Gives BuildFault.NoMemory (λ marks. marks.items) result
+        (pins_in (texts_of palette.now) width height pins.now) }
+    ensures inside { IfOk result (λ marks.
+        All (λ (pin : Pin). (pin.column < width) × (pin.row < height)) marks.items) }
 {
     let texts = texts(alloc, palette)?;
     let mut marks = Vec::with_capacity(alloc, pins.len())?;
@@ -56,7 +58,8 @@ fn mark(texts: &[Vec<u8>], width: u32, height: u32, line: &PinLine) -> Result<Ma
 /// The number of the symbol with this text.
 fn number_of(texts: &[Vec<u8>], word: &[u8]) -> Option<u32>
     requires few { length texts.now ≤ 4096 }
-    ensures value { result ≡ position (λ text. bytes_eq text word.now) (map (λ text. text.items) texts.now) }
+    ensures value { result
+        ≡ position (λ text. bytes_eq text word.now) (map (λ text. text.items) texts.now) }
 {
     let at = place_of(texts, word)?;
     Some(at as u32)
@@ -71,7 +74,8 @@ fn place_of(texts: &[Vec<u8>], word: &[u8]) -> Option<usize>
 
 /// The texts of a palette's symbols, in their order.
 fn texts(alloc: Global, palette: &Palette) -> Result<Vec<Vec<u8>>, NoMemory>
-    ensures value { IfOk result (λ texts. map (λ text. text.items) texts.items ≡ texts_of palette.now) }
+    ensures value { IfOk result (λ texts.
+        map (λ text. text.items) texts.items ≡ texts_of palette.now) }
     ensures few { IfOk result (λ texts. vec_len texts ≤ 4096) }
 {
     let mut texts = Vec::with_capacity(alloc, palette.len() as usize)?;

@@ -1,6 +1,6 @@
 //! The problem of a sample.
 
-ghost use Rattle.std.specs.Prelude.{◌≡◌, ◌<◌, ◌≤◌, length, IfOk};
+ghost use Rattle.std.specs.Prelude.{◌≡◌, ◌<◌, ◌≤◌, IfOk};
 ghost use Rattle.wfc_outside.specs.Gives.{Gives};
 ghost use Rattle.wfc_problem.specs.Network.{IsProblem};
 ghost use Rattle.wfc_overlap.specs.Bridge.{AreInside};
@@ -21,11 +21,13 @@ use wfc_picture::Palette;
 use wfc_pins::{BuildFault, PinLine};
 use wfc_problem::{MAX_PAIRS, Parts, Problem};
 
-/// The problem of learned patterns for an output of `width` by `height` pixels: a cell for each place at which a window
-/// begins, row by row, and the patterns as values. The lines of the pins file are read by the palette of the sample.
+/// The problem of learned patterns for an output of `width` by `height` pixels: a cell for each
+/// place at which a window begins, row by row, and the patterns as values. The lines of the pins
+/// file are read by the palette of the sample.
 ///
-/// The first of these faults is answered: a side below that of a window, too many pairs of a cell and a pattern, and
-/// then the first line at fault, where a place outside comes before an unknown symbol. A ban is looked at as a pin is.
+/// The first of these faults is answered: a side below that of a window, too many pairs of a cell
+/// and a pattern, and then the first line at fault, where a place outside comes before an unknown
+/// symbol. A ban is looked at as a pin is.
 pub fn build(
     alloc: Global,
     patterns: &Patterns,
@@ -39,7 +41,8 @@ pub fn build(
     requires some_height { 0 < height }
     requires width_limit { width ≤ 4096 }
     requires height_limit { height ≤ 4096 }
-    ensures exact { Gives BuildFault.NoMemory (λ problem. problem) result (built patterns.now palette.now (output_with width height wrap) pins.now) }
+    ensures exact { Gives BuildFault.NoMemory (λ problem. problem) result
+        (built patterns.now palette.now (output_with width height wrap) pins.now) }
 {
     let n = patterns.n();
     if width < n || height < n {
@@ -72,7 +75,8 @@ fn parts(
 ) -> Result<Parts, NoMemory>
     requires n { layout.n ≡ patterns.now.n }
     requires inside { AreInside (output_of layout) marks.now }
-    ensures value { IfOk result (λ parts. parts ≡ problem_of_sample patterns.now (output_of layout) marks.now) }
+    ensures value { IfOk result (λ parts. parts
+        ≡ problem_of_sample patterns.now (output_of layout) marks.now) }
 {
     Ok(Parts {
         cells: layout.cells(),

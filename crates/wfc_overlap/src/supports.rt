@@ -1,9 +1,8 @@
 //! Which patterns may stand beside which.
 
-ghost use Rattle.std.specs.Prelude.{◌≡◌, ℕ, ◌<◌, ◌++◌, [], length, map, slice_index_or, IfOk, OnOk};
-ghost use Rattle.std.specs.List.{flat_map, range_with_len};
+ghost use Rattle.std.specs.Prelude.{◌≡◌, ◌<◌, ◌++◌, length, map, IfOk, OnOk};
 ghost use Rattle.wfc_model.specs.Direction.{opposite};
-ghost use Rattle.wfc_overlap.specs.Sample.{agreeing};
+ghost use Rattle.wfc_overlap.specs.Sample.{all_agreeing, support_table};
 ghost use Rattle.wfc_overlap.specs.Sides.{AreGrouped};
 
 use crate::groups::{Groups, group, side};
@@ -12,10 +11,11 @@ use wfc_outside::NoMemory;
 use wfc_pattern::Patterns;
 use wfc_problem::opposite;
 
-/// For each pattern and direction the patterns that agree with it there, in lists that take no more memory than they
-/// need.
+/// For each pattern and direction the patterns that agree with it there, in lists that take no more
+/// memory than they need.
 pub(crate) fn supports(alloc: Global, patterns: &Patterns) -> Result<Vec<Vec<u16>>, NoMemory>
-    ensures value { IfOk result (λ lists. map (λ list. list.items) lists.items ≡ flat_map (λ p. map (agreeing patterns.now p) (range_with_len 0 4)) (range_with_len 0 (length patterns.now.windows))) }
+    ensures value { IfOk result (λ lists.
+        map (λ list. list.items) lists.items ≡ support_table patterns.now) }
 {
     let groups = groups(alloc, patterns)?;
     let mut lists = Vec::with_capacity(alloc, patterns.count() as usize * 4)?;
@@ -46,7 +46,8 @@ fn push_lists(
 ) -> Result<(), NoMemory>
     requires p_in { p < length patterns.now.windows }
     requires grouped { AreGrouped patterns.now groups.now }
-    ensures lists { OnOk result (map (λ list. list.items) lists.new.items ≡ map (λ list. list.items) lists.old.items ++ map (agreeing patterns.now p) (range_with_len 0 4)) }
+    ensures lists { OnOk result (map (λ list. list.items) lists.new.items
+        ≡ map (λ list. list.items) lists.old.items ++ all_agreeing patterns.now p) }
 {
     for dir in 0..4 {
         let shared = side(alloc, patterns.window(p), patterns.n(), dir)?;

@@ -1,0 +1,48 @@
+-- A small sample without symmetry and what comes with it, on which laws try the definitions.
+use Rattle.std.specs.Prelude.{ℕ, Bool, false, List, [], ◌∷◌}
+use Rattle.wfc_model.specs.Legal.{Rules}
+use Rattle.wfc_model.specs.Raster.{Raster, raster_of}
+use Rattle.wfc_pattern.specs.Patterns.{PatternsView}
+use Rattle.wfc_picture.specs.Small.{rgb}
+use Rattle.wfc_picture.specs.declared.symbol.Symbol.{Symbol}
+use Rattle.wfc_picture.specs.declared.symbol.Symbol.TheVariants.{Char}
+use Rattle.wfc_pins.specs.PinView.{PinView}
+use Rattle.wfc_overlap.specs.Sample.{Output, output_with}
+
+-- an output of three by two that doesn't wrap
+abbrev pub three_by_two : Output
+three_by_two = output_with 3 2 false
+
+-- a sample as large
+abbrev pub six_numbers : Raster
+six_numbers = raster_of 3 2 (1 ∷ 2 ∷ 5 ∷ 3 ∷ 4 ∷ 6 ∷ [])
+
+-- the two patterns that it teaches, of which the second may stand to the right of the first alone
+abbrev pub two_patterns : PatternsView
+two_patterns = record {
+  n = 2;
+  windows = (1 ∷ 2 ∷ 3 ∷ 4 ∷ []) ∷ (2 ∷ 5 ∷ 4 ∷ 6 ∷ []) ∷ [];
+  weights = 3 ∷ 1 ∷ [];
+}
+
+-- the first of them alone
+abbrev pub one_pattern : PatternsView
+one_pattern = record { n = 2; windows = (1 ∷ 2 ∷ 3 ∷ 4 ∷ []) ∷ []; weights = 1 ∷ [] }
+
+-- no pattern of n by n
+abbrev pub no_pattern : ℕ → PatternsView
+no_pattern n = record { n = n; windows = []; weights = [] }
+
+-- three symbols: `a`, a blank and a colour
+abbrev pub three_symbols : List Symbol
+three_symbols = Char 97 ∷ Char 32 ∷ rgb 1 0 30 ∷ []
+
+-- a line that keeps a symbol at a column and a row, or bans it from there
+abbrev pub line_of : ℕ → Bool → ℕ → ℕ → List ℕ → PinView
+line_of number keep x y symbol =
+    record { line = number; keep = keep; x = x; y = y; symbol = symbol }
+
+-- the rules for this side and these images, and whether the sample and the output wrap
+abbrev pub rules_with : ℕ → ℕ → Bool → Bool → Rules
+rules_with n symmetry sample output =
+    record { n = n; symmetry = symmetry; wrap_in = sample; wrap_out = output }

@@ -1,0 +1,149 @@
+//! What the definitions give on small cases without symmetry. Each function does nothing; its
+//! contract is the law.
+
+ghost use Rattle.std.specs.Prelude.{◌≡◌, ℕ, ◌<◌, ◌≤◌, List, [], ◌∷◌, true, false, codes, Ok, Err};
+ghost use Rattle.wfc_model.specs.Legal.{banned_pin, kept_pin};
+ghost use Rattle.wfc_model.specs.Raster.{raster_of};
+ghost use Rattle.wfc_outside.specs.Gives.{result_map};
+ghost use Rattle.wfc_overlap.specs.Bridge.{AreInside, HasWindowsOf, IsRoom, IsTaughtBy, numbers_of_windows, pairs, picture_of};
+ghost use Rattle.wfc_overlap.specs.Built.{built, pin_in, pins_in, texts_of};
+ghost use Rattle.wfc_overlap.specs.Sample.{Output, output_with, problem_of_sample};
+ghost use Rattle.wfc_overlap.specs.Small.{line_of, no_pattern, one_pattern, rules_with, six_numbers, three_by_two, three_symbols, two_patterns};
+ghost use Rattle.wfc_pattern.specs.Patterns.{PatternsView};
+ghost use Rattle.wfc_picture.specs.declared.symbol.Symbol.{Symbol};
+ghost use Rattle.wfc_pins.specs.PinView.{PinView};
+ghost use Rattle.wfc_pins.specs.declared.fault.BuildFault.TheVariants.{SizeBelowN, PinOutside, UnknownSymbol, TooLarge};
+ghost use Rattle.wfc_problem.specs.declared.TheConstants.{MAX_PAIRS, NO_CELL};
+
+/// Two cells side by side, and a `2` pinned to the middle of the upper row, or a `6` banned from
+/// the lower right corner.
+pub fn two_cells()
+    ensures cells { (problem_of_sample two_patterns three_by_two []).cells ≡ 2 }
+    ensures dirs { (problem_of_sample two_patterns three_by_two []).dirs ≡ 4 }
+    ensures weights { (problem_of_sample two_patterns three_by_two []).weights ≡ 3 ∷ 1 ∷ [] }
+    ensures neighbours { (problem_of_sample two_patterns three_by_two []).neighbours
+        ≡ NO_CELL ∷ NO_CELL ∷ 1 ∷ NO_CELL ∷ 0 ∷ NO_CELL ∷ NO_CELL ∷ NO_CELL ∷ [] }
+    ensures supports { (problem_of_sample two_patterns three_by_two []).supports
+        ≡ [] ∷ [] ∷ (1 ∷ []) ∷ [] ∷ (0 ∷ []) ∷ [] ∷ [] ∷ [] ∷ [] }
+    ensures kept { (problem_of_sample two_patterns three_by_two (kept_pin 1 0 2 ∷ [])).base
+        ≡ true ∷ false ∷ false ∷ true ∷ [] }
+    ensures banned { (problem_of_sample two_patterns three_by_two (banned_pin 2 1 6 ∷ [])).base
+        ≡ true ∷ true ∷ true ∷ false ∷ [] }
+    ensures both { (problem_of_sample two_patterns three_by_two
+        (kept_pin 1 0 2 ∷ banned_pin 0 1 3 ∷ [])).base ≡ false ∷ false ∷ false ∷ true ∷ [] }
+{}
+
+/// An output of three by four that wraps: a cell for each pixel, and beside each the four around
+/// it. A `2` pinned to its first pixel is met where the one pattern has its upper right number
+/// there, or stands clear of it.
+pub fn wrapped_cells()
+    ensures neighbours { (problem_of_sample (no_pattern 2) (output_with 3 4 true) []).neighbours
+        ≡ 2 ∷ 3 ∷ 1 ∷ 9 ∷ 0 ∷ 4 ∷ 2 ∷ 10 ∷ 1 ∷ 5 ∷ 0 ∷ 11 ∷ 5 ∷ 6 ∷ 4 ∷ 0 ∷ 3 ∷ 7 ∷ 5 ∷ 1
+        ∷ 4 ∷ 8 ∷ 3 ∷ 2 ∷ 8 ∷ 9 ∷ 7 ∷ 3 ∷ 6 ∷ 10 ∷ 8 ∷ 4 ∷ 7 ∷ 11 ∷ 6 ∷ 5 ∷ 11 ∷ 0 ∷ 10 ∷ 6
+        ∷ 9 ∷ 1 ∷ 11 ∷ 7 ∷ 10 ∷ 2 ∷ 9 ∷ 8 ∷ [] }
+    ensures base { (problem_of_sample one_pattern (output_with 3 4 true) (kept_pin 0 0 2 ∷ [])).base
+        ≡ false ∷ true ∷ true ∷ true ∷ true ∷ true ∷ true ∷ true ∷ true ∷ false ∷ true
+        ∷ false ∷ [] }
+    ensures own_neighbour { (problem_of_sample (no_pattern 1) (output_with 1 2 true) []).neighbours
+        ≡ 0 ∷ 1 ∷ 0 ∷ 1 ∷ 1 ∷ 0 ∷ 1 ∷ 0 ∷ [] }
+{}
+
+/// A picture is painted by an assignment and gives it again; where the output wraps, each place
+/// paints its own pixel.
+pub fn small_pictures()
+    ensures picture { picture_of two_patterns three_by_two (0 ∷ 1 ∷ []) ≡ six_numbers }
+    ensures numbers { numbers_of_windows two_patterns three_by_two six_numbers ≡ 0 ∷ 1 ∷ [] }
+    ensures wrapped { picture_of two_patterns (output_with 3 2 true) (0 ∷ 1 ∷ 0 ∷ 1 ∷ 1 ∷ 0 ∷ [])
+        ≡ raster_of 3 2 (1 ∷ 2 ∷ 1 ∷ 2 ∷ 2 ∷ 1 ∷ []) }
+    ensures taken { HasWindowsOf two_patterns three_by_two (0 ∷ 1 ∷ []) six_numbers }
+    ensures refused { HasWindowsOf two_patterns three_by_two (1 ∷ 0 ∷ []) six_numbers → ⊥ }
+{}
+
+/// The sides of an output are to have room for a window, and its pairs of a place and a pattern are
+/// limited.
+pub fn outputs_with_room()
+    ensures flat { pairs two_patterns (output_with 4 3 false) ≡ 12 }
+    ensures wrapped { pairs two_patterns (output_with 4 3 true) ≡ 24 }
+    ensures limit { MAX_PAIRS ≡ 8388608 }
+    ensures taken { IsRoom two_patterns (output_with 2 2 false) }
+    ensures narrow { IsRoom two_patterns (output_with 1 2 true) → ⊥ }
+    ensures low { IsRoom two_patterns (output_with 2 1 true) → ⊥ }
+    ensures crowded { (patterns : PatternsView) (output : Output) →
+        MAX_PAIRS < pairs patterns output → IsRoom patterns output → ⊥ }
+{}
+
+/// Whether the sample wraps decides on the patterns, and whether the output wraps doesn't.
+pub fn taught_patterns()
+    ensures taken { IsTaughtBy six_numbers (rules_with 2 1 false true)
+        two_patterns (output_with 3 2 true) }
+    ensures other_side { IsTaughtBy six_numbers (rules_with 1 1 false true)
+        two_patterns (output_with 3 2 true) → ⊥ }
+    ensures other_wrap { IsTaughtBy six_numbers (rules_with 2 1 false true)
+        two_patterns three_by_two → ⊥ }
+    ensures other_sample { IsTaughtBy six_numbers (rules_with 2 1 true false)
+        two_patterns three_by_two → ⊥ }
+    ensures more_images { IsTaughtBy six_numbers (rules_with 2 2 false false)
+        two_patterns three_by_two → ⊥ }
+{}
+
+/// A pin lies inside in its column and in its row, and so does each behind it.
+pub fn pins_inside()
+    ensures taken { AreInside three_by_two (kept_pin 2 0 7 ∷ banned_pin 0 1 8 ∷ []) }
+    ensures column { AreInside three_by_two (kept_pin 3 0 7 ∷ []) → ⊥ }
+    ensures row { AreInside three_by_two (kept_pin 0 2 7 ∷ []) → ⊥ }
+    ensures later { AreInside three_by_two (kept_pin 2 1 7 ∷ banned_pin 1 2 8 ∷ []) → ⊥ }
+{}
+
+/// A line is read by the texts of the symbols, and a place outside is its first fault.
+pub fn lines_by_symbols()
+    ensures texts { texts_of three_symbols ≡ codes "a" ∷ codes "\\s" ∷ codes "1,0,30" ∷ [] }
+    ensures kept { pin_in (texts_of three_symbols) 3 2 (line_of 7 true 2 1 (codes "\\s"))
+        ≡ Ok (kept_pin 2 1 1) }
+    ensures banned { pin_in (texts_of three_symbols) 3 2 (line_of 7 false 0 1 (codes "1,0,30"))
+        ≡ Ok (banned_pin 0 1 2) }
+    ensures column { pin_in (texts_of three_symbols) 3 2 (line_of 7 true 3 1 (codes "b"))
+        ≡ Err (PinOutside 7) }
+    ensures row { pin_in (texts_of three_symbols) 3 2 (line_of 7 false 1 2 (codes "a"))
+        ≡ Err (PinOutside 7) }
+    ensures unknown { pin_in (texts_of three_symbols) 3 2 (line_of 7 true 2 1 (codes " "))
+        ≡ Err (UnknownSymbol 7) }
+{}
+
+/// All lines are read in order, and the first that has a fault is answered.
+pub fn lines_in_order()
+    ensures read { pins_in (codes "a" ∷ codes "b" ∷ []) 3 2
+        (line_of 1 true 2 0 (codes "b") ∷ line_of 3 false 1 1 (codes "a") ∷ [])
+        ≡ Ok (kept_pin 2 0 1 ∷ banned_pin 1 1 0 ∷ []) }
+    ensures unknown { pins_in (codes "a" ∷ []) 3 2
+        (line_of 1 true 2 0 (codes "a") ∷ line_of 3 true 1 1 (codes "b")
+        ∷ line_of 4 true 3 0 (codes "a") ∷ []) ≡ Err (UnknownSymbol 3) }
+    ensures outside { pins_in (codes "a" ∷ []) 3 2
+        (line_of 2 true 3 0 (codes "a") ∷ line_of 3 true 1 1 (codes "b") ∷ [])
+        ≡ Err (PinOutside 2) }
+{}
+
+/// A problem is built of the pins that the lines mean; a side below that of a window comes before
+/// too many pairs, and those come before the lines.
+pub fn small_builds()
+    ensures problem { built two_patterns three_symbols three_by_two
+        (line_of 1 true 1 0 (codes "\\s") ∷ [])
+        ≡ Ok (problem_of_sample two_patterns three_by_two (kept_pin 1 0 1 ∷ [])) }
+    ensures line { built two_patterns three_symbols three_by_two
+        (line_of 5 true 1 2 (codes "a") ∷ []) ≡ Err (PinOutside 5) }
+    ensures narrow { built two_patterns three_symbols (output_with 1 2 true)
+        (line_of 5 true 9 9 [] ∷ []) ≡ Err SizeBelowN }
+    ensures low { built two_patterns three_symbols (output_with 2 1 true)
+        (line_of 5 true 9 9 [] ∷ []) ≡ Err SizeBelowN }
+{}
+
+/// Of an output that is large enough, too many pairs are refused, and else the lines decide.
+pub fn builds_by_pairs()
+    ensures crowded { (patterns : PatternsView) (palette : List Symbol) (output : Output)
+        (lines : List PinView) → patterns.n ≤ output.width → patterns.n ≤ output.height
+        → MAX_PAIRS < pairs patterns output
+        → built patterns palette output lines ≡ Err (TooLarge (pairs patterns output)) }
+    ensures roomy { (patterns : PatternsView) (palette : List Symbol) (output : Output)
+        (lines : List PinView) → IsRoom patterns output → built patterns palette output lines
+        ≡ result_map (problem_of_sample patterns output)
+        (pins_in (texts_of palette) output.width output.height lines) }
+{}
