@@ -1,8 +1,8 @@
 -- What a demonstration runs on: nothing of it is refused.
 use Rattle.std.proofs.Common.{◌≡◌, ℕ, ◌+◌, ◌-◌, ◌*◌, ◌/◌, ◌%◌, ◌<◌, ◌≤◌, nat_lt, nat_eq, ◌||◌, Bool, true, false, List, [], ◌∷◌, ◌++◌, length, map, take, drop, Result, Ok, Err, ap, sym, ◌∙◌, subst, refl, arith, add-one, zero-add, inl, inr, if◌then◌else◌}
-use Rattle.std.specs.List.{range_with_len}
+use Rattle.std.specs.List.{position_or_len, range_with_len}
 use Rattle.std.proofs.lemmas.Bool.Decides.{nat_tests}
-use Rattle.std.proofs.lemmas.List.{length-take, map-append}
+use Rattle.std.proofs.lemmas.List.{length-map, length-take, map-append}
 use Rattle.std.proofs.lemmas.List.FromFn.{length-map-range_with_len}
 use Rattle.std.proofs.lemmas.Nat.{div-mul-add, mul-le}
 use Rattle.std.specs.Cmp.Lexicographic.{pointwise}
@@ -10,10 +10,10 @@ use Rattle.wfc_lists.specs.Unrepeated.{unrepeated}
 use Rattle.wfc_lists.proofs.Unrepeated.{length-unrepeated}
 use Rattle.wfc_lists.proofs.Ranges.{range_more}
 use Rattle.wfc_outside.specs.Gives.{result_map}
-use Rattle.wfc_model.specs.Raster.{Raster, height_of, raster_of}
+use Rattle.wfc_model.specs.Raster.{IsFilled, Raster, height_of, raster_of}
 use Rattle.wfc_model.specs.Window.{places, starts}
 use Rattle.wfc_model.specs.Learned.{arising, learned}
-use Rattle.wfc_model.proofs.CallerLemmas.{length-places}
+use Rattle.wfc_model.proofs.CallerLemmas.{length-places, IsSized-raster_of}
 use Rattle.wfc_picture.specs.Palette.{first_past, indexed, numbered, palette_of}
 use Rattle.wfc_picture.specs.Symbol.{same_symbol}
 use Rattle.wfc_picture.specs.declared.palette.PaletteFault.{PaletteFault}
@@ -21,9 +21,9 @@ use Rattle.wfc_picture.specs.declared.palette.TheConstants.{MAX_COLOURS}
 use Rattle.wfc_picture.specs.declared.symbol.Symbol.{Symbol}
 use Rattle.wfc_picture.proofs.PaletteLemmas.{none_past, indexed-made}
 use Rattle.wfc_pattern.specs.Learning.{is_below_n, learned_patterns, patterns_of}
-use Rattle.wfc_pattern.specs.Patterns.{PatternsView}
+use Rattle.wfc_pattern.specs.Patterns.{PatternsView, IsPatterns}
 use Rattle.wfc_pattern.specs.declared.learning.LearnFault.{LearnFault}
-use Rattle.wfc_pattern.proofs.CallerLemmas.{few_enough}
+use Rattle.wfc_pattern.proofs.CallerLemmas.{few_enough, taught_are_patterns}
 use Rattle.wfc_pattern.proofs.LearningLemmas.{length-arising}
 use Rattle.wfc_problem.specs.Network.{Network}
 use Rattle.wfc_pins.specs.declared.fault.BuildFault.{BuildFault}
@@ -126,3 +126,18 @@ unfolding demo_patterns demo_problem
 demo_posed n patterns palette is =
     ap (λ patterns. or_refuse Build (built patterns palette (output_with demo_output demo_output false) [])) is
     ∙ ap (or_refuse Build) (demo_built (learned_patterns (demo_picture n demo_side) 3 1 false) palette refl (demo_few n demo_side (omega arith) (omega arith)))
+
+length-numbered : (symbols : List Symbol) → length (numbered symbols) ≡ length symbols
+length-numbered symbols = length-map symbols (λ symbol. position_or_len (same_symbol symbol) (palette_of symbols))
+
+-- what a demonstration runs on are patterns and their problem
+pub demo_are_patterns : (n : ℕ) → IsPatterns (demo_patterns n)
+unfolding demo_patterns
+demo_are_patterns n =
+    let filled : IsFilled demo_side demo_side (numbered (demo_symbols n demo_side)) = record { some_column = omega arith; some_row = omega arith; as_many = length-numbered (demo_symbols n demo_side) ∙ length-demo_symbols n demo_side } in
+    taught_are_patterns (demo_picture n demo_side) 3 1 false (learned_patterns (demo_picture n demo_side) 3 1 false) (IsSized-raster_of demo_side demo_side (numbered (demo_symbols n demo_side)) filled).raster
+    (omega arith) (omega arith) (omega arith) (omega arith) (subst (λ h. demo_side * h ≤ 1048576) (sym (demo_high n demo_side)) (omega arith)) (demo_learned n demo_side (omega arith) (omega arith))
+
+pub demo_problem_is : (n : ℕ) → demo_problem n ≡ problem_of_sample (demo_patterns n) (output_with demo_output demo_output false) []
+unfolding demo_problem
+demo_problem_is n = refl

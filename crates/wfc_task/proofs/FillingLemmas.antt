@@ -20,6 +20,7 @@ use Rattle.wfc_picture.specs.declared.palette.PaletteFault.{PaletteFault}
 use Rattle.wfc_picture.specs.declared.palette.TheConstants.{MAX_COLOURS, MAX_PIXELS}
 use Rattle.wfc_picture.specs.declared.symbol.Symbol.{Symbol}
 use Rattle.wfc_picture.specs.declared.symbol.Symbol.TheVariants.{Char}
+use Rattle.wfc_picture.specs.declared.symbol.Kind.TheVariants as kind
 use Rattle.wfc_picture.proofs.CallerLemmas.{numbered_below}
 use Rattle.wfc_pattern.specs.Learning.{is_below_n, learned_patterns, patterns_of}
 use Rattle.wfc_pattern.specs.Patterns.{PatternsView, IsPatterns}
@@ -36,13 +37,14 @@ use Rattle.wfc_overlap.specs.Bridge.{IsRoom}
 use Rattle.wfc_overlap.specs.Built.{built, pairs, pins_in, texts_of}
 use Rattle.wfc_overlap.specs.Sample.{Output, output_with, problem_of_sample}
 use Rattle.wfc_overlap.proofs.CallerLemmas.{sample_problem}
+use Rattle.wfc_render.specs.Map.{is_of_kind}
 use Rattle.wfc_words.specs.RequestView.{RequestView}
 use Rattle.wfc_task.specs.declared.fault.Refusal.{Refusal}
 use Rattle.wfc_task.specs.declared.fault.Refusal.TheVariants.{Colours}
 use Rattle.wfc_task.specs.declared.task.Taught.{Taught}
 use Rattle.wfc_task.specs.Asked.{IsSampleAsked, IsOutputAsked}
 use Rattle.wfc_task.specs.Built.{side_of}
-use Rattle.wfc_task.specs.Filling.{is_grid_symbol, IsShown, IsNumbered, IsLesson, IsPosed}
+use Rattle.wfc_task.specs.Filling.{IsShown, IsNumbered, IsLesson, IsPosed}
 use Rattle.wfc_task.specs.Plan.{GivesStep}
 use Rattle.wfc_task.specs.Steps.{coloured, or_refuse, posed, symbols_of, taught}
 
@@ -105,7 +107,7 @@ numbered_grid grid made is_grid is =
     subst (λ (made : Raster × List Symbol). IsNumbered made.0 made.1) (sym same) (record {
       raster = (IsSized-raster_of grid.width (length symbols / grid.width) (numbered symbols) filled).raster;
       shown = record {
-        symbols = All-unrepeated same_symbol (λ symbol. IsTrue (is_grid_symbol symbol)) symbols (All-map (λ symbol. IsTrue (is_grid_symbol symbol)) (λ byte. Char byte) grid.bytes is_grid.printable);
+        symbols = All-unrepeated same_symbol (λ symbol. IsTrue (is_of_kind kind.Grid symbol)) symbols (All-map (λ symbol. IsTrue (is_of_kind kind.Grid symbol)) (λ byte. Char byte) grid.bytes is_grid.printable);
         some_symbol = some_unrepeated same_symbol symbols (some_pixel grid.width grid.height (length symbols) many is_grid.filled.some_column is_grid.filled.some_row);
       };
       numbers = subst (λ ns. All (λ number. number < length (palette_of symbols)) ns) (sym (numbers_of-raster_of grid.width (length symbols / grid.width) (numbered symbols) filled.as_many)) (numbered_below symbols);

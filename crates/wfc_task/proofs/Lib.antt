@@ -4,3 +4,6 @@ pub mod StepLemmas
 pub mod DemoLemmas
 pub mod TaskLemmas
 pub mod FillingLemmas
+pub mod GivenLemmas
+pub mod RequestLemmas
+pub mod CallerLemmas

@@ -3,24 +3,19 @@ use Rattle.std.specs.Prelude.{◌≡◌, ℕ, ◌<◌, ◌≤◌, Bool, false, L
 use Rattle.wfc_model.specs.Legal.{Pin}
 use Rattle.wfc_model.specs.Raster.{Raster, IsRaster, numbers_of}
 use Rattle.wfc_picture.specs.declared.symbol.Symbol.{Symbol}
-use Rattle.wfc_picture.specs.declared.symbol.Symbol.TheVariants.{Char, Rgb}
-use Rattle.wfc_grid.specs.Grid.{is_cell}
+use Rattle.wfc_picture.specs.declared.symbol.Kind.TheVariants as kind
 use Rattle.wfc_pattern.specs.Patterns.{PatternsView, IsPatterns}
 use Rattle.wfc_problem.specs.Network.{Network, IsProblem}
 use Rattle.wfc_overlap.specs.Sample.{output_with, problem_of_sample}
+use Rattle.wfc_render.specs.Map.{is_of_kind}
 use Rattle.wfc_words.specs.RequestView.{RequestView}
 use Rattle.wfc_task.specs.Steps.{laid}
 use Rattle.wfc_task.specs.declared.task.Taught.{Taught}
 use Rattle.wfc_task.specs.declared.task.Filling.{Filling}
 
--- whether a grid can show a symbol
-abbrev pub is_grid_symbol : Symbol → Bool
-is_grid_symbol (Char byte) = is_cell byte
-is_grid_symbol (Rgb colour) = false
-
 -- the symbols of a palette are some that a grid can show
 pub record IsShown (palette : List Symbol) : Type 0 where
-  pub symbols : All (λ symbol. IsTrue (is_grid_symbol symbol)) palette
+  pub symbols : All (λ symbol. IsTrue (is_of_kind kind.Grid symbol)) palette
   pub some_symbol : 0 < length palette
 
 -- the numbers of a picture are those of a palette that a grid can show
@@ -50,6 +45,6 @@ pub record IsFilling (asked : RequestView) (task : Filling) : Type 0 where
   pub wide : task.patterns.n ≤ asked.width
   pub high : task.patterns.n ≤ asked.height
   pub problem : (pins : List Pin) × (task.problem ≡ problem_of_sample task.patterns (output_with asked.width asked.height asked.wrap_out) pins)
-  pub symbols : All (λ symbol. IsTrue (is_grid_symbol symbol)) task.palette
+  pub symbols : All (λ symbol. IsTrue (is_of_kind kind.Grid symbol)) task.palette
   pub some_symbol : 0 < length task.palette
   pub numbers : All (λ window. All (λ number. number < length task.palette) window) task.patterns.windows

@@ -7,3 +7,4 @@ pub mod Demo
 pub mod Task
 pub mod Made
 pub mod Filling
+pub mod Given

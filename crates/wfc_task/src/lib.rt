@@ -5,6 +5,7 @@ mod built;
 mod demo;
 mod fault;
 mod files;
+pub mod laws;
 mod steps;
 mod task;
 

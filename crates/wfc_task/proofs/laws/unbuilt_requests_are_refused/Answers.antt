@@ -1,0 +1,5 @@
+use Rattle.wfc_task.proofs.WordLemmas.{unbuilt_plan}
+use Rattle.wfc_task.proofs.laws.unbuilt_requests_are_refused.Goals as goal
+
+pub returns : goal.returns
+returns c = record { refused = unbuilt_plan }

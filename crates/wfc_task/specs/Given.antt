@@ -1,0 +1,81 @@
+-- Tasks over files that are told, in the subject's words.
+use Rattle.std.specs.Prelude.{◌≡◌, ℕ, ◌*◌, ◌≤◌, List, [], length, Option, None, Some, Ok, Contains}
+use Rattle.wfc_outside.specs.Folder.{File, file_of}
+use Rattle.wfc_model.specs.Legal.{Pin}
+use Rattle.wfc_model.specs.Raster.{Raster}
+use Rattle.wfc_grid.specs.Grid.{GridView}
+use Rattle.wfc_grid.specs.Spelling.{SpellsGrid}
+use Rattle.wfc_picture.specs.Palette.{indexed}
+use Rattle.wfc_picture.specs.declared.symbol.Symbol.{Symbol}
+use Rattle.wfc_picture.specs.declared.symbol.Kind.TheVariants as kind
+use Rattle.wfc_pattern.specs.Learning.{patterns_of}
+use Rattle.wfc_pattern.specs.Patterns.{PatternsView}
+use Rattle.wfc_problem.specs.Network.{Network}
+use Rattle.wfc_pins.specs.PinView.{PinView}
+use Rattle.wfc_pins.specs.Pins.{pins_of}
+use Rattle.wfc_pins.specs.Steps.{range_fault, steps_of}
+use Rattle.wfc_pins.specs.declared.steps.StepLine.{StepLine}
+use Rattle.wfc_overlap.specs.Bridge.{IsRoom}
+use Rattle.wfc_overlap.specs.Built.{pins_in, texts_of}
+use Rattle.wfc_overlap.specs.Sample.{output_with, problem_of_sample}
+use Rattle.wfc_choose.specs.declared.RuleKind.{RuleKind}
+use Rattle.wfc_render.specs.Layout.{layout_of}
+use Rattle.wfc_render.specs.declared.form.Layout.{Layout}
+use Rattle.wfc_words.specs.RequestView.{RequestView}
+use Rattle.wfc_task.specs.Built.{side_of}
+use Rattle.wfc_task.specs.Steps.{symbols_of}
+
+-- the file of that name has these bytes, which are no more than a file may have
+pub record IsFile (files : List File) (name bytes : List ℕ) : Type 0 where
+  pub there : file_of files name ≡ Some bytes
+  pub short : length bytes ≤ 16777216
+
+-- the file of that name spells this grid, within the limits of a file and of a grid
+pub record IsGridFile (files : List File) (name : List ℕ) (grid : GridView) : Type 0 where
+  pub bytes : List ℕ
+  pub file : IsFile files name bytes
+  pub spelled : SpellsGrid bytes grid
+  pub small : grid.width * grid.height ≤ 1048576
+
+-- the file asked for spells a grid, whose symbols have this palette, and whose numbers teach these patterns by the request
+pub record IsSample (asked : RequestView) (files : List File) (patterns : PatternsView) (palette : List Symbol) : Type 0 where
+  pub grid : GridView
+  pub file : IsGridFile files asked.file grid
+  pub picture : Raster
+  pub numbered : indexed (symbols_of grid) grid.width ≡ Ok (picture, palette)
+  pub learned : patterns_of picture (side_of asked.source) asked.symmetry asked.wrap_in ≡ Ok patterns
+
+-- the pins file has these lines; there are none where no file is named
+abbrev pub HoldsPins : List File → Option (List ℕ) → List PinView → Type 0
+HoldsPins files None lines = [] ≡ lines
+HoldsPins files (Some name) lines = (bytes : List ℕ) × IsFile files name bytes × (pins_of bytes ≡ Ok lines)
+
+-- the steps file has these steps; there are none where no file is named
+abbrev pub HoldsSteps : List File → Option (List ℕ) → List StepLine → Type 0
+HoldsSteps files None steps = [] ≡ steps
+HoldsSteps files (Some name) steps = (bytes : List ℕ) × IsFile files name bytes × (steps_of bytes ≡ Ok steps)
+
+-- the problem of these patterns, for the output asked for and the pins that the lines of the pins file mean
+pub record IsProblemOf (asked : RequestView) (files : List File) (patterns : PatternsView) (palette : List Symbol) (P : Network) : Type 0 where
+  pub lines : List PinView
+  pub held : HoldsPins files asked.pins lines
+  pub room : IsRoom patterns (output_with asked.width asked.height asked.wrap_out)
+  pub pins : List Pin
+  pub meant : pins_in (texts_of palette) asked.width asked.height lines ≡ Ok pins
+  pub problem : P ≡ problem_of_sample patterns (output_with asked.width asked.height asked.wrap_out) pins
+
+-- a chooser goes by the rule, and the sample, the layout and the problem are those of the request
+pub record IsFillTask (kinds : List RuleKind) (asked : RequestView) (files : List File) (patterns : PatternsView) (palette : List Symbol) (layout : Layout) (P : Network) : Type 0 where
+  pub chooser : Contains kinds asked.rule
+  pub sample : IsSample asked files patterns palette
+  pub written : layout_of kind.Grid asked.form asked.width asked.height 1 ≡ Ok layout
+  pub problem : IsProblemOf asked files patterns palette P
+
+-- the problem is that of the request, and the steps are those of the steps file, each of them in the problem
+pub record IsDomainsTask (asked : RequestView) (files : List File) (P : Network) (steps : List StepLine) : Type 0 where
+  pub patterns : PatternsView
+  pub palette : List Symbol
+  pub sample : IsSample asked files patterns palette
+  pub problem : IsProblemOf asked files patterns palette P
+  pub held : HoldsSteps files asked.steps steps
+  pub inside : range_fault P steps ≡ None

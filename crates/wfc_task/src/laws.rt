@@ -1,0 +1,63 @@
+//! Laws of the definitions, each a function with no body whose contract is the law. They run nothing.
+
+ghost use Rattle.std.specs.Prelude.{◌≡◌, ◌↔◌, ℕ, List, [], ◌∷◌, Ok, Err, true, false, codes, Contains};
+ghost use Rattle.wfc_outside.specs.Folder.{File};
+ghost use Rattle.wfc_picture.specs.declared.symbol.Symbol.{Symbol};
+ghost use Rattle.wfc_picture.specs.declared.symbol.Symbol.TheVariants.{Char};
+ghost use Rattle.wfc_pattern.specs.Patterns.{PatternsView};
+ghost use Rattle.wfc_problem.specs.Network.{Network};
+ghost use Rattle.wfc_pins.specs.declared.steps.StepLine.{StepLine};
+ghost use Rattle.wfc_choose.specs.declared.RuleKind.{RuleKind};
+ghost use Rattle.wfc_choose.specs.declared.RuleKind.TheVariants.{Scanline, Fewest, Ranked};
+ghost use Rattle.wfc_render.specs.declared.form.Layout.{Layout};
+ghost use Rattle.wfc_words.specs.RequestView.{RequestView};
+ghost use Rattle.wfc_task.specs.Built.{is_built, is_picture_name};
+ghost use Rattle.wfc_task.specs.Demo.{demo_patterns, demo_problem, demo_symbol};
+ghost use Rattle.wfc_task.specs.Given.{IsDomainsTask, IsFillTask, IsSample};
+ghost use Rattle.wfc_task.specs.Plan.{outcome, refuse};
+ghost use Rattle.wfc_task.specs.Steps.{chosen};
+ghost use Rattle.wfc_task.specs.Task.{demo, demo_plan, domains, domains_plan, fill, fill_plan, learn, learn_plan, plan_of};
+ghost use Rattle.wfc_task.specs.declared.fault.Refusal.TheVariants.{NotBuilt, Chooser};
+
+/// `learn` comes to these patterns and this palette exactly where the file spells a sample that teaches them.
+pub fn learn_tasks_are_given()
+    ensures task { (asked : RequestView) (files : List File) (patterns : PatternsView) (palette : List Symbol) →
+        (outcome (learn_plan asked) files ≡ Ok (learn patterns palette)) ↔ IsSample asked files patterns palette }
+{}
+
+/// `fill` comes to this task exactly where a chooser is there, the sample teaches the patterns, the map has the layout, and
+/// the problem is that of the patterns, the output and the pins.
+pub fn fill_tasks_are_given()
+    ensures task { (kinds : List RuleKind) (asked : RequestView) (files : List File) (patterns : PatternsView) (palette : List Symbol) (layout : Layout) (P : Network) →
+        (outcome (fill_plan kinds asked) files ≡ Ok (fill patterns palette layout P)) ↔ IsFillTask kinds asked files patterns palette layout P }
+{}
+
+/// `domains` comes to this task exactly where the problem is that of the request and the steps are those of the file.
+pub fn domains_tasks_are_given()
+    ensures task { (asked : RequestView) (files : List File) (P : Network) (steps : List StepLine) →
+        (outcome (domains_plan asked) files ≡ Ok (domains P steps)) ↔ IsDomainsTask asked files P steps }
+{}
+
+/// `demo` comes to its task wherever a chooser of the fewest values is there, whatever its number and the files are.
+pub fn demo_tasks_are_given()
+    ensures task { (kinds : List RuleKind) (asked : RequestView) (files : List File) → Contains kinds Fewest →
+        outcome (demo_plan kinds asked) files ≡ Ok (demo (demo_patterns asked.number) (demo_problem asked.number)) }
+{}
+
+/// What isn't built is refused before anything is read.
+pub fn unbuilt_requests_are_refused()
+    ensures refused { (kinds : List RuleKind) (asked : RequestView) → is_built asked ≡ false → plan_of kinds asked ≡ refuse NotBuilt }
+{}
+
+/// Choosers, names of pictures, and the pixels of demonstrations by example.
+pub fn steps_by_example()
+    ensures there { chosen (Scanline ∷ Fewest ∷ []) Fewest ≡ Ok tt }
+    ensures missing { chosen (Scanline ∷ Fewest ∷ []) Ranked ≡ Err (Chooser Ranked) }
+    ensures picture { is_picture_name (codes "a.ppm") ≡ true }
+    ensures large { is_picture_name (codes "a.PPM") ≡ true }
+    ensures mixed { is_picture_name (codes "a.Ppm") ≡ false }
+    ensures inside { is_picture_name (codes "ppm.txt") ≡ false }
+    ensures down { demo_symbol 11 8 4 ≡ Char 35 }
+    ensures across { demo_symbol 11 7 10 ≡ Char 35 }
+    ensures between { demo_symbol 11 10 8 ≡ Char 46 }
+{}
