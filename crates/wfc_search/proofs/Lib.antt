@@ -16,4 +16,5 @@ pub mod Tellings
 pub mod RunTurns
 pub mod Values
 pub mod Capped
+pub mod Ended
 pub mod CallerLemmas

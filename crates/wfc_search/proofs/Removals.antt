@@ -1,9 +1,9 @@
 -- Removals one by one, and the sizes that they leave.
 use Rattle.std.proofs.Common.{◌≡◌, ◌≢◌, ◌+◌, ◌<◌, ◌≤◌, ℕ, zero, suc, Bool, true, false, List, [], ◌∷◌, length, take, drop, refl, sym, ◌∙◌, get_or, arith}
-use Rattle.std.specs.Prelude.{◌&&◌, ◌||◌, ◌==◌, not}
+use Rattle.std.specs.Prelude.{◌||◌, ◌==◌}
 use Rattle.std.specs.List.{list_any, range_with_len}
 use Rattle.std.specs.List.Sorted.{IsStrictlyIncreasing}
-use Rattle.std.proofs.lemmas.Bool.{eq-eqb, ne_eqb, eqb-false, and_parts, or_parts}
+use Rattle.std.proofs.lemmas.Bool.{eqb-false, or_parts}
 use Rattle.std.proofs.lemmas.List.Sums.{length-filter, count_by-le-length}
 use Rattle.std.proofs.lemmas.List.FromFn.{length-range_with_len, get_or-range_with_len}
 use Rattle.wfc_lists.specs.Counts.{but}
@@ -18,6 +18,7 @@ use Rattle.wfc_domains.specs.Domains.{less}
 use Rattle.wfc_domains.specs.Removals.{without, AreRemoved}
 use Rattle.wfc_domains.specs.declared.Cause.TheVariants.{Assumed}
 use Rattle.wfc_domains.specs.declared.Removal.{Removal}
+use Rattle.wfc_domains.proofs.Removals.{less-elsewhere, less-here, less-within}
 
 -- what stands past the end of a list of removals
 abbrev pub no_removal : Removal
@@ -29,11 +30,8 @@ no_removal = record { cell = 0; value = 0; before = 0; cause = Assumed }
 pub size_less_other : (P : Network) (D : Test) (c v other : ℕ) → other ≢ c → size_at P (less D c v) other ≡ size_at P D other
 size_less_other P D c v other ne =
     let vals : List ℕ = range_with_len 0 (values P) in
-    let same = count_by_agree (less D c v other) (D other) vals (λ w. kept (D other w) (other == c) (w == v) (ne_eqb other c ne)) in
+    let same = count_by_agree (less D c v other) (D other) vals (λ w. less-elsewhere D c v other w ne) in
     omega (arith, length-filter (less D c v other) vals, length-filter (D other) vals)
-  where
-    kept : (x a b : Bool) → a ≡ false → (x && not (a && b)) ≡ x
-    kept x a b e = grind arith
 
 -- a range rises
 range_rises : (n : ℕ) → IsStrictlyIncreasing (range_with_len 0 n)
@@ -44,22 +42,15 @@ range_rises n k l =
 pub size_less_here : (P : Network) → IsProblem P → (D : Test) → Within D (in_base P) → (c v : ℕ) → D c v ≡ true → size_at P (less D c v) c + 1 ≡ size_at P D c
 size_less_here P p D within c v stood =
     let vals : List ℕ = range_with_len 0 (values P) in
-    let same = count_by_agree (less D c v c) (but (D c) v) vals (λ w. here (D c w) (c == c) (w == v) (eq-eqb c c refl)) in
+    let same = count_by_agree (less D c v c) (but (D c) v) vals (less-here D c v) in
     let one = count_by_but (D c) v vals (range_rises (values P)) (range_Contains (values P) v (base_inside P p c v (within c v stood)).1) stood in
     omega (arith, length-filter (less D c v c) vals, length-filter (D c) vals)
-  where
-    here : (x a b : Bool) → a ≡ true → (x && not (a && b)) ≡ (x && not b)
-    here x a b e = grind arith
 
 -- no cell has more values than there are
 pub size_few : (P : Network) (D : Test) (c : ℕ) → size_at P D c ≤ values P
 size_few P D c =
     let vals : List ℕ = range_with_len 0 (values P) in
     omega (arith, length-filter (D c) vals, count_by-le-length (D c) vals, length-range_with_len 0 (values P))
-
--- what is left was there
-pub less_within : (D E : Test) (c v : ℕ) → Within D E → Within (less D c v) E
-less_within D E c v within a b t = within a b (and_parts _ _ t).0
 
 -- ---- removals of a cell
 
@@ -96,7 +87,7 @@ step_at P p literals D within (r ∷ rs) removed zero d inside = record {
   first = λ none. removed.0.before;
 }
 step_at P p literals D within (r ∷ rs) removed (suc i) d inside =
-    let s = step_at P p literals (less D r.cell r.value) (less_within D (in_base P) r.cell r.value within) rs removed.1 i d (omega arith) in
+    let s = step_at P p literals (less D r.cell r.value) (λ c v t. within c v (less-within D r.cell r.value c v t)) rs removed.1 i d (omega arith) in
     record {
       cell_in = s.cell_in;
       few = s.few;

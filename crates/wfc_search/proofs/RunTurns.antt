@@ -1,18 +1,17 @@
 -- One turn in the middle of a run, and the last one.
-use Rattle.std.proofs.Common.{◌≡◌, ◌≢◌, ℕ, ◌<◌, ◌≤◌, List, ◌++◌, refl, ◌∙◌, ap, subst, arith, Some, None}
+use Rattle.std.proofs.Common.{◌≡◌, ◌≢◌, ℕ, ◌<◌, ◌≤◌, List, ◌++◌, false, refl, ◌∙◌, ap, subst, arith, Some, None}
 use Rattle.std.specs.Prelude.{IsTrue}
 use Rattle.std.proofs.lemmas.Bool.{false_from_ne_true}
 use Rattle.rand_core.specs.Stream.{Stream}
 use Rattle.wfc_choose.specs.Pick.{Rule}
-use Rattle.wfc_choose.specs.Told.{Told}
 use Rattle.wfc_domains.specs.Store.{StoreView}
 use Rattle.wfc_problem.specs.Network.{Network, IsProblem}
 use Rattle.wfc_proof.specs.Journal.{JournalView, after_lines}
 use Rattle.wfc_proof.specs.declared.Line.{Line}
 use Rattle.wfc_search.specs.Between.{IsBetween, work_left}
 use Rattle.wfc_search.specs.Run.{State, turn_of, end_from, LeadsTo}
-use Rattle.wfc_search.specs.Search.{state_at, draws_after, outcome_after, IsTurn, IsReady, IsGoing}
-use Rattle.wfc_search.specs.Telling.{opening_lines, turn_lines, TellsRun, IsStepCutOff, IsRunCutOff}
+use Rattle.wfc_search.specs.Search.{SearchView, state_at, draws_after, outcome_after, IsTurnFrom, HoldsBetween, IsReady, IsTurn, IsEnd, IsGoing}
+use Rattle.wfc_search.specs.Telling.{opening_lines, turn_lines, TellsRun, IsCutOffFrom, IsRunCutOff, IsRunTold}
 use Rattle.wfc_search.specs.Volume.{volume_of}
 use Rattle.wfc_search.specs.declared.course.Course.{Course}
 use Rattle.wfc_search.specs.declared.Outcome.{Outcome}
@@ -21,64 +20,78 @@ use Rattle.wfc_search.specs.declared.Turn.{Turn}
 use Rattle.wfc_search.specs.declared.Turn.TheVariants.{Chose, Retracted, Ended}
 use Rattle.wfc_search.proofs.Runs.{work_falls, from_next, from_ended, spent_volume}
 use Rattle.wfc_search.proofs.Searches.{ready_problem}
-use Rattle.wfc_search.proofs.Tellings.{Came, came_next, came_end, came_cut_off}
+use Rattle.wfc_search.proofs.Tellings.{Came, came_first, came_next, came_end, came_cut_off}
 use Rattle.wfc_search.proofs.Turns.{leads_on}
 
--- a search in the midst of a run: what it knows of now is of the problem and the rule at first
-pub record IsMidway (P Q : Network) (rule r : Rule) (budget : ℕ) (now : StoreView) (chooser : Told) (course : Course) : Type 0 where
-  pub same_problem : Q ≡ P
-  pub same_rule : r ≡ rule
-  pub same_budget : course.budget ≡ budget
-  pub ready : IsReady Q now chooser course
+-- the state that a search is at, after so many draws
+abbrev pub at : SearchView → ℕ → Stream → State
+at s draws words = state_at s.store s.course draws words
+
+-- the turn from a state, by the problem, the rule and the budget of a search
+abbrev pub turn_by : SearchView → State → Turn × State
+turn_by first s = turn_of first.problem first.chooser.rule first.course.budget s
+
+-- a search in the midst of a run: it is of the problem, the rule and the budget at first, the end from here is that from
+-- there, and the turns up to here were told
+pub record IsMidway (first now : SearchView) (words here : Stream) (old mid : JournalView) : Type 0 where
+  pub same_problem : now.problem ≡ first.problem
+  pub same_rule : now.chooser.rule ≡ first.chooser.rule
+  pub same_budget : now.course.budget ≡ first.course.budget
+  pub ready : IsReady now
+  pub going : IsGoing now.course
+  pub unfailed : mid.failed ≡ false
+  pub ends : (draws : ℕ) → (more : ℕ) × (end_from first.problem first.chooser.rule first.course.budget (at first draws words) ≡ end_from first.problem first.chooser.rule first.course.budget (at now more here))
+  pub came : Came first.problem first.chooser.rule first.course.budget (at first 0 words) first.store now.store now.course here old mid
+
+-- at first it is
+pub midway_first : (first : SearchView) (words : Stream) (old : JournalView) → IsReady first → IsGoing first.course → old.failed ≡ false → IsMidway first first words words old old
+midway_first first words old ready going unfailed = record {
+  same_problem = refl;
+  same_rule = refl;
+  same_budget = refl;
+  ready = ready;
+  going = going;
+  unfailed = unfailed;
+  ends = λ draws. (draws, refl);
+  came = came_first first.problem first.chooser.rule first.course.budget first.store first.course words old;
+}
 
 -- what holds between turns, of the problem and the budget at first
-midway_between : (P Q : Network) (rule r : Rule) (budget : ℕ) (now : StoreView) (chooser : Told) (course : Course) → IsMidway P Q rule r budget now chooser course
-    → IsProblem P × IsBetween P budget now.standing course.retractions
-midway_between P Q rule r budget now chooser course mid =
-    let ready : IsReady P now chooser course = subst (λ (X : Network). IsReady X now chooser course) mid.same_problem mid.ready in
-    (ready_problem P now chooser course ready, subst (λ (b : ℕ). IsBetween P b now.standing course.retractions) mid.same_budget ready.between)
+midway_between : (first now : SearchView) (words here : Stream) (old mid : JournalView) → IsMidway first now words here old mid
+    → IsProblem first.problem × IsBetween first.problem first.course.budget now.store.standing now.course.retractions
+midway_between first now words here old mid m =
+    let ready : HoldsBetween first.problem now.store now.chooser now.course = subst (λ (X : Network). HoldsBetween X now.store now.chooser now.course) m.same_problem m.ready in
+    (ready_problem first.problem now.store now.chooser now.course ready, subst (λ (b : ℕ). IsBetween first.problem b now.store.standing now.course.retractions) m.same_budget ready.between)
 
 -- its turn, of the problem and the rule at first
-midway_turn : (P Q : Network) (rule r : Rule) (budget : ℕ) (now next : StoreView) (chooser : Told) (course after : Course) (words left : Stream) (turn : Turn) → IsMidway P Q rule r budget now chooser course
-    → IsTurn Q r now course words turn next after left → IsTurn P rule now course words turn next after left
-midway_turn P Q rule r budget now next chooser course after words left turn mid is =
-    subst (λ (x : Rule). IsTurn P x now course words turn next after left) mid.same_rule (subst (λ (X : Network). IsTurn X r now course words turn next after left) mid.same_problem is)
+midway_turn : (first now next : SearchView) (words here left : Stream) (old mid : JournalView) (turn : Turn) → IsMidway first now words here old mid → IsTurn now here turn next left
+    → IsTurnFrom first.problem first.chooser.rule now.store now.course here turn next.store next.course left
+midway_turn first now next words here left old mid turn m is =
+    subst (λ (x : Rule). IsTurnFrom first.problem x now.store now.course here turn next.store next.course left) m.same_rule
+    (subst (λ (X : Network). IsTurnFrom X now.chooser.rule now.store now.course here turn next.store next.course left) m.same_problem is)
 
 -- and of the budget
-midway_made : (P Q : Network) (rule r : Rule) (budget : ℕ) (now next : StoreView) (chooser : Told) (course after : Course) (words left : Stream) (turn : Turn) → IsMidway P Q rule r budget now chooser course
-    → IsTurn Q r now course words turn next after left → (draws : ℕ) → turn_of P rule budget (state_at now course draws words) ≡ (turn, state_at next after (draws_after turn draws) left)
-midway_made P Q rule r budget now next chooser course after words left turn mid is draws =
-    subst (λ (b : ℕ). turn_of P rule b (state_at now course draws words) ≡ (turn, state_at next after (draws_after turn draws) left)) mid.same_budget
-    (midway_turn P Q rule r budget now next chooser course after words left turn mid is draws)
+midway_made : (first now next : SearchView) (words here left : Stream) (old mid : JournalView) (turn : Turn) → IsMidway first now words here old mid → IsTurn now here turn next left
+    → (draws : ℕ) → turn_by first (at now draws here) ≡ (turn, at next (draws_after turn draws) left)
+midway_made first now next words here left old mid turn m is draws =
+    subst (λ (b : ℕ). turn_of first.problem first.chooser.rule b (at now draws here) ≡ (turn, at next (draws_after turn draws) left)) m.same_budget
+    (midway_turn first now next words here left old mid turn m is draws)
 
 -- ---- a turn that is no end
 
-pub record GoesOn (P : Network) (rule : Rule) (budget : ℕ) (now next : StoreView) (course after : Course) (words left : Stream) (turn : Turn) : Type 0 where
-  pub falls : work_left P budget next.standing after.retractions < work_left P budget now.standing course.retractions
-  pub ends : (draws : ℕ) → end_from P rule budget (state_at now course draws words) ≡ end_from P rule budget (state_at next after (draws_after turn draws) left)
+-- it leads on
+midway_leads : (first now next : SearchView) (words here left : Stream) (old mid : JournalView) (turn : Turn) → IsMidway first now words here old mid → IsTurn now here turn next left
+    → ((outcome : Outcome) → turn ≡ Ended outcome → ⊥) → (draws : ℕ) → LeadsTo (turn_by first (at now draws here)) (at next (draws_after turn draws) left)
+midway_leads first now next words here left old mid turn m is goes draws =
+    leads_on (turn_by first (at now draws here)) turn (at next (draws_after turn draws) left) (midway_made first now next words here left old mid turn m is draws) goes
 
--- less work is left, and the end is as before
-pub goes_on : (P Q : Network) (rule r : Rule) (budget : ℕ) (now next : StoreView) (chooser : Told) (course after : Course) (words left : Stream) (turn : Turn) → IsMidway P Q rule r budget now chooser course
-    → IsTurn Q r now course words turn next after left → ((outcome : Outcome) → turn ≡ Ended outcome → ⊥) → GoesOn P rule budget now next course after words left turn
-goes_on P Q rule r budget now next chooser course after words left turn mid is goes =
-    let b = midway_between P Q rule r budget now chooser course mid in
-    let leads : (draws : ℕ) → LeadsTo (turn_of P rule budget (state_at now course draws words)) (state_at next after (draws_after turn draws) left) =
-    λ draws. leads_on (turn_of P rule budget (state_at now course draws words)) turn (state_at next after (draws_after turn draws) left)
-    (midway_made P Q rule r budget now next chooser course after words left turn mid is draws) goes in
-    record {
-      falls = work_falls P b.0 rule budget (state_at now course 0 words) (state_at next after (draws_after turn 0) left) b.1 (leads 0);
-      ends = λ draws. from_next P b.0 rule budget (state_at now course draws words) (state_at next after (draws_after turn draws) left) b.1 (leads draws);
-    }
-
--- what was told goes on
-pub goes_on_told : (P Q : Network) (rule r : Rule) (budget : ℕ) (s : State) (first now next : StoreView) (chooser told : Told) (course after : Course) (words left : Stream) (old mid new : JournalView) (turn : Turn)
-    → IsMidway P Q rule r budget now chooser course → Came P rule budget s first now course words old mid → IsTurn Q r now course words turn next after left
-    → (R : Network) → R ≡ Q → IsReady R next told after → ((outcome : Outcome) → turn ≡ Ended outcome → ⊥)
-    → new ≡ after_lines mid (opening_lines now ++ turn_lines turn next) → Came P rule budget s first next after left old new
-goes_on_told P Q rule r budget s first now next chooser told course after words left old mid new turn m came is R same ready goes lines =
-    came_next P rule budget s first now next told course after words left old mid new turn came m.same_budget
-    (midway_turn P Q rule r budget now next chooser course after words left turn m is)
-    (subst (λ (X : Network). IsReady X next told after) (same ∙ m.same_problem) ready) goes lines
+-- less work is left
+pub midway_falls : (first now next : SearchView) (words here left : Stream) (old mid : JournalView) (turn : Turn) → IsMidway first now words here old mid → IsTurn now here turn next left
+    → ((outcome : Outcome) → turn ≡ Ended outcome → ⊥)
+    → work_left first.problem first.course.budget next.store.standing next.course.retractions < work_left first.problem first.course.budget now.store.standing now.course.retractions
+midway_falls first now next words here left old mid turn m is goes =
+    let b = midway_between first now words here old mid m in
+    work_falls first.problem b.0 first.chooser.rule first.course.budget (at now 0 here) (at next (draws_after turn 0) left) b.1 (midway_leads first now next words here left old mid turn m is goes 0)
 
 -- after a turn that is no end there is no outcome
 none_after : (turn : Turn) → ((outcome : Outcome) → turn ≡ Ended outcome → ⊥) → outcome_after turn ≡ None
@@ -86,45 +99,77 @@ none_after (Chose cell value) goes = refl
 none_after (Retracted cell value) goes = refl
 none_after (Ended outcome) goes = absurd (goes outcome refl)
 
--- so the search goes on
-pub still_going : (course : Course) (turn : Turn) → course.outcome ≡ outcome_after turn → ((outcome : Outcome) → turn ≡ Ended outcome → ⊥) → (IsTrue course.broken → ⊥) → IsGoing course
-still_going course turn outcome goes whole = record { outcome = outcome ∙ none_after turn goes; whole = false_from_ne_true course.broken whole }
+-- what a call of `step` ensures that answers a turn
+pub record IsStep (now next : SearchView) (here left : Stream) (mid new : JournalView) (turn : Turn) : Type 0 where
+  pub turn_is : IsTurn now here turn next left
+  pub outcome_is : next.course.outcome ≡ outcome_after turn
+  pub ready : IsReady next
+  pub told : new ≡ after_lines mid (opening_lines now.store ++ turn_lines turn next.store)
+  pub whole : IsTrue next.course.broken → ⊥
+  pub problem : next.problem ≡ now.problem
+  pub rule : next.chooser.rule ≡ now.chooser.rule
+  pub budget : next.course.budget ≡ now.course.budget
+
+-- the run goes on
+pub midway_next : (first now next : SearchView) (words here left : Stream) (old mid new : JournalView) (turn : Turn) → IsMidway first now words here old mid
+    → IsStep now next here left mid new turn → ((outcome : Outcome) → turn ≡ Ended outcome → ⊥) → IsMidway first next words left old new
+midway_next first now next words here left old mid new turn m step goes =
+    let b = midway_between first now words here old mid m in
+    record {
+      same_problem = step.problem ∙ m.same_problem;
+      same_rule = step.rule ∙ m.same_rule;
+      same_budget = step.budget ∙ m.same_budget;
+      ready = step.ready;
+      going = record { outcome = step.outcome_is ∙ none_after turn goes; whole = false_from_ne_true next.course.broken step.whole };
+      unfailed = ap (λ (j : JournalView). j.failed) step.told ∙ m.unfailed;
+      ends = λ draws. (
+        draws_after turn (m.ends draws).0,
+        (m.ends draws).1
+            ∙ from_next first.problem b.0 first.chooser.rule first.course.budget (at now (m.ends draws).0 here) (at next (draws_after turn (m.ends draws).0) left) b.1
+            (midway_leads first now next words here left old mid turn m step.turn_is goes (m.ends draws).0),
+      );
+      came = came_next first.problem first.chooser.rule first.course.budget (at first 0 words) first.store now.store next.store next.chooser now.course next.course here left old mid new turn m.came m.same_budget
+          (midway_turn first now next words here left old mid turn m step.turn_is)
+          (subst (λ (X : Network). HoldsBetween X next.store next.chooser next.course) (step.problem ∙ m.same_problem) step.ready) goes step.told;
+    }
 
 -- ---- the last turn
 
-pub record EndsHere (P : Network) (rule : Rule) (budget : ℕ) (now next : StoreView) (course after : Course) (words left : Stream) (outcome : Outcome) : Type 0 where
-  pub ends : (draws : ℕ) → end_from P rule budget (state_at now course draws words) ≡ Some (outcome, state_at next after draws left)
-  pub enough : volume_of P ≤ budget → outcome ≢ Spent
+-- what it says of the whole run
+pub record IsLastTurn (first next : SearchView) (words left : Stream) (old new : JournalView) (outcome : Outcome) : Type 0 where
+  pub end : IsEnd first words outcome next left
+  pub enough : volume_of first.problem ≤ first.course.budget → outcome ≢ Spent
+  pub told : IsRunTold first words outcome old new
 
--- the end of the run, which isn't spent where the budget is the volume
-pub ends_here : (P Q : Network) (rule r : Rule) (budget : ℕ) (now next : StoreView) (chooser : Told) (course after : Course) (words left : Stream) (turn : Turn) (outcome : Outcome)
-    → IsMidway P Q rule r budget now chooser course → IsTurn Q r now course words turn next after left → turn ≡ Ended outcome → EndsHere P rule budget now next course after words left outcome
-ends_here P Q rule r budget now next chooser course after words left turn outcome mid is ended =
-    let b = midway_between P Q rule r budget now chooser course mid in
-    let made : (draws : ℕ) → turn_of P rule budget (state_at now course draws words) ≡ (Ended outcome, state_at next after draws left) =
-    λ draws. midway_made P Q rule r budget now next chooser course after words left (Ended outcome) mid (subst (λ (t : Turn). IsTurn Q r now course words t next after left) ended is) draws in
+-- so it is
+pub midway_last : (first now next : SearchView) (words here left : Stream) (old mid new : JournalView) (turn : Turn) (outcome : Outcome) → IsMidway first now words here old mid
+    → IsTurn now here turn next left → new ≡ after_lines mid (opening_lines now.store ++ turn_lines turn next.store) → turn ≡ Ended outcome → IsLastTurn first next words left old new outcome
+midway_last first now next words here left old mid new turn outcome m is told ended =
+    let b = midway_between first now words here old mid m in
+    let last : IsTurn now here (Ended outcome) next left = subst (λ (t : Turn). IsTurn now here t next left) ended is in
+    let made : (draws : ℕ) → turn_by first (at now draws here) ≡ (Ended outcome, at next draws left) = midway_made first now next words here left old mid (Ended outcome) m last in
     record {
-      ends = λ draws. from_ended P b.0 rule budget (state_at now course draws words) (state_at next after draws left) outcome b.1 (made draws);
+      end = λ draws. (
+        (m.ends draws).0,
+        (m.ends draws).1
+            ∙ from_ended first.problem b.0 first.chooser.rule first.course.budget (at now (m.ends draws).0 here) (at next (m.ends draws).0 left) outcome b.1 (made (m.ends draws).0),
+      );
       enough = λ le spent.
-          let v = spent_volume P b.0 rule budget (state_at now course 0 words) (state_at next after 0 left) b.1
-          (subst (λ (o : Outcome). turn_of P rule budget (state_at now course 0 words) ≡ (Ended o, state_at next after 0 left)) spent (made 0)) in
+          let v = spent_volume first.problem b.0 first.chooser.rule first.course.budget (at now 0 here) (at next 0 left) b.1
+          (subst (λ (o : Outcome). turn_by first (at now 0 here) ≡ (Ended o, at next 0 left)) spent (made 0)) in
           omega (arith, v.1);
+      told = came_end first.problem first.chooser.rule first.course.budget (at first 0 words) first.store now.store next.store now.course next.course here left old mid new outcome m.came m.same_budget
+          (midway_turn first now next words here left old mid (Ended outcome) m last)
+          (told ∙ ap (λ (t : Turn). after_lines mid (opening_lines now.store ++ turn_lines t next.store)) ended);
     }
-
--- what was told of the whole run
-pub ends_here_told : (P Q : Network) (rule r : Rule) (budget : ℕ) (s : State) (first now next : StoreView) (chooser : Told) (course after : Course) (words left : Stream) (old mid new : JournalView) (turn : Turn) (outcome : Outcome)
-    → IsMidway P Q rule r budget now chooser course → Came P rule budget s first now course words old mid → IsTurn Q r now course words turn next after left → turn ≡ Ended outcome
-    → new ≡ after_lines mid (opening_lines now ++ turn_lines turn next) → (lines : List Line) × TellsRun P rule budget s first outcome lines × (new ≡ after_lines old lines)
-ends_here_told P Q rule r budget s first now next chooser course after words left old mid new turn outcome m came is ended lines =
-    came_end P rule budget s first now next course after words left old mid new outcome came m.same_budget
-    (subst (λ (t : Turn). IsTurn P rule now course words t next after left) ended (midway_turn P Q rule r budget now next chooser course after words left turn m is))
-    (lines ∙ ap (λ (t : Turn). after_lines mid (opening_lines now ++ turn_lines t next)) ended)
 
 -- ---- a turn that was cut off
 
 -- what was told of the run then
-pub midway_cut_off : (P Q : Network) (rule r : Rule) (budget : ℕ) (s : State) (first now next : StoreView) (chooser : Told) (course : Course) (words : Stream) (old mid new : JournalView)
-    → IsMidway P Q rule r budget now chooser course → Came P rule budget s first now course words old mid → IsStepCutOff Q r now course words next mid new → IsRunCutOff P rule budget s first old new
-midway_cut_off P Q rule r budget s first now next chooser course words old mid new m came cut =
-    came_cut_off P rule budget s first now next course words old mid new came m.same_budget
-    (subst (λ (x : Rule). IsStepCutOff P x now course words next mid new) m.same_rule (subst (λ (X : Network). IsStepCutOff X r now course words next mid new) m.same_problem cut))
+pub midway_cut_off : (first now : SearchView) (next : StoreView) (words here : Stream) (old mid new : JournalView) → IsMidway first now words here old mid
+    → IsCutOffFrom now.problem now.chooser.rule now.store now.course here next mid new
+    → IsRunCutOff first.problem first.chooser.rule first.course.budget (at first 0 words) first.store old new
+midway_cut_off first now next words here old mid new m cut =
+    came_cut_off first.problem first.chooser.rule first.course.budget (at first 0 words) first.store now.store next now.course here old mid new m.came m.same_budget
+    (subst (λ (x : Rule). IsCutOffFrom first.problem x now.store now.course here next mid new) m.same_rule
+    (subst (λ (X : Network). IsCutOffFrom X now.chooser.rule now.store now.course here next mid new) m.same_problem cut))

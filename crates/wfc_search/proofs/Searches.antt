@@ -22,8 +22,8 @@ use Rattle.wfc_search.specs.Last.{choice_in}
 use Rattle.wfc_search.specs.Run.{State, Choice, last_choice, chosen, turn_of}
 use Rattle.wfc_proof.specs.Journal.{JournalView, after_lines, IsCutOff}
 use Rattle.wfc_proof.proofs.CallerLemmas.{cut_off_behind}
-use Rattle.wfc_search.specs.Telling.{opening_lines, turn_lines, IsStepCutOff}
-use Rattle.wfc_search.specs.Search.{state_at, outcome_after, IsTurn, IsReady, IsTrueEnd}
+use Rattle.wfc_search.specs.Telling.{opening_lines, turn_lines, IsCutOffFrom}
+use Rattle.wfc_search.specs.Search.{SearchView, state_at, outcome_after, IsTurnFrom, HoldsBetween, IsReady, IsTrueEnd}
 use Rattle.wfc_search.specs.declared.course.Course.{Course}
 use Rattle.wfc_search.specs.declared.last.LastChoice.{LastChoice}
 use Rattle.wfc_search.specs.declared.Outcome.{Outcome}
@@ -39,11 +39,11 @@ use Rattle.wfc_search.proofs.Turns.{choice_cuts, leads_on, ended_same}
 -- ---- what a store says
 
 -- the store's problem is one
-pub ready_problem : (P : Network) (store : StoreView) (chooser : Told) (course : Course) → IsReady P store chooser course → IsProblem P
+pub ready_problem : (P : Network) (store : StoreView) (chooser : Told) (course : Course) → HoldsBetween P store chooser course → IsProblem P
 ready_problem P store chooser course ready = subst (λ (Q : Network). IsProblem Q) ready.problem ready.keeps.sound.problem
 
 -- a store that is dead
-pub ready_dead : (P : Network) (store : StoreView) (chooser : Told) (course : Course) (cell : ℕ) → IsReady P store chooser course → Dead cell ≡ store.verdict → is_dead P (greatest P store.standing) ≡ true
+pub ready_dead : (P : Network) (store : StoreView) (chooser : Told) (course : Course) (cell : ℕ) → HoldsBetween P store chooser course → Dead cell ≡ store.verdict → is_dead P (greatest P store.standing) ≡ true
 ready_dead P store chooser course cell ready is =
     subst (λ (Q : Network). is_dead Q (greatest Q store.standing) ≡ true) ready.problem (dead_dead store cell ready.keeps.sound (sym is))
 
@@ -54,7 +54,7 @@ pub record IsAlive (P : Network) (store : StoreView) (chooser : Told) : Type 0 w
   pub sizes : chooser.sizes ≡ sizes_of P (greatest P store.standing)
 
 -- so it is
-pub ready_alive : (P : Network) (store : StoreView) (chooser : Told) (course : Course) → IsReady P store chooser course → store.verdict ≡ Alive → IsAlive P store chooser
+pub ready_alive : (P : Network) (store : StoreView) (chooser : Told) (course : Course) → HoldsBetween P store chooser course → store.verdict ≡ Alive → IsAlive P store chooser
 ready_alive P store chooser course ready is = subst (λ (Q : Network). IsAlive Q store chooser) ready.problem (record {
   left = alive_left store ready.keeps.sound is;
   alive = alive_alive store ready.keeps.sound is;
@@ -115,7 +115,7 @@ choice_turn P rule budget s cell value word left alive picks word_is value_is =
 
 -- of the search
 pub choice_made : (P : Network) (rule : Rule) (old new : StoreView) (chooser : Told) (course : Course) (words left : Stream) (cell value word : ℕ) → IsAlive P old chooser
-    → Draws P rule old words left cell value word → new.standing ≡ old.standing ++ Is cell value ∷ [] → IsTurn P rule old course words (Chose cell value) new course left
+    → Draws P rule old words left cell value word → new.standing ≡ old.standing ++ Is cell value ∷ [] → IsTurnFrom P rule old course words (Chose cell value) new course left
 choice_made P rule old new chooser course words left cell value word alive d standing draws =
     choice_turn P rule course.budget (state_at old course draws words) cell value word left alive.alive d.picks d.word_is d.value_is
     ∙ ap (λ (ls : List Literal). (Chose cell value, record { standing = ls; retractions = course.retractions; draws = draws + 1; words = left })) (sym standing)
@@ -144,14 +144,14 @@ choice_between P p rule old chooser course words left cell value word alive d be
 
 -- there is room for it
 pub choice_room : (P : Network) → IsProblem P → (rule : Rule) (old : StoreView) (chooser : Told) (course : Course) (words left : Stream) (cell value word : ℕ) → IsAlive P old chooser
-    → Draws P rule old words left cell value word → IsReady P old chooser course → 0 < old.spare
+    → Draws P rule old words left cell value word → HoldsBetween P old chooser course → 0 < old.spare
 choice_room P p rule old chooser course words left cell value word alive d ready =
     let few = between_few P p course.budget course.retractions (old.standing ++ Is cell value ∷ []) (choice_between P p rule old chooser course words left cell value word alive d ready.between) in
     omega (arith, few, ready.room, length-append old.standing (Is cell value ∷ []))
 
 -- what holds after it
 pub choice_ready : (P : Network) → IsProblem P → (rule : Rule) (old new : StoreView) (chooser told : Told) (course : Course) (words left : Stream) (cell value word : ℕ) → IsAlive P old chooser
-    → Draws P rule old words left cell value word → IsReady P old chooser course → course.outcome ≡ None → IsPutOn old new (Is cell value) → Keeps new told → IsReady P new told course
+    → Draws P rule old words left cell value word → HoldsBetween P old chooser course → course.outcome ≡ None → IsPutOn old new (Is cell value) → Keeps new told → HoldsBetween P new told course
 choice_ready P p rule old new chooser told course words left cell value word alive d ready going put keeps = record {
   problem = put.problem ∙ ready.problem;
   keeps = keeps;
@@ -159,6 +159,30 @@ choice_ready P p rule old new chooser told course words left cell value word ali
   room = omega (arith, ready.room, put.spare, ap (λ (ls : List Literal). length ls) put.standing, length-append old.standing (Is cell value ∷ []));
   outcome = no_outcome _ course.outcome going;
 }
+
+-- what is known of a cell that is picked, and of the value that is drawn
+pub record IsKnown (old : SearchView) (words left : Stream) (cell value : ℕ) : Type 0 where
+  pub in_problem : (cell < old.store.problem.cells) × (value < values old.store.problem)
+  pub room : 0 < old.store.spare
+  pub turn : (new : StoreView) → new.standing ≡ old.store.standing ++ Is cell value ∷ [] → IsTurnFrom old.problem old.chooser.rule old.store old.course words (Chose cell value) new old.course left
+  pub ready : (new : StoreView) (told : Told) → old.course.outcome ≡ None → IsPutOn old.store new (Is cell value) → Keeps new told → HoldsBetween old.problem new told old.course
+
+-- so it is, told from the domains that are read
+pub choice_known : (old : SearchView) (D : Test) (words left : Stream) (cell value word : ℕ) → IsReady old → old.store.verdict ≡ Alive → Some cell ≡ picked old.chooser.rule old.chooser.sizes
+    → D ≡ left_of old.store → ◌≡◌ {A = ℕ × Stream} (word, left) (next_u64 words) → value ≡ drawn old.problem (values_at old.problem D cell) word → IsKnown old words left cell value
+choice_known old D words left cell value word ready alive_is picks read word_is value_is =
+    let P : Network = old.problem in
+    let rule : Rule = old.chooser.rule in
+    let alive : IsAlive P old.store old.chooser = ready_alive P old.store old.chooser old.course ready alive_is in
+    let d : Draws P rule old.store words left cell value word = draws_is P rule old.store old.chooser D words left cell value word alive picks read word_is value_is in
+    let p : IsProblem P = ready_problem P old.store old.chooser old.course ready in
+    record {
+      in_problem = subst (λ (Q : Network). (cell < Q.cells) × (value < values Q)) (sym ready.problem)
+          (choice_in_problem P p rule old.store old.chooser words left cell value word alive d);
+      room = choice_room P p rule old.store old.chooser old.course words left cell value word alive d ready;
+      turn = λ new standing. choice_made P rule old.store new old.chooser old.course words left cell value word alive d standing;
+      ready = λ new told going put keeps. choice_ready P p rule old.store new old.chooser told old.course words left cell value word alive d ready going put keeps;
+    }
 
 -- ---- a retraction
 
@@ -182,7 +206,7 @@ retraction_in_problem P p old course last r between =
 
 -- the turn that it is
 pub retraction_made : (P : Network) (rule : Rule) (old new : StoreView) (course next : Course) (words : Stream) (last : LastChoice) → Retracts P old course last
-    → new.standing ≡ take last.at old.standing ++ Not last.cell last.value ∷ [] → next.retractions ≡ course.retractions + 1 → IsTurn P rule old course words (Retracted last.cell last.value) new next words
+    → new.standing ≡ take last.at old.standing ++ Not last.cell last.value ∷ [] → next.retractions ≡ course.retractions + 1 → IsTurnFrom P rule old course words (Retracted last.cell last.value) new next words
 retraction_made P rule old new course next words last r standing more draws =
     made_retraction P rule course.budget (state_at old course draws words) (choice_at old last) r.dead (sym r.found) r.left
     ∙ ap (λ (ls : List Literal). (Retracted last.cell last.value, record { standing = ls; retractions = course.retractions + 1; draws = draws; words = words })) (sym standing)
@@ -190,15 +214,15 @@ retraction_made P rule old new course next words last r standing more draws =
 
 -- what holds after it
 pub retraction_ready : (P : Network) → IsProblem P → (rule : Rule) (old mid new : StoreView) (chooser told : Told) (course next : Course) (words : Stream) (last : LastChoice) → Retracts P old course last
-    → IsReady P old chooser course → course.outcome ≡ None → IsCutBack old mid last.at → IsPutOn mid new (Not last.cell last.value) → Keeps new told
-    → next ≡ record course { retractions = course.retractions + 1 } → IsReady P new told next
+    → HoldsBetween P old chooser course → course.outcome ≡ None → IsCutBack old mid last.at → IsPutOn mid new (Not last.cell last.value) → Keeps new told
+    → next ≡ record course { retractions = course.retractions + 1 } → HoldsBetween P new told next
 retraction_ready P p rule old mid new chooser told course next words last r ready going cut put keeps is =
     let standing : new.standing ≡ take last.at old.standing ++ Not last.cell last.value ∷ [] = put.standing ∙ ap (λ (ls : List Literal). ls ++ Not last.cell last.value ∷ []) cut.standing in
     let more : Course = record course { retractions = course.retractions + 1 } in
     let s : State = state_at old course 0 words in
     let between : IsBetween P course.budget new.standing (course.retractions + 1) =
     turn_between P p rule course.budget s (state_at new more 0 words) (Retracted last.cell last.value) ready.between (retraction_made P rule old new course more words last r standing refl 0) (λ o e. cc) in
-    subst (λ (n : Course). IsReady P new told n) (sym is) (record {
+    subst (λ (n : Course). HoldsBetween P new told n) (sym is) (record {
       problem = put.problem ∙ cut.problem ∙ ready.problem;
       keeps = keeps;
       between = between;
@@ -214,14 +238,14 @@ end_same P rule budget s u outcome is = ap (λ (x : Turn × State). x.1) (sym is
 
 -- what an end says is true
 pub end_true : (P : Network) → IsProblem P → (rule : Rule) (old new : StoreView) (course next : Course) (words left : Stream) (outcome : Outcome) → IsBetween P course.budget old.standing course.retractions
-    → IsTurn P rule old course words (Ended outcome) new next left → IsTrueEnd P course.budget old.standing outcome
+    → IsTurnFrom P rule old course words (Ended outcome) new next left → IsTrueEnd P course.budget old.standing outcome
 end_true P p rule old new course next words left Map between turn = map_legal P p rule course.budget (state_at old course 0 words) (state_at new next 0 left) (turn 0)
 end_true P p rule old new course next words left NoMap between turn = no_map_none P p rule course.budget (state_at old course 0 words) (state_at new next 0 left) between (turn 0)
 end_true P p rule old new course next words left Spent between turn = (spent_volume P p rule course.budget (state_at old course 0 words) (state_at new next 0 left) between (turn 0)).1
 
 -- what the outcome after a turn says is true
 turn_true : (P : Network) → IsProblem P → (rule : Rule) (old new : StoreView) (course next : Course) (words left : Stream) (turn : Turn) → IsBetween P course.budget old.standing course.retractions
-    → IsTurn P rule old course words turn new next left → ForSome (outcome_after turn) (IsTrueEnd P course.budget new.standing)
+    → IsTurnFrom P rule old course words turn new next left → ForSome (outcome_after turn) (IsTrueEnd P course.budget new.standing)
 turn_true P p rule old new course next words left (Chose cell value) between turn o is = cc
 turn_true P p rule old new course next words left (Retracted cell value) between turn o is = cc
 turn_true P p rule old new course next words left (Ended outcome) between turn o is =
@@ -232,7 +256,7 @@ turn_true P p rule old new course next words left (Ended outcome) between turn o
 
 -- so after a turn all holds with the outcome that there is then
 pub turn_ready : (P : Network) → IsProblem P → (rule : Rule) (old new : StoreView) (chooser : Told) (course next : Course) (words left : Stream) (turn : Turn) → IsBetween P course.budget old.standing course.retractions
-    → IsTurn P rule old course words turn new next left → IsReady P new chooser next → next.budget ≡ course.budget → IsReady P new chooser (record next { outcome = outcome_after turn })
+    → IsTurnFrom P rule old course words turn new next left → HoldsBetween P new chooser next → next.budget ≡ course.budget → HoldsBetween P new chooser (record next { outcome = outcome_after turn })
 turn_ready P p rule old new chooser course next words left turn between is ready budget = record {
   problem = ready.problem;
   keeps = ready.keeps;
@@ -245,9 +269,9 @@ turn_ready P p rule old new chooser course next words left turn between is ready
 
 -- the lines of a turn that were cut off
 pub turn_cut_off : (P : Network) (rule : Rule) (old new : StoreView) (chooser : Told) (course next : Course) (words left : Stream) (turn : Turn) (first mid last : JournalView)
-    → IsTurn P rule old course words turn new next left → IsReady P new chooser next
+    → IsTurnFrom P rule old course words turn new next left → HoldsBetween P new chooser next
     → mid ≡ after_lines first (opening_lines old) → IsCutOff mid last (turn_lines turn new)
-    → IsStepCutOff P rule old course words new first last
+    → IsCutOffFrom P rule old course words new first last
 turn_cut_off P rule old new chooser course next words left turn first mid last is ready told cut draws =
     inr (
       record { problem = ready.problem; standing = ap (λ (x : Turn × State). x.1.standing) (sym (is draws)); sound = ready.keeps.sound },

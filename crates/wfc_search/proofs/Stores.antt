@@ -4,8 +4,9 @@ use Rattle.std.specs.Prelude.{All, filter, slice_index}
 use Rattle.std.proofs.lemmas.Bool.{false≢true}
 use Rattle.std.specs.List.{range_with_len}
 use Rattle.std.proofs.Math.Seq.{take-append_seam}
-use Rattle.wfc_domains.specs.Domains.{Flags, has, size_of, flags_of, less}
+use Rattle.wfc_domains.specs.Domains.{Flags, has, size_of, flags_of}
 use Rattle.wfc_domains.specs.Removals.{without}
+use Rattle.wfc_domains.proofs.Removals.{without-split, without-within}
 use Rattle.wfc_domains.specs.Store.{StoreView, IsSound, IsVerdict, left_of, before_of, added_of, mark_of, all_but_last}
 use Rattle.wfc_domains.specs.declared.Removal.{Removal}
 use Rattle.wfc_domains.specs.declared.Verdict.{Verdict}
@@ -17,33 +18,21 @@ use Rattle.wfc_problem.specs.Rounds.{greatest}
 use Rattle.wfc_problem.specs.Sizes.{is_dead, size_at, sizes_of}
 use Rattle.wfc_problem.specs.declared.Literal.{Literal}
 use Rattle.wfc_problem.proofs.CallerLemmas.{length-sizes_of, sizes_of_at, few_values, greatest_same, greatest_is, greatest_base, dead_iff}
-use Rattle.wfc_search.proofs.Removals.{IsStep, less_within, size_few, step_at}
+use Rattle.wfc_search.proofs.Removals.{IsStep, size_few, step_at}
 
 -- ---- the last level
 
--- removals in two parts
-without_split : (D : Test) (rs : List Removal) (n : ℕ) → without D rs ≡ without (without D (take n rs)) (drop n rs)
-without_split D [] zero = refl
-without_split D [] (suc n) = refl
-without_split D (r ∷ rs) zero = refl
-without_split D (r ∷ rs) (suc n) = without_split (less D r.cell r.value) rs n
-
--- removals leave nothing new
-without_within : (D E : Test) (rs : List Removal) → Within D E → Within (without D rs) E
-without_within D E [] within = within
-without_within D E (r ∷ rs) within = without_within (less D r.cell r.value) E rs (less_within D E r.cell r.value within)
-
 -- the last level leads from the domains before it to those after it
 pub left_added : (v : StoreView) → left_of v ≡ without (before_of v) (added_of v)
-left_added v = without_split (in_base v.problem) v.removals (mark_of v.marks)
+left_added v = sym (without-split (in_base v.problem) v.removals (mark_of v.marks))
 
 -- the domains before it lie within the base
 pub before_base : (v : StoreView) → Within (before_of v) (in_base v.problem)
-before_base v = without_within (in_base v.problem) (in_base v.problem) (take (mark_of v.marks) v.removals) (λ c x t. t)
+before_base v = without-within (in_base v.problem) (take (mark_of v.marks) v.removals)
 
 -- and those after it
 pub left_base : (v : StoreView) → Within (left_of v) (in_base v.problem)
-left_base v = without_within (in_base v.problem) (in_base v.problem) v.removals (λ c x t. t)
+left_base v = without-within (in_base v.problem) v.removals
 
 -- what is known of a removal of the last level
 pub removal_step : (v : StoreView) → IsSound v → (rs : List Removal) → rs ≡ added_of v → (i : ℕ) (d : Removal) → i < length rs

@@ -12,8 +12,8 @@ use Rattle.wfc_proof.specs.Journal.{JournalView, after_lines, IsCutOff}
 use Rattle.wfc_proof.specs.declared.Line.{Line}
 use Rattle.wfc_proof.proofs.CallerLemmas.{after_no_lines, after_more_lines, cut_off_behind}
 use Rattle.wfc_search.specs.Run.{State, turn_of, LeadsTo}
-use Rattle.wfc_search.specs.Search.{state_at, draws_after, IsTurn, IsReady}
-use Rattle.wfc_search.specs.Telling.{opening_lines, level_lines, end_line, turn_lines, IsStoreAt, TellsTo, TellsRun, IsTurnCutOff, IsStepCutOff, IsRunCutOff}
+use Rattle.wfc_search.specs.Search.{state_at, draws_after, IsTurnFrom, HoldsBetween}
+use Rattle.wfc_search.specs.Telling.{opening_lines, level_lines, end_line, turn_lines, IsStoreAt, TellsTo, TellsRun, IsTurnCutOff, IsCutOffFrom, IsRunCutOff}
 use Rattle.wfc_search.specs.declared.course.Course.{Course}
 use Rattle.wfc_search.specs.declared.Outcome.{Outcome}
 use Rattle.wfc_search.specs.declared.Turn.{Turn}
@@ -90,7 +90,7 @@ lines_behind so_far opening turn first before same =
 
 -- after one turn more
 pub came_next : (P : Network) (rule : Rule) (budget : ℕ) (s : State) (first now next : StoreView) (chooser : Told) (course after : Course) (words left : Stream) (old mid new : JournalView) (turn : Turn)
-    → Came P rule budget s first now course words old mid → course.budget ≡ budget → IsTurn P rule now course words turn next after left → IsReady P next chooser after → ((outcome : Outcome) → turn ≡ Ended outcome → ⊥)
+    → Came P rule budget s first now course words old mid → course.budget ≡ budget → IsTurnFrom P rule now course words turn next after left → HoldsBetween P next chooser after → ((outcome : Outcome) → turn ≡ Ended outcome → ⊥)
     → new ≡ after_lines mid (opening_lines now ++ turn_lines turn next) → Came P rule budget s first next after left old new
 came_next P rule budget s first now next chooser course after words left old mid new turn came same is ready goes told =
     let t : State = state_at now course came.draws words in
@@ -114,7 +114,7 @@ came_next P rule budget s first now next chooser course after words left old mid
 
 -- at the end
 pub came_end : (P : Network) (rule : Rule) (budget : ℕ) (s : State) (first now next : StoreView) (course after : Course) (words left : Stream) (old mid new : JournalView) (outcome : Outcome)
-    → Came P rule budget s first now course words old mid → course.budget ≡ budget → IsTurn P rule now course words (Ended outcome) next after left
+    → Came P rule budget s first now course words old mid → course.budget ≡ budget → IsTurnFrom P rule now course words (Ended outcome) next after left
     → new ≡ after_lines mid (opening_lines now ++ end_line outcome ∷ []) → (lines : List Line) × TellsRun P rule budget s first outcome lines × (new ≡ after_lines old lines)
 came_end P rule budget s first now next course after words left old mid new outcome came same is told =
     let t : State = state_at now course came.draws words in
@@ -134,7 +134,7 @@ came_end P rule budget s first now next course after words left old mid new outc
 
 -- the lines of a turn that were cut off
 pub came_cut_off : (P : Network) (rule : Rule) (budget : ℕ) (s : State) (first now next : StoreView) (course : Course) (words : Stream) (old mid new : JournalView)
-    → Came P rule budget s first now course words old mid → course.budget ≡ budget → IsStepCutOff P rule now course words next mid new → IsRunCutOff P rule budget s first old new
+    → Came P rule budget s first now course words old mid → course.budget ≡ budget → IsCutOffFrom P rule now course words next mid new → IsRunCutOff P rule budget s first old new
 came_cut_off P rule budget s first now next course words old mid new came same cut =
     let t : State = state_at now course came.draws words in
     let all : List Line = opening_lines first ++ came.before in

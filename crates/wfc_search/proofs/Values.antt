@@ -8,7 +8,7 @@ use Rattle.wfc_problem.specs.Domains.{Test, HasOnly}
 use Rattle.wfc_problem.specs.Network.{Network, IsProblem, values}
 use Rattle.wfc_problem.specs.Rounds.{greatest}
 use Rattle.wfc_problem.proofs.CallerLemmas.{base_inside, greatest_base}
-use Rattle.wfc_search.specs.Search.{IsReady, IsTrueEnd, assignment_of}
+use Rattle.wfc_search.specs.Search.{HoldsBetween, IsTrueEnd, assignment_of}
 use Rattle.wfc_search.specs.declared.course.Course.{Course}
 use Rattle.wfc_search.specs.declared.Outcome.TheVariants.{Map}
 use Rattle.wfc_search.proofs.Searches.{ready_problem}
@@ -21,7 +21,7 @@ pub record FoundMap (P : Network) (store : StoreView) : Type 0 where
   pub known : (cell : ℕ) → cell < P.cells → slice_index (assignment_of P store.standing) cell < values P
 
 -- so it is
-pub found_map : (P : Network) (store : StoreView) (chooser : Told) (course : Course) → IsReady P store chooser course → course.outcome ≡ Some Map → FoundMap P store
+pub found_map : (P : Network) (store : StoreView) (chooser : Told) (course : Course) → HoldsBetween P store chooser course → course.outcome ≡ Some Map → FoundMap P store
 found_map P store chooser course ready is =
     let end : IsTrueEnd P course.budget store.standing Map = ready.outcome Map is in
     let a : List ℕ = assignment_of P store.standing in

@@ -5,4 +5,6 @@ pub mod Last
 pub mod Follow
 pub mod Search
 pub mod Telling
+pub mod Shown
+pub mod Ends
 pub mod Small

@@ -1,5 +1,5 @@
 -- What holds of a search between its turns, and what a turn does to it.
-use Rattle.std.specs.Prelude.{◌≡◌, ℕ, ◌+◌, ◌<◌, ◌≤◌, false, List, length, Option, Some, None}
+use Rattle.std.specs.Prelude.{◌≡◌, ℕ, ◌+◌, ◌<◌, ◌≤◌, false, List, length, Option, Some, None, Result, IfOk}
 use Rattle.std.specs.Option.{ForSome}
 use Rattle.rand_core.specs.Stream.{Stream}
 use Rattle.wfc_choose.specs.Pick.{Rule}
@@ -11,6 +11,7 @@ use Rattle.wfc_problem.specs.Network.{Network}
 use Rattle.wfc_problem.specs.Rounds.{greatest, depth_of}
 use Rattle.wfc_problem.specs.Sizes.{first_values}
 use Rattle.wfc_problem.specs.declared.Literal.{Literal}
+use Rattle.wfc_proof.specs.declared.JournalFault.{JournalFault}
 use Rattle.wfc_search.specs.Between.{IsBetween}
 use Rattle.wfc_search.specs.Follow.{Keeps}
 use Rattle.wfc_search.specs.Run.{State, turn_of, end_from}
@@ -38,14 +39,9 @@ outcome_after (Retracted cell value) = None
 outcome_after (Ended outcome) = Some outcome
 
 -- from the state of a search the run makes this turn, to the state of the search after it
-abbrev pub IsTurn : Network → Rule → StoreView → Course → Stream → Turn → StoreView → Course → Stream → Type 0
-IsTurn P rule old course words turn new next left =
+abbrev pub IsTurnFrom : Network → Rule → StoreView → Course → Stream → Turn → StoreView → Course → Stream → Type 0
+IsTurnFrom P rule old course words turn new next left =
     (draws : ℕ) → turn_of P rule course.budget (state_at old course draws words) ≡ (turn, state_at new next (draws_after turn draws) left)
-
--- from the state of a search the run has this end, at the state of the search after it
-abbrev pub IsEnd : Network → Rule → StoreView → Course → Stream → Outcome → StoreView → Course → Stream → Type 0
-IsEnd P rule old course words outcome new next left =
-    (draws : ℕ) → (more : ℕ) × (end_from P rule course.budget (state_at old course draws words) ≡ Some (outcome, state_at new next more left))
 
 -- the first value of each cell in the greatest domains
 abbrev pub assignment_of : Network → List Literal → List ℕ
@@ -59,7 +55,7 @@ IsTrueEnd P budget literals Spent = budget < volume_of P
 
 -- what holds of a search that no journal failed: its store is of the problem, the chooser has the sizes of the store's
 -- domains, what stands and the retractions are those of a run, there is room for all literals, and its outcome is true
-pub record IsReady (P : Network) (store : StoreView) (chooser : Told) (course : Course) : Type 0 where
+pub record HoldsBetween (P : Network) (store : StoreView) (chooser : Told) (course : Course) : Type 0 where
   pub problem : store.problem ≡ P
   pub keeps : Keeps store chooser
   pub between : IsBetween P course.budget store.standing course.retractions
@@ -70,3 +66,45 @@ pub record IsReady (P : Network) (store : StoreView) (chooser : Told) (course : 
 pub record IsGoing (course : Course) : Type 0 where
   pub outcome : course.outcome ≡ None
   pub whole : course.broken ≡ false
+
+-- what contracts see of a search: its problem, its store, its chooser, and how far it has come
+pub record SearchView : Type 0 where
+  pub problem : Network
+  pub store : StoreView
+  pub chooser : Told
+  pub course : Course
+
+-- what an outcome says is true of a search
+abbrev pub SaysTrue : SearchView → Outcome → Type 0
+SaysTrue s outcome = IsTrueEnd s.problem s.course.budget s.store.standing outcome
+
+-- what holds of a search between its turns
+abbrev pub IsReady : SearchView → Type 0
+IsReady s = HoldsBetween s.problem s.store s.chooser s.course
+
+-- from one search, with these words to come, the run makes this turn to the other, with those that are left
+abbrev pub IsTurn : SearchView → Stream → Turn → SearchView → Stream → Type 0
+IsTurn old words turn new left = IsTurnFrom old.problem old.chooser.rule old.store old.course words turn new.store new.course left
+
+-- so, whatever words are to come, and it takes none
+abbrev pub IsWordless : SearchView → Turn → SearchView → Type 0
+IsWordless old turn new = (words : Stream) → IsTurn old words turn new words
+
+-- one search is of the same problem, rule and course as another, but for the literals and the retractions
+pub record IsOnward (old new : SearchView) : Type 0 where
+  pub problem : new.problem ≡ old.problem
+  pub rule : new.chooser.rule ≡ old.chooser.rule
+  pub course : new.course ≡ record old.course { retractions = new.course.retractions }
+
+-- from one search, with these words to come, the run has this end at the other, with those that are left
+abbrev pub IsEnd : SearchView → Stream → Outcome → SearchView → Stream → Type 0
+IsEnd old words outcome new left =
+    (draws : ℕ) → (more : ℕ) × (end_from old.problem old.chooser.rule old.course.budget (state_at old.store old.course draws words) ≡ Some (outcome, state_at new.store new.course more left))
+
+-- what is answered, if no journal failed, is the turn that the run makes
+abbrev pub Turns : SearchView → Stream → Result Turn JournalFault → SearchView → Stream → Type 0
+Turns old words answer new left = IfOk answer (λ turn. IsTurn old words turn new left)
+
+-- what is answered, if no journal failed, is the end that the run has
+abbrev pub Ends : SearchView → Stream → Result Outcome JournalFault → SearchView → Stream → Type 0
+Ends old words answer new left = IfOk answer (λ outcome. IsEnd old words outcome new left)

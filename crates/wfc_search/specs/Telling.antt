@@ -1,5 +1,5 @@
 -- The lines that a search tells: those of the opening, and those of each turn.
-use Rattle.std.specs.Prelude.{◌≡◌, ℕ, List, [], ◌∷◌, ◌++◌, ◌==◌, ◌⊎◌, length, if◌then◌else◌}
+use Rattle.std.specs.Prelude.{◌≡◌, ℕ, List, [], ◌∷◌, ◌++◌, ◌==◌, ◌⊎◌, length, if◌then◌else◌, Result, OnErr}
 use Rattle.std.specs.List.{flat_map}
 use Rattle.wfc_choose.specs.Pick.{Rule}
 use Rattle.wfc_domains.specs.Store.{StoreView, IsSound, added_of}
@@ -10,11 +10,12 @@ use Rattle.wfc_domains.specs.declared.Verdict.{Verdict}
 use Rattle.wfc_domains.specs.declared.Verdict.TheVariants.{Alive, Dead}
 use Rattle.wfc_problem.specs.Network.{Network}
 use Rattle.wfc_proof.specs.Journal.{JournalView, after_lines, IsCutOff}
+use Rattle.wfc_proof.specs.declared.JournalFault.{JournalFault}
 use Rattle.wfc_proof.specs.declared.Line.{Line}
 use Rattle.wfc_proof.specs.declared.Line.TheVariants.{Remove, Try, Empty, End, Found, Out}
 use Rattle.rand_core.specs.Stream.{Stream}
 use Rattle.wfc_search.specs.Run.{State, turn_of, LeadsTo}
-use Rattle.wfc_search.specs.Search.{state_at}
+use Rattle.wfc_search.specs.Search.{SearchView, state_at}
 use Rattle.wfc_search.specs.declared.course.Course.{Course}
 use Rattle.wfc_search.specs.declared.Outcome.{Outcome}
 use Rattle.wfc_search.specs.declared.Outcome.TheVariants.{Map, NoMap, Spent}
@@ -72,9 +73,13 @@ IsTurnCutOff P rule budget s before store old new =
     ⊎ (IsStoreAt P (turn_of P rule budget s).1 store × IsCutOff old new (turn_told P rule budget s before store))
 
 -- so at the state of a search, after any number of draws
-abbrev pub IsStepCutOff : Network → Rule → StoreView → Course → Stream → StoreView → JournalView → JournalView → Type 0
-IsStepCutOff P rule before course words store old new =
+abbrev pub IsCutOffFrom : Network → Rule → StoreView → Course → Stream → StoreView → JournalView → JournalView → Type 0
+IsCutOffFrom P rule before course words store old new =
     (draws : ℕ) → IsTurnCutOff P rule course.budget (state_at before course draws words) before store old new
+
+-- where a journal failed, a front of the lines of a search's next turn was told, up to one that was refused; the turn left this store
+abbrev pub StepFails : Result Turn JournalFault → SearchView → Stream → StoreView → JournalView → JournalView → Type 0
+StepFails answer s words store old new = OnErr answer (IsCutOffFrom s.problem s.chooser.rule s.store s.course words store old new)
 
 -- after the lines of the opening, if it is the first turn, a journal was told those of the turn that left this store
 abbrev pub IsStepTold : StoreView → Turn → StoreView → JournalView → JournalView → Type 0
@@ -109,10 +114,11 @@ pub record IsRunCutOff (P : Network) (rule : Rule) (budget : ℕ) (s : State) (f
       × IsCutOff old new (opening_lines first ++ (before ++ turn_lines (turn_of P rule budget last).0 store)))
 
 -- from the state of a search a journal was told the lines of the run up to this end
-abbrev pub IsRunTold : Network → Rule → StoreView → Course → Stream → Outcome → JournalView → JournalView → Type 0
-IsRunTold P rule first course words outcome old new =
-    (lines : List Line) × TellsRun P rule course.budget (state_at first course 0 words) first outcome lines × (new ≡ after_lines old lines)
+abbrev pub IsRunTold : SearchView → Stream → Outcome → JournalView → JournalView → Type 0
+IsRunTold s words outcome old new =
+    (lines : List Line) × TellsRun s.problem s.chooser.rule s.course.budget (state_at s.store s.course 0 words) s.store outcome lines × (new ≡ after_lines old lines)
 
--- from the state of a search on, the lines of the run were cut off
-abbrev pub IsCutShort : Network → Rule → StoreView → Course → Stream → JournalView → JournalView → Type 0
-IsCutShort P rule first course words old new = IsRunCutOff P rule course.budget (state_at first course 0 words) first old new
+-- where a journal failed, a front of the lines of the run from the state of a search on was told, up to one that was refused
+abbrev pub RunFails : Result Outcome JournalFault → SearchView → Stream → JournalView → JournalView → Type 0
+RunFails answer s words old new =
+    OnErr answer (IsRunCutOff s.problem s.chooser.rule s.course.budget (state_at s.store s.course 0 words) s.store old new)

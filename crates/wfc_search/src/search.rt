@@ -13,8 +13,8 @@ ghost use Rattle.wfc_problem.specs.Rounds.{greatest, depth_of};
 ghost use Rattle.wfc_problem.specs.Sizes.{is_dead, sizes_of};
 ghost use Rattle.wfc_search.specs.Last.{choice_in};
 ghost use Rattle.wfc_search.specs.Run.{last_choice};
-ghost use Rattle.wfc_search.specs.Search.{state_at, outcome_after, IsTurn, IsEnd, IsTrueEnd, IsReady, IsGoing, assignment_of};
-ghost use Rattle.wfc_search.specs.Telling.{IsStepTold, IsStepCutOff, IsRunTold, IsCutShort};
+ghost use Rattle.wfc_search.specs.Search.{state_at, outcome_after, IsTurn, IsWordless, Turns, Ends, SaysTrue, IsReady, IsGoing, IsOnward, assignment_of};
+ghost use Rattle.wfc_search.specs.Telling.{IsStepTold, StepFails, IsRunTold, RunFails};
 ghost use Rattle.wfc_search.specs.Volume.{volume_of};
 
 use crate::course::Course;
@@ -54,6 +54,8 @@ fn sizes_in<S: Store>(alloc: Global, store: &S, cells: u32) -> Result<Vec<u32>, 
 }
 
 impl<'p, S: Store> Search<'p, S> {
+    ghost use Rattle.wfc_search.specs.Shown.{shown};
+
     /// A search that has made no turn. It takes all its memory here; the store and the chooser are dropped where there
     /// isn't enough. The chooser is told the sizes of all cells, which it is told only here.
     pub fn open(
@@ -66,14 +68,13 @@ impl<'p, S: Store> Search<'p, S> {
         requires same_problem { (S.view store).problem ≡ problem.now }
         requires empty { (S.view store).standing ≡ [] }
         requires spare { depth_of problem.now ≤ (S.view store).spare }
-        ensures ready { IfOk result (λ search. IsReady search.problem.now (S.view search.store)
-            (told search.chooser) search.course) }
-        ensures going { IfOk result (λ search. IsGoing search.course) }
-        ensures problem { IfOk result (λ search. search.problem.now ≡ problem.now) }
-        ensures store { IfOk result (λ search. S.view search.store ≡ S.view store) }
-        ensures rule { IfOk result (λ search. (told search.chooser).rule ≡ (told chooser).rule) }
-        ensures budget { IfOk result (λ search. search.course.budget ≡ budget) }
-        ensures retractions { IfOk result (λ search. search.course.retractions ≡ 0) }
+        ensures ready { IfOk result (λ made. IsReady (shown S.view made (told made.chooser))) }
+        ensures going { IfOk result (λ made. IsGoing made.course) }
+        ensures problem { IfOk result (λ made. made.problem.now ≡ problem.now) }
+        ensures store { IfOk result (λ made. S.view made.store ≡ S.view store) }
+        ensures rule { IfOk result (λ made. (told made.chooser).rule ≡ (told chooser).rule) }
+        ensures budget { IfOk result (λ made. made.course.budget ≡ budget) }
+        ensures retractions { IfOk result (λ made. made.course.retractions ≡ 0) }
     {
         let Ok(sizes) = sizes_in(alloc, &store, problem.cells()) else {
             return Err(OpenFault::NoMemory);
@@ -96,8 +97,7 @@ impl<'p, S: Store> Search<'p, S> {
 
     /// Takes the last choice back, and rules its value out instead.
     fn retract<L: Ledger>(&mut self, last: LastChoice, steps: &mut Steps<L>) -> Turn
-        requires ready { IsReady self.old.problem.now (S.view self.old.store)
-            (told self.old.chooser) self.old.course }
+        requires ready { IsReady (shown S.view self.old (told self.old.chooser)) }
         requires dead { is_dead self.old.problem.now
             (greatest self.old.problem.now (S.view self.old.store).standing) ≡ true }
         requires last { choice_in (S.view self.old.store).standing (Some last) ≡ last_choice
@@ -108,15 +108,11 @@ impl<'p, S: Store> Search<'p, S> {
         requires left { self.old.course.retractions ≢ self.old.course.budget }
         requires few { self.old.course.budget < 2 ^ 32 }
         requires going { self.old.course.outcome ≡ None }
-        ensures turn { (words : Stream) → IsTurn self.old.problem.now (told self.old.chooser).rule
-            (S.view self.old.store) self.old.course words result (S.view self.new.store)
-            self.new.course words }
-        ensures ready { IsReady self.new.problem.now (S.view self.new.store) (told self.new.chooser)
-            self.new.course }
-        ensures problem { self.new.problem.now ≡ self.old.problem.now }
-        ensures rule { (told self.new.chooser).rule ≡ (told self.old.chooser).rule }
-        ensures course { self.new.course ≡ record self.old.course
-            { retractions = self.new.course.retractions } }
+        ensures turn { IsWordless (shown S.view self.old (told self.old.chooser)) result
+            (shown S.view self.new (told self.new.chooser)) }
+        ensures ready { IsReady (shown S.view self.new (told self.new.chooser)) }
+        ensures kept { IsOnward (shown S.view self.old (told self.old.chooser))
+            (shown S.view self.new (told self.new.chooser)) }
     {
         follow::cut_back(&mut self.store, &mut self.chooser, last.at, steps);
         let ruled_out = Literal::Not {
@@ -133,20 +129,15 @@ impl<'p, S: Store> Search<'p, S> {
 
     /// A turn where some cell is empty.
     fn dead_turn<L: Ledger>(&mut self, steps: &mut Steps<L>) -> Turn
-        requires ready { IsReady self.old.problem.now (S.view self.old.store)
-            (told self.old.chooser) self.old.course }
+        requires ready { IsReady (shown S.view self.old (told self.old.chooser)) }
         requires dead { is_dead self.old.problem.now
             (greatest self.old.problem.now (S.view self.old.store).standing) ≡ true }
         requires going { self.old.course.outcome ≡ None }
-        ensures turn { (words : Stream) → IsTurn self.old.problem.now (told self.old.chooser).rule
-            (S.view self.old.store) self.old.course words result (S.view self.new.store)
-            self.new.course words }
-        ensures ready { IsReady self.new.problem.now (S.view self.new.store) (told self.new.chooser)
-            self.new.course }
-        ensures problem { self.new.problem.now ≡ self.old.problem.now }
-        ensures rule { (told self.new.chooser).rule ≡ (told self.old.chooser).rule }
-        ensures course { self.new.course ≡ record self.old.course
-            { retractions = self.new.course.retractions } }
+        ensures turn { IsWordless (shown S.view self.old (told self.old.chooser)) result
+            (shown S.view self.new (told self.new.chooser)) }
+        ensures ready { IsReady (shown S.view self.new (told self.new.chooser)) }
+        ensures kept { IsOnward (shown S.view self.old (told self.old.chooser))
+            (shown S.view self.new (told self.new.chooser)) }
     {
         match last_choice_of(self.store.standing()) {
             None => Turn::Ended(Outcome::NoMap),
@@ -162,20 +153,16 @@ impl<'p, S: Store> Search<'p, S> {
 
     /// Gives a cell the value that the next word draws.
     fn choose<R: Rng, L: Ledger>(&mut self, cell: u32, words: &mut R, steps: &mut Steps<L>) -> Turn
-        requires ready { IsReady self.old.problem.now (S.view self.old.store)
-            (told self.old.chooser) self.old.course }
+        requires ready { IsReady (shown S.view self.old (told self.old.chooser)) }
         requires alive { (S.view self.old.store).verdict ≡ Alive }
         requires picked { Some cell ≡ picked (told self.old.chooser).rule
             (told self.old.chooser).sizes }
         requires going { self.old.course.outcome ≡ None }
-        ensures turn { IsTurn self.old.problem.now (told self.old.chooser).rule
-            (S.view self.old.store) self.old.course (R.stream words.old) result
-            (S.view self.new.store) self.new.course (R.stream words.new) }
-        ensures ready { IsReady self.new.problem.now (S.view self.new.store) (told self.new.chooser)
-            self.new.course }
-        ensures problem { self.new.problem.now ≡ self.old.problem.now }
-        ensures rule { (told self.new.chooser).rule ≡ (told self.old.chooser).rule }
-        ensures course { self.new.course ≡ self.old.course }
+        ensures turn { IsTurn (shown S.view self.old (told self.old.chooser)) (R.stream words.old)
+            result (shown S.view self.new (told self.new.chooser)) (R.stream words.new) }
+        ensures ready { IsReady (shown S.view self.new (told self.new.chooser)) }
+        ensures kept { IsOnward (shown S.view self.old (told self.old.chooser))
+            (shown S.view self.new (told self.new.chooser)) }
     {
         let word = words.next_u64();
         let value = draw(self.problem, self.store.domains(), cell, word);
@@ -186,18 +173,14 @@ impl<'p, S: Store> Search<'p, S> {
 
     /// A turn where no cell is empty.
     fn alive_turn<R: Rng, L: Ledger>(&mut self, words: &mut R, steps: &mut Steps<L>) -> Turn
-        requires ready { IsReady self.old.problem.now (S.view self.old.store)
-            (told self.old.chooser) self.old.course }
+        requires ready { IsReady (shown S.view self.old (told self.old.chooser)) }
         requires alive { (S.view self.old.store).verdict ≡ Alive }
         requires going { self.old.course.outcome ≡ None }
-        ensures turn { IsTurn self.old.problem.now (told self.old.chooser).rule
-            (S.view self.old.store) self.old.course (R.stream words.old) result
-            (S.view self.new.store) self.new.course (R.stream words.new) }
-        ensures ready { IsReady self.new.problem.now (S.view self.new.store) (told self.new.chooser)
-            self.new.course }
-        ensures problem { self.new.problem.now ≡ self.old.problem.now }
-        ensures rule { (told self.new.chooser).rule ≡ (told self.old.chooser).rule }
-        ensures course { self.new.course ≡ self.old.course }
+        ensures turn { IsTurn (shown S.view self.old (told self.old.chooser)) (R.stream words.old)
+            result (shown S.view self.new (told self.new.chooser)) (R.stream words.new) }
+        ensures ready { IsReady (shown S.view self.new (told self.new.chooser)) }
+        ensures kept { IsOnward (shown S.view self.old (told self.old.chooser))
+            (shown S.view self.new (told self.new.chooser)) }
     {
         match follow::pick(&self.chooser) {
             None => Turn::Ended(Outcome::Map),
@@ -207,18 +190,13 @@ impl<'p, S: Store> Search<'p, S> {
 
     /// Makes a turn, and tells nobody.
     fn turn<R: Rng, L: Ledger>(&mut self, words: &mut R, steps: &mut Steps<L>) -> Turn
-        requires ready { IsReady self.old.problem.now (S.view self.old.store)
-            (told self.old.chooser) self.old.course }
+        requires ready { IsReady (shown S.view self.old (told self.old.chooser)) }
         requires going { self.old.course.outcome ≡ None }
-        ensures turn { IsTurn self.old.problem.now (told self.old.chooser).rule
-            (S.view self.old.store) self.old.course (R.stream words.old) result
-            (S.view self.new.store) self.new.course (R.stream words.new) }
-        ensures ready { IsReady self.new.problem.now (S.view self.new.store) (told self.new.chooser)
-            self.new.course }
-        ensures problem { self.new.problem.now ≡ self.old.problem.now }
-        ensures rule { (told self.new.chooser).rule ≡ (told self.old.chooser).rule }
-        ensures course { self.new.course ≡ record self.old.course
-            { retractions = self.new.course.retractions } }
+        ensures turn { IsTurn (shown S.view self.old (told self.old.chooser)) (R.stream words.old)
+            result (shown S.view self.new (told self.new.chooser)) (R.stream words.new) }
+        ensures ready { IsReady (shown S.view self.new (told self.new.chooser)) }
+        ensures kept { IsOnward (shown S.view self.old (told self.old.chooser))
+            (shown S.view self.new (told self.new.chooser)) }
     {
         match self.store.verdict() {
             Verdict::Dead { .. } => self.dead_turn(steps),
@@ -234,24 +212,20 @@ impl<'p, S: Store> Search<'p, S> {
         journal: &mut J,
         steps: &mut Steps<L>,
     ) -> Result<Turn, JournalFault>
-        requires ready { IsReady self.old.problem.now (S.view self.old.store)
-            (told self.old.chooser) self.old.course }
+        requires ready { IsReady (shown S.view self.old (told self.old.chooser)) }
         requires going { IsGoing self.old.course }
         requires journal { (J.seen journal.old).failed ≡ false }
 
         // It is the turn of the run from the standing literals and the retractions, with the next word where one is drawn.
-        ensures turn { IfOk result (λ turn. IsTurn self.old.problem.now (told self.old.chooser).rule
-            (S.view self.old.store) self.old.course (R.stream words.old) turn
-            (S.view self.new.store) self.new.course (R.stream words.new)) }
+        ensures turn { Turns (shown S.view self.old (told self.old.chooser)) (R.stream words.old)
+            result (shown S.view self.new (told self.new.chooser)) (R.stream words.new) }
         ensures outcome { IfOk result (λ turn. self.new.course.outcome ≡ outcome_after turn) }
-        ensures ready { OnOk result (IsReady self.new.problem.now (S.view self.new.store)
-            (told self.new.chooser) self.new.course) }
+        ensures ready { OnOk result (IsReady (shown S.view self.new (told self.new.chooser))) }
 
         ensures told { IfOk result (λ turn. IsStepTold (S.view self.old.store) turn
             (S.view self.new.store) (J.seen journal.old) (J.seen journal.new)) }
-        ensures failed { OnErr result (IsStepCutOff self.old.problem.now
-            (told self.old.chooser).rule (S.view self.old.store) self.old.course
-            (R.stream words.old) (S.view self.new.store) (J.seen journal.old) (J.seen journal.new)) }
+        ensures failed { StepFails result (shown S.view self.old (told self.old.chooser))
+            (R.stream words.old) (S.view self.new.store) (J.seen journal.old) (J.seen journal.new) }
         ensures broken { IsTrue self.new.course.broken ↔ IsErr result }
 
         ensures problem { self.new.problem.now ≡ self.old.problem.now }
@@ -278,28 +252,22 @@ impl<'p, S: Store> Search<'p, S> {
         journal: &mut J,
         steps: &mut Steps<L>,
     ) -> Result<Outcome, JournalFault>
-        requires ready { IsReady self.old.problem.now (S.view self.old.store)
-            (told self.old.chooser) self.old.course }
+        requires ready { IsReady (shown S.view self.old (told self.old.chooser)) }
         requires going { IsGoing self.old.course }
         requires journal { (J.seen journal.old).failed ≡ false }
 
         // It is the end of the run from the standing literals and the retractions, with the words that the source gives.
-        ensures end { IfOk result (λ outcome. IsEnd self.old.problem.now
-            (told self.old.chooser).rule (S.view self.old.store) self.old.course
-            (R.stream words.old) outcome (S.view self.new.store) self.new.course
-            (R.stream words.new)) }
+        ensures end { Ends (shown S.view self.old (told self.old.chooser)) (R.stream words.old)
+            result (shown S.view self.new (told self.new.chooser)) (R.stream words.new) }
         ensures outcome { IfOk result (λ outcome. self.new.course.outcome ≡ Some outcome) }
         ensures enough { volume_of self.old.problem.now ≤ self.old.course.budget → result ≢ Ok
             Outcome.Spent }
-        ensures ready { OnOk result (IsReady self.new.problem.now (S.view self.new.store)
-            (told self.new.chooser) self.new.course) }
+        ensures ready { OnOk result (IsReady (shown S.view self.new (told self.new.chooser))) }
 
-        ensures told { IfOk result (λ outcome. IsRunTold self.old.problem.now
-            (told self.old.chooser).rule (S.view self.old.store) self.old.course
-            (R.stream words.old) outcome (J.seen journal.old) (J.seen journal.new)) }
-        ensures failed { OnErr result (IsCutShort self.old.problem.now (told self.old.chooser).rule
-            (S.view self.old.store) self.old.course (R.stream words.old) (J.seen journal.old)
-            (J.seen journal.new)) }
+        ensures told { IfOk result (λ end. IsRunTold (shown S.view self.old (told self.old.chooser))
+            (R.stream words.old) end (J.seen journal.old) (J.seen journal.new)) }
+        ensures failed { RunFails result (shown S.view self.old (told self.old.chooser))
+            (R.stream words.old) (J.seen journal.old) (J.seen journal.new) }
         ensures broken { IsTrue self.new.course.broken ↔ IsErr result }
 
         ensures problem { self.new.problem.now ≡ self.old.problem.now }
@@ -326,9 +294,8 @@ impl<'p, S: Store> Search<'p, S> {
     #[inline]
     pub fn outcome(&self) -> Option<Outcome>
         ensures value { result ≡ self.now.course.outcome }
-        ensures true_end { IsReady self.now.problem.now (S.view self.now.store)
-            (told self.now.chooser) self.now.course → ForSome result
-            (IsTrueEnd self.now.problem.now self.now.course.budget (S.view self.now.store).standing) }
+        ensures true_end { IsReady (shown S.view self.now (told self.now.chooser)) → ForSome result
+            (SaysTrue (shown S.view self.now (told self.now.chooser))) }
     {
         self.course.outcome
     }
@@ -362,8 +329,7 @@ impl<'p, S: Store> Search<'p, S> {
 
     /// The value of a cell in the map that was found. It looks through the values for it.
     pub fn value_at(&self, cell: u32) -> u16
-        requires ready { IsReady self.now.problem.now (S.view self.now.store)
-            (told self.now.chooser) self.now.course }
+        requires ready { IsReady (shown S.view self.now (told self.now.chooser)) }
         requires map { self.now.course.outcome ≡ Some Outcome.Map }
         requires cell_in { cell < self.now.problem.now.cells }
         ensures value { result ≡ slice_index
