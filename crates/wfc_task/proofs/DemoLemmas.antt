@@ -27,7 +27,8 @@ use Rattle.wfc_pattern.proofs.CallerLemmas.{few_enough, taught_are_patterns}
 use Rattle.wfc_pattern.proofs.LearningLemmas.{length-arising}
 use Rattle.wfc_problem.specs.Network.{Network}
 use Rattle.wfc_pins.specs.declared.fault.BuildFault.{BuildFault}
-use Rattle.wfc_overlap.specs.Built.{built, pairs}
+use Rattle.wfc_overlap.specs.Built.{built}
+use Rattle.wfc_overlap.specs.Bridge.{pairs}
 use Rattle.wfc_overlap.specs.Sample.{Output, output_with, problem_of_sample}
 use Rattle.wfc_task.specs.declared.fault.Refusal.{Refusal}
 use Rattle.wfc_task.specs.declared.fault.Refusal.TheVariants.{Build, Colours, Learn}

@@ -33,8 +33,8 @@ use Rattle.wfc_problem.specs.declared.TheConstants.{MAX_PAIRS}
 use Rattle.wfc_pins.specs.PinView.{PinView}
 use Rattle.wfc_pins.specs.declared.fault.BuildFault.{BuildFault}
 use Rattle.wfc_pins.specs.declared.fault.BuildFault.TheVariants.{SizeBelowN, TooLarge}
-use Rattle.wfc_overlap.specs.Bridge.{IsRoom}
-use Rattle.wfc_overlap.specs.Built.{built, pairs, pins_in, texts_of}
+use Rattle.wfc_overlap.specs.Bridge.{IsRoom, pairs}
+use Rattle.wfc_overlap.specs.Built.{built, pins_in, texts_of}
 use Rattle.wfc_overlap.specs.Sample.{Output, output_with, problem_of_sample}
 use Rattle.wfc_overlap.proofs.CallerLemmas.{sample_problem}
 use Rattle.wfc_render.specs.Map.{is_of_kind}

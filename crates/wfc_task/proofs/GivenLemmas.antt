@@ -28,8 +28,8 @@ use Rattle.wfc_pins.specs.declared.fault.BuildFault.{BuildFault}
 use Rattle.wfc_pins.specs.declared.fault.BuildFault.TheVariants.{SizeBelowN, TooLarge}
 use Rattle.wfc_pins.specs.declared.steps.StepLine.{StepLine}
 use Rattle.wfc_pins.specs.declared.steps.RangeFault.{RangeFault}
-use Rattle.wfc_overlap.specs.Bridge.{IsRoom}
-use Rattle.wfc_overlap.specs.Built.{built, pairs, pins_in, texts_of}
+use Rattle.wfc_overlap.specs.Bridge.{IsRoom, pairs}
+use Rattle.wfc_overlap.specs.Built.{built, pins_in, texts_of}
 use Rattle.wfc_overlap.specs.Sample.{Output, output_with, problem_of_sample}
 use Rattle.wfc_choose.specs.declared.RuleKind.{RuleKind}
 use Rattle.wfc_choose.specs.declared.RuleKind.TheVariants.{Scanline, Fewest, Ranked}

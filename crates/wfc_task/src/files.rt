@@ -30,7 +30,8 @@ fn file<F: Folder>(
     source: Source,
     name: &str,
 ) -> Result<Vec<u8>, Fault>
-    ensures goes { Goes (file_plan source name.now) (F.seen folder.old) (F.seen folder.new) (result_map (λ bytes. bytes.items) result) }
+    ensures goes { Goes (file_plan source name.now)
+        (F.seen folder.old) (F.seen folder.new) (result_map (λ bytes. bytes.items) result) }
     ensures short { IfOk result (λ bytes. length bytes.items ≤ MAX_FILE_BYTES) }
 {
     match read_all(alloc, folder, name, MAX_FILE_BYTES) {
@@ -86,7 +87,8 @@ pub(crate) fn sample<F: Folder>(
 
 /// The pins and bans of a pins file.
 fn pins_file<F: Folder>(alloc: Global, folder: &mut F, name: &str) -> Result<Vec<PinLine>, Fault>
-    ensures goes { Goes (pins_file_plan name.now) (F.seen folder.old) (F.seen folder.new) (result_map (λ lines. lines.items) result) }
+    ensures goes { Goes (pins_file_plan name.now)
+        (F.seen folder.old) (F.seen folder.new) (result_map (λ lines. lines.items) result) }
 {
     let bytes = file(alloc, folder, Source::Pins, name)?;
     let lines = pins_in(alloc, &bytes)?;
@@ -95,7 +97,8 @@ fn pins_file<F: Folder>(alloc: Global, folder: &mut F, name: &str) -> Result<Vec
 
 /// The pins and bans of the pins file, if one is named.
 fn pins<F: Folder>(alloc: Global, folder: &mut F, name: Option<&str>) -> Result<Vec<PinLine>, Fault>
-    ensures goes { Goes (pins_plan (option_map (λ text. text.now) name.entry)) (F.seen folder.old) (F.seen folder.new) (result_map (λ lines. lines.items) result) }
+    ensures goes { Goes (pins_plan (option_map (λ text. text.now) name.entry))
+        (F.seen folder.old) (F.seen folder.new) (result_map (λ lines. lines.items) result) }
 {
     match name {
         Some(name) => pins_file(alloc, folder, name),
@@ -112,7 +115,8 @@ pub(crate) fn problem<F: Folder>(
 ) -> Result<Problem, Fault>
     requires patterns { IsPatterns taught.now.patterns }
     requires output { IsOutputAsked request.now }
-    ensures goes { Goes (problem_plan request.now taught.now) (F.seen folder.old) (F.seen folder.new) result }
+    ensures goes { Goes (problem_plan request.now taught.now)
+        (F.seen folder.old) (F.seen folder.new) result }
     ensures posed { IfOk result (IsPosed request.now taught.now.patterns) }
 {
     let lines = pins(alloc, folder, request.pins())?;
@@ -127,8 +131,10 @@ fn steps_file<F: Folder>(
     name: &str,
     problem: &Problem,
 ) -> Result<Vec<StepLine>, Fault>
-    ensures goes { Goes (steps_file_plan name.now problem.now) (F.seen folder.old) (F.seen folder.new) (result_map (λ steps. steps.items) result) }
-    ensures inside { IfOk result (λ steps. All (λ (line : StepLine). IsStepIn problem.now line.step) steps.items) }
+    ensures goes { Goes (steps_file_plan name.now problem.now)
+        (F.seen folder.old) (F.seen folder.new) (result_map (λ steps. steps.items) result) }
+    ensures inside { IfOk result (λ steps. All (λ
+        (line : StepLine). IsStepIn problem.now line.step) steps.items) }
 {
     let bytes = file(alloc, folder, Source::Steps, name)?;
     let steps = steps_in(alloc, &bytes)?;
@@ -143,8 +149,10 @@ pub(crate) fn steps<F: Folder>(
     name: Option<&str>,
     problem: &Problem,
 ) -> Result<Vec<StepLine>, Fault>
-    ensures goes { Goes (steps_plan (option_map (λ text. text.now) name.entry) problem.now) (F.seen folder.old) (F.seen folder.new) (result_map (λ steps. steps.items) result) }
-    ensures inside { IfOk result (λ steps. All (λ (line : StepLine). IsStepIn problem.now line.step) steps.items) }
+    ensures goes { Goes (steps_plan (option_map (λ text. text.now) name.entry) problem.now)
+        (F.seen folder.old) (F.seen folder.new) (result_map (λ steps. steps.items) result) }
+    ensures inside { IfOk result (λ steps. All (λ
+        (line : StepLine). IsStepIn problem.now line.step) steps.items) }
 {
     match name {
         Some(name) => steps_file(alloc, folder, name, problem),

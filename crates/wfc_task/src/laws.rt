@@ -21,32 +21,38 @@ ghost use Rattle.wfc_task.specs.declared.fault.Refusal.TheVariants.{NotBuilt, Ch
 
 /// `learn` comes to these patterns and this palette exactly where the file spells a sample that teaches them.
 pub fn learn_tasks_are_given()
-    ensures task { (asked : RequestView) (files : List File) (patterns : PatternsView) (palette : List Symbol) →
-        (outcome (learn_plan asked) files ≡ Ok (learn patterns palette)) ↔ IsSample asked files patterns palette }
+    ensures task { (asked : RequestView) (files : List File) (patterns : PatternsView)
+        (palette : List Symbol) → (outcome (learn_plan asked) files ≡ Ok (learn patterns palette))
+        ↔ IsSample asked files patterns palette }
 {}
 
-/// `fill` comes to this task exactly where a chooser is there, the sample teaches the patterns, the map has the layout, and
-/// the problem is that of the patterns, the output and the pins.
+/// `fill` comes to this task exactly where a chooser is there, the sample teaches the patterns, the map has the layout,
+/// and the problem is that of the patterns, the output and the pins.
 pub fn fill_tasks_are_given()
-    ensures task { (kinds : List RuleKind) (asked : RequestView) (files : List File) (patterns : PatternsView) (palette : List Symbol) (layout : Layout) (P : Network) →
-        (outcome (fill_plan kinds asked) files ≡ Ok (fill patterns palette layout P)) ↔ IsFillTask kinds asked files patterns palette layout P }
+    ensures task { (kinds : List RuleKind) (asked : RequestView) (files : List File)
+        (patterns : PatternsView) (palette : List Symbol) (layout : Layout) (P : Network) →
+        (outcome (fill_plan kinds asked) files ≡ Ok (fill patterns palette layout P))
+        ↔ IsFillTask kinds asked files patterns palette layout P }
 {}
 
 /// `domains` comes to this task exactly where the problem is that of the request and the steps are those of the file.
 pub fn domains_tasks_are_given()
     ensures task { (asked : RequestView) (files : List File) (P : Network) (steps : List StepLine) →
-        (outcome (domains_plan asked) files ≡ Ok (domains P steps)) ↔ IsDomainsTask asked files P steps }
+        (outcome (domains_plan asked) files ≡ Ok (domains P steps))
+        ↔ IsDomainsTask asked files P steps }
 {}
 
 /// `demo` comes to its task wherever a chooser of the fewest values is there, whatever its number and the files are.
 pub fn demo_tasks_are_given()
-    ensures task { (kinds : List RuleKind) (asked : RequestView) (files : List File) → Contains kinds Fewest →
-        outcome (demo_plan kinds asked) files ≡ Ok (demo (demo_patterns asked.number) (demo_problem asked.number)) }
+    ensures task { (kinds : List RuleKind) (asked : RequestView) (files : List File) →
+        Contains kinds Fewest → outcome (demo_plan kinds asked) files
+        ≡ Ok (demo (demo_patterns asked.number) (demo_problem asked.number)) }
 {}
 
 /// What isn't built is refused before anything is read.
 pub fn unbuilt_requests_are_refused()
-    ensures refused { (kinds : List RuleKind) (asked : RequestView) → is_built asked ≡ false → plan_of kinds asked ≡ refuse NotBuilt }
+    ensures refused { (kinds : List RuleKind) (asked : RequestView) → is_built asked ≡ false →
+        plan_of kinds asked ≡ refuse NotBuilt }
 {}
 
 /// Choosers, names of pictures, and the pixels of demonstrations by example.

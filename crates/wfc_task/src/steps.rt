@@ -195,7 +195,8 @@ pub(crate) fn posed_for(
     requires some_height { 0 < output.height }
     requires width_limit { output.width ≤ 4096 }
     requires height_limit { output.height ≤ 4096 }
-    ensures exact { GivesStep (or_refuse Build (built patterns.now palette.now (output_with output.width output.height output.wrap) lines.now)) result }
+    ensures exact { GivesStep (or_refuse Build (built patterns.now palette.now
+        (output_with output.width output.height output.wrap) lines.now)) result }
 {
     let Output {
         width,
@@ -222,7 +223,8 @@ pub(crate) fn steps_in(alloc: Global, bytes: &[u8]) -> Result<Vec<StepLine>, Ref
 /// The steps, if they are all in the problem.
 pub(crate) fn fitting(problem: &Problem, steps: Vec<StepLine>) -> Result<Vec<StepLine>, Refusal>
     ensures exact { result_map (λ steps. steps.items) result ≡ fitting problem.now steps.items }
-    ensures inside { IfOk result (λ steps. All (λ (line : StepLine). IsStepIn problem.now line.step) steps.items) }
+    ensures inside { IfOk result (λ steps. All (λ
+        (line : StepLine). IsStepIn problem.now line.step) steps.items) }
 {
     match steps_fit(&steps, problem) {
         Ok(()) => Ok(steps),

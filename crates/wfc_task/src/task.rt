@@ -61,7 +61,8 @@ pub fn learn_task<F: Folder>(
     folder: &mut F,
 ) -> Result<Taught, Fault>
     requires sample { IsSampleAsked request.now }
-    ensures goes { Goes (learn_plan request.now) (F.seen folder.old) (F.seen folder.new) (learn_made result) }
+    ensures goes { Goes (learn_plan request.now)
+        (F.seen folder.old) (F.seen folder.new) (learn_made result) }
 {
     let taught = sample(alloc, request, folder)?;
     Ok(taught)
@@ -77,7 +78,8 @@ pub fn fill_task<F: Folder>(
 ) -> Result<Filling, Fault>
     requires sample { IsSampleAsked request.now }
     requires output { IsOutputAsked request.now }
-    ensures goes { Goes (fill_plan kinds.now request.now) (F.seen folder.old) (F.seen folder.new) (fill_made result) }
+    ensures goes { Goes (fill_plan kinds.now request.now)
+        (F.seen folder.old) (F.seen folder.new) (fill_made result) }
     ensures chooser { OnOk result (Contains kinds.now request.now.rule) }
     ensures filling { IfOk result (IsFilling request.now) }
 {
@@ -101,8 +103,10 @@ pub fn domains_task<F: Folder>(
 ) -> Result<Stepping, Fault>
     requires sample { IsSampleAsked request.now }
     requires output { IsOutputAsked request.now }
-    ensures goes { Goes (domains_plan request.now) (F.seen folder.old) (F.seen folder.new) (domains_made result) }
-    ensures inside { IfOk result (λ task. All (λ (line : StepLine). IsStepIn task.problem line.step) task.steps.items) }
+    ensures goes { Goes (domains_plan request.now)
+        (F.seen folder.old) (F.seen folder.new) (domains_made result) }
+    ensures inside { IfOk result (λ task. All (λ
+        (line : StepLine). IsStepIn task.problem line.step) task.steps.items) }
 {
     let taught = sample(alloc, request, folder)?;
     let problem = problem(alloc, request, &taught, folder)?;
@@ -117,7 +121,8 @@ pub fn demo_task<F: Folder>(
     kinds: &[RuleKind],
     _folder: &mut F,
 ) -> Result<Demo, Fault>
-    ensures goes { Goes (demo_plan kinds.now request.now) (F.seen _folder.old) (F.seen _folder.new) (demo_made result) }
+    ensures goes { Goes (demo_plan kinds.now request.now)
+        (F.seen _folder.old) (F.seen _folder.new) (demo_made result) }
     ensures chooser { OnOk result (Contains kinds.now Fewest) }
 {
     chosen(kinds, RuleKind::Fewest)?;
