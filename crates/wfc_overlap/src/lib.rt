@@ -15,6 +15,8 @@ mod painting;
 mod pins;
 mod problem;
 mod supports;
+#[cfg(test)]
+mod tests;
 
 pub use painting::picture_of;
 pub use problem::build;
