@@ -7,6 +7,7 @@
 mod building;
 mod commands;
 mod grids;
+pub mod laws;
 mod layouts;
 mod learning;
 mod line;

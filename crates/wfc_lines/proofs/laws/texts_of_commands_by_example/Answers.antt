@@ -1,0 +1,7 @@
+use Rattle.std.proofs.Common.{refl}
+use Rattle.std.specs.Fmt.{digits}
+use Rattle.wfc_lines.proofs.laws.texts_of_commands_by_example.Goals as goal
+
+pub returns-clause-budget : goal.returns-clause-budget
+unfolding digits
+returns-clause-budget c = refl

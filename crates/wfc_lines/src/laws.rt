@@ -1,0 +1,65 @@
+//! Laws of the definitions, each a function with no body whose contract is the law. They run nothing.
+
+ghost use Rattle.std.specs.Prelude.{◌≡◌, codes};
+ghost use Rattle.wfc_choose.specs.declared.RuleKind.TheVariants as rules;
+ghost use Rattle.wfc_grid.specs.declared.reading.GridFault.TheVariants as grids;
+ghost use Rattle.wfc_lines.specs.Build.{text_of_build};
+ghost use Rattle.wfc_lines.specs.Command.{text_of_chooser, text_of_command};
+ghost use Rattle.wfc_lines.specs.Grid.{text_of_grid};
+ghost use Rattle.wfc_lines.specs.Learn.{text_of_learn};
+ghost use Rattle.wfc_lines.specs.Line.{line};
+ghost use Rattle.wfc_lines.specs.Outcome.{no_domains_text, no_map_text, no_memory_text, out_failed_text, text_of_budget};
+ghost use Rattle.wfc_lines.specs.Palette.{text_of_palette};
+ghost use Rattle.wfc_lines.specs.Pins.{text_of_pins};
+ghost use Rattle.wfc_lines.specs.Reading.{text_of_reading};
+ghost use Rattle.wfc_lines.specs.Render.{text_of_render};
+ghost use Rattle.wfc_lines.specs.Steps.{text_of_range, text_of_steps};
+ghost use Rattle.wfc_outside.specs.declared.whole.ReadFault.TheVariants as reads;
+ghost use Rattle.wfc_pattern.specs.declared.learning.LearnFault.TheVariants as learns;
+ghost use Rattle.wfc_picture.specs.declared.palette.PaletteFault.TheVariants as palettes;
+ghost use Rattle.wfc_pins.specs.declared.fault.BuildFault.TheVariants as builds;
+ghost use Rattle.wfc_pins.specs.declared.pins.PinFault.TheVariants as pins;
+ghost use Rattle.wfc_pins.specs.declared.steps.RangeFault.TheVariants as ranges;
+ghost use Rattle.wfc_pins.specs.declared.steps.StepFault.TheVariants as steps;
+ghost use Rattle.wfc_render.specs.declared.form.RenderFault.TheVariants as renders;
+ghost use Rattle.wfc_words.specs.declared.fault.CommandFault.TheVariants as commands;
+ghost use Rattle.wfc_words.specs.declared.fault.ValueName.TheVariants as names;
+
+/// The line of a byte that is no printable one, by example.
+pub fn lines_by_example()
+    ensures bad_byte { line (text_of_grid (grids.BadByte 2 13) (codes "r.txt"))
+        ≡ codes "wfc: grid BadByte line=2 column=13 file=r.txt\n" }
+    ensures no_map { line no_map_text ≡ codes "wfc: no map\n" }
+{}
+
+/// The texts of commands and devices, by example.
+pub fn texts_of_commands_by_example()
+    ensures domains { no_domains_text ≡ codes "no consistent domains" }
+    ensures budget { text_of_budget 1000 ≡ codes "budget spent budget=1000" }
+    ensures refused { text_of_command commands.Refused ≡ codes "command refused" }
+    ensures value { text_of_command (commands.Value names.Model) ≡ codes "command value MODEL" }
+    ensures memory { text_of_command commands.NoMemory ≡ no_memory_text }
+    ensures chooser { text_of_chooser rules.Ranked ≡ codes "chooser missing rule=ranked" }
+    ensures missing { text_of_reading reads.Missing (codes "a") ≡ codes "device Missing file=a" }
+    ensures failed { text_of_reading reads.Failed (codes "a") ≡ codes "device Failed file=a" }
+    ensures long { text_of_reading reads.TooLong (codes "a") ≡ codes "file TooLong file=a" }
+    ensures out { out_failed_text ≡ codes "device Failed out" }
+{}
+
+/// The texts of inputs, by example.
+pub fn texts_of_inputs_by_example()
+    ensures empty { text_of_grid grids.Empty (codes "a") ≡ codes "grid Empty file=a" }
+    ensures ragged { text_of_grid (grids.Ragged 2) (codes "a") ≡ codes "grid Ragged line=2 file=a" }
+    ensures colours { text_of_palette (palettes.TooManyColours 70) (codes "a") ≡ codes "palette TooManyColours at=70 file=a" }
+    ensures small { text_of_learn learns.SampleBelowN (codes "a") ≡ codes "learn SampleBelowN file=a" }
+    ensures many { text_of_learn (learns.TooManyPatterns 4097) (codes "a") ≡ codes "learn TooManyPatterns count=4097 file=a" }
+    ensures pin { text_of_pins (pins.BadLine 1) (codes "p") ≡ codes "pins BadLine line=1 file=p" }
+    ensures step { text_of_steps (steps.NothingToUndo 1) (codes "s") ≡ codes "steps NothingToUndo line=1 file=s" }
+    ensures range { text_of_range (ranges.OutOfRange 3) (codes "s") ≡ codes "steps OutOfRange line=3 file=s" }
+    ensures side { text_of_build builds.SizeBelowN (codes "p") ≡ codes "build SizeBelowN" }
+    ensures pairs { text_of_build (builds.TooLarge 8392704) (codes "p") ≡ codes "build TooLarge product=8392704" }
+    ensures outside { text_of_build (builds.PinOutside 1) (codes "p") ≡ codes "build PinOutside line=1 file=p" }
+    ensures symbol { text_of_build (builds.UnknownSymbol 2) (codes "p") ≡ codes "build UnknownSymbol line=2 file=p" }
+    ensures form { text_of_render renders.FormDiffers ≡ codes "render FormDiffers" }
+    ensures pixels { text_of_render (renders.TooLarge 16777217) ≡ codes "render TooLarge pixels=16777217" }
+{}
