@@ -1,5 +1,5 @@
 -- Bytes that pass one after another.
-use Rattle.std.proofs.Common.{◌≡◌, ◌+◌, ◌-◌, ◌<◌, List, ℕ, ◌++◌, [], refl, ap, sym, ◌∙◌, subst, append_assoc, append-nil, Result, Ok, Err}
+use Rattle.std.proofs.Common.{◌≡◌, ◌+◌, ◌-◌, ◌<◌, List, ℕ, ◌++◌, [], ap, sym, ◌∙◌, subst, append_assoc, append-nil, Result, Ok, Err}
 use Rattle.std.specs.List.{flat_map, range_with_len}
 use Rattle.wfc_outside.specs.Sink.{SinkView, after_bytes, IsFaultAfterFront, Puts}
 use Rattle.wfc_outside.proofs.CallerLemmas.{after_bytes-append, fault_out, fault_on, puts_none, puts_on}

@@ -1,3 +1,4 @@
+pub mod CallerLemmas
 pub mod GatheringLemmas
 pub mod MapLemmas
 pub mod RangeLemmas

@@ -1,10 +1,19 @@
 //! Layouts, texts and blocks, by tables.
 
-use crate::{Form, Layout, RenderFault, layout, learned_overlap, write_block};
+ghost use Rattle.std.specs.Prelude.{◌≡◌, ◌*◌, ◌≤◌, map, IfOk};
+ghost use Rattle.wfc_picture.specs.declared.palette.TheConstants.{MAX_PIXELS};
+ghost use Rattle.wfc_picture.specs.declared.symbol.Symbol.TheVariants.{Char};
+
+use crate::laws::layouts_are_as_asked;
+use crate::{Form, Layout, RenderFault, layout, learned_overlap, picture_bytes, write_block};
+use std::alloc::{AllocError, Global};
 use std::test::Fail;
+use wfc_domains::Domains;
+use wfc_grid::Grid;
 use wfc_outside::{MemorySink, SinkFault};
 use wfc_pattern::learn;
 use wfc_picture::{Kind, Palette, Symbol};
+use wfc_problem::{NO_CELL, Parts, Problem};
 
 #[test]
 fn lays_out(rt: HostRuntime) {
@@ -86,5 +95,90 @@ fn writes_dead_blocks(rt: HostRuntime) -> Result<(), Fail> {
         Err(SinkFault::Failed)
     );
     assert_eq!(rt; sink.bytes(), b"step 4294967295\n".as_slice());
+    Ok(())
+}
+
+fn symbols_of(alloc: Global, bytes: &[u8]) -> Result<Vec<Symbol>, AllocError>
+    ensures symbols { IfOk result (λ symbols. symbols.items ≡ map Char bytes.now) }
+{
+    bytes.iter().map(|byte| Symbol::Char(*byte)).collect(alloc)
+}
+
+/// The grid's own text in a form.
+fn text_of(alloc: Global, grid: &Grid, form: Form) -> Result<Vec<u8>, Fail>
+    requires width_limit { grid.now.width ≤ 4096 }
+    requires height_limit { grid.now.height ≤ 4096 }
+    requires limit { grid.now.width * grid.now.height ≤ MAX_PIXELS }
+{
+    layouts_are_as_asked();
+    let bytes = grid.cells();
+    let symbols = symbols_of(alloc, bytes)?;
+    let (picture, palette) = Palette::index(alloc, &symbols, grid.width)?;
+    let laid = layout(Kind::Grid, Some(form), grid.width, grid.height, 1)?;
+    Ok(picture_bytes(alloc, &laid, &palette, &picture)?)
+}
+
+#[test]
+fn writes_maps(rt: HostRuntime) -> Result<(), Fail> {
+    let cases: [(&[u8], Form, &[u8]); 4] = [
+        (b"ab\nb \naa\n", Form::Grid, b"ab\nb \naa\n"),
+        (b"ab\nb \naa\n", Form::Cells, b"0 1\n1 2\n0 0\n"),
+        (b"x\n", Form::Cells, b"0\n"),
+        (
+            b"abcdefghijkl\n",
+            Form::Cells,
+            b"0 1 2 3 4 5 6 7 8 9 10 11\n",
+        ),
+    ];
+    for (text, form, wanted) in cases {
+        assert!(rt; text.len() < 16);
+        let grid = wfc_grid::read(rt.alloc(), text)?;
+        assert!(rt; grid.width <= 4096 && grid.height <= 4096);
+        assert_eq!(rt; text_of(rt.alloc(), &grid, form)?.as_slice(), wanted);
+    }
+    Ok(())
+}
+
+/// Domains of two values, with this base.
+fn domains_of(alloc: Global, cells: u32, base: Vec<bool>) -> Result<Domains, Fail>
+    requires limit { cells ≤ 1048576 }
+    ensures values { IfOk result (λ domains. domains.values ≡ 2) }
+    ensures cells { IfOk result (λ domains. domains.cells ≡ cells) }
+{
+    let mut supports = Vec::new(alloc);
+    for _ in 0..8 {
+        supports.push(Vec::new(alloc))?;
+    }
+    let problem = Problem::new(Parts {
+        cells,
+        dirs: 4,
+        neighbours: vec![in alloc; NO_CELL; cells as usize * 4]?,
+        weights: Vec::from_slice(alloc, &[1, 1])?,
+        supports,
+        base,
+    })?;
+    Ok(Domains::new(alloc, &problem)?)
+}
+
+#[test]
+fn writes_blocks(rt: HostRuntime) -> Result<(), Fail> {
+    let base = Vec::from_slice(rt.alloc(), &[false, true, true, true, false, false])?;
+    let small = domains_of(rt.alloc(), 3, base)?;
+    let mut sink = MemorySink::new(rt.alloc(), 1, 64)?;
+    assert_eq!(rt; write_block(&mut sink, 0, Some(&small), 2, 3), Ok(()));
+    assert_eq!(rt; write_block(&mut sink, 1, None, 2, 3), Ok(()));
+    assert_eq!(rt;
+        sink.bytes(),
+        b"step 0\n0: 1\n1: 0 1\n2:\nstep 1\ndead\n".as_slice()
+    );
+    let base = vec![in rt.alloc(); true; 200_000]?;
+    let large = domains_of(rt.alloc(), 100_000, base)?;
+    let mut sink = MemorySink::new(rt.alloc(), 5000, 2_000_000)?;
+    assert_eq!(rt;
+        write_block(&mut sink, 12, Some(&large), 2, 100_000),
+        Ok(())
+    );
+    assert_eq!(rt; sink.bytes().len(), 1_088_898);
+    assert!(rt; sink.bytes().ends_with(b"99998: 0 1\n99999: 0 1\n"));
     Ok(())
 }

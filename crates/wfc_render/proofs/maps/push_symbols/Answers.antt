@@ -1,5 +1,5 @@
 use Rattle.std.proofs.Common.{◌<◌, length, arith}
-use Rattle.wfc_model.specs.Raster.{IsRaster, height_of}
+use Rattle.wfc_model.specs.Raster.{IsRaster}
 use Rattle.wfc_render.proofs.MapLemmas.{number_in}
 use Rattle.wfc_render.proofs.maps.push_symbols.Goals as goal
 

@@ -1,0 +1,61 @@
+-- What callers cite of layouts and of maps that are written.
+use Rattle.std.proofs.Common.{◌≡◌, ℕ, ◌*◌, ◌/◌, ◌<◌, List, length, map, true, None, Some, Option, Ok, ap, sym, ◌∙◌, subst, arith}
+use Rattle.std.proofs.lemmas.List.{length-map}
+use Rattle.std.proofs.lemmas.List.Elements.{All-map}
+use Rattle.std.proofs.Math.Nat.{mul-div_cancel_left}
+use Rattle.std.specs.List.{All, AllPass}
+use Rattle.wfc_grid.specs.Grid.{GridView, IsGrid}
+use Rattle.wfc_lists.proofs.Unrepeated.{All-unrepeated, some_unrepeated}
+use Rattle.wfc_model.specs.Raster.{Raster, IsFilled, raster_of}
+use Rattle.wfc_model.proofs.CallerLemmas.{IsSized-raster_of, numbers_of-raster_of}
+use Rattle.wfc_picture.specs.Palette.{palette_of, numbered, first_past, unless_past, indexed}
+use Rattle.wfc_picture.specs.Symbol.{same_symbol}
+use Rattle.wfc_picture.specs.declared.palette.TheConstants.{MAX_COLOURS}
+use Rattle.wfc_picture.specs.declared.symbol.Kind.TheVariants as kinds
+use Rattle.wfc_picture.specs.declared.symbol.Symbol.{Symbol}
+use Rattle.wfc_picture.specs.declared.symbol.Symbol.TheVariants.{Char}
+use Rattle.wfc_picture.proofs.CallerLemmas.{numbered_below}
+use Rattle.wfc_render.specs.Layout.{IsLayout}
+use Rattle.wfc_render.specs.Map.{IsWritten, is_of_kind}
+use Rattle.wfc_render.specs.declared.form.Layout.{Layout}
+
+-- what symbols are numbered as is the map that is written of them
+pub written_sample : (symbols : List Symbol) (l : Layout) → IsFilled l.width l.height symbols → AllPass (is_of_kind l.kind) symbols → 0 < length symbols → IsLayout l → l.side ≡ 1
+    → IsWritten l (palette_of symbols) (raster_of l.width l.height (numbered symbols))
+written_sample symbols l filled shown some answered pixels =
+    let many : length (numbered symbols) ≡ l.width * l.height = length-map symbols _ ∙ filled.as_many in
+    let full : IsFilled l.width l.height (numbered symbols) = record { some_column = filled.some_column; some_row = filled.some_row; as_many = many } in
+    record {
+      answered = answered;
+      pixels = pixels;
+      kind = All-unrepeated same_symbol (λ symbol. is_of_kind l.kind symbol ≡ true) symbols shown;
+      some_symbol = some_unrepeated same_symbol symbols some;
+      sized = IsSized-raster_of l.width l.height (numbered symbols) full;
+      numbers = subst (All (λ n. n < length (palette_of symbols))) (sym (numbers_of-raster_of l.width l.height (numbered symbols) many)) (numbered_below symbols);
+    }
+
+-- what indexing answers
+indexed_is : (past : Option ℕ) (symbols : List Symbol) (w : ℕ) (made : Raster × List Symbol) → unless_past past symbols w ≡ Ok made → (raster_of w (length symbols / w) (numbered symbols) ≡ made.0) × (palette_of symbols ≡ made.1)
+indexed_is None symbols w made is =
+    let same : (raster_of w (length symbols / w) (numbered symbols), palette_of symbols) ≡ made = cc in
+    (ap (λ (m : Raster × List Symbol). m.0) same, ap (λ (m : Raster × List Symbol). m.1) same)
+indexed_is (Some at) symbols w made is = cc
+
+-- a grid's own bytes are a map that is written
+pub written_grid : (g : GridView) (symbols : List Symbol) (made : Raster × List Symbol) (l : Layout) → IsGrid g → symbols ≡ map Char g.bytes → indexed symbols g.width ≡ Ok made
+    → IsLayout l → l.kind ≡ kinds.Grid → l.side ≡ 1 → l.width ≡ g.width → l.height ≡ g.height → IsWritten l made.1 made.0
+written_grid g symbols made l grid same is answered kind pixels wide high =
+    let found = indexed_is (first_past MAX_COLOURS symbols) symbols g.width made is in
+    let many : length symbols ≡ l.width * l.height = ap length same ∙ length-map g.bytes Char ∙ grid.filled.as_many ∙ sym (ap (λ w. w * g.height) wide) ∙ sym (ap (λ h. l.width * h) high) in
+    let wide_one : 0 < l.width = omega (arith, grid.filled.some_column, wide) in
+    let high_one : 0 < l.height = omega (arith, grid.filled.some_row, high) in
+    let filled : IsFilled l.width l.height symbols = record { some_column = wide_one; some_row = high_one; as_many = many } in
+    let shown : AllPass (is_of_kind l.kind) symbols =
+    subst (λ k. AllPass (is_of_kind k) symbols) (sym kind) (subst (AllPass (is_of_kind kinds.Grid)) (sym same) (All-map (λ s. is_of_kind kinds.Grid s ≡ true) Char g.bytes grid.printable)) in
+    let rows : l.height ≡ length symbols / g.width = sym (ap (λ n. n / g.width) (many ∙ ap (λ w. w * l.height) wide) ∙ mul-div_cancel_left l.height grid.filled.some_column) in
+    let some : 0 < length symbols = omega (arith, many, mul_some l.width l.height wide_one high_one) in
+    let picture : raster_of l.width l.height (numbered symbols) ≡ made.0 = ap (λ w. raster_of w l.height (numbered symbols)) wide ∙ ap (λ h. raster_of g.width h (numbered symbols)) rows ∙ found.0 in
+    subst (λ m. IsWritten l made.1 m) picture (subst (λ p. IsWritten l p (raster_of l.width l.height (numbered symbols))) found.1 (written_sample symbols l filled shown some answered pixels))
+  where
+    mul_some : (a b : ℕ) → 0 < a → 0 < b → 0 < a * b
+    mul_some a b one other = grind arith
