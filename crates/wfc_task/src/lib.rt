@@ -12,3 +12,6 @@ mod task;
 pub use built::is_built;
 pub use fault::{Class, Fault, Refusal, Source};
 pub use task::{Demo, Filling, Stepping, Taught, demo_task, domains_task, fill_task, learn_task};
+
+#[cfg(test)]
+mod tests;
