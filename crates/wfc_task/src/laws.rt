@@ -17,7 +17,10 @@ ghost use Rattle.wfc_task.specs.Given.{IsDomainsTask, IsFillTask, IsSample};
 ghost use Rattle.wfc_task.specs.Plan.{outcome, refuse};
 ghost use Rattle.wfc_task.specs.Steps.{chosen};
 ghost use Rattle.wfc_task.specs.Task.{demo, demo_plan, domains, domains_plan, fill, fill_plan, learn, learn_plan, plan_of};
+ghost use Rattle.wfc_outside.specs.declared.whole.ReadFault.TheVariants.{Missing};
 ghost use Rattle.wfc_task.specs.declared.fault.Refusal.TheVariants.{NotBuilt, Chooser};
+ghost use Rattle.wfc_task.specs.declared.fault.Fault.TheVariants.{Refused, Unread};
+ghost use Rattle.wfc_task.specs.declared.fault.Source.TheVariants.{Sample};
 
 /// `learn` comes to these patterns and this palette exactly where the file spells a sample that teaches them.
 pub fn learn_tasks_are_given()
@@ -66,4 +69,16 @@ pub fn steps_by_example()
     ensures down { demo_symbol 11 8 4 ≡ Char 35 }
     ensures across { demo_symbol 11 7 10 ≡ Char 35 }
     ensures between { demo_symbol 11 10 8 ≡ Char 46 }
+{}
+
+/// The first faults where nothing is there: a chooser before the sample, and the sample before all else.
+pub fn first_faults()
+    ensures chooser { (asked : RequestView) (files : List File) →
+        outcome (fill_plan [] asked) files ≡ Err (Refused (Chooser asked.rule)) }
+    ensures demo { (asked : RequestView) (files : List File) →
+        outcome (demo_plan [] asked) files ≡ Err (Refused (Chooser Fewest)) }
+    ensures sample { (asked : RequestView) →
+        outcome (learn_plan asked) [] ≡ Err (Unread Sample Missing) }
+    ensures steps { (asked : RequestView) →
+        outcome (domains_plan asked) [] ≡ Err (Unread Sample Missing) }
 {}
