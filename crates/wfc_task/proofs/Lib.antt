@@ -6,4 +6,5 @@ pub mod TaskLemmas
 pub mod FillingLemmas
 pub mod GivenLemmas
 pub mod RequestLemmas
+pub mod CountLemmas
 pub mod CallerLemmas

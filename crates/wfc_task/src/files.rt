@@ -1,6 +1,6 @@
 //! The files of a request, and what they hold.
 
-ghost use Rattle.std.specs.Prelude.{◌≡◌, ◌*◌, ◌≤◌, length, IfOk, All};
+ghost use Rattle.std.specs.Prelude.{◌≡◌, ◌+◌, ◌*◌, ◌≤◌, length, IfOk, All};
 ghost use Rattle.std.specs.Option.{option_map};
 ghost use Rattle.wfc_outside.specs.Gives.{result_map};
 ghost use Rattle.wfc_model.specs.Raster.{height_of};
@@ -135,6 +135,7 @@ fn steps_file<F: Folder>(
         (F.seen folder.old) (F.seen folder.new) (result_map (λ steps. steps.items) result) }
     ensures inside { IfOk result (λ steps. All (λ
         (line : StepLine). IsStepIn problem.now line.step) steps.items) }
+    ensures few { IfOk result (λ steps. length steps.items ≤ MAX_FILE_BYTES + 1) }
 {
     let bytes = file(alloc, folder, Source::Steps, name)?;
     let steps = steps_in(alloc, &bytes)?;
@@ -153,6 +154,7 @@ pub(crate) fn steps<F: Folder>(
         (F.seen folder.old) (F.seen folder.new) (result_map (λ steps. steps.items) result) }
     ensures inside { IfOk result (λ steps. All (λ
         (line : StepLine). IsStepIn problem.now line.step) steps.items) }
+    ensures few { IfOk result (λ steps. length steps.items ≤ MAX_FILE_BYTES + 1) }
 {
     match name {
         Some(name) => steps_file(alloc, folder, name, problem),

@@ -1,6 +1,6 @@
 //! The steps of tasks that read no file.
 
-ghost use Rattle.std.specs.Prelude.{◌≡◌, ◌*◌, ◌%◌, ◌<◌, ◌≤◌, length, map, Contains, IfOk, OnOk, All};
+ghost use Rattle.std.specs.Prelude.{◌≡◌, ◌+◌, ◌*◌, ◌%◌, ◌<◌, ◌≤◌, length, map, Contains, IfOk, OnOk, All};
 ghost use Rattle.wfc_outside.specs.Gives.{result_map};
 ghost use Rattle.wfc_model.specs.Raster.{height_of};
 ghost use Rattle.wfc_picture.specs.Palette.{indexed};
@@ -213,6 +213,7 @@ pub(crate) fn posed_for(
 pub(crate) fn steps_in(alloc: Global, bytes: &[u8]) -> Result<Vec<StepLine>, Refusal>
     requires short { length bytes.now ≤ MAX_FILE_BYTES }
     ensures exact { GivesStep (steps_in bytes.now) (result_map (λ steps. steps.items) result) }
+    ensures few { IfOk result (λ steps. length steps.items ≤ length bytes.now + 1) }
 {
     match read_steps(alloc, bytes) {
         Ok(steps) => Ok(steps),
@@ -225,6 +226,7 @@ pub(crate) fn fitting(problem: &Problem, steps: Vec<StepLine>) -> Result<Vec<Ste
     ensures exact { result_map (λ steps. steps.items) result ≡ fitting problem.now steps.items }
     ensures inside { IfOk result (λ steps. All (λ
         (line : StepLine). IsStepIn problem.now line.step) steps.items) }
+    ensures few { IfOk result (λ kept. length kept.items ≡ length steps.items) }
 {
     match steps_fit(&steps, problem) {
         Ok(()) => Ok(steps),

@@ -1,6 +1,6 @@
 //! The tasks of the commands.
 
-ghost use Rattle.std.specs.Prelude.{◌≡◌, ◌*◌, ◌≤◌, Contains, IfOk, OnOk, All};
+ghost use Rattle.std.specs.Prelude.{◌≡◌, ◌+◌, ◌*◌, ◌≤◌, length, Contains, IfOk, OnOk, All};
 ghost use Rattle.wfc_choose.specs.declared.RuleKind.TheVariants.{Fewest};
 ghost use Rattle.wfc_pins.specs.Steps.{IsStepIn};
 ghost use Rattle.wfc_pins.specs.declared.steps.StepLine.{StepLine};
@@ -16,7 +16,7 @@ use crate::files::{problem, sample, steps};
 use crate::steps::{chosen, laid};
 use std::alloc::Global;
 use wfc_choose::RuleKind;
-use wfc_outside::Folder;
+use wfc_outside::{Folder, MAX_FILE_BYTES};
 use wfc_pattern::Patterns;
 use wfc_picture::Palette;
 use wfc_pins::StepLine;
@@ -107,6 +107,7 @@ pub fn domains_task<F: Folder>(
         (F.seen folder.old) (F.seen folder.new) (domains_made result) }
     ensures inside { IfOk result (λ task. All (λ
         (line : StepLine). IsStepIn task.problem line.step) task.steps.items) }
+    ensures few { IfOk result (λ task. length task.steps.items ≤ MAX_FILE_BYTES + 1) }
 {
     let taught = sample(alloc, request, folder)?;
     let problem = problem(alloc, request, &taught, folder)?;
