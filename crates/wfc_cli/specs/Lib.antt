@@ -1,11 +1,2 @@
-pub mod Order
-pub mod Request
-pub mod RequestView
-pub mod Fault
-pub mod ErrorLine
-pub mod Answer
-pub mod Theorem
-pub mod Endings
-pub mod SearchWindow
-pub mod SearchState
-pub mod SearchLore
+pub mod Choosers
+pub mod Runs

@@ -1,0 +1,34 @@
+-- How the run of a problem ended.
+use Rattle.std.specs.Prelude.{◌≡◌, ℕ, List, Option, None, Some}
+use Rattle.rand_core.specs.Pcg32Seed.{pcg32_seed}
+use Rattle.rand_core.specs.Steps.{stream_of, steps_u64_low}
+use Rattle.rand_core.specs.Stream.{Stream}
+use Rattle.rand_pcg.specs.Pcg.{pcg64, pcg64_of_seed}
+use Rattle.wfc_choose.specs.Pick.{Rule}
+use Rattle.wfc_problem.specs.Network.{Network}
+use Rattle.wfc_search.specs.Run.{State, outcome_of}
+use Rattle.wfc_search.specs.Search.{assignment_of}
+use Rattle.wfc_search.specs.declared.Outcome.{Outcome}
+use Rattle.wfc_search.specs.declared.Outcome.TheVariants as outcome
+use Rattle.wfc_cli.specs.declared.runs.End.{End}
+use Rattle.wfc_cli.specs.declared.runs.End.TheVariants.{Map, NoMap, Spent}
+use Rattle.wfc_cli.specs.declared.runs.Ran.{Ran}
+
+-- the words of the generator Pcg64 that is seeded by a number
+unfoldable pub seeded : ℕ → Stream
+seeded seed = stream_of (steps_u64_low pcg64) (pcg64_of_seed (pcg32_seed 32 seed))
+
+-- the run ends so, with this state
+abbrev pub IsEnd : Network → State → Outcome → End → Type 0
+IsEnd P s outcome.Map (Map assignment) = assignment.items ≡ assignment_of P s.standing
+IsEnd P s outcome.NoMap NoMap = Unit {0}
+IsEnd P s outcome.Spent Spent = Unit {0}
+IsEnd P s _ _ = ⊥
+
+-- the run of the problem with this rule, budget and words came to this
+pub record IsRan (P : Network) (rule : Rule) (budget : ℕ) (words : Stream) (ran : Ran) : Type 0 where
+  pub outcome : Outcome
+  pub state : State
+  pub ends : outcome_of P rule budget words ≡ Some (outcome, state)
+  pub end : IsEnd P state outcome ran.end
+  pub retractions : ran.retractions ≡ state.retractions
