@@ -1,20 +1,23 @@
 //! The program `wfc`: a map generator in the manner of WaveFunctionCollapse.
 #![tactic(auto)]
 
-ghost use Rattle.std.specs.Prelude.{◌≡◌, [], Err, IfOk, IfErr};
+ghost use Rattle.std.specs.Prelude.{◌≡◌, IfOk, IfErr};
 ghost use Rattle.std.specs.Process.{exit_status};
 ghost use Rattle.std.specs.IoError.{error_kind};
-ghost use Rattle.wfc_cli.specs.Request.{texts};
-ghost use Rattle.wfc_cli.specs.Answer.{Devices, IsAnswer, TellsEnding};
-ghost use Rattle.wfc_cli.specs.Fault.{fault_status};
+ghost use Rattle.wfc_words.specs.Request.{texts};
+ghost use Rattle.wfc_cli.specs.Answer.{IsAnswer, devices};
+ghost use Rattle.wfc_cli.specs.Reply.{Tells, said_of_words};
+ghost use Rattle.wfc_app.specs.Choosers.{program_rules};
 ghost use Rattle.wfc_app.specs.Unread.{unread_fault};
 
 use std::alloc::Global;
 use std::process::ExitCode;
 use std::rt::Env;
 use std::{env, io};
-use wfc_cli::{CommandFault, Fault, refuse, run};
+use wfc_choose::{Buckets, Chooser, Scanning};
+use wfc_cli::{refuse, run};
 use wfc_outside::{DiskFolder, Folder, Sink, StderrSink, StdoutSink};
+use wfc_words::CommandFault;
 
 /// The words behind the program's name.
 fn words<R: Env + AllocGlobal>(rt: &R) -> io::Result<Vec<String>> {
@@ -22,13 +25,40 @@ fn words<R: Env + AllocGlobal>(rt: &R) -> io::Result<Vec<String>> {
 }
 
 /// Why the words were not read.
-fn unread(error: &io::Error) -> Fault
+fn unread(error: &io::Error) -> CommandFault
     ensures exact { result ≡ unread_fault (error_kind error.now) }
 {
     match error.kind() {
-        io::ErrorKind::OutOfMemory => Fault::NoMemory,
-        _ => Fault::Command(CommandFault::Refused),
+        io::ErrorKind::OutOfMemory => CommandFault::NoMemory,
+        _ => CommandFault::Refused,
     }
+}
+
+/// Runs the command that the words spell, with a chooser of the least cell and one of the fewest values.
+fn run_words<F: Folder, O: Sink, E: Sink>(
+    alloc: Global,
+    words: &[String],
+    folder: &mut F,
+    out: &mut O,
+    err: &mut E,
+) -> u8
+    ensures answer { IsAnswer program_rules (texts words.now)
+        (devices (F.seen folder.old) (O.seen out.old) (E.seen err.old)) (devices (F.seen folder.new) (O.seen out.new) (E.seen err.new)) result }
+{
+    let Ok(scanline) = Box::new(alloc, Scanning::scanline(alloc)) else {
+        return refuse(err, CommandFault::NoMemory);
+    };
+    let Ok(fewest) = Box::new(alloc, Buckets::new(alloc)) else {
+        return refuse(err, CommandFault::NoMemory);
+    };
+    let mut choosers: Vec<Box<dyn Chooser>> = Vec::new(alloc);
+    let Ok(()) = choosers.push(scanline) else {
+        return refuse(err, CommandFault::NoMemory);
+    };
+    let Ok(()) = choosers.push(fewest) else {
+        return refuse(err, CommandFault::NoMemory);
+    };
+    run(alloc, words, folder, out, err, choosers)
 }
 
 /// The whole program over these devices.
@@ -39,17 +69,14 @@ fn program<F: Folder, O: Sink, E: Sink>(
     out: &mut O,
     err: &mut E,
 ) -> ExitCode
-    ensures taken { IfOk words (λ ws. IsAnswer (texts ws.items)
-        (record { folder = F.seen folder.old; out = O.seen out.old })
-        (record { folder = F.seen folder.new; out = O.seen out.new })
-        (E.seen err.old) (E.seen err.new) (exit_status result)) }
-    ensures unread_status { IfErr words (λ e. exit_status result ≡ fault_status (unread_fault (error_kind e))) }
-    ensures unread_line { IfErr words (λ e.
-        TellsEnding [] (E.seen err.old) (E.seen err.new) (Err (unread_fault (error_kind e)))) }
+    ensures taken { IfOk words (λ words. IsAnswer program_rules (texts words.items)
+        (devices (F.seen folder.old) (O.seen out.old) (E.seen err.old)) (devices (F.seen folder.new) (O.seen out.new) (E.seen err.new)) (exit_status result)) }
+    ensures unread_status { IfErr words (λ e. exit_status result ≡ (said_of_words (unread_fault (error_kind e))).status) }
+    ensures unread_line { IfErr words (λ e. Tells (said_of_words (unread_fault (error_kind e))).told (E.seen err.old) (E.seen err.new)) }
 {
     let status = match words {
-        Ok(words) => run(alloc, &words, folder, out, err),
-        Err(error) => refuse(err, &unread(&error)),
+        Ok(words) => run_words(alloc, &words, folder, out, err),
+        Err(error) => refuse(err, unread(&error)),
     };
     ExitCode::from(status)
 }

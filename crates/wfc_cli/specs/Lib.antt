@@ -1,2 +1,9 @@
+pub mod ErrorLine
 pub mod Choosers
 pub mod Runs
+pub mod Reply
+pub mod ReplyView
+pub mod Answers
+pub mod Answer
+pub mod Ending
+pub mod Theorem

@@ -1,8 +1,7 @@
 //! The choosers that the caller hands in.
 
-ghost use Rattle.std.specs.Prelude.{◌≡◌, map, IfOk};
-ghost use Rattle.std.specs.Option.{option_map};
-ghost use Rattle.wfc_cli.specs.Choosers.{chosen, is_kind};
+ghost use Rattle.std.specs.Prelude.{◌≡◌, ◌<◌, map, length, slice_get, Contains, IfOk, Some};
+ghost use Rattle.wfc_cli.specs.Choosers.{chosen, is_kind, kinds_of};
 
 use std::alloc::Global;
 use wfc_choose::{Chooser, RuleKind};
@@ -29,7 +28,7 @@ fn is_kind(kind: RuleKind, other: RuleKind) -> bool
 
 /// The kinds of the choosers, in their order.
 pub(crate) fn kinds(alloc: Global, choosers: &[Box<dyn Chooser>]) -> Result<Vec<RuleKind>, NoMemory>
-    ensures value { IfOk result (λ kinds. kinds.items ≡ map (λ chooser. (told chooser).rule.kind) choosers.now) }
+    ensures value { IfOk result (λ kinds. kinds.items ≡ kinds_of (map (λ chooser. (told chooser).rule) choosers.now)) }
 {
     let mut kinds = Vec::with_capacity(alloc, choosers.len())?;
     for chooser in choosers {
@@ -39,14 +38,26 @@ pub(crate) fn kinds(alloc: Global, choosers: &[Box<dyn Chooser>]) -> Result<Vec<
 }
 
 /// The first chooser of a kind. The others are dropped.
-pub(crate) fn first_of(choosers: Vec<Box<dyn Chooser>>, kind: RuleKind) -> Option<Box<dyn Chooser>>
-    ensures first { option_map (λ chooser. (told chooser).rule) result
-        ≡ chosen kind (map (λ chooser. (told chooser).rule) choosers.items) }
+pub(crate) fn first_of(choosers: Vec<Box<dyn Chooser>>, kind: RuleKind) -> Box<dyn Chooser>
+    requires there { Contains (kinds_of (map (λ chooser. (told chooser).rule) choosers.items)) kind }
+    ensures first { chosen kind (map (λ chooser. (told chooser).rule) choosers.items) ≡ Some (told result).rule }
 {
-    for chooser in choosers {
-        if is_kind(kind_of(&chooser), kind) {
-            return Some(chooser);
+    let mut choosers = choosers;
+    let at = place_of(&choosers, kind);
+    choosers.swap_remove(at)
+}
+
+/// Where the first chooser of a kind stands.
+fn place_of(choosers: &[Box<dyn Chooser>], kind: RuleKind) -> usize
+    requires there { Contains (kinds_of (map (λ chooser. (told chooser).rule) choosers.now)) kind }
+    ensures inside { result < length choosers.now }
+    ensures first { chosen kind (map (λ chooser. (told chooser).rule) choosers.now)
+        ≡ slice_get (map (λ chooser. (told chooser).rule) choosers.now) result }
+{
+    for at in 0..choosers.len() {
+        if is_kind(kind_of(&choosers[at]), kind) {
+            return at;
         }
     }
-    None
+    unreachable!()
 }

@@ -1,7 +1,8 @@
 //! The run of a problem.
 
-ghost use Rattle.std.specs.Prelude.{◌≡◌, ◌<◌, IfOk};
-ghost use Rattle.wfc_cli.specs.Runs.{IsRan, seeded};
+ghost use Rattle.std.specs.Prelude.{◌≡◌, ◌<◌, IfOk, Some};
+ghost use Rattle.wfc_search.specs.Search.{IsReady, assignment_of};
+ghost use Rattle.wfc_cli.specs.Runs.{IsRan};
 
 use rand_core::SeedableRng;
 use rand_pcg::Pcg64;
@@ -42,7 +43,7 @@ pub(crate) fn run(
     budget: u32,
     seed: u64,
 ) -> Result<Ran, NoMemory>
-    ensures ran { IfOk result (IsRan problem.now (told chooser).rule budget (seeded seed)) }
+    ensures ran { IfOk result (IsRan problem.now (told chooser).rule budget seed) }
 {
     run_counted::<Brand>(alloc, problem, chooser, budget, seed, Blank::new(1))
 }
@@ -59,7 +60,7 @@ fn run_counted<L: Ledger>(
     requires name { blank.name ≡ L.name }
     requires parts { blank.parts ≡ L.parts }
     requires some { 0 < blank.parts }
-    ensures ran { IfOk result (IsRan problem.now (told chooser).rule budget (seeded seed)) }
+    ensures ran { IfOk result (IsRan problem.now (told chooser).rule budget seed) }
 {
     let Ok(store) = Ac4::open(alloc, problem, problem.depth()) else {
         return Err(NoMemory);
@@ -91,7 +92,7 @@ fn assignment(
     problem: &Problem,
     search: &Search<'_, Ac4<'_>>,
 ) -> Result<Vec<u16>, NoMemory>
-    requires ready { IsReady search.now.problem.now search.now.store (told search.now.chooser) search.now.course }
+    requires ready { IsReady search.now.problem.now search.now.store ((⟦<dyn Chooser as Chooser>⟧ search.now.chooser.vtable).told search.now.chooser.value) search.now.course }
     requires problem { search.now.problem.now ≡ problem.now }
     requires map { search.now.course.outcome ≡ Some Outcome.Map }
     ensures value { IfOk result (λ values. values.items ≡ assignment_of problem.now search.now.store.standing) }

@@ -1,0 +1,154 @@
+-- What `fill` has to know before it paints and writes a map.
+use Rattle.std.proofs.Common.{◌≡◌, ℕ, ◌<◌, ◌≤◌, ◌*◌, ◌⊎◌, inl, inr, true, false, Bool, nat_lt, List, [], ◌∷◌, length, map, Option, Some, None, Result, Ok, Err, ap, sym, ◌∙◌, subst, refl, arith, get_or, if◌then◌else◌}
+use Rattle.std.specs.Prelude.{All, IsTrue, slice_index}
+use Rattle.std.specs.List.{concat, range_with_len}
+use Rattle.std.proofs.lemmas.List.{get_or_past, get_or_default}
+use Rattle.std.proofs.lemmas.List.Elements.{All-append, All-map}
+use Rattle.std.proofs.lemmas.List.FromFn.{length-map-range_with_len}
+use Rattle.std.proofs.lemmas.Bool.{cases_lt}
+use Rattle.wfc_model.specs.Raster.{Raster, IsSized, numbers_of}
+use Rattle.wfc_model.specs.Window.{places}
+use Rattle.wfc_model.specs.Legal.{Pin}
+use Rattle.wfc_picture.specs.declared.symbol.Kind.{Kind}
+use Rattle.wfc_picture.specs.declared.symbol.Kind.TheVariants as kind
+use Rattle.wfc_picture.specs.declared.symbol.Symbol.{Symbol}
+use Rattle.wfc_pattern.specs.Patterns.{PatternsView, IsPatterns, window_at}
+use Rattle.wfc_problem.specs.Assignment.{IsLegalAssignment}
+use Rattle.wfc_problem.specs.Network.{Network, IsProblem, values}
+use Rattle.wfc_problem.proofs.CallerLemmas.{base_inside}
+use Rattle.wfc_overlap.specs.Sample.{Output, output_with, problem_of_sample}
+use Rattle.wfc_overlap.specs.Bridge.{picture_of, pixel_of}
+use Rattle.wfc_render.specs.Layout.{IsLayout, layout_of, pixels_of, unless_large}
+use Rattle.wfc_render.specs.Map.{IsWritten, is_of_kind}
+use Rattle.wfc_render.specs.declared.form.Form.{Form}
+use Rattle.wfc_render.specs.declared.form.Form.TheVariants as form
+use Rattle.wfc_render.specs.declared.form.Layout.{Layout}
+use Rattle.wfc_render.specs.declared.form.RenderFault.{RenderFault}
+use Rattle.wfc_render.specs.declared.form.RenderFault.TheVariants as fault
+use Rattle.wfc_render.specs.declared.layouts.TheConstants.{MAX_MAP_PIXELS}
+use Rattle.wfc_words.specs.RequestView.{RequestView}
+use Rattle.wfc_task.specs.Asked.{IsOutputAsked}
+use Rattle.wfc_task.specs.Filling.{IsFilling}
+use Rattle.wfc_task.specs.Steps.{laid, or_refuse}
+use Rattle.wfc_task.specs.declared.fault.Refusal.{Refusal}
+use Rattle.wfc_task.specs.declared.fault.Refusal.TheVariants.{Render}
+use Rattle.wfc_task.specs.declared.task.Filling.{Filling}
+use Rattle.wfc_cli.specs.Answers.{output_of}
+
+-- ---- the layout
+
+-- what the layout of a map of pixels of a grid is
+pub record IsGridLayout (width height : ℕ) (l : Layout) : Type 0 where
+  pub layout : IsLayout l
+  pub kind : l.kind ≡ kind.Grid
+  pub width_is : l.width ≡ width
+  pub height_is : l.height ≡ height
+  pub side : l.side ≡ 1
+
+-- a layout that isn't too large
+small_layout : (form : Form) (width height : ℕ) (l : Layout)
+    → ((made : Layout) → made ≡ record { kind = kind.Grid; form = form; width = width; height = height; side = 1 } → layout_of kind.Grid (Some form) width height 1 ≡ unless_large made (pixels_of width height 1))
+    → (let made : Layout = record { kind = kind.Grid; form = form; width = width; height = height; side = 1 } in unless_large made (pixels_of width height 1)) ≡ Ok l → IsGridLayout width height l
+small_layout form width height l again is = by_size (nat_lt MAX_MAP_PIXELS (pixels_of width height 1)) refl is
+  where
+    made : Layout
+    made = record { kind = kind.Grid; form = form; width = width; height = height; side = 1 }
+    by_size : (large : Bool) → nat_lt MAX_MAP_PIXELS (pixels_of width height 1) ≡ large → (if large then Err (fault.TooLarge (pixels_of width height 1)) else Ok made) ≡ Ok l → IsGridLayout width height l
+    by_size true large is = absurd (cc (is))
+    by_size false small is =
+        let same : made ≡ l = cc (is) in
+        let is_layout : IsLayout made = again made refl ∙ ap (λ b. if b then Err (fault.TooLarge (pixels_of width height 1)) else Ok made) small in
+        subst (λ l. IsGridLayout width height l) same (record { layout = is_layout; kind = refl; width_is = refl; height_is = refl; side = refl })
+
+grid_layout : (asked : Option Form) (width height : ℕ) (l : Layout) → layout_of kind.Grid asked width height 1 ≡ Ok l → IsGridLayout width height l
+grid_layout None width height l is = small_layout form.Grid width height l (λ made same. ap (λ l. unless_large l (pixels_of width height 1)) (sym same)) is
+grid_layout (Some form.Grid) width height l is = small_layout form.Grid width height l (λ made same. ap (λ l. unless_large l (pixels_of width height 1)) (sym same)) is
+grid_layout (Some form.Cells) width height l is = small_layout form.Cells width height l (λ made same. ap (λ l. unless_large l (pixels_of width height 1)) (sym same)) is
+grid_layout (Some form.P6) width height l is = absurd (cc (is))
+grid_layout (Some form.P3) width height l is = absurd (cc (is))
+
+-- what isn't refused is a layout
+laid_is : (result : Result Layout RenderFault) (l : Layout) → or_refuse Render result ≡ Ok l → result ≡ Ok l
+laid_is (Ok made) l is = cc (is)
+laid_is (Err fault) l is = absurd (cc (is))
+
+-- ---- numbers below a limit
+
+-- an entry of a list of small numbers is small, and so is 0 where there is none
+small_entry : (limit : ℕ) (w : List ℕ) (i : ℕ) → 0 < limit → All (λ n. n < limit) w → slice_index w i < limit
+small_entry limit w i some small = elim (cases_lt i (length w)) [
+  | inl inside ↦ small i 0 inside
+  | inr past ↦ subst (λ n. n < limit) (sym (get_or_past w i 0 past)) some
+]
+
+-- a window of patterns with small numbers
+small_window : (limit : ℕ) (patterns : PatternsView) (p : ℕ) → All (λ window. All (λ n. n < limit) window) patterns.windows → All (λ n. n < limit) (window_at patterns p)
+small_window limit patterns p small = elim (cases_lt p (length patterns.windows)) [
+  | inl inside ↦ small p [] inside
+  | inr past ↦ subst (λ (w : List ℕ). All (λ n. n < limit) w) (sym (get_or_past patterns.windows p [] past)) (λ k d inside. absurd (omega arith))
+]
+
+-- what holds of each of several lists holds of them joined
+each_joined : (P : ℕ → Type 0) (F : ℕ → List ℕ) → ((y : ℕ) → All P (F y)) → (ys : List ℕ) → All P (concat (map F ys))
+each_joined P F each [] = λ k d inside. absurd (omega arith)
+each_joined P F each (y ∷ ys) = All-append P (F y) (concat (map F ys)) (each y) (each_joined P F each ys)
+
+-- the numbers of a painted picture are those of its windows
+painted_small : (limit : ℕ) (patterns : PatternsView) (output : Output) (a : List ℕ) → 0 < limit → All (λ window. All (λ n. n < limit) window) patterns.windows
+    → All (λ n. n < limit) (numbers_of (picture_of patterns output a))
+painted_small limit patterns output a some small =
+    each_joined (λ n. n < limit) (λ y. map (λ x. pixel_of patterns output a x y) (range_with_len 0 output.width))
+    (λ y. All-map (λ n. n < limit) (λ x. pixel_of patterns output a x y) (range_with_len 0 output.width) (λ k d inside.
+        small_entry limit (window_at patterns _) _ some (small_window limit patterns _ small)))
+    (range_with_len 0 output.height)
+
+-- ---- the picture
+
+-- a painted picture has the sides of its output
+painted_sized : (patterns : PatternsView) (output : Output) (a : List ℕ) → 0 < output.width → 0 < output.height → IsSized (picture_of patterns output a) output.width output.height
+painted_sized patterns output a wide high =
+    let row : ℕ → List ℕ = λ y. map (λ x. pixel_of patterns output a x y) (range_with_len 0 output.width) in
+    let rows : length (map row (range_with_len 0 output.height)) ≡ output.height = length-map-range_with_len row 0 output.height in
+    record {
+      raster = record {
+        some_column = wide;
+        some_row = omega (arith, rows, high);
+        rows_fit = All-map (λ (row : List ℕ). length row ≡ output.width) row (range_with_len 0 output.height) (λ k d inside. length-map-range_with_len (λ x. pixel_of patterns output a x (get_or (range_with_len 0 output.height) k d)) 0 output.width);
+      };
+      same_width = refl;
+      same_height = rows;
+    }
+
+-- the picture of an assignment can be written
+pub picture_written : (asked : RequestView) (task : Filling) (a : List ℕ) (m : Raster) → IsOutputAsked asked → IsFilling asked task → m ≡ picture_of task.patterns (output_of asked) a
+    → IsWritten task.layout task.palette m
+picture_written asked task a m output filling is =
+    let laid_out : IsGridLayout asked.width asked.height task.layout = grid_layout asked.form asked.width asked.height task.layout (laid_is (layout_of kind.Grid asked.form asked.width asked.height 1) task.layout filling.layout) in
+    subst (λ m. IsWritten task.layout task.palette m) (sym is) (record {
+      answered = laid_out.layout;
+      pixels = laid_out.side;
+      kind = subst (λ k. All (λ symbol. IsTrue (is_of_kind k symbol)) task.palette) (sym laid_out.kind) filling.symbols;
+      some_symbol = filling.some_symbol;
+      sized =
+          subst (λ w. IsSized (picture_of task.patterns (output_of asked) a) w task.layout.height) (sym laid_out.width_is)
+          (subst (λ h. IsSized (picture_of task.patterns (output_of asked) a) asked.width h) (sym laid_out.height_is)
+          (painted_sized task.patterns (output_of asked) a output.some_width output.some_height));
+      numbers = painted_small (length task.palette) task.patterns (output_of asked) a filling.some_symbol filling.numbers;
+    })
+
+-- ---- the assignment
+
+-- a legal assignment has a value for each place
+pub each_place : (patterns : PatternsView) (output : Output) (pins : List Pin) (P : Network) (a : List ℕ) → P ≡ problem_of_sample patterns output pins → IsLegalAssignment P a
+    → length a ≡ length (places output.width output.height patterns.n output.wrap)
+each_place patterns output pins P a is legal = legal.each_cell ∙ ap (λ (P : Network). P.cells) is
+
+-- which is the number of a pattern
+pub each_pattern : (patterns : PatternsView) (output : Output) (pins : List Pin) (P : Network) (a : List ℕ) → IsPatterns patterns → IsProblem P → P ≡ problem_of_sample patterns output pins → IsLegalAssignment P a
+    → All (λ v. v < length patterns.windows) a
+each_pattern patterns output pins P a taught problem is legal k d inside =
+    let cell_in : k < P.cells = omega (arith, inside, legal.each_cell) in
+    let value_in : slice_index a k < values P = (base_inside P problem k (slice_index a k) (legal.based k cell_in)).1 in
+    let many : values P ≡ length patterns.windows = ap (λ (P : Network). values P) is ∙ taught.weighed in
+    let same : get_or a k d ≡ slice_index a k = get_or_default a k d 0 inside in
+    omega (arith, same, value_in, many)

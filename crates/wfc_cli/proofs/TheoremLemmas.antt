@@ -1,0 +1,320 @@
+-- What the relation of a call says by the class of its end alone, whichever the command.
+use Rattle.std.proofs.Common.{◌≡◌, ◌≢◌, ℕ, ◌≤◌, ◌⊎◌, inl, inr, false, List, Option, None, Some, Result, Ok, Err, ap, sym, ◌∙◌, subst, refl, arith}
+use Rattle.std.specs.Result.{IsErr}
+use Rattle.wfc_outside.specs.Count.{HasRisen}
+use Rattle.wfc_outside.specs.Folder.{File, FolderView}
+use Rattle.wfc_outside.specs.Sink.{SinkView}
+use Rattle.wfc_outside.specs.declared.whole.ReadFault.{ReadFault}
+use Rattle.wfc_outside.specs.declared.whole.ReadFault.TheVariants as reading
+use Rattle.wfc_choose.specs.Pick.{Rule}
+use Rattle.wfc_words.specs.Request.{request_of}
+use Rattle.wfc_words.specs.RequestView.{RequestView}
+use Rattle.wfc_words.specs.declared.fault.CommandFault.{CommandFault}
+use Rattle.wfc_words.specs.declared.fault.CommandFault.TheVariants as words_fault
+use Rattle.wfc_task.specs.Built.{is_built}
+use Rattle.wfc_task.specs.Fault.{class_of, class_status, reading_status, status_of}
+use Rattle.wfc_task.specs.Plan.{Goes, IsHindered, IsShort, Plan, ToldEnd, refuse}
+use Rattle.wfc_task.specs.Task.{Task, plan_of}
+use Rattle.wfc_task.specs.declared.fault.Fault.{Fault}
+use Rattle.wfc_task.specs.declared.fault.Fault.TheVariants.{Unread, Refused}
+use Rattle.wfc_task.specs.declared.fault.Refusal.TheVariants.{NotBuilt}
+use Rattle.wfc_task.specs.declared.fault.Class.{Class}
+use Rattle.wfc_task.specs.declared.fault.Class.TheVariants.{Words, Input, Memory, NoChooser}
+use Rattle.wfc_task.proofs.PlanLemmas.{goes_device, goes_quiet, goes_told}
+use Rattle.wfc_cli.proofs.Unbuilt.{unbuilt_plan, words_unbuilt}
+use Rattle.wfc_cli.specs.Choosers.{kinds_of}
+use Rattle.wfc_cli.specs.ErrorLine.{command_status}
+use Rattle.wfc_cli.specs.Reply.{Reply, CutsOff, Delivers, IsDelivered, Takes, said_of, verdict_status}
+use Rattle.wfc_cli.specs.declared.reply.Verdict.{Verdict}
+use Rattle.wfc_cli.specs.declared.reply.Verdict.TheVariants.{Done, NoMap, Spent, Dead}
+use Rattle.wfc_cli.specs.Answer.{AnswersAsked, Devices, Ends, IsAnswer, IsAnswerTo, IsRefusedCall, Replied, Replies}
+use Rattle.wfc_cli.specs.Theorem.{AreQuiet, HasFirstFault, IsAnswered, IsComplete, IsDeviceFault, IsFileFault, IsGiven, IsNoCommand, IsRefusedFirst, IsRefusedWith, IsWithoutAnswer, NoneCounted, task_of}
+
+-- no verdict has a status above 2
+pub verdict_low : (verdict : Verdict) → verdict_status verdict ≤ 2
+verdict_low Done = omega arith
+verdict_low NoMap = omega arith
+verdict_low (Spent budget) = omega arith
+verdict_low Dead = omega arith
+
+-- so none has one from 3 to 7
+pub verdict_apart : (verdict : Verdict) (k : ℕ) → 3 ≤ k → verdict_status verdict ≡ k → ⊥
+verdict_apart verdict k low is = omega (arith, verdict_low verdict, low, is)
+
+-- the status of a fault is from 3 to 7
+pub fault_between : (fault : Fault) → (3 ≤ status_of fault) × (status_of fault ≤ 7)
+fault_between (Unread source fault) = by_reading fault
+  where
+    by_reading : (fault : ReadFault) → (3 ≤ reading_status fault) × (reading_status fault ≤ 7)
+    by_reading reading.Missing = (omega arith, omega arith)
+    by_reading reading.Failed = (omega arith, omega arith)
+    by_reading reading.TooLong = (omega arith, omega arith)
+    by_reading reading.NoMemory = (omega arith, omega arith)
+fault_between (Refused refusal) = by_class (class_of refusal)
+  where
+    by_class : (class : Class) → (3 ≤ class_status class) × (class_status class ≤ 7)
+    by_class Words = (omega arith, omega arith)
+    by_class Input = (omega arith, omega arith)
+    by_class Memory = (omega arith, omega arith)
+    by_class NoChooser = (omega arith, omega arith)
+
+-- the status of words that are no request is 3 or 6
+command_between : (fault : CommandFault) → (command_status fault ≡ 3) ⊎ (command_status fault ≡ 6)
+command_between words_fault.Refused = inl refl
+command_between (words_fault.Value name) = inl refl
+command_between words_fault.NoMemory = inr refl
+
+-- a command that was given its task has no other fault than want of memory
+pub replied_short : (rules : List Rule) (asked : RequestView) (task : Task) (fault : Fault) → Replies rules asked task (Err fault) → status_of fault ≡ 6
+replied_short rules asked task fault replied = replied
+
+-- a reply to a plan that ended with a fault is that fault
+replied_fault : (rules : List Rule) (asked : RequestView) (ended : Result Task Fault) (reply : Reply) (fault : Fault) → ended ≡ Err fault → Replied rules asked ended reply → reply ≡ Err fault
+replied_fault rules asked ended reply fault is replied = subst (λ e. Replied rules asked e reply) is replied
+
+-- the fault of a reply to a task is want of memory, and else it is that of the plan
+data FaultOf (rules : List Rule) (asked : RequestView) (before after : FolderView) (fault : Fault) : Type 0 where
+  of_plan : Goes (plan_of (kinds_of rules) asked) before after (Err fault) → FaultOf rules asked before after fault
+  of_task : status_of fault ≡ 6 → FaultOf rules asked before after fault
+
+fault_from : (rules : List Rule) (asked : RequestView) (before after : FolderView) (fault : Fault) → Ends rules asked before after (Err fault) → FaultOf rules asked before after fault
+fault_from rules asked before after fault ends = by_end ends.ended ends.goes ends.replied
+  where
+    by_end : (ended : Result Task Fault) → Goes (plan_of (kinds_of rules) asked) before after ended → Replied rules asked ended (Err fault) → FaultOf rules asked before after fault
+    by_end (Ok task) goes replied = of_task (replied_short rules asked task fault replied)
+    by_end (Err other) goes replied =
+        let same : other ≡ fault = cc (replied) in
+        of_plan (subst (λ f. let ended : Result Task Fault = Err f in Goes (plan_of (kinds_of rules) asked) before after ended) same goes)
+
+-- what a call with words that are no request does to its status
+refused_status : (fault : CommandFault) (before after : Devices) (status : ℕ) → IsRefusedCall fault before after status → (status ≡ command_status fault) × (after.out ≡ before.out)
+refused_status fault before after status call = elim (call.delivers) [ inl delivered ↦ (delivered.same_status, delivered.taken) | inr cut ↦ absurd (cut.front) ]
+
+-- a call for a request ends with the status of other words only where it asks for what isn't built
+only_unbuilt : (rules : List Rule) (asked : RequestView) (before after : Devices) (status : ℕ) → IsAnswerTo rules asked before after status → status ≡ 3 → is_built asked ≡ false
+only_unbuilt rules asked before after status answer three = by_reply answer.reply answer.ends answer.delivers
+  where
+    by_fault : (fault : Fault) → status_of fault ≡ 3 → FaultOf rules asked before.folder after.folder fault → is_built asked ≡ false
+    by_fault fault is (of_plan goes) = words_unbuilt (kinds_of rules) asked before.folder after.folder fault goes is
+    by_fault fault is (of_task six) = absurd (omega (arith, six, is))
+    by_reply : (reply : Reply) → Ends rules asked before.folder after.folder reply → Delivers (said_of asked reply) before.out after.out before.err after.err status → is_built asked ≡ false
+    by_reply (Ok answered) ends (inl delivered) = absurd (verdict_apart answered.verdict 3 (omega arith) (sym delivered.same_status ∙ three))
+    by_reply (Err fault) ends (inl delivered) = by_fault fault (sym delivered.same_status ∙ three) (fault_from rules asked before.folder after.folder fault ends)
+    by_reply reply ends (inr cut) = absurd (omega (arith, cut.five, three))
+
+-- status 3 comes only where the words are no command
+pub is_no_command : (rules : List Rule) (words : List (List ℕ)) (before after : Devices) (status : ℕ) → IsAnswer rules words before after status → status ≡ 3 → IsNoCommand words
+is_no_command rules words before after status answer three = elim (answer.answers) [
+  | inl to ↦ by_request (request_of words) refl to
+  | inr short ↦ absurd (omega (arith, (refused_status words_fault.NoMemory before after status short).0, three))
+]
+  where
+    by_request : (request : Result RequestView CommandFault) → request_of words ≡ request → AnswersAsked rules request before after status → IsNoCommand words
+    by_request (Ok asked) is answer = inr (asked, is, only_unbuilt rules asked before after status answer three)
+    by_request (Err fault) is answer = inl (ap (λ r. r) (cc (is)))
+
+-- what isn't built is refused, or memory runs out
+unbuilt_3 : (rules : List Rule) (asked : RequestView) (before after : Devices) (status : ℕ) → IsAnswerTo rules asked before after status → is_built asked ≡ false → (status ≡ 3) ⊎ (status ≡ 6)
+unbuilt_3 rules asked before after status answer unbuilt = by_end answer.ends.ended (subst (λ (plan : Plan Task). Goes plan before.folder after.folder answer.ends.ended) (unbuilt_plan (kinds_of rules) asked unbuilt) answer.ends.goes) answer.ends.replied
+  where
+    by_status : (fault : Fault) → answer.reply ≡ Err fault → (status_of fault ≡ 3) ⊎ (status_of fault ≡ 6) → (status ≡ 3) ⊎ (status ≡ 6)
+    by_status fault is low = elim (subst (λ r. Delivers (said_of asked r) before.out after.out before.err after.err status) is answer.delivers) [
+      | inl delivered ↦ elim low [ inl three ↦ inl (delivered.same_status ∙ three) | inr six ↦ inr (delivered.same_status ∙ six) ]
+      | inr cut ↦ absurd cut.front
+    ]
+    by_end : (ended : Result Task Fault) → Goes (refuse NotBuilt) before.folder after.folder ended → Replied rules asked ended answer.reply → (status ≡ 3) ⊎ (status ≡ 6)
+    by_end ended (inl refused) replied = by_status (Refused NotBuilt) (replied_fault rules asked ended answer.reply (Refused NotBuilt) refused.1 replied) (inl refl)
+    by_end ended (inr (same, (fault, six, is))) replied = by_status fault (replied_fault rules asked ended answer.reply fault is replied) (inr six)
+
+-- words that are no command are answered with status 3, or memory runs out
+pub no_command_is_3 : (rules : List Rule) (words : List (List ℕ)) (before after : Devices) (status : ℕ) → IsAnswer rules words before after status → IsNoCommand words → (status ≡ 3) ⊎ (status ≡ 6)
+no_command_is_3 rules words before after status answer none = elim (answer.answers) [
+  | inl to ↦ by_none to none
+  | inr short ↦ inr (refused_status words_fault.NoMemory before after status short).0
+]
+  where
+    by_request : (request : Result RequestView CommandFault) → AnswersAsked rules request before after status → IsErr request → (status ≡ 3) ⊎ (status ≡ 6)
+    by_request (Ok asked) answer none = absurd (cc)
+    by_request (Err fault) answer none = elim (command_between fault) [
+      | inl three ↦ inl ((refused_status fault before after status answer).0 ∙ three)
+      | inr six ↦ inr ((refused_status fault before after status answer).0 ∙ six)
+    ]
+    by_none : AnswersAsked rules (request_of words) before after status → IsNoCommand words → (status ≡ 3) ⊎ (status ≡ 6)
+    by_none to (inl no_request) = by_request (request_of words) to no_request
+    by_none to (inr (asked, spelled, unbuilt)) = unbuilt_3 rules asked before after status (subst (λ request. AnswersAsked rules request before after status) spelled to) unbuilt
+
+-- what is taken raises no count
+taken_quiet : (text : Option (List ℕ)) (old new : SinkView) → Takes text old new → new.faults ≡ old.faults
+taken_quiet None old new takes = ap (λ (s : SinkView). s.faults) takes
+taken_quiet (Some text) old new takes = ap (λ (s : SinkView). s.faults) takes
+
+-- at each status but 5 no count rose
+pub keeps_counts : (rules : List Rule) (words : List (List ℕ)) (before after : Devices) (status : ℕ) → IsAnswer rules words before after status → status ≢ 5 → AreQuiet before after
+keeps_counts rules words before after status answer not5 = elim (answer.answers) [ inl to ↦ by_request (request_of words) to | inr short ↦ by_refusal words_fault.NoMemory short ]
+  where
+    by_refusal : (fault : CommandFault) → IsRefusedCall fault before after status → AreQuiet before after
+    by_refusal fault answer = record { folder = answer.folder; out = ap (λ (s : SinkView). s.faults) (refused_status fault before after status answer).1 }
+    by_reply : (asked : RequestView) (reply : Reply) → Ends rules asked before.folder after.folder reply → IsDelivered (said_of asked reply) before.out after.out before.err after.err status → AreQuiet before after
+    by_reply asked reply ends delivered = record {
+      folder = goes_quiet (plan_of (kinds_of rules) asked) before.folder after.folder ends.ended ends.goes (λ fault is five.
+          let as_fault : reply ≡ Err fault = replied_fault rules asked ends.ended reply fault is ends.replied in
+          not5 (delivered.same_status ∙ ap (λ r. (said_of asked r).status) as_fault ∙ five));
+      out = taken_quiet (said_of asked reply).text before.out after.out delivered.taken;
+    }
+    by_request : (request : Result RequestView CommandFault) → AnswersAsked rules request before after status → AreQuiet before after
+    by_request (Ok asked) answer = elim (answer.delivers) [ inl delivered ↦ by_reply asked answer.reply answer.ends delivered | inr cut ↦ absurd (not5 cut.five) ]
+    by_request (Err fault) answer = by_refusal fault answer
+
+-- with the statuses of faults but 5 the sink of the answer is as before
+pub keeps_out : (rules : List Rule) (words : List (List ℕ)) (before after : Devices) (status : ℕ) → IsAnswer rules words before after status → IsWithoutAnswer status → after.out ≡ before.out
+keeps_out rules words before after status answer without = elim (answer.answers) [ inl to ↦ by_request (request_of words) to | inr short ↦ (refused_status words_fault.NoMemory before after status short).1 ]
+  where
+    low : (3 ≤ status) × (status ≡ 5 → ⊥)
+    low = elim without [
+      | inl three ↦ (omega arith, λ five. omega arith)
+      | inr other ↦ elim other [
+        | inl four ↦ (omega arith, λ five. omega arith)
+        | inr more ↦ elim more [ inl six ↦ (omega arith, λ five. omega arith) | inr seven ↦ (omega arith, λ five. omega arith) ]
+      ]
+    ]
+    by_reply : (asked : RequestView) (reply : Reply) → Delivers (said_of asked reply) before.out after.out before.err after.err status → after.out ≡ before.out
+    by_reply asked (Ok answered) (inl delivered) = absurd (verdict_apart answered.verdict status low.0 (sym delivered.same_status))
+    by_reply asked (Err fault) (inl delivered) = delivered.taken
+    by_reply asked reply (inr cut) = absurd (low.1 cut.five)
+    by_request : (request : Result RequestView CommandFault) → AnswersAsked rules request before after status → after.out ≡ before.out
+    by_request (Ok asked) answer = by_reply asked answer.reply answer.delivers
+    by_request (Err fault) answer = (refused_status fault before after status answer).1
+
+-- a cut text leaves a counted fault
+cut_counted : (text : Option (List ℕ)) (old new : SinkView) → CutsOff text old new → HasRisen old.faults new.faults
+cut_counted None old new cut = absurd cut
+cut_counted (Some text) old new cut = cut.counted
+
+-- the status of words that are no request isn't 5
+command_not_5 : (fault : CommandFault) (before after : Devices) (status : ℕ) → IsRefusedCall fault before after status → status ≡ 5 → ⊥
+command_not_5 fault before after status call five = elim (command_between fault) [
+  | inl three ↦ omega (arith, (refused_status fault before after status call).0, three, five)
+  | inr six ↦ omega (arith, (refused_status fault before after status call).0, six, five)
+]
+
+-- status 5 comes only from a file or from the sink of the answer
+pub is_device_fault : (rules : List Rule) (words : List (List ℕ)) (before after : Devices) (status : ℕ) → IsAnswer rules words before after status → status ≡ 5 → IsDeviceFault rules words before after
+is_device_fault rules words before after status answer five = elim (answer.answers) [
+  | inl to ↦ by_request (request_of words) to
+  | inr short ↦ absurd (command_not_5 words_fault.NoMemory before after status short five)
+]
+  where
+    by_fault : (asked : RequestView) (fault : Fault) → status_of fault ≡ 5 → FaultOf rules asked before.folder after.folder fault → IsFileFault rules asked before.folder after.folder
+    by_fault asked fault is (of_plan goes) = goes_device (plan_of (kinds_of rules) asked) before.folder after.folder fault goes is
+    by_fault asked fault is (of_task six) = absurd (omega (arith, six, is))
+    by_reply : (asked : RequestView) (reply : Reply) → Ends rules asked before.folder after.folder reply → Delivers (said_of asked reply) before.out after.out before.err after.err status
+        → IsFileFault rules asked before.folder after.folder ⊎ HasRisen before.out.faults after.out.faults
+    by_reply asked (Ok answered) ends (inl delivered) = absurd (verdict_apart answered.verdict 5 (omega arith) (sym delivered.same_status ∙ five))
+    by_reply asked (Err fault) ends (inl delivered) = inl (by_fault asked fault (sym delivered.same_status ∙ five) (fault_from rules asked before.folder after.folder fault ends))
+    by_reply asked reply ends (inr cut) = inr (cut_counted (said_of asked reply).text before.out after.out cut.front)
+    by_request : (request : Result RequestView CommandFault) → AnswersAsked rules request before after status
+        → (asked : RequestView) × (request ≡ Ok asked) × (IsFileFault rules asked before.folder after.folder ⊎ HasRisen before.out.faults after.out.faults)
+    by_request (Ok asked) answer = (asked, refl, by_reply asked answer.reply answer.ends answer.delivers)
+    by_request (Err fault) answer = absurd (command_not_5 fault before after status answer five)
+
+-- what a reply is where the files are told: the one to the task, or want of memory, or a counted fault
+abbrev pub ToldReply : List Rule → RequestView → FolderView → FolderView → List File → Reply → Type 0
+ToldReply rules asked before after files reply = Replied rules asked (task_of rules asked files) reply ⊎ (IsShort reply ⊎ IsHindered (plan_of (kinds_of rules) asked) before after reply)
+
+told_reply : (rules : List Rule) (asked : RequestView) (before after : FolderView) (files : List File) (reply : Reply) → before.contents ≡ Some files → Ends rules asked before after reply → ToldReply rules asked before after files reply
+told_reply rules asked before after files reply told ends = by_end (goes_told (plan_of (kinds_of rules) asked) before after ends.ended files told ends.goes)
+  where
+    by_end : ToldEnd (plan_of (kinds_of rules) asked) before after files ends.ended → ToldReply rules asked before after files reply
+    by_end (inl is) = inl (subst (λ e. Replied rules asked e reply) is ends.replied)
+    by_end (inr (inl (fault, six, is))) = inr (inl (fault, six, replied_fault rules asked ends.ended reply fault is ends.replied))
+    by_end (inr (inr hindered)) = inr (inr (record {
+      source = hindered.source;
+      name = hindered.name;
+      asked = hindered.asked;
+      counted = hindered.counted;
+      is = replied_fault rules asked ends.ended reply (Unread hindered.source reading.Failed) hindered.is ends.replied;
+    }))
+
+-- a call that was given its request and files: memory ran out over the words, or its reply is that of the told files, and is delivered
+pub data IsToldCall (rules : List Rule) (asked : RequestView) (files : List File) (before after : Devices) (status : ℕ) : Type 0 where
+  short : status ≡ 6 → after.out ≡ before.out → IsToldCall rules asked files before after status
+  told : (reply : Reply) → ToldReply rules asked before.folder after.folder files reply → Delivers (said_of asked reply) before.out after.out before.err after.err status
+      → IsToldCall rules asked files before after status
+
+pub told_call : (rules : List Rule) (words : List (List ℕ)) (before after : Devices) (status : ℕ) → IsAnswer rules words before after status → (asked : RequestView) (files : List File) → IsGiven words before asked files
+    → IsToldCall rules asked files before after status
+told_call rules words before after status answer asked files given = elim (answer.answers) [ inl to ↦ by_request to | inr call ↦ by_words call ]
+  where
+    by_words : IsRefusedCall words_fault.NoMemory before after status → IsToldCall rules asked files before after status
+    by_words call = let is = refused_status words_fault.NoMemory before after status call in short is.0 is.1
+    by_request : AnswersAsked rules (request_of words) before after status → IsToldCall rules asked files before after status
+    by_request answers =
+        let to : IsAnswerTo rules asked before after status = subst (λ request. AnswersAsked rules request before after status) given.spelled answers in
+        told to.reply (told_reply rules asked before.folder after.folder files to.reply given.told to.ends) to.delivers
+
+-- with status 4 or 7 the first fault has it
+pub has_first_fault : (rules : List Rule) (words : List (List ℕ)) (before after : Devices) (status : ℕ) → IsAnswer rules words before after status → (status ≡ 4) ⊎ (status ≡ 7) → HasFirstFault rules words before status
+has_first_fault rules words before after status answer which asked files given = by_call (told_call rules words before after status answer asked files given)
+  where
+    apart : (3 ≤ status) × (status ≡ 5 → ⊥) × (status ≡ 6 → ⊥)
+    apart = elim which [ inl four ↦ (omega arith, λ five. omega arith, λ six. omega arith) | inr seven ↦ (omega arith, λ five. omega arith, λ six. omega arith) ]
+    by_task : (task : Result Task Fault) (fault : Fault) → status_of fault ≡ status → Replied rules asked task (Err fault) → (first : Fault) × (task ≡ Err first) × (status_of first ≡ status)
+    by_task (Ok task) fault is replied = absurd (apart.2 (sym is ∙ replied_short rules asked task fault replied))
+    by_task (Err first) fault is replied = let same : fault ≡ first = cc (replied) in (first, refl, sym (ap status_of same) ∙ is)
+    by_end : (fault : Fault) → status_of fault ≡ status → ToldReply rules asked before.folder after.folder files (Err fault) → IsRefusedWith rules asked files status
+    by_end fault is (inl replied) = by_task (task_of rules asked files) fault is replied
+    by_end fault is (inr (inl (other, six, same))) = let fault_is : fault ≡ other = cc (same) in absurd (apart.2 (sym is ∙ ap status_of fault_is ∙ six))
+    by_end fault is (inr (inr hindered)) = let fault_is : fault ≡ Unread hindered.source reading.Failed = cc (hindered.is) in absurd (apart.1 (sym is ∙ ap status_of fault_is))
+    by_delivery : (reply : Reply) → ToldReply rules asked before.folder after.folder files reply → Delivers (said_of asked reply) before.out after.out before.err after.err status → IsRefusedWith rules asked files status
+    by_delivery (Ok answered) replied (inl delivered) = absurd (verdict_apart answered.verdict status apart.0 (sym delivered.same_status))
+    by_delivery (Err fault) replied (inl delivered) = by_end fault (sym delivered.same_status) replied
+    by_delivery reply replied (inr cut) = absurd (apart.1 cut.five)
+    by_call : IsToldCall rules asked files before after status → IsRefusedWith rules asked files status
+    by_call (short six same) = absurd (apart.2 six)
+    by_call (told reply replied delivers) = by_delivery reply replied delivers
+
+-- how a call ends that was told its files, where no fault is counted: want of memory, or the reply to the task, put whole
+data IsSettled (rules : List Rule) (asked : RequestView) (files : List File) (before after : Devices) (status : ℕ) : Type 0 where
+  exhausted : status ≡ 6 → IsSettled rules asked files before after status
+  replied : (reply : Reply) → Replied rules asked (task_of rules asked files) reply → IsDelivered (said_of asked reply) before.out after.out before.err after.err status
+      → IsSettled rules asked files before after status
+
+settled : (rules : List Rule) (words : List (List ℕ)) (before after : Devices) (status : ℕ) → IsAnswer rules words before after status → (asked : RequestView) (files : List File) → IsGiven words before asked files
+    → NoneCounted rules asked before after → IsSettled rules asked files before after status
+settled rules words before after status answer asked files given none = by_call (told_call rules words before after status answer asked files given)
+  where
+    by_end : (reply : Reply) → ToldReply rules asked before.folder after.folder files reply → IsDelivered (said_of asked reply) before.out after.out before.err after.err status
+        → IsSettled rules asked files before after status
+    by_end reply (inl is) delivered = replied reply is delivered
+    by_end reply (inr (inl (fault, six, is))) delivered = exhausted (delivered.same_status ∙ ap (λ r. (said_of asked r).status) is ∙ six)
+    by_end reply (inr (inr hindered)) delivered = absurd (none.files hindered.name hindered.asked hindered.counted)
+    by_delivery : (reply : Reply) → ToldReply rules asked before.folder after.folder files reply → Delivers (said_of asked reply) before.out after.out before.err after.err status
+        → IsSettled rules asked files before after status
+    by_delivery reply to (inl delivered) = by_end reply to delivered
+    by_delivery reply to (inr cut) = absurd (none.out (cut_counted (said_of asked reply).text before.out after.out cut.front))
+    by_call : IsToldCall rules asked files before after status → IsSettled rules asked files before after status
+    by_call (short six same) = exhausted six
+    by_call (told reply to delivers) = by_delivery reply to delivers
+
+-- where no fault is counted, the first fault gives its status or want of memory, and nothing is written
+pub first_fault_decides : (rules : List Rule) (words : List (List ℕ)) (before after : Devices) (status : ℕ) → IsAnswer rules words before after status → IsRefusedFirst rules words before after status
+first_fault_decides rules words before after status answer asked files given none fault is = by_end (settled rules words before after status answer asked files given none)
+  where
+    by_end : IsSettled rules asked files before after status → ((status ≡ status_of fault) × (after.out ≡ before.out)) ⊎ (status ≡ 6)
+    by_end (exhausted six) = inr six
+    by_end (replied reply to delivered) =
+        let as_fault : reply ≡ Err fault = subst (λ e. Replied rules asked e reply) is to in
+        let put : IsDelivered (said_of asked (Err fault)) before.out after.out before.err after.err status =
+        subst (λ r. IsDelivered (said_of asked r) before.out after.out before.err after.err status) as_fault delivered in
+        inl (put.same_status, put.taken)
+
+-- where no fault is counted and there is a task, it is answered, or memory ran out
+pub task_is_answered : (rules : List Rule) (words : List (List ℕ)) (before after : Devices) (status : ℕ) → IsAnswer rules words before after status → IsComplete rules words before after status
+task_is_answered rules words before after status answer asked files given none task is = by_end (settled rules words before after status answer asked files given none)
+  where
+    by_reply : (reply : Reply) → Replies rules asked task reply → IsDelivered (said_of asked reply) before.out after.out before.err after.err status → IsAnswered rules asked task before after status ⊎ (status ≡ 6)
+    by_reply (Ok answered) to delivered = inl (answered, to, delivered)
+    by_reply (Err fault) to delivered = inr (delivered.same_status ∙ replied_short rules asked task fault to)
+    by_end : IsSettled rules asked files before after status → IsAnswered rules asked task before after status ⊎ (status ≡ 6)
+    by_end (exhausted six) = inr six
+    by_end (replied reply to delivered) = by_reply reply (subst (λ e. Replied rules asked e reply) is to) delivered

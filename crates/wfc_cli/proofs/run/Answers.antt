@@ -1,0 +1,26 @@
+use Rattle.wfc_cli.proofs.TheoremLemmas.{first_fault_decides, has_first_fault, is_device_fault, is_no_command, keeps_counts, keeps_out, no_command_is_3, task_is_answered}
+use Rattle.wfc_cli.proofs.run.Goals as goal
+
+pub returns-clause-command : goal.returns-clause-command
+returns-clause-command g c = is_no_command _ _ _ _ _ c.answer.ensures.answer
+
+pub returns-clause-refused_command : goal.returns-clause-refused_command
+returns-clause-refused_command g c = no_command_is_3 _ _ _ _ _ c.answer.ensures.answer
+
+pub returns-clause-input : goal.returns-clause-input
+returns-clause-input g c = has_first_fault _ _ _ _ _ c.answer.ensures.answer
+
+pub returns-clause-device : goal.returns-clause-device
+returns-clause-device g c = is_device_fault _ _ _ _ _ c.answer.ensures.answer
+
+pub returns-clause-counts : goal.returns-clause-counts
+returns-clause-counts g c = keeps_counts _ _ _ _ _ c.answer.ensures.answer
+
+pub returns-clause-untouched : goal.returns-clause-untouched
+returns-clause-untouched g c = keeps_out _ _ _ _ _ c.answer.ensures.answer
+
+pub returns-clause-refused : goal.returns-clause-refused
+returns-clause-refused g c = first_fault_decides _ _ _ _ _ c.answer.ensures.answer
+
+pub returns-clause-complete : goal.returns-clause-complete
+returns-clause-complete g c = task_is_answered _ _ _ _ _ c.answer.ensures.answer

@@ -1,0 +1,124 @@
+-- The answer of each command to its task.
+use Rattle.std.specs.Prelude.{◌≡◌, ℕ, ◌-◌, List, [], ◌∷◌, ◌++◌, length, map, codes, decimal, take, Option, None, Some, Result, Ok, Err, if◌then◌else◌}
+use Rattle.wfc_problem.specs.Domains.{Test}
+use Rattle.wfc_problem.specs.Network.{Network, values}
+use Rattle.wfc_problem.specs.Rounds.{greatest}
+use Rattle.wfc_problem.specs.Sizes.{is_dead}
+use Rattle.wfc_problem.specs.declared.Literal.{Literal}
+use Rattle.wfc_picture.specs.declared.symbol.Symbol.{Symbol}
+use Rattle.wfc_pattern.specs.Patterns.{PatternsView}
+use Rattle.wfc_pins.specs.declared.steps.Step.{Step}
+use Rattle.wfc_pins.specs.declared.steps.Step.TheVariants.{Assume, Undo}
+use Rattle.wfc_pins.specs.declared.steps.StepLine.{StepLine}
+use Rattle.wfc_overlap.specs.Sample.{Output, output_with}
+use Rattle.wfc_overlap.specs.Bridge.{picture_of}
+use Rattle.wfc_choose.specs.Pick.{Rule}
+use Rattle.wfc_choose.specs.declared.RuleKind.TheVariants.{Fewest}
+use Rattle.wfc_search.specs.Run.{State}
+use Rattle.wfc_search.specs.Search.{assignment_of}
+use Rattle.wfc_search.specs.declared.Outcome.{Outcome}
+use Rattle.wfc_search.specs.declared.Outcome.TheVariants as outcome
+use Rattle.wfc_render.specs.Block.{domain_text}
+use Rattle.wfc_render.specs.Learned.{learned_text}
+use Rattle.wfc_render.specs.Map.{map_text}
+use Rattle.wfc_render.specs.declared.form.Layout.{Layout}
+use Rattle.wfc_words.specs.RequestView.{RequestView}
+use Rattle.wfc_task.specs.Task.{Task, learn, fill, domains, demo}
+use Rattle.wfc_cli.specs.Reply.{Answered, done_with}
+use Rattle.wfc_cli.specs.Runs.{end_of}
+use Rattle.wfc_cli.specs.declared.runs.End.{End}
+use Rattle.wfc_cli.specs.declared.runs.End.TheVariants as held
+use Rattle.wfc_cli.specs.declared.reply.Verdict.{Verdict}
+use Rattle.wfc_cli.specs.declared.reply.Verdict.TheVariants.{Done, NoMap, Spent, Dead}
+
+-- the output that a request asks for
+abbrev pub output_of : RequestView → Output
+output_of asked = output_with asked.width asked.height asked.wrap_out
+
+-- how a command ends whose run ends so
+abbrev pub verdict_of : ℕ → Outcome → Verdict
+verdict_of budget outcome.Map = Done
+verdict_of budget outcome.NoMap = NoMap
+verdict_of budget outcome.Spent = Spent budget
+
+-- the text of the map that a run ended with
+abbrev pub found_text : RequestView → PatternsView → List Symbol → Layout → Network → State → List ℕ
+found_text asked patterns palette layout P s = map_text layout palette (picture_of patterns (output_of asked) (assignment_of P s.standing))
+
+-- what `fill` writes of an end: the map, or nothing
+abbrev pub fill_text : RequestView → PatternsView → List Symbol → Layout → Network → Outcome × State → Option (List ℕ)
+fill_text asked patterns palette layout P (outcome.Map, s) = Some (found_text asked patterns palette layout P s)
+fill_text asked patterns palette layout P (_, s) = None
+
+-- the answer of `fill`, where its run has this end
+abbrev pub fill_answer : RequestView → PatternsView → List Symbol → Layout → Network → Option (Outcome × State) → Option Answered
+fill_answer asked patterns palette layout P None = None
+fill_answer asked patterns palette layout P (Some end) =
+    Some (record { verdict = verdict_of asked.budget end.0; text = fill_text asked patterns palette layout P end })
+
+-- the status that a run which ends so has
+abbrev pub outcome_status : Outcome → ℕ
+outcome_status outcome.Map = 0
+outcome_status outcome.NoMap = 1
+outcome_status outcome.Spent = 2
+
+-- a line of a name and a number
+abbrev pub count_line : List ℕ → ℕ → List ℕ
+count_line name number = name ++ codes " " ++ decimal number ++ codes "\n"
+
+-- the four lines of `demo`
+abbrev pub demo_text : ℕ → ℕ → ℕ → ℕ → List ℕ
+demo_text patterns cells retractions status =
+    count_line (codes "patterns") patterns ++ count_line (codes "cells") cells
+    ++ count_line (codes "retractions") retractions ++ count_line (codes "status") status
+
+-- the budget of a demonstration
+abbrev pub demo_budget : ℕ
+demo_budget = 1000
+
+-- the answer of `demo`, where its run has this end
+abbrev pub demo_answer : PatternsView → Network → Option (Outcome × State) → Option Answered
+demo_answer patterns P None = None
+demo_answer patterns P (Some end) = Some (record {
+  verdict = verdict_of demo_budget end.0;
+  text = Some (demo_text (length patterns.windows) P.cells end.1.retractions (outcome_status end.0));
+})
+
+-- the literals that stand after a step
+abbrev pub after_step : List Literal → Step → List Literal
+after_step standing (Assume literal) = standing ++ literal ∷ []
+after_step standing Undo = take (length standing - 1) standing
+
+-- the literals that stand before the first of these steps and after each
+abbrev pub standings : List Literal → List StepLine → List (List Literal)
+standings standing [] = standing ∷ []
+standings standing (line ∷ lines) = standing ∷ standings (after_step standing line.step) lines
+
+-- the greatest domains under literals, if no cell is empty in them
+abbrev pub shown : Network → List Literal → Option Test
+shown P standing = if is_dead P (greatest P standing) then None else Some (greatest P standing)
+
+-- the blocks of domains before the first step and after each
+abbrev pub steps_text : Network → List StepLine → List ℕ
+steps_text P steps = domain_text (map (shown P) (standings [] steps)) (values P) P.cells
+
+-- how `domains` ends: whether the root is dead
+abbrev pub root_verdict : Network → Verdict
+root_verdict P = if is_dead P (greatest P []) then Dead else Done
+
+-- the answer of `domains`
+abbrev pub domains_answer : Network → List StepLine → Answered
+domains_answer P steps = record { verdict = root_verdict P; text = Some (steps_text P steps) }
+
+-- the answer to a task, where these are the rules of the choosers
+abbrev pub answer_of : List Rule → RequestView → Task → Option Answered
+answer_of rules asked (learn patterns palette) = Some (done_with (learned_text patterns palette))
+answer_of rules asked (fill patterns palette layout P) = fill_answer asked patterns palette layout P (end_of rules asked.rule P asked.budget asked.seed)
+answer_of rules asked (domains P steps) = Some (domains_answer P steps)
+answer_of rules asked (demo patterns P) = demo_answer patterns P (end_of rules Fewest P demo_budget asked.number)
+
+-- how a demonstration ends whose run ends so
+abbrev pub demo_verdict : End → Verdict
+demo_verdict (held.Map assignment) = Done
+demo_verdict held.NoMap = NoMap
+demo_verdict held.Spent = Spent demo_budget

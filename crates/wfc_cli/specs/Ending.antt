@@ -1,0 +1,32 @@
+-- How a command ends in the code: what it put itself, and what is still to be told.
+use Rattle.std.specs.Prelude.{◌≡◌, ℕ, List, Some, Result, Ok, Err}
+use Rattle.wfc_outside.specs.Folder.{FolderView}
+use Rattle.wfc_outside.specs.Sink.{SinkView}
+use Rattle.wfc_choose.specs.Pick.{Rule}
+use Rattle.wfc_words.specs.RequestView.{RequestView}
+use Rattle.wfc_task.specs.Fault.{status_of}
+use Rattle.wfc_cli.specs.Answer.{Ends}
+use Rattle.wfc_cli.specs.ErrorLine.{fault_text, out_text}
+use Rattle.wfc_cli.specs.Reply.{Reply, CutsOff, Takes, Tells, verdict_status, verdict_text}
+use Rattle.wfc_cli.specs.declared.reply.Verdict.{Verdict}
+use Rattle.wfc_cli.specs.declared.reply.Stop.{Stop}
+use Rattle.wfc_cli.specs.declared.reply.Stop.TheVariants.{Cut, Unanswered}
+
+-- what a reply does to the sink of the answer, where the code ends so: with its verdict the whole text, else a front of it, and without an answer nothing
+abbrev pub Leaves : Reply → SinkView → SinkView → Result Verdict Stop → Type 0
+Leaves (Ok answered) old new (Ok verdict) = (verdict ≡ answered.verdict) × Takes answered.text old new
+Leaves (Ok answered) old new (Err Cut) = CutsOff answered.text old new
+Leaves (Err fault) old new (Err (Unanswered other)) = (other ≡ fault) × (new ≡ old)
+Leaves _ _ _ _ = ⊥
+
+-- a command may end so over this folder and sink
+pub record EndsPut (rules : List Rule) (asked : RequestView) (before after : FolderView) (old new : SinkView) (ended : Result Verdict Stop) : Type 0 where
+  pub reply : Reply
+  pub ends : Ends rules asked before after reply
+  pub leaves : Leaves reply old new ended
+
+-- what the error stream is told of an ending, and the status
+abbrev pub Says : RequestView → Result Verdict Stop → SinkView → SinkView → ℕ → Type 0
+Says asked (Ok verdict) old new status = Tells (verdict_text verdict) old new × (status ≡ verdict_status verdict)
+Says asked (Err Cut) old new status = Tells (Some out_text) old new × (status ≡ 5)
+Says asked (Err (Unanswered fault)) old new status = Tells (Some (fault_text asked fault)) old new × (status ≡ status_of fault)

@@ -1,0 +1,87 @@
+-- What a command replies, and what of it the streams and the status say.
+use Rattle.std.specs.Prelude.{◌≡◌, ℕ, ◌++◌, ◌⊎◌, List, codes, decimal, Option, None, Some, Result, Ok, Err}
+use Rattle.wfc_outside.specs.Sink.{SinkView, after_bytes, after_finish, IsFaultAfterFront}
+use Rattle.wfc_words.specs.RequestView.{RequestView}
+use Rattle.wfc_words.specs.declared.fault.CommandFault.{CommandFault}
+use Rattle.wfc_task.specs.Fault.{status_of}
+use Rattle.wfc_task.specs.declared.fault.Fault.{Fault}
+use Rattle.wfc_cli.specs.ErrorLine.{command_status, command_text, fault_text, line, out_text}
+use Rattle.wfc_cli.specs.declared.reply.Verdict.{Verdict}
+use Rattle.wfc_cli.specs.declared.reply.Verdict.TheVariants.{Done, NoMap, Spent, Dead}
+
+-- an answer: how the command ended, and the text that it writes, if it writes any
+pub record Answered : Type 0 where
+  pub verdict : Verdict
+  pub text : Option (List ℕ)
+
+-- a command that is done, with its text
+abbrev pub done_with : List ℕ → Answered
+done_with text = record { verdict = Done; text = Some text }
+
+-- an answer, or a fault
+abbrev pub Reply : Type 0
+Reply = Result Answered Fault
+
+-- the exit status of a verdict
+abbrev pub verdict_status : Verdict → ℕ
+verdict_status Done = 0
+verdict_status NoMap = 1
+verdict_status (Spent budget) = 2
+verdict_status Dead = 1
+
+-- what the error stream is told of a verdict
+abbrev pub verdict_text : Verdict → Option (List ℕ)
+verdict_text Done = None
+verdict_text NoMap = Some (codes "no map")
+verdict_text (Spent budget) = Some (codes "budget spent budget=" ++ decimal budget)
+verdict_text Dead = Some (codes "no consistent domains")
+
+-- what leaves a call: its status, the text for the sink of the answer, and the text of the line for the error stream
+pub record Said : Type 0 where
+  pub status : ℕ
+  pub text : Option (List ℕ)
+  pub told : Option (List ℕ)
+
+-- what a reply says
+abbrev pub said_of : RequestView → Reply → Said
+said_of asked (Ok answered) = record { status = verdict_status answered.verdict; text = answered.text; told = verdict_text answered.verdict }
+said_of asked (Err fault) = record { status = status_of fault; text = None; told = Some (fault_text asked fault) }
+
+-- what words say that were read as no request
+abbrev pub said_of_words : CommandFault → Said
+said_of_words fault = record { status = command_status fault; text = None; told = Some (command_text fault) }
+
+-- the sink took the whole text and was finished, or there is none and it is as before
+abbrev pub Takes : Option (List ℕ) → SinkView → SinkView → Type 0
+Takes None old new = new ≡ old
+Takes (Some text) old new = new ≡ after_finish (after_bytes old text)
+
+-- the stream took the line of the text, or a front of it and then met a counted fault
+pub record IsTold (text : List ℕ) (old new : SinkView) : Type 0 where
+  pub cases : (new ≡ after_bytes old (line text)) ⊎ IsFaultAfterFront old new (line text)
+
+-- the stream is told the text, or there is none and it is as before
+abbrev pub Tells : Option (List ℕ) → SinkView → SinkView → Type 0
+Tells None old new = new ≡ old
+Tells (Some text) old new = IsTold text old new
+
+-- all of it was put
+pub record IsDelivered (said : Said) (out_old out_new err_old err_new : SinkView) (status : ℕ) : Type 0 where
+  pub taken : Takes said.text out_old out_new
+  pub told : Tells said.told err_old err_new
+  pub same_status : status ≡ said.status
+
+-- the sink failed after a front of the text
+abbrev pub CutsOff : Option (List ℕ) → SinkView → SinkView → Type 0
+CutsOff None old new = ⊥
+CutsOff (Some text) old new = IsFaultAfterFront old new text
+
+-- a front of the text was put, and the stream is told of the sink
+pub record IsCutOff (said : Said) (out_old out_new err_old err_new : SinkView) (status : ℕ) : Type 0 where
+  pub front : CutsOff said.text out_old out_new
+  pub told : Tells (Some out_text) err_old err_new
+  pub five : status ≡ 5
+
+-- what a call does to its streams that says this, and its status
+abbrev pub Delivers : Said → SinkView → SinkView → SinkView → SinkView → ℕ → Type 0
+Delivers said out_old out_new err_old err_new status = IsDelivered said out_old out_new err_old err_new status ⊎ IsCutOff said out_old out_new err_old err_new status

@@ -1,0 +1,51 @@
+//! The commands.
+
+ghost use Rattle.std.specs.Prelude.{map};
+ghost use Rattle.wfc_words.specs.InRange.{IsInRange};
+ghost use Rattle.wfc_cli.specs.Ending.{EndsPut};
+
+mod demo;
+mod fill;
+mod learn;
+
+use crate::deliver::put;
+use crate::reply::{Stop, Verdict};
+use demo::demo;
+use fill::fill;
+use learn::learn;
+use std::alloc::Global;
+use wfc_choose::Chooser;
+use wfc_outside::{Folder, Sink};
+use wfc_task::{Fault, Refusal, is_built};
+use wfc_words::{CommandKind, Request};
+
+/// Runs the command that is asked for, and puts its text.
+pub(crate) fn run<F: Folder, O: Sink>(
+    alloc: Global,
+    request: &Request,
+    choosers: Vec<Box<dyn Chooser>>,
+    folder: &mut F,
+    out: &mut O,
+) -> Result<Verdict, Stop>
+    requires in_range { IsInRange request.now }
+    ensures ends { EndsPut (map (λ chooser. (told chooser).rule) choosers.items) request.now
+        (F.seen folder.old) (F.seen folder.new) (O.seen out.old) (O.seen out.new) result }
+{
+    if !is_built(request) {
+        return Err(Stop::Unanswered {
+            fault: Fault::Refused {
+                refusal: Refusal::NotBuilt,
+            },
+        });
+    }
+    match request.command {
+        CommandKind::Learn => put(out, learn(alloc, request, folder)),
+        CommandKind::Fill => put(out, fill(alloc, request, choosers, folder)),
+        CommandKind::Demo => put(out, demo(alloc, request, choosers, folder)),
+        _ => Err(Stop::Unanswered {
+            fault: Fault::Refused {
+                refusal: Refusal::NotBuilt,
+            },
+        }),
+    }
+}

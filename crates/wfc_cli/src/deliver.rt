@@ -1,0 +1,72 @@
+//! What leaves a call: the text of an answer, the line of the error stream, and the status.
+
+ghost use Rattle.std.specs.Prelude.{◌≡◌};
+ghost use Rattle.wfc_cli.specs.Ending.{Leaves, Says};
+ghost use Rattle.wfc_cli.specs.Reply.{Tells, said_of_words, verdict_text};
+ghost use Rattle.wfc_cli.specs.ReplyView.{reply_view};
+
+use crate::lines::{counted, plain, tell_fault, tell_words};
+use crate::reply::{Answer, Stop, Verdict};
+use wfc_outside::{Sink, write_all};
+use wfc_task::Fault;
+use wfc_words::{CommandFault, Request};
+
+/// Tells how a command ended, and answers the status.
+pub(crate) fn deliver<E: Sink>(
+    request: &Request,
+    ended: Result<Verdict, Stop>,
+    err: &mut E,
+) -> u8
+    ensures says { Says request.now ended (E.seen err.old) (E.seen err.new) result }
+{
+    match ended {
+        Ok(verdict) => {
+            tell_verdict(err, verdict);
+            verdict.status()
+        }
+        Err(Stop::Cut) => {
+            let _ = plain(err, "device Failed out");
+            5
+        }
+        Err(Stop::Unanswered { fault }) => {
+            let _ = tell_fault(err, request, fault);
+            fault.status()
+        }
+    }
+}
+
+/// Tells why words were read as no request, and answers the status.
+pub(crate) fn refuse_words<E: Sink>(err: &mut E, fault: CommandFault) -> u8
+    ensures status { result ≡ (said_of_words fault).status }
+    ensures told { Tells (said_of_words fault).told (E.seen err.old) (E.seen err.new) }
+{
+    let _ = tell_words(err, fault);
+    match fault {
+        CommandFault::NoMemory => 6,
+        _ => 3,
+    }
+}
+
+/// Puts the whole text of an answer into its sink, if there is one, and finishes it.
+pub(crate) fn put<O: Sink>(out: &mut O, reply: Result<Answer, Fault>) -> Result<Verdict, Stop>
+    ensures leaves { Leaves (reply_view reply) (O.seen out.old) (O.seen out.new) result }
+{
+    let answer = reply?;
+    if let Some(text) = &answer.text {
+        write_all(out, text)?;
+        out.finish()?;
+    }
+    Ok(answer.verdict)
+}
+
+/// Tells the line of a verdict, if it has one.
+fn tell_verdict<E: Sink>(err: &mut E, verdict: Verdict)
+    ensures told { Tells (verdict_text verdict) (E.seen err.old) (E.seen err.new) }
+{
+    let _ = match verdict {
+        Verdict::Done => Ok(()),
+        Verdict::NoMap => plain(err, "no map"),
+        Verdict::Spent { budget } => counted(err, "budget spent budget=", u64::from(budget)),
+        Verdict::Dead => plain(err, "no consistent domains"),
+    };
+}

@@ -1,0 +1,83 @@
+//! What a command replies: its answer, or why there is none.
+
+ghost use Rattle.std.specs.Prelude.{◌≡◌};
+ghost use Rattle.wfc_cli.specs.Reply.{verdict_status};
+
+use wfc_outside::{NoMemory, SinkFault};
+use wfc_task::{Fault, Refusal};
+
+/// How a command ended that came to an answer.
+#[derive(Clone, Copy, Debug, PartialEq, Eq)]
+pub enum Verdict {
+    /// All is as it was asked for.
+    Done,
+    /// No legal map exists.
+    NoMap,
+    /// As many retractions were made as the budget allows.
+    Spent { budget: u32 },
+    /// Some cell has no value before the first step.
+    Dead,
+}
+
+/// The answer of a command.
+#[derive(Debug, Drop)]
+pub(crate) struct Answer {
+    pub(crate) verdict: Verdict,
+    /// What is written, if anything is.
+    pub(crate) text: Option<Vec<u8>>,
+}
+
+/// Why a command that puts its text itself didn't come to its verdict.
+#[derive(Clone, Copy, Debug, PartialEq, Eq)]
+pub(crate) enum Stop {
+    /// The sink failed after a front of the text.
+    Cut,
+    /// There is no answer.
+    Unanswered { fault: Fault },
+}
+
+impl From<SinkFault> for Stop {
+    ghost use Rattle.std.specs.Prelude.{◌≡◌};
+    ghost use Rattle.wfc_cli.specs.declared.reply.Stop.TheVariants.{Cut};
+
+    ghost from_gives = { λ _ result. result ≡ Cut };
+
+    fn from(_fault: SinkFault) -> Stop {
+        Stop::Cut
+    }
+}
+
+impl From<Fault> for Stop {
+    ghost use Rattle.std.specs.Prelude.{◌≡◌};
+    ghost use Rattle.wfc_cli.specs.declared.reply.Stop.TheVariants.{Unanswered};
+
+    ghost from_gives = { λ fault result. result ≡ Unanswered fault };
+
+    fn from(fault: Fault) -> Stop {
+        Stop::Unanswered { fault }
+    }
+}
+
+impl Verdict {
+    /// The exit status.
+    pub(crate) fn status(self) -> u8
+        ensures value { result ≡ verdict_status self }
+    {
+        match self {
+            Verdict::Done => 0,
+            Verdict::NoMap | Verdict::Dead => 1,
+            Verdict::Spent { .. } => 2,
+        }
+    }
+}
+
+/// The fault of a command for which there is no memory.
+pub(crate) fn exhausted(_cause: NoMemory) -> Fault
+    ensures short { status_of result ≡ 6 }
+{
+    Fault::Refused {
+        refusal: Refusal::NoMemory,
+    }
+}
+
+ghost use Rattle.wfc_task.specs.Fault.{status_of};
