@@ -45,7 +45,7 @@ chosen_there kind (rule ∷ rules) there none = by_kind (is_kind rule.kind kind)
 
 -- the element at an index stands first behind those before it
 split_at : {X : Type 0} (f : X → Rule) (kind : RuleKind) (xs : List X) (i : ℕ) (x : X) → i < length xs → get_or xs i x ≡ x → chosen kind (map f (drop i xs)) ≡ chosen kind (f x ∷ map f (drop (i + 1) xs))
-split_at f kind xs i x inside is = ap (λ ys. chosen kind (map f ys)) (drop_more i xs x inside) ∙ ap (λ y. chosen kind (f y ∷ map f (drop (i + 1) xs))) is
+split_at f kind xs i x inside is = ap (λ ys. chosen kind (map f ys)) (drop_more xs i x inside) ∙ ap (λ y. chosen kind (f y ∷ map f (drop (i + 1) xs))) is
 
 -- it is chosen where it is of the kind
 pub chosen_found : {X : Type 0} (f : X → Rule) (kind : RuleKind) (xs : List X) (i : ℕ) (x : X) → i < length xs → get_or xs i x ≡ x → is_kind (f x).kind kind ≡ true

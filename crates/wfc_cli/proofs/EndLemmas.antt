@@ -1,11 +1,18 @@
 -- How a command ends after its plan.
-use Rattle.std.proofs.Common.{◌≡◌, ℕ, ◌⊎◌, inl, inr, true, false, List, Option, if◌then◌else◌, Result, Ok, Err, ap, subst, sym, ◌∙◌, refl}
+use Rattle.std.proofs.Common.{◌≡◌, ℕ, ◌<◌, ◌≤◌, not, ◌⊎◌, inl, inr, true, false, List, Option, Some, if◌then◌else◌, Result, Ok, Err, ap, subst, sym, ◌∙◌, refl}
 use Rattle.wfc_outside.specs.Sink.{SinkView}
 use Rattle.wfc_outside.specs.Folder.{FolderView}
 use Rattle.wfc_choose.specs.Pick.{Rule}
 use Rattle.wfc_words.specs.RequestView.{RequestView}
 use Rattle.wfc_words.specs.declared.kinds.CommandKind.{CommandKind}
-use Rattle.wfc_task.specs.Built.{is_built}
+use Rattle.std.specs.Prelude.{codes}
+use Rattle.std.proofs.lemmas.Bool.{and_parts, false≢true}
+use Rattle.wfc_words.specs.Commands.{takes_word}
+use Rattle.wfc_words.specs.InRange.{IsInRange, IsModel}
+use Rattle.wfc_words.specs.declared.kinds.SourceModel.{SourceModel}
+use Rattle.wfc_words.specs.declared.kinds.SourceModel.TheVariants.{Overlap, Tiles}
+use Rattle.wfc_task.specs.Asked.{IsOutputAsked, IsSampleAsked}
+use Rattle.wfc_task.specs.Built.{is_built, is_built_by, is_of_grid, is_of_windows, is_picture_name, side_of}
 use Rattle.wfc_task.specs.Fault.{status_of}
 use Rattle.wfc_task.specs.Plan.{Goes, Plan, refuse}
 use Rattle.wfc_task.specs.Task.{Task, plan_by, plan_of}
@@ -13,11 +20,16 @@ use Rattle.wfc_task.specs.declared.fault.Fault.{Fault}
 use Rattle.wfc_task.specs.declared.fault.Fault.TheVariants.{Refused}
 use Rattle.wfc_task.specs.declared.fault.Refusal.TheVariants.{NotBuilt}
 use Rattle.wfc_cli.proofs.Unbuilt.{unbuilt_plan}
-use Rattle.wfc_cli.specs.Answer.{Ends, Replied, Replies}
+use Rattle.wfc_words.specs.Request.{request_of}
+use Rattle.wfc_words.specs.declared.fault.CommandFault.{CommandFault}
+use Rattle.wfc_words.specs.declared.fault.CommandFault.TheVariants.{NoMemory}
+use Rattle.wfc_cli.specs.Answer.{AnswersAsked, Devices, Ends, IsAnswer, IsRefusedCall, Replied, Replies, devices}
+use Rattle.wfc_cli.specs.ErrorLine.{command_status, command_text, fault_text}
 use Rattle.wfc_cli.specs.Choosers.{kinds_of}
-use Rattle.wfc_cli.specs.Ending.{EndsPut}
-use Rattle.wfc_cli.specs.Reply.{Reply, CutsOff, Takes}
+use Rattle.wfc_cli.specs.Ending.{EndsPut, Leaves, Says}
+use Rattle.wfc_cli.specs.Reply.{Reply, CutsOff, Delivers, Takes, Tells, said_of, verdict_status, verdict_text}
 use Rattle.wfc_cli.specs.declared.reply.Verdict.{Verdict}
+use Rattle.wfc_cli.specs.declared.reply.Stop.{Stop}
 use Rattle.wfc_cli.specs.declared.reply.Stop.TheVariants.{Cut, Unanswered}
 
 -- the plan of a request that is built is that of its command
@@ -71,3 +83,62 @@ put_cut rules asked command before after old new task verdict text built is goes
       ends = ends_by rules asked command before after (Ok task) (Ok (record { verdict = verdict; text = text })) built is goes replied;
       leaves = cut;
     }
+
+-- ---- what a command needs of its values
+
+-- a command that has a model has a side of a window and images
+pub sample_asked : (asked : RequestView) (command : CommandKind) → IsInRange asked → is_built asked ≡ true → asked.command ≡ command → takes_word command (codes "MODEL") ≡ true → is_built_by command asked ≡ is_of_grid asked → IsSampleAsked asked
+sample_asked asked command within built is takes by_grid =
+    let sides = side asked.source (within.model (ap (λ c. takes_word c (codes "MODEL")) is ∙ takes)) of_windows in
+    record { some_side = sides.0; small_side = sides.1; some_image = within.some_image; eight_images = within.eight_images }
+  where
+    of_windows : is_of_windows asked.source ≡ true
+    of_windows = (and_parts (is_of_windows asked.source) (not (is_picture_name asked.file)) (sym (ap (λ c. is_built_by c asked) is ∙ by_grid) ∙ built)).0
+    side : (source : SourceModel) → IsModel source → is_of_windows source ≡ true → (0 < side_of source) × (side_of source ≤ 6)
+    side (Overlap n) model windows = model
+    side Tiles model windows = absurd (false≢true windows)
+
+-- a command that has sides has them in range
+pub output_asked : (asked : RequestView) (command : CommandKind) → IsInRange asked → asked.command ≡ command → takes_word command (codes "WIDTH") ≡ true → takes_word command (codes "HEIGHT") ≡ true → IsOutputAsked asked
+output_asked asked command within is wide high = record {
+  some_width = within.some_width (ap (λ c. takes_word c (codes "WIDTH")) is ∙ wide);
+  some_height = within.some_height (ap (λ c. takes_word c (codes "HEIGHT")) is ∙ high);
+  width_limit = within.width_limit;
+  height_limit = within.height_limit;
+}
+
+-- ---- the call
+
+-- a call for a request that ended so, and said so
+pub answered : (rules : List Rule) (words : List (List ℕ)) (asked : RequestView) (before after : Devices) (status : ℕ) (ended : Result Verdict Stop) → request_of words ≡ Ok asked
+    → EndsPut rules asked before.folder after.folder before.out after.out ended → Says asked ended before.err after.err status → IsAnswer rules words before after status
+answered rules words asked before after status ended spelled put says = record {
+  answers = inl (subst (λ request. AnswersAsked rules request before after status) (sym spelled) (record { reply = put.reply; ends = put.ends; delivers = by_reply put.reply ended put.leaves says }));
+}
+  where
+    by_reply : (reply : Reply) (ended : Result Verdict Stop) → Leaves reply before.out after.out ended → Says asked ended before.err after.err status → Delivers (said_of asked reply) before.out after.out before.err after.err status
+    by_reply (Ok answer) (Ok verdict) leaves says = inl (record {
+      taken = leaves.1;
+      told = subst (λ v. Tells (verdict_text v) before.err after.err) leaves.0 says.0;
+      same_status = says.1 ∙ ap verdict_status leaves.0;
+    })
+    by_reply (Ok answer) (Err Cut) leaves says = inr (record { front = leaves; told = says.0; five = says.1 })
+    by_reply (Err fault) (Err (Unanswered other)) leaves says = inl (record {
+      taken = leaves.1;
+      told = subst (λ f. Tells (Some (fault_text asked f)) before.err after.err) leaves.0 says.0;
+      same_status = says.1 ∙ ap status_of leaves.0;
+    })
+    by_reply (Ok answer) (Err (Unanswered other)) leaves says = absurd leaves
+    by_reply (Err fault) (Ok verdict) leaves says = absurd leaves
+    by_reply (Err fault) (Err Cut) leaves says = absurd leaves
+
+-- a call whose words were read as no request
+pub unanswered : (rules : List Rule) (words : List (List ℕ)) (folder : FolderView) (out old new : SinkView) (status : ℕ) (fault : CommandFault) → (request_of words ≡ Err fault) ⊎ (fault ≡ NoMemory)
+    → status ≡ command_status fault → Tells (Some (command_text fault)) old new → IsAnswer rules words (devices folder out old) (devices folder out new) status
+unanswered rules words folder out old new status fault why same told = by_why why
+  where
+    call : (fault : CommandFault) → status ≡ command_status fault → Tells (Some (command_text fault)) old new → IsRefusedCall fault (devices folder out old) (devices folder out new) status
+    call fault same told = record { folder = refl; delivers = inl (record { taken = refl; told = told; same_status = same }) }
+    by_why : (request_of words ≡ Err fault) ⊎ (fault ≡ NoMemory) → IsAnswer rules words (devices folder out old) (devices folder out new) status
+    by_why (inl is) = record { answers = inl (subst (λ request. AnswersAsked rules request (devices folder out old) (devices folder out new) status) (sym is) (call fault same told)) }
+    by_why (inr short) = record { answers = inr (call NoMemory (same ∙ ap command_status short) (subst (λ f. Tells (Some (command_text f)) old new) short told)) }

@@ -2,5 +2,6 @@ pub mod Unbuilt
 pub mod Parts
 pub mod ChooserLemmas
 pub mod FillLemmas
+pub mod RunLemmas
 pub mod EndLemmas
 pub mod TheoremLemmas

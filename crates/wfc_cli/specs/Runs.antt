@@ -7,6 +7,7 @@ use Rattle.rand_pcg.specs.Pcg.{pcg64, pcg64_of_seed}
 use Rattle.wfc_choose.specs.Pick.{Rule}
 use Rattle.wfc_choose.specs.declared.RuleKind.{RuleKind}
 use Rattle.wfc_problem.specs.Network.{Network}
+use Rattle.wfc_problem.specs.declared.Literal.{Literal}
 use Rattle.wfc_search.specs.Run.{State, outcome_of}
 use Rattle.wfc_search.specs.Search.{assignment_of}
 use Rattle.wfc_search.specs.declared.Outcome.{Outcome}
@@ -29,17 +30,17 @@ end_by (Some rule) P budget seed = outcome_of P rule budget (seeded seed)
 abbrev pub end_of : List Rule → RuleKind → Network → ℕ → ℕ → Option (Outcome × State)
 end_of rules kind P budget seed = end_by (chosen kind rules) P budget seed
 
--- the outcome as the code holds it, with the assignment that is found
-abbrev pub IsEnd : Network → State → Outcome → End → Type 0
-IsEnd P s outcome.Map (Map assignment) = assignment.items ≡ assignment_of P s.standing
-IsEnd P s outcome.NoMap NoMap = Unit {0}
-IsEnd P s outcome.Spent Spent = Unit {0}
-IsEnd P s _ _ = ⊥
+-- the outcome as the code holds it, with the assignment that is found where these literals stand
+abbrev pub IsHeld : Network → List Literal → Outcome → End → Type 0
+IsHeld P standing outcome.Map (Map assignment) = assignment.items ≡ assignment_of P standing
+IsHeld P standing outcome.NoMap NoMap = Unit {0}
+IsHeld P standing outcome.Spent Spent = Unit {0}
+IsHeld P standing _ _ = ⊥
 
 -- the run of the problem with this rule, budget and seed came to this
 pub record IsRan (P : Network) (rule : Rule) (budget seed : ℕ) (ran : Ran) : Type 0 where
   pub outcome : Outcome
   pub state : State
   pub ends : outcome_of P rule budget (seeded seed) ≡ Some (outcome, state)
-  pub end : IsEnd P state outcome ran.end
+  pub held : IsHeld P state.standing outcome ran.end
   pub retractions : ran.retractions ≡ state.retractions

@@ -2,7 +2,7 @@
 
 ghost use Rattle.std.specs.Prelude.{◌≡◌, ◌<◌, IfOk, Some};
 ghost use Rattle.wfc_search.specs.Search.{IsReady, assignment_of};
-ghost use Rattle.wfc_cli.specs.Runs.{IsRan};
+ghost use Rattle.wfc_cli.specs.Runs.{IsHeld, IsRan};
 
 use rand_core::SeedableRng;
 use rand_pcg::Pcg64;
@@ -73,17 +73,32 @@ fn run_counted<L: Ledger>(
     let Ok(outcome) = search.run(&mut words, &mut Quiet, &mut steps) else {
         unreachable!();
     };
-    let end = match outcome {
-        Outcome::Map => End::Map {
-            assignment: assignment(alloc, problem, &search)?,
-        },
-        Outcome::NoMap => End::NoMap,
-        Outcome::Spent => End::Spent,
-    };
+    let end = end_of(alloc, problem, &search, outcome)?;
     Ok(Ran {
         end,
         retractions: search.retractions(),
     })
+}
+
+/// The end of a search, with its assignment.
+fn end_of(
+    alloc: Global,
+    problem: &Problem,
+    search: &Search<'_, Ac4<'_>>,
+    outcome: Outcome,
+) -> Result<End, NoMemory>
+    requires ready { IsReady search.now.problem.now search.now.store ((⟦<dyn Chooser as Chooser>⟧ search.now.chooser.vtable).told search.now.chooser.value) search.now.course }
+    requires problem { search.now.problem.now ≡ problem.now }
+    requires outcome { search.now.course.outcome ≡ Some outcome }
+    ensures end { IfOk result (IsHeld problem.now search.now.store.standing outcome) }
+{
+    match outcome {
+        Outcome::Map => Ok(End::Map {
+            assignment: assignment(alloc, problem, search)?,
+        }),
+        Outcome::NoMap => Ok(End::NoMap),
+        Outcome::Spent => Ok(End::Spent),
+    }
 }
 
 /// The assignment that a search found.

@@ -4,7 +4,7 @@ use Rattle.wfc_cli.proofs.choosers.place_of.Goals as goal
 
 pub returns-then-is_kind-clause-first : goal.returns-then-is_kind-clause-first
 returns-then-is_kind-clause-first g c =
-    sym c.loop-at.invariant ∙ chosen_found _ c.args.kind c.args.choosers.now c.loop-at.at c.index-choosers-at.result c.loop-at-test.true c.index-choosers-at.is ?
+    sym c.loop-at.invariant ∙ chosen_found _ c.args.kind c.args.choosers.now c.loop-at.at c.index-choosers-at.result c.loop-at-test.true (sym c.index-choosers-at.is) ?of_kind
 
 pub unreachable-requires : goal.unreachable-requires
 unreachable-requires g c = chosen_end _ c.args.kind c.args.choosers.now c.loop-at.at c.loop-at-test.false c.loop-at.invariant c.requires.there
