@@ -3,6 +3,7 @@ use Rattle.std.proofs.Common.{◌≡◌, ℕ, ◌<◌, ◌≤◌, not, ◌⊎◌
 use Rattle.wfc_outside.specs.Sink.{SinkView}
 use Rattle.wfc_outside.specs.Folder.{FolderView}
 use Rattle.wfc_choose.specs.Pick.{Rule}
+use Rattle.wfc_choose.specs.declared.RuleKind.{RuleKind}
 use Rattle.wfc_words.specs.RequestView.{RequestView}
 use Rattle.wfc_words.specs.declared.kinds.CommandKind.{CommandKind}
 use Rattle.std.specs.Prelude.{codes}
@@ -43,6 +44,12 @@ pub ends_by : (rules : List Rule) (asked : RequestView) (command : CommandKind) 
     → Goes (plan_by command (kinds_of rules) asked) before after ended → Replied rules asked ended reply → Ends rules asked before after reply
 ends_by rules asked command before after ended reply built is goes replied =
     record { ended = ended; goes = subst (λ (plan : Plan Task). Goes plan before after ended) (built_plan rules asked command built is) goes; replied = replied }
+
+-- the same of a command that was given the kinds of its choosers
+pub ends_with : (rules : List Rule) (asked : RequestView) (command : CommandKind) (kinds : List RuleKind) (before after : FolderView) (ended : Result Task Fault) (reply : Reply) → is_built asked ≡ true → asked.command ≡ command
+    → kinds ≡ kinds_of rules → Goes (plan_by command kinds asked) before after ended → Replied rules asked ended reply → Ends rules asked before after reply
+ends_with rules asked command kinds before after ended reply built is same goes replied =
+    ends_by rules asked command before after ended reply built is (subst (λ kinds. Goes (plan_by command kinds asked) before after ended) same goes) replied
 
 -- a command for which there is no memory
 pub ends_short : (rules : List Rule) (asked : RequestView) (folder : FolderView) (fault : Fault) → status_of fault ≡ 6 → Ends rules asked folder folder (Err fault)

@@ -1,6 +1,9 @@
 -- What a search came to, as the run of a problem.
 use Rattle.std.proofs.Common.{◌≡◌, ℕ, List, [], Option, Some, None, length, ap, sym, ◌∙◌, subst, refl}
-use Rattle.rand_core.specs.Stream.{Stream}
+use Rattle.rand_core.specs.Pcg32Seed.{pcg32_seed}
+use Rattle.rand_core.specs.Steps.{stream_of, steps_u64_low}
+use Rattle.rand_pcg.specs.Lcg.{Lcg}
+use Rattle.rand_pcg.specs.Pcg.{pcg64, pcg64_of_seed}
 use Rattle.wfc_choose.specs.Pick.{Rule}
 use Rattle.wfc_choose.specs.declared.RuleKind.{RuleKind}
 use Rattle.wfc_problem.specs.Assignment.{IsLegalAssignment}
@@ -25,6 +28,11 @@ use Rattle.wfc_cli.specs.declared.reply.Verdict.TheVariants as verdict
 use Rattle.wfc_cli.specs.declared.runs.End.{End}
 use Rattle.wfc_cli.specs.declared.runs.End.TheVariants as held
 use Rattle.wfc_cli.specs.declared.runs.Ran.{Ran}
+
+-- the words of a generator that is seeded by a number
+pub seeded_is : (g : Lcg) (seed : ℕ) → g ≡ pcg64_of_seed (pcg32_seed 32 seed) → stream_of (steps_u64_low pcg64) g ≡ seeded seed
+unfolding seeded
+seeded_is g seed is = ap (stream_of (steps_u64_low pcg64)) is
 
 -- the end from the state of a search that has just begun is that of the run
 pub is_ran : (P Q : Network) (rule r : Rule) (budget b seed : ℕ) (s t : State) (outcome : Outcome) (ran : Ran) → end_from Q r b s ≡ Some (outcome, t) → Q ≡ P → r ≡ rule → b ≡ budget

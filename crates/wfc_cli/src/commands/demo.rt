@@ -40,7 +40,7 @@ pub(super) fn demo<F: Folder>(
         Err(cause) => return Err(exhausted(cause)),
     };
     let task = demo_task(alloc, request, &kinds, folder)?;
-    match answer(alloc, request.number, choosers, &task) {
+    match answer(alloc, request, choosers, &task) {
         Ok(answer) => Ok(answer),
         Err(cause) => Err(exhausted(cause)),
     }
@@ -49,17 +49,17 @@ pub(super) fn demo<F: Folder>(
 /// Makes the run, and answers how many patterns, cells and retractions there were, and how it ended.
 fn answer(
     alloc: Global,
-    number: u32,
+    request: &Request,
     choosers: Vec<Box<dyn Chooser>>,
     task: &Demo,
 ) -> Result<Answer, NoMemory>
     requires chooser { Contains (kinds_of (map (λ chooser. (told chooser).rule) choosers.items)) Fewest }
     ensures answers { IfOk result (λ answer. demo_answer task.now.patterns task.now.problem
-        (end_of (map (λ chooser. (told chooser).rule) choosers.items) Fewest task.now.problem demo_budget number)
+        (end_of (map (λ chooser. (told chooser).rule) choosers.items) Fewest task.now.problem demo_budget request.now.number)
         ≡ Some (answer_view answer)) }
 {
     let chooser = first_of(choosers, RuleKind::Fewest);
-    let ran = run(alloc, &task.problem, chooser, DEMO_BUDGET, u64::from(number))?;
+    let ran = run(alloc, &task.problem, chooser, DEMO_BUDGET, u64::from(request.number))?;
     let verdict = verdict(&ran.end);
     let text = lines(
         alloc,
@@ -111,7 +111,7 @@ fn push_line(text: &mut Vec<u8>, name: &[u8], number: u32) -> Result<(), NoMemor
 {
     text.extend_from_slice(name)?;
     text.push(b' ')?;
-    push_number(text, u64::from(number))?;
+    push_number(text, u64::from(request.number))?;
     text.push(b'\n')?;
     Ok(())
 }

@@ -1,18 +1,22 @@
-use Rattle.wfc_cli.proofs.EndLemmas.{ends_unbuilt, output_asked, sample_asked}
+use Rattle.std.proofs.Common.{sym, ap, ◌∙◌, refl}
+use Rattle.wfc_words.specs.RequestView.{RequestView}
 use Rattle.wfc_words.specs.declared.kinds.CommandKind.TheVariants.{Learn, Fill}
+use Rattle.wfc_cli.proofs.EndLemmas.{ends_unbuilt, output_asked, sample_asked}
 use Rattle.wfc_cli.proofs.commands.run.Goals as goal
 
 pub returns-then-not-is_built : goal.returns-then-not-is_built
-returns-then-not-is_built g c = ?unbuilt
+returns-then-not-is_built g c = record { ends = ends_unbuilt _ _ _ _ (sym c.if-not-is_built.ensures.value) }
 
 pub learn-requires-clause-sample : goal.learn-requires-clause-sample
-learn-requires-clause-sample g c = ?learn
+learn-requires-clause-sample g c =
+    sample_asked c.args.request.now Learn c.requires.in_range (sym c.if-not-is_built.ensures.value) (sym (ap (λ (r : RequestView). r.command) c.request.view_is) ∙ c.in-Learn.is) refl refl
 
 pub fill-requires-clause-sample : goal.fill-requires-clause-sample
-fill-requires-clause-sample g c = ?fill
+fill-requires-clause-sample g c =
+    sample_asked c.args.request.now Fill c.requires.in_range (sym c.if-not-is_built.ensures.value) (sym (ap (λ (r : RequestView). r.command) c.request.view_is) ∙ c.in-Fill.is) refl refl
 
 pub fill-requires-clause-output : goal.fill-requires-clause-output
-fill-requires-clause-output g c = ?output
+fill-requires-clause-output g c = output_asked c.args.request.now Fill c.requires.in_range (sym (ap (λ (r : RequestView). r.command) c.request.view_is) ∙ c.in-Fill.is) refl refl
 
 pub returns-in_default : goal.returns-in_default
 returns-in_default g c = ?default
