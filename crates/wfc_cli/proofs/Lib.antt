@@ -3,5 +3,6 @@ pub mod Parts
 pub mod ChooserLemmas
 pub mod FillLemmas
 pub mod RunLemmas
+pub mod WalkLemmas
 pub mod EndLemmas
 pub mod TheoremLemmas

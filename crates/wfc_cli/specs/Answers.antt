@@ -89,10 +89,14 @@ abbrev pub after_step : List Literal → Step → List Literal
 after_step standing (Assume literal) = standing ++ literal ∷ []
 after_step standing Undo = take (length standing - 1) standing
 
+-- the literals that stand after each of these steps
+abbrev pub later : List Literal → List StepLine → List (List Literal)
+later standing [] = []
+later standing (line ∷ lines) = after_step standing line.step ∷ later (after_step standing line.step) lines
+
 -- the literals that stand before the first of these steps and after each
 abbrev pub standings : List Literal → List StepLine → List (List Literal)
-standings standing [] = standing ∷ []
-standings standing (line ∷ lines) = standing ∷ standings (after_step standing line.step) lines
+standings standing lines = standing ∷ later standing lines
 
 -- the greatest domains under literals, if no cell is empty in them
 abbrev pub shown : Network → List Literal → Option Test

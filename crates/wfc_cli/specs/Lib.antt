@@ -4,6 +4,7 @@ pub mod Runs
 pub mod Reply
 pub mod ReplyView
 pub mod Answers
+pub mod Walk
 pub mod Answer
 pub mod Ending
 pub mod Theorem

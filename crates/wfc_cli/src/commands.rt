@@ -1,16 +1,21 @@
 //! The commands.
 
-ghost use Rattle.std.specs.Prelude.{map};
+ghost use Rattle.std.specs.Prelude.{◌≡◌, map};
 ghost use Rattle.wfc_words.specs.InRange.{IsInRange};
+ghost use Rattle.wfc_task.specs.declared.fault.Fault.TheVariants.{Refused};
+ghost use Rattle.wfc_task.specs.declared.fault.Refusal.TheVariants.{NotBuilt};
 ghost use Rattle.wfc_cli.specs.Ending.{EndsPut};
+ghost use Rattle.wfc_cli.specs.declared.reply.Stop.TheVariants.{Unanswered};
 
 mod demo;
+mod domains;
 mod fill;
 mod learn;
 
 use crate::deliver::put;
 use crate::reply::{Stop, Verdict};
 use demo::demo;
+use domains::domains;
 use fill::fill;
 use learn::learn;
 use std::alloc::Global;
@@ -32,20 +37,24 @@ pub(crate) fn run<F: Folder, O: Sink>(
         (F.seen folder.old) (F.seen folder.new) (O.seen out.old) (O.seen out.new) result }
 {
     if !is_built(request) {
-        return Err(Stop::Unanswered {
-            fault: Fault::Refused {
-                refusal: Refusal::NotBuilt,
-            },
-        });
+        return Err(unbuilt());
     }
     match request.command {
         CommandKind::Learn => put(out, learn(alloc, request, folder)),
         CommandKind::Fill => put(out, fill(alloc, request, choosers, folder)),
         CommandKind::Demo => put(out, demo(alloc, request, choosers, folder)),
-        _ => Err(Stop::Unanswered {
-            fault: Fault::Refused {
-                refusal: Refusal::NotBuilt,
-            },
-        }),
+        CommandKind::Domains => domains(alloc, request, folder, out),
+        _ => Err(unbuilt()),
+    }
+}
+
+/// What isn't built is refused.
+fn unbuilt() -> Stop
+    ensures value { result ≡ Unanswered (Refused NotBuilt) }
+{
+    Stop::Unanswered {
+        fault: Fault::Refused {
+            refusal: Refusal::NotBuilt,
+        },
     }
 }

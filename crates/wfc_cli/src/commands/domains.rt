@@ -1,0 +1,203 @@
+//! The command `domains`: the greatest domains before any step and after each, put while the steps are made.
+
+ghost use Rattle.std.specs.Prelude.{◌≡◌, ◌×◌, ◌+◌, ◌≤◌, ◌<◌, ◌^◌, ◌↔◌, true, [], List, All, IsTrue, IfOk, OnOk, length};
+ghost use Rattle.wfc_choose.specs.Pick.{Rule};
+ghost use Rattle.wfc_domains.specs.Store.{IsOpened};
+ghost use Rattle.wfc_domains.specs.declared.Verdict.TheVariants.{Alive};
+ghost use Rattle.wfc_outside.specs.Sink.{Puts};
+ghost use Rattle.wfc_pins.specs.Steps.{IsStepIn};
+ghost use Rattle.wfc_pins.specs.declared.steps.StepLine.{StepLine};
+ghost use Rattle.wfc_problem.specs.Domains.{IsLiteralIn};
+ghost use Rattle.wfc_problem.specs.Network.{values};
+ghost use Rattle.wfc_problem.specs.declared.Literal.{Literal};
+ghost use Rattle.wfc_render.specs.Block.{block_text};
+ghost use Rattle.wfc_task.specs.Asked.{IsOutputAsked, IsSampleAsked};
+ghost use Rattle.wfc_task.specs.Built.{is_built};
+ghost use Rattle.wfc_words.specs.declared.kinds.CommandKind.TheVariants as commands;
+ghost use Rattle.wfc_cli.specs.Answers.{after_step, root_verdict, shown, steps_text};
+ghost use Rattle.wfc_cli.specs.Ending.{EndsPut};
+ghost use Rattle.wfc_cli.specs.Walk.{IsWalk, WalksTo};
+
+use crate::reply::{Stop, Verdict, exhausted};
+use std::alloc::Global;
+use std::marker::Brand;
+use std::sync::ledger::{Blank, Ledger};
+use wfc_ac4::Ac4;
+use wfc_domains::{Steps, Store, is_alive};
+use wfc_outside::{Folder, NoMemory, Sink, SinkFault};
+use wfc_pins::{Step, StepLine};
+use wfc_problem::{Literal, Problem};
+use wfc_render::write_block;
+use wfc_task::{Stepping, domains_task};
+use wfc_words::Request;
+
+/// Reads the files, and puts the block of the root and one of each step.
+pub(super) fn domains<F: Folder, O: Sink>(
+    alloc: Global,
+    request: &Request,
+    folder: &mut F,
+    out: &mut O,
+) -> Result<Verdict, Stop>
+    requires domains { request.now.command ≡ commands.Domains }
+    requires built { is_built request.now ≡ true }
+    requires sample { IsSampleAsked request.now }
+    requires output { IsOutputAsked request.now }
+    ensures ends { (rules : List Rule) → EndsPut rules request.now (F.seen folder.old) (F.seen folder.new) (O.seen out.old) (O.seen out.new) result }
+{
+    let stepping = domains_task(alloc, request, folder)?;
+    let walk = match begun(alloc, &stepping) {
+        Ok(walk) => walk,
+        Err(cause) => {
+            return Err(Stop::Unanswered {
+                fault: exhausted(cause),
+            });
+        }
+    };
+    let verdict = walk.verdict();
+    put_blocks::<O, Brand>(
+        out,
+        walk,
+        &stepping.problem,
+        &stepping.steps,
+        Blank::new(1),
+    )?;
+    out.finish()?;
+    Ok(verdict)
+}
+
+/// Where steps have led: the literals of the engine stand, and beside them so many that were assumed while some cell had
+/// no value.
+#[derive(Drop)]
+struct Walk<'p> {
+    engine: Ac4<'p>,
+    beside: usize,
+}
+
+/// No step was made.
+fn begun<'p>(alloc: Global, stepping: &'p Stepping) -> Result<Walk<'p>, NoMemory>
+    ensures few { OnOk result (length stepping.now.steps.items < 2 ^ 32) }
+    ensures opened { IfOk result (λ walk. IsOpened walk.engine stepping.now.problem (length stepping.now.steps.items)) }
+    ensures none { IfOk result (λ walk. walk.beside ≡ 0) }
+{
+    let Ok(levels) = u32::try_from(stepping.steps.len()) else {
+        return Err(NoMemory);
+    };
+    let Ok(engine) = Ac4::open(alloc, &stepping.problem, levels) else {
+        return Err(NoMemory);
+    };
+    Ok(Walk { engine, beside: 0 })
+}
+
+impl<'p> Walk<'p> {
+    /// Whether each cell has a value.
+    fn is_alive(&self) -> bool
+        ensures alive { IsTrue result ↔ ((self.now.beside ≡ 0) × (self.now.engine.verdict ≡ Alive)) }
+    {
+        self.beside == 0 && is_alive(self.engine.verdict())
+    }
+
+    /// How the command ends that begins here.
+    fn verdict(&self) -> Verdict
+        ensures value { IsWalk self.now.engine self.now.beside [] → result ≡ root_verdict self.now.engine.problem }
+    {
+        if self.is_alive() {
+            Verdict::Done
+        } else {
+            Verdict::Dead
+        }
+    }
+
+    /// Puts the block of a step.
+    fn put<O: Sink>(&self, out: &mut O, number: u32, values: u16, cells: u32) -> Result<(), SinkFault>
+        requires values { values ≡ values self.now.engine.problem }
+        requires cells { cells ≡ self.now.engine.problem.cells }
+        ensures put { (standing : List Literal) → IsWalk self.now.engine self.now.beside standing
+            → Puts (O.seen out.old) (O.seen out.new) (block_text number (shown self.now.engine.problem standing) values cells) result }
+    {
+        if self.is_alive() {
+            write_block(out, number, Some(self.engine.domains()), values, cells)
+        } else {
+            write_block(out, number, None, values, cells)
+        }
+    }
+
+    /// Makes a step.
+    fn step<L: Ledger>(&mut self, step: Step, steps: &mut Steps<L>)
+        requires inside { IsStepIn self.old.engine.problem step }
+        requires spare { 0 < self.old.engine.spare }
+        requires room { self.old.beside < 2 ^ 32 }
+        ensures walks { WalksTo self.old.engine self.old.beside self.new.engine self.new.beside step }
+        ensures problem { self.new.engine.problem ≡ self.old.engine.problem }
+        ensures spare { self.old.engine.spare ≤ self.new.engine.spare + 1 }
+        ensures beside { self.new.beside ≤ self.old.beside + 1 }
+    {
+        match step {
+            Step::Assume(literal) => self.assume(literal, steps),
+            Step::Undo => self.undo(steps),
+        }
+    }
+
+    /// Puts a literal on. While some cell has no value it is counted, and not handed to the engine.
+    fn assume<L: Ledger>(&mut self, literal: Literal, steps: &mut Steps<L>)
+        requires inside { IsLiteralIn self.old.engine.problem literal }
+        requires spare { 0 < self.old.engine.spare }
+        requires room { self.old.beside < 2 ^ 32 }
+        ensures walks { WalksTo self.old.engine self.old.beside self.new.engine self.new.beside (Step.Assume literal) }
+        ensures problem { self.new.engine.problem ≡ self.old.engine.problem }
+        ensures spare { self.old.engine.spare ≤ self.new.engine.spare + 1 }
+        ensures beside { self.new.beside ≤ self.old.beside + 1 }
+    {
+        if self.is_alive() {
+            self.engine.assume(literal, steps);
+        } else {
+            self.beside += 1;
+        }
+    }
+
+    /// Takes the last literal away, if one stands.
+    fn undo<L: Ledger>(&mut self, steps: &mut Steps<L>)
+        ensures walks { WalksTo self.old.engine self.old.beside self.new.engine self.new.beside Step.Undo }
+        ensures problem { self.new.engine.problem ≡ self.old.engine.problem }
+        ensures spare { self.old.engine.spare ≤ self.new.engine.spare + 1 }
+        ensures beside { self.new.beside ≤ self.old.beside + 1 }
+    {
+        if self.beside > 0 {
+            self.beside -= 1;
+        } else if !self.engine.standing().is_empty() {
+            self.engine.undo(steps);
+        }
+    }
+}
+
+/// Puts the block of the root, and makes each step and puts its block.
+fn put_blocks<O: Sink, L: Ledger>(
+    out: &mut O,
+    walk: Walk<'_>,
+    problem: &Problem,
+    lines: &[StepLine],
+    blank: Blank,
+) -> Result<(), SinkFault>
+    requires name { blank.name ≡ L.name }
+    requires parts { blank.parts ≡ L.parts }
+    requires some { 0 < blank.parts }
+    requires begun { IsWalk walk.engine walk.beside [] }
+    requires none { walk.beside ≡ 0 }
+    requires problem { walk.engine.problem ≡ problem.now }
+    requires inside { All (λ (line : StepLine). IsStepIn problem.now line.step) lines.now }
+    requires spare { length lines.now ≤ walk.engine.spare }
+    requires few { length lines.now < 2 ^ 32 }
+    ensures put { Puts (O.seen out.old) (O.seen out.new) (steps_text problem.now lines.now) result }
+{
+    let values = problem.values();
+    let cells = problem.cells();
+    let mut walk = walk;
+    let mut steps = Steps::<L>::new(blank);
+    let mut number: u32 = 0;
+    walk.put(out, 0, values, cells)?;
+    for line in lines {
+        walk.step(line.step, &mut steps);
+        number += 1;
+        walk.put(out, number, values, cells)?;
+    }
+    Ok(())
+}
