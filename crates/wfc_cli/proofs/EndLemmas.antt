@@ -6,6 +6,7 @@ use Rattle.wfc_choose.specs.Pick.{Rule}
 use Rattle.wfc_choose.specs.declared.RuleKind.{RuleKind}
 use Rattle.wfc_words.specs.RequestView.{RequestView}
 use Rattle.wfc_words.specs.declared.kinds.CommandKind.{CommandKind}
+use Rattle.wfc_words.specs.declared.kinds.CommandKind.TheVariants as commands
 use Rattle.std.specs.Prelude.{codes}
 use Rattle.std.proofs.lemmas.Bool.{and_parts, false≢true}
 use Rattle.wfc_words.specs.Commands.{takes_word}
@@ -20,7 +21,7 @@ use Rattle.wfc_task.specs.Task.{Task, plan_by, plan_of}
 use Rattle.wfc_task.specs.declared.fault.Fault.{Fault}
 use Rattle.wfc_task.specs.declared.fault.Fault.TheVariants.{Refused}
 use Rattle.wfc_task.specs.declared.fault.Refusal.TheVariants.{NotBuilt}
-use Rattle.wfc_cli.proofs.Unbuilt.{unbuilt_plan}
+use Rattle.wfc_task.proofs.WordLemmas.{unbuilt_plan}
 use Rattle.wfc_words.specs.Request.{request_of}
 use Rattle.wfc_words.specs.declared.fault.CommandFault.{CommandFault}
 use Rattle.wfc_words.specs.declared.fault.CommandFault.TheVariants.{NoMemory}
@@ -65,11 +66,32 @@ ends_unbuilt rules asked folder sink unbuilt =
       leaves = (refl, refl);
     }
 
+-- a command that is built is one of these
+pub other_built : (asked : RequestView) (command : CommandKind) → asked.command ≡ command → (command ≡ commands.Learn → ⊥) → (command ≡ commands.Fill → ⊥) → (command ≡ commands.Domains → ⊥) → (command ≡ commands.Demo → ⊥)
+    → is_built asked ≡ true → ⊥
+other_built asked command is not_learn not_fill not_domains not_demo built =
+    false≢true (sym (by_command command not_learn not_fill not_domains not_demo) ∙ sym (ap (λ c. is_built_by c asked) is) ∙ built)
+  where
+    by_command : (c : CommandKind) → (c ≡ commands.Learn → ⊥) → (c ≡ commands.Fill → ⊥) → (c ≡ commands.Domains → ⊥) → (c ≡ commands.Demo → ⊥) → is_built_by c asked ≡ false
+    by_command commands.Learn l f d e = absurd (l refl)
+    by_command commands.Fill l f d e = absurd (f refl)
+    by_command commands.Domains l f d e = absurd (d refl)
+    by_command commands.Demo l f d e = absurd (e refl)
+    by_command commands.Refute l f d e = refl
+    by_command commands.Check l f d e = refl
+    by_command commands.Upgrade l f d e = refl
+
 -- a command that puts its text itself: its plan ended with a fault, and nothing was put
 pub put_none : (rules : List Rule) (asked : RequestView) (command : CommandKind) (before after : FolderView) (sink : SinkView) (fault : Fault) → is_built asked ≡ true → asked.command ≡ command
     → Goes (plan_by command (kinds_of rules) asked) before after (Err fault) → EndsPut rules asked before after sink sink (Err (Unanswered fault))
 put_none rules asked command before after sink fault built is goes =
     record { reply = Err fault; ends = ends_by rules asked command before after (Err fault) (Err fault) built is goes refl; leaves = (refl, refl) }
+
+-- its plan came to a task, and then memory ran out before anything was put
+pub put_short : (rules : List Rule) (asked : RequestView) (command : CommandKind) (before after : FolderView) (sink : SinkView) (task : Task) (fault : Fault) → is_built asked ≡ true → asked.command ≡ command
+    → Goes (plan_by command (kinds_of rules) asked) before after (Ok task) → status_of fault ≡ 6 → EndsPut rules asked before after sink sink (Err (Unanswered fault))
+put_short rules asked command before after sink task fault built is goes short =
+    record { reply = Err fault; ends = ends_by rules asked command before after (Ok task) (Err fault) built is goes short; leaves = (refl, refl) }
 
 -- the whole text of an answer was put
 pub put_whole : (rules : List Rule) (asked : RequestView) (command : CommandKind) (before after : FolderView) (old new : SinkView) (task : Task) (verdict : Verdict) (text : Option (List ℕ)) → is_built asked ≡ true → asked.command ≡ command

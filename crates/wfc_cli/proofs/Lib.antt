@@ -1,4 +1,3 @@
-pub mod Unbuilt
 pub mod Parts
 pub mod ChooserLemmas
 pub mod FillLemmas

@@ -6,7 +6,7 @@ use Rattle.std.proofs.Math.Seq.{take-append-add}
 use Rattle.wfc_outside.specs.Sink.{SinkView, after_bytes, IsFaultAfterFront, Puts}
 use Rattle.wfc_outside.specs.declared.SinkFault.{SinkFault}
 use Rattle.wfc_outside.proofs.CallerLemmas.{fault_out, puts_on}
-use Rattle.wfc_domains.specs.Store.{StoreView, IsAssumed, IsSound, all_but_last, left_of, without_last}
+use Rattle.wfc_domains.specs.Store.{StoreView, IsAssumed, IsOpened, IsSound, all_but_last, left_of, without_last}
 use Rattle.wfc_domains.specs.declared.Verdict.{Verdict}
 use Rattle.wfc_domains.specs.declared.Verdict.TheVariants.{Alive, Dead}
 use Rattle.wfc_problem.specs.Domains.{Test}
@@ -20,8 +20,10 @@ use Rattle.wfc_pins.specs.declared.steps.Step.TheVariants.{Assume, Undo}
 use Rattle.wfc_pins.specs.declared.steps.StepLine.{StepLine}
 use Rattle.wfc_search.proofs.CallerLemmas.{alive_alive, alive_left, dead_dead}
 use Rattle.wfc_render.specs.Block.{block_text, blocks_from}
-use Rattle.wfc_cli.specs.Answers.{after_step, later, root_verdict, shown, steps_text}
+use Rattle.wfc_cli.specs.Answers.{after_step, domains_answer, later, root_verdict, shown, steps_text}
 use Rattle.wfc_cli.specs.Walk.{IsWalk, WalksTo, left_text, stood}
+use Rattle.wfc_cli.specs.Reply.{Answered}
+use Rattle.wfc_cli.specs.declared.reply.Verdict as verdict_type
 use Rattle.wfc_cli.specs.declared.reply.Verdict.TheVariants as verdict
 
 -- ---- dead and alive
@@ -167,3 +169,19 @@ pub blocks_out : (P : Network) (values cells : ℕ) (lines : List StepLine) (i :
 blocks_out P values cells lines i line inside is old new fault =
     subst (λ text. IsFaultAfterFront old new text) (sym (left_more P values cells lines i line inside is))
     (fault_out old new (block_text (i + 1) (shown P (stood [] (take (i + 1) lines))) values cells) (left_text P values cells lines (i + 1)) fault)
+
+-- ---- the command
+
+-- a walk that has begun
+pub walk_begun : (v : StoreView) (P : Network) (levels beside : ℕ) → IsOpened v P levels → beside ≡ 0 → IsWalk v beside []
+walk_begun v P levels beside opened none = record {
+  sound = opened.sound;
+  extra = [];
+  stands = sym (append-nil v.standing ∙ opened.standing);
+  many = sym none;
+  dead = λ some. absurd (omega (arith, some, none));
+}
+
+-- the answer with its verdict
+pub steps_answer : (P Q : Network) (lines : List StepLine) (v : verdict_type.Verdict) → Q ≡ P → v ≡ root_verdict Q → Some (domains_answer P lines) ≡ Some (record { verdict = v; text = Some (steps_text P lines) })
+steps_answer P Q lines v same is = ap (λ w. let answer : Answered = record { verdict = w; text = Some (steps_text P lines) } in Some answer) (sym (is ∙ ap root_verdict same))

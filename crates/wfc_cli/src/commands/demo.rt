@@ -111,7 +111,7 @@ fn push_line(text: &mut Vec<u8>, name: &[u8], number: u32) -> Result<(), NoMemor
 {
     text.extend_from_slice(name)?;
     text.push(b' ')?;
-    push_number(text, u64::from(request.number))?;
+    push_number(text, u64::from(number))?;
     text.push(b'\n')?;
     Ok(())
 }

@@ -1,6 +1,6 @@
 //! The command `domains`: the greatest domains before any step and after each, put while the steps are made.
 
-ghost use Rattle.std.specs.Prelude.{◌≡◌, ◌×◌, ◌+◌, ◌≤◌, ◌<◌, ◌^◌, ◌↔◌, true, [], List, All, IsTrue, IfOk, OnOk, length};
+ghost use Rattle.std.specs.Prelude.{◌≡◌, ◌+◌, ◌≤◌, ◌<◌, ◌^◌, ◌↔◌, true, [], List, All, IsTrue, IfOk, OnOk, length};
 ghost use Rattle.wfc_choose.specs.Pick.{Rule};
 ghost use Rattle.wfc_domains.specs.Store.{IsOpened};
 ghost use Rattle.wfc_domains.specs.declared.Verdict.TheVariants.{Alive};
@@ -108,16 +108,16 @@ impl<'p> Walk<'p> {
     }
 
     /// Puts the block of a step.
-    fn put<O: Sink>(&self, out: &mut O, number: u32, values: u16, cells: u32) -> Result<(), SinkFault>
-        requires values { values ≡ values self.now.engine.problem }
+    fn put<O: Sink>(&self, out: &mut O, number: u32, count: u16, cells: u32) -> Result<(), SinkFault>
+        requires values { count ≡ values self.now.engine.problem }
         requires cells { cells ≡ self.now.engine.problem.cells }
         ensures put { (standing : List Literal) → IsWalk self.now.engine self.now.beside standing
-            → Puts (O.seen out.old) (O.seen out.new) (block_text number (shown self.now.engine.problem standing) values cells) result }
+            → Puts (O.seen out.old) (O.seen out.new) (block_text number (shown self.now.engine.problem standing) count cells) result }
     {
         if self.is_alive() {
-            write_block(out, number, Some(self.engine.domains()), values, cells)
+            write_block(out, number, Some(self.engine.domains()), count, cells)
         } else {
-            write_block(out, number, None, values, cells)
+            write_block(out, number, None, count, cells)
         }
     }
 
@@ -188,16 +188,16 @@ fn put_blocks<O: Sink, L: Ledger>(
     requires few { length lines.now < 2 ^ 32 }
     ensures put { Puts (O.seen out.old) (O.seen out.new) (steps_text problem.now lines.now) result }
 {
-    let values = problem.values();
+    let count = problem.values();
     let cells = problem.cells();
     let mut walk = walk;
     let mut steps = Steps::<L>::new(blank);
     let mut number: u32 = 0;
-    walk.put(out, 0, values, cells)?;
+    walk.put(out, 0, count, cells)?;
     for line in lines {
         walk.step(line.step, &mut steps);
         number += 1;
-        walk.put(out, number, values, cells)?;
+        walk.put(out, number, count, cells)?;
     }
     Ok(())
 }

@@ -1,11 +1,11 @@
 use Rattle.std.proofs.Common.{sym, ap, ◌∙◌, refl}
 use Rattle.wfc_words.specs.RequestView.{RequestView}
-use Rattle.wfc_words.specs.declared.kinds.CommandKind.TheVariants.{Learn, Fill}
-use Rattle.wfc_cli.proofs.EndLemmas.{ends_unbuilt, output_asked, sample_asked}
+use Rattle.wfc_words.specs.declared.kinds.CommandKind.TheVariants.{Learn, Fill, Domains}
+use Rattle.wfc_cli.proofs.EndLemmas.{ends_unbuilt, other_built, output_asked, sample_asked}
 use Rattle.wfc_cli.proofs.commands.run.Goals as goal
 
 pub returns-then-not-is_built : goal.returns-then-not-is_built
-returns-then-not-is_built g c = record { ends = ends_unbuilt _ _ _ _ (sym c.if-not-is_built.ensures.value) }
+returns-then-not-is_built g c = record { ends = rw c.unbuilt.ensures.value (ends_unbuilt _ _ _ _ (sym c.if-not-is_built.ensures.value)) }
 
 pub learn-requires-clause-sample : goal.learn-requires-clause-sample
 learn-requires-clause-sample g c =
@@ -18,5 +18,14 @@ fill-requires-clause-sample g c =
 pub fill-requires-clause-output : goal.fill-requires-clause-output
 fill-requires-clause-output g c = output_asked c.args.request.now Fill c.requires.in_range (sym (ap (λ (r : RequestView). r.command) c.request.view_is) ∙ c.in-Fill.is) refl refl
 
+pub domains-requires-clause-sample : goal.domains-requires-clause-sample
+domains-requires-clause-sample g c =
+    sample_asked c.args.request.now Domains c.requires.in_range (sym c.if-not-is_built.ensures.value) (sym (ap (λ (r : RequestView). r.command) c.request.view_is) ∙ c.in-Domains.is) refl refl
+
+pub domains-requires-clause-output : goal.domains-requires-clause-output
+domains-requires-clause-output g c = output_asked c.args.request.now Domains c.requires.in_range (sym (ap (λ (r : RequestView). r.command) c.request.view_is) ∙ c.in-Domains.is) refl refl
+
 pub returns-in_default : goal.returns-in_default
-returns-in_default g c = ?default
+returns-in_default g c =
+    absurd (other_built c.args.request.now c.request.inside.command (sym (ap (λ (r : RequestView). r.command) c.request.view_is)) c.in_default.not-Learn c.in_default.not-Fill c.in_default.not-Domains c.in_default.not-Demo
+    (sym c.if-not-is_built.ensures.value))
