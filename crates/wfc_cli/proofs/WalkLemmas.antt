@@ -1,16 +1,16 @@
 -- Steps that are made, and the blocks that are put.
 use Rattle.std.proofs.Common.{◌≡◌, ℕ, zero, suc, ◌+◌, ◌-◌, ◌<◌, ◌≤◌, ◌⊎◌, inl, inr, true, false, List, [], ◌∷◌, ◌++◌, length, map, take, drop, get_or, Option, Some, None, Result, Ok, Err, ap, sym, ◌∙◌, subst, refl, arith, length-append, append_assoc, append-nil, length-take, if◌then◌else◌}
 use Rattle.std.proofs.lemmas.Bool.{false_from_ne_true, false≢true, cases_lt}
-use Rattle.std.proofs.lemmas.List.{drop_more, take_more, take-append-le}
+use Rattle.std.proofs.lemmas.List.{drop_all, drop_more, get_or_default, take_more}
 use Rattle.std.proofs.Math.Seq.{take-append-add}
 use Rattle.wfc_outside.specs.Sink.{SinkView, after_bytes, IsFaultAfterFront, Puts}
 use Rattle.wfc_outside.specs.declared.SinkFault.{SinkFault}
-use Rattle.wfc_outside.proofs.CallerLemmas.{fault_out, puts_on}
+use Rattle.wfc_outside.proofs.CallerLemmas.{fault_out, puts_none, puts_on}
 use Rattle.wfc_domains.specs.Store.{StoreView, IsAssumed, IsOpened, IsSound, all_but_last, left_of, without_last}
 use Rattle.wfc_domains.specs.declared.Verdict.{Verdict}
 use Rattle.wfc_domains.specs.declared.Verdict.TheVariants.{Alive, Dead}
 use Rattle.wfc_problem.specs.Domains.{Test}
-use Rattle.wfc_problem.specs.Network.{Network, IsProblem}
+use Rattle.wfc_problem.specs.Network.{Network, IsProblem, values}
 use Rattle.wfc_problem.specs.Rounds.{greatest}
 use Rattle.wfc_problem.specs.Sizes.{is_dead}
 use Rattle.wfc_problem.specs.declared.Literal.{Literal}
@@ -169,6 +169,52 @@ pub blocks_out : (P : Network) (values cells : ℕ) (lines : List StepLine) (i :
 blocks_out P values cells lines i line inside is old new fault =
     subst (λ text. IsFaultAfterFront old new text) (sym (left_more P values cells lines i line inside is))
     (fault_out old new (block_text (i + 1) (shown P (stood [] (take (i + 1) lines))) values cells) (left_text P values cells lines (i + 1)) fault)
+
+-- the walk after one step more
+pub walk_next : (lines : List StepLine) (i : ℕ) (d : StepLine) (old new : StoreView) (before behind : ℕ) → i < length lines → WalksTo old before new behind (get_or lines i d).step
+    → IsWalk old before (stood [] (take i lines)) → IsWalk new behind (stood [] (take (i + 1) lines))
+walk_next lines i d old new before behind inside walks walk =
+    subst (IsWalk new behind) (sym (stood_next lines i (get_or lines i d) inside (get_or_default lines i (get_or lines i d) d inside))) (walks (stood [] (take i lines)) walk)
+
+-- the first block was put, and those that are left make all of them
+pub blocks_start : (P Q : Network) (count cells : ℕ) (lines : List StepLine) → Q ≡ P → count ≡ values P → cells ≡ P.cells
+    → (old mid new : SinkView) (result : Result (Unit {0}) SinkFault) → mid ≡ after_bytes old (block_text 0 (shown Q []) count cells) → Puts mid new (left_text P count cells lines 0) result → Puts old new (steps_text P lines) result
+blocks_start P Q count cells lines same counted as_many old mid new result put rest =
+    subst (λ text. Puts old new text result) (λ i. block_text 0 (shown P []) (counted i) (as_many i) ++ left_text P (counted i) (as_many i) lines 0)
+    (puts_on old mid new (block_text 0 (shown P []) count cells) (left_text P count cells lines 0) result (put ∙ ap (λ R. after_bytes old (block_text 0 (shown R []) count cells)) same) rest)
+
+-- the fault of the first block
+pub start_out : (P Q : Network) (count cells : ℕ) (lines : List StepLine) → Q ≡ P → count ≡ values P → cells ≡ P.cells
+    → (old new : SinkView) → IsFaultAfterFront old new (block_text 0 (shown Q []) count cells) → IsFaultAfterFront old new (steps_text P lines)
+start_out P Q count cells lines same counted as_many old new fault =
+    subst (λ text. IsFaultAfterFront old new text) (λ i. block_text 0 (shown P []) (counted i) (as_many i) ++ left_text P (counted i) (as_many i) lines 0)
+    (fault_out old new (block_text 0 (shown P []) count cells) (left_text P count cells lines 0) (subst (λ R. IsFaultAfterFront old new (block_text 0 (shown R []) count cells)) same fault))
+
+-- a step where there is none
+no_step : StepLine
+no_step = record { line = 0; step = Undo }
+
+-- the block of a step, as the code puts it
+pub next_on : (P Q : Network) (count cells : ℕ) (lines : List StepLine) (i k : ℕ) → i < length lines → Q ≡ P → k ≡ i
+    → (old mid new : SinkView) (result : Result (Unit {0}) SinkFault) → mid ≡ after_bytes old (block_text (k + 1) (shown Q (stood [] (take (i + 1) lines))) count cells)
+    → Puts mid new (left_text P count cells lines (i + 1)) result → Puts old new (left_text P count cells lines i) result
+next_on P Q count cells lines i k inside same number old mid new result put rest =
+    blocks_on P count cells lines i (get_or lines i no_step) inside (get_or_default lines i (get_or lines i no_step) no_step inside) old mid new result
+    (put ∙ (λ j. after_bytes old (block_text (number j + 1) (shown (same j) (stood [] (take (i + 1) lines))) count cells))) rest
+
+-- and its fault
+pub next_out : (P Q : Network) (count cells : ℕ) (lines : List StepLine) (i k : ℕ) → i < length lines → Q ≡ P → k ≡ i
+    → (old new : SinkView) → IsFaultAfterFront old new (block_text (k + 1) (shown Q (stood [] (take (i + 1) lines))) count cells) → IsFaultAfterFront old new (left_text P count cells lines i)
+next_out P Q count cells lines i k inside same number old new fault =
+    let text : block_text (k + 1) (shown Q (stood [] (take (i + 1) lines))) count cells ≡ block_text (i + 1) (shown P (stood [] (take (i + 1) lines))) count cells =
+    λ j. block_text (number j + 1) (shown (same j) (stood [] (take (i + 1) lines))) count cells in
+    blocks_out P count cells lines i (get_or lines i no_step) inside (get_or_default lines i (get_or lines i no_step) no_step inside) old new (subst (λ t. IsFaultAfterFront old new t) text fault)
+
+-- behind the last step nothing is left
+pub blocks_end : (P : Network) (count cells : ℕ) (lines : List StepLine) (i : ℕ) (sink : SinkView) → length lines ≤ i → sink ≡ after_bytes sink (left_text P count cells lines i)
+blocks_end P count cells lines i sink past =
+    let none : left_text P count cells lines i ≡ [] = ap (λ ls. blocks_from (i + 1) (map (shown P) (later (stood [] (take i lines)) ls)) count cells) (drop_all i lines past) in
+    subst (λ text. sink ≡ after_bytes sink text) (sym none) (puts_none sink)
 
 -- ---- the command
 

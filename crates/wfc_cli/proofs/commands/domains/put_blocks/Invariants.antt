@@ -2,7 +2,6 @@
 use Rattle.std.proofs.Common.{◌≡◌, ◌+◌, ◌≤◌, [], Result, length, take}
 use Rattle.wfc_outside.specs.Sink.{SinkView, Puts}
 use Rattle.wfc_outside.specs.declared.SinkFault.{SinkFault}
-use Rattle.wfc_cli.specs.Answers.{steps_text}
 use Rattle.wfc_cli.specs.Walk.{IsWalk, left_text, stood}
 use Rattle.wfc_cli.proofs.commands.domains.put_blocks.Given as goal
 
@@ -14,5 +13,5 @@ invariant-loop-line g l = record {
   beside : l.walk.beside ≤ l.line-index;
   number : l.number ≡ l.line-index;
   rest : (new : SinkView) (result : Result (Unit {0}) SinkFault) → Puts (g.O.Sink.seen l.out) new (left_text l.problem l.count l.cells l.lines l.line-index) result
-      → Puts (g.O.Sink.seen l.initial.out) new (steps_text l.problem l.lines) result;
+      → Puts (g.O.Sink.seen l.initial.out) new (left_text l.problem l.count l.cells l.lines 0) result;
 }
