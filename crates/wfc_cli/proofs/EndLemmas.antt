@@ -35,7 +35,7 @@ use Rattle.wfc_cli.specs.declared.reply.Stop.{Stop}
 use Rattle.wfc_cli.specs.declared.reply.Stop.TheVariants.{Cut, Unanswered}
 
 -- the plan of a request that is built is that of its command
-built_plan : (rules : List Rule) (asked : RequestView) (command : CommandKind) → is_built asked ≡ true → asked.command ≡ command → plan_by command (kinds_of rules) asked ≡ plan_of (kinds_of rules) asked
+pub built_plan : (rules : List Rule) (asked : RequestView) (command : CommandKind) → is_built asked ≡ true → asked.command ≡ command → plan_by command (kinds_of rules) asked ≡ plan_of (kinds_of rules) asked
 built_plan rules asked command built is =
     ap (λ command. plan_by command (kinds_of rules) asked) (sym is)
     ∙ sym (ap (λ b. if b then plan_by asked.command (kinds_of rules) asked else refuse NotBuilt) built)

@@ -8,3 +8,4 @@ pub mod Walk
 pub mod Answer
 pub mod Ending
 pub mod Theorem
+pub mod Claims

@@ -2,6 +2,7 @@
 
 ghost use Rattle.std.specs.Prelude.{◌≡◌, ◌<◌, IfOk, Some};
 ghost use Rattle.wfc_search.specs.Search.{IsReady, assignment_of};
+ghost use Rattle.wfc_search.specs.Shown.{shown};
 ghost use Rattle.wfc_cli.specs.Runs.{IsHeld, IsRan};
 
 use rand_core::SeedableRng;
@@ -87,7 +88,7 @@ fn end_of(
     search: &Search<'_, Ac4<'_>>,
     outcome: Outcome,
 ) -> Result<End, NoMemory>
-    requires ready { IsReady search.now.problem.now search.now.store ((⟦<dyn Chooser as Chooser>⟧ search.now.chooser.vtable).told search.now.chooser.value) search.now.course }
+    requires ready { IsReady (shown (λ store. store) search.now ((⟦<dyn Chooser as Chooser>⟧ search.now.chooser.vtable).told search.now.chooser.value)) }
     requires problem { search.now.problem.now ≡ problem.now }
     requires outcome { search.now.course.outcome ≡ Some outcome }
     ensures end { IfOk result (IsHeld problem.now search.now.store.standing outcome) }
@@ -107,7 +108,7 @@ fn assignment(
     problem: &Problem,
     search: &Search<'_, Ac4<'_>>,
 ) -> Result<Vec<u16>, NoMemory>
-    requires ready { IsReady search.now.problem.now search.now.store ((⟦<dyn Chooser as Chooser>⟧ search.now.chooser.vtable).told search.now.chooser.value) search.now.course }
+    requires ready { IsReady (shown (λ store. store) search.now ((⟦<dyn Chooser as Chooser>⟧ search.now.chooser.vtable).told search.now.chooser.value)) }
     requires problem { search.now.problem.now ≡ problem.now }
     requires map { search.now.course.outcome ≡ Some Outcome.Map }
     ensures value { IfOk result (λ values. values.items ≡ assignment_of problem.now search.now.store.standing) }
