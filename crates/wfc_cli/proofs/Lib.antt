@@ -5,3 +5,4 @@ pub mod RunLemmas
 pub mod WalkLemmas
 pub mod EndLemmas
 pub mod TheoremLemmas
+pub mod CommandLemmas

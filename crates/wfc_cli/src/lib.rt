@@ -4,6 +4,7 @@
 ghost use Rattle.std.specs.Prelude.{◌≡◌, ◌≢◌, ◌⊎◌, map};
 ghost use Rattle.wfc_words.specs.Request.{texts};
 ghost use Rattle.wfc_cli.specs.Answer.{IsAnswer, devices};
+ghost use Rattle.wfc_cli.specs.Claims.{HasNoMap, IsAsRun, IsNeverSpent, WritesDemo, WritesDomains, WritesFront, WritesLearned, WritesLegalMap};
 ghost use Rattle.wfc_cli.specs.Reply.{Tells, said_of_words};
 ghost use Rattle.wfc_cli.specs.Theorem.{AreQuiet, HasFirstFault, IsComplete, IsDeviceFault, IsNoCommand, IsRefusedFirst, IsWithoutAnswer};
 
@@ -49,6 +50,23 @@ pub fn run<F: Folder, O: Sink, E: Sink>(
     ensures refused { IsRefusedFirst (map (λ chooser. (told chooser).rule) choosers.items) (texts words.now)
         (devices (F.seen folder.old) (O.seen out.old) (E.seen err.old)) (devices (F.seen folder.new) (O.seen out.new) (E.seen err.new)) result }
     ensures complete { IsComplete (map (λ chooser. (told chooser).rule) choosers.items) (texts words.now)
+        (devices (F.seen folder.old) (O.seen out.old) (E.seen err.old)) (devices (F.seen folder.new) (O.seen out.new) (E.seen err.new)) result }
+
+    // What `fill` writes is a legal map; 'no map' is answered only where none exists.
+    ensures legal { WritesLegalMap (map (λ chooser. (told chooser).rule) choosers.items) (texts words.now)
+        (devices (F.seen folder.old) (O.seen out.old) (E.seen err.old)) (devices (F.seen folder.new) (O.seen out.new) (E.seen err.new)) result }
+    ensures front { WritesFront (map (λ chooser. (told chooser).rule) choosers.items) (texts words.now)
+        (devices (F.seen folder.old) (O.seen out.old) (E.seen err.old)) (devices (F.seen folder.new) (O.seen out.new) (E.seen err.new)) result }
+    ensures no_map { HasNoMap (map (λ chooser. (told chooser).rule) choosers.items) (texts words.now)
+        (devices (F.seen folder.old) (O.seen out.old) (E.seen err.old)) (devices (F.seen folder.new) (O.seen out.new) (E.seen err.new)) result }
+    ensures as_run { IsAsRun (map (λ chooser. (told chooser).rule) choosers.items) (texts words.now)
+        (devices (F.seen folder.old) (O.seen out.old) (E.seen err.old)) (devices (F.seen folder.new) (O.seen out.new) (E.seen err.new)) result }
+    ensures never_spent { IsNeverSpent (map (λ chooser. (told chooser).rule) choosers.items) (texts words.now) (devices (F.seen folder.old) (O.seen out.old) (E.seen err.old)) result }
+
+    // What the other commands write.
+    ensures learned { WritesLearned (texts words.now) (devices (F.seen folder.old) (O.seen out.old) (E.seen err.old)) (devices (F.seen folder.new) (O.seen out.new) (E.seen err.new)) result }
+    ensures domains { WritesDomains (texts words.now) (devices (F.seen folder.old) (O.seen out.old) (E.seen err.old)) (devices (F.seen folder.new) (O.seen out.new) (E.seen err.new)) result }
+    ensures demo { WritesDemo (map (λ chooser. (told chooser).rule) choosers.items) (texts words.now)
         (devices (F.seen folder.old) (O.seen out.old) (E.seen err.old)) (devices (F.seen folder.new) (O.seen out.new) (E.seen err.new)) result }
 {
     answer(alloc, words, folder, out, err, choosers)

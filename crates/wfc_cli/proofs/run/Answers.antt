@@ -1,4 +1,5 @@
 use Rattle.wfc_cli.proofs.TheoremLemmas.{first_fault_decides, has_first_fault, is_device_fault, is_no_command, keeps_counts, keeps_out, no_command_is_3, task_is_answered}
+use Rattle.wfc_cli.proofs.CommandLemmas.{has_no_map, is_as_run, is_never_spent, writes_demo, writes_domains, writes_front, writes_learned, writes_legal}
 use Rattle.wfc_cli.proofs.run.Goals as goal
 
 pub returns-clause-command : goal.returns-clause-command
@@ -24,3 +25,27 @@ returns-clause-refused g c = first_fault_decides _ _ _ _ _ c.answer.ensures.answ
 
 pub returns-clause-complete : goal.returns-clause-complete
 returns-clause-complete g c = task_is_answered _ _ _ _ _ c.answer.ensures.answer
+
+pub returns-clause-legal : goal.returns-clause-legal
+returns-clause-legal g c = writes_legal _ _ _ _ _ c.answer.ensures.answer
+
+pub returns-clause-front : goal.returns-clause-front
+returns-clause-front g c = writes_front _ _ _ _ _ c.answer.ensures.answer
+
+pub returns-clause-no_map : goal.returns-clause-no_map
+returns-clause-no_map g c = has_no_map _ _ _ _ _ c.answer.ensures.answer
+
+pub returns-clause-as_run : goal.returns-clause-as_run
+returns-clause-as_run g c = is_as_run _ _ _ _ _ c.answer.ensures.answer
+
+pub returns-clause-never_spent : goal.returns-clause-never_spent
+returns-clause-never_spent g c = is_never_spent _ _ _ _ _ c.answer.ensures.answer
+
+pub returns-clause-learned : goal.returns-clause-learned
+returns-clause-learned g c = writes_learned _ _ _ _ _ c.answer.ensures.answer
+
+pub returns-clause-domains : goal.returns-clause-domains
+returns-clause-domains g c = writes_domains _ _ _ _ _ c.answer.ensures.answer
+
+pub returns-clause-demo : goal.returns-clause-demo
+returns-clause-demo g c = writes_demo _ _ _ _ _ c.answer.ensures.answer
