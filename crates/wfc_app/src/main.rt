@@ -1,13 +1,12 @@
 //! The program `wfc`: a map generator in the manner of WaveFunctionCollapse.
 #![tactic(auto)]
 
-ghost use Rattle.std.specs.Prelude.{◌≡◌, IfOk, IfErr};
+ghost use Rattle.std.specs.Prelude.{◌≡◌, map, IfOk, IfErr};
 ghost use Rattle.std.specs.Process.{exit_status};
 ghost use Rattle.std.specs.IoError.{error_kind};
 ghost use Rattle.wfc_words.specs.Request.{texts};
 ghost use Rattle.wfc_cli.specs.Answer.{IsAnswer, devices};
 ghost use Rattle.wfc_cli.specs.Reply.{Tells, said_of_words};
-ghost use Rattle.wfc_app.specs.Choosers.{program_rules};
 ghost use Rattle.wfc_app.specs.Unread.{unread_fault};
 
 use std::alloc::Global;
@@ -34,56 +33,51 @@ fn unread(error: &io::Error) -> CommandFault
     }
 }
 
-/// Runs the command that the words spell, with a chooser of the least cell and one of the fewest values.
-fn run_words<F: Folder, O: Sink, E: Sink>(
-    alloc: Global,
-    words: &[String],
-    folder: &mut F,
-    out: &mut O,
-    err: &mut E,
-) -> u8
-    ensures answer { IsAnswer program_rules (texts words.now)
-        (devices (F.seen folder.old) (O.seen out.old) (E.seen err.old)) (devices (F.seen folder.new) (O.seen out.new) (E.seen err.new)) result }
-{
-    let Ok(scanline) = Box::new(alloc, Scanning::scanline(alloc)) else {
-        return refuse(err, CommandFault::NoMemory);
-    };
-    let Ok(fewest) = Box::new(alloc, Buckets::new(alloc)) else {
-        return refuse(err, CommandFault::NoMemory);
-    };
-    let mut choosers: Vec<Box<dyn Chooser>> = Vec::new(alloc);
-    let Ok(()) = choosers.push(scanline) else {
-        return refuse(err, CommandFault::NoMemory);
-    };
-    let Ok(()) = choosers.push(fewest) else {
-        return refuse(err, CommandFault::NoMemory);
-    };
-    run(alloc, words, folder, out, err, choosers)
-}
-
 /// The whole program over these devices.
 fn program<F: Folder, O: Sink, E: Sink>(
     alloc: Global,
     words: io::Result<Vec<String>>,
+    choosers: Vec<Box<dyn Chooser>>,
     folder: &mut F,
     out: &mut O,
     err: &mut E,
 ) -> ExitCode
-    ensures taken { IfOk words (λ words. IsAnswer program_rules (texts words.items)
+    ensures taken { IfOk words (λ words. IsAnswer (map (λ chooser. (told chooser).rule) choosers.items) (texts words.items)
         (devices (F.seen folder.old) (O.seen out.old) (E.seen err.old)) (devices (F.seen folder.new) (O.seen out.new) (E.seen err.new)) (exit_status result)) }
     ensures unread_status { IfErr words (λ e. exit_status result ≡ (said_of_words (unread_fault (error_kind e))).status) }
     ensures unread_line { IfErr words (λ e. Tells (said_of_words (unread_fault (error_kind e))).told (E.seen err.old) (E.seen err.new)) }
 {
     let status = match words {
-        Ok(words) => run_words(alloc, &words, folder, out, err),
+        Ok(words) => run(alloc, &words, folder, out, err, choosers),
         Err(error) => refuse(err, unread(&error)),
     };
     ExitCode::from(status)
 }
 
 fn main(rt: HostRuntime) -> ExitCode {
+    let alloc = rt.alloc();
     let mut folder = DiskFolder::new(&rt);
     let mut out = StdoutSink::new(rt.stdout());
     let mut err = StderrSink::new(rt.stderr());
-    program(rt.alloc(), words(&rt), &mut folder, &mut out, &mut err)
+    let Ok(scanline) = Box::new(alloc, Scanning::scanline(alloc)) else {
+        return ExitCode::from(refuse(&mut err, CommandFault::NoMemory));
+    };
+    let Ok(fewest) = Box::new(alloc, Buckets::new(alloc)) else {
+        return ExitCode::from(refuse(&mut err, CommandFault::NoMemory));
+    };
+    let mut choosers: Vec<Box<dyn Chooser>> = Vec::new(alloc);
+    let Ok(()) = choosers.push(scanline) else {
+        return ExitCode::from(refuse(&mut err, CommandFault::NoMemory));
+    };
+    let Ok(()) = choosers.push(fewest) else {
+        return ExitCode::from(refuse(&mut err, CommandFault::NoMemory));
+    };
+    program(
+        alloc,
+        words(&rt),
+        choosers,
+        &mut folder,
+        &mut out,
+        &mut err,
+    )
 }
