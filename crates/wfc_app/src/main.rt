@@ -72,12 +72,5 @@ fn main(rt: HostRuntime) -> ExitCode {
     let Ok(()) = choosers.push(fewest) else {
         return ExitCode::from(refuse(&mut err, CommandFault::NoMemory));
     };
-    program(
-        alloc,
-        words(&rt),
-        choosers,
-        &mut folder,
-        &mut out,
-        &mut err,
-    )
+    program(alloc, words(&rt), choosers, &mut folder, &mut out, &mut err)
 }

@@ -107,6 +107,7 @@ came_to rules command words before after status answer asked files given = by_ca
     by_reply (Ok answered) replied (inr cut_off) = cut answered (answered_task rules asked before after files answered replied) cut_off.five cut_off.front
     by_reply (Err fault) replied (inl delivered) = none (subst (λ k. 3 ≤ k) (sym delivered.same_status) (fault_between fault).0) delivered.taken
     by_reply (Err fault) replied (inr cut_off) = absurd cut_off.front
+
     by_call : IsToldCall rules asked files before after status → CameTo rules asked files before after status
     by_call (short six same) = none (omega (arith, six)) same
     by_call (told reply replied delivers) = by_reply reply replied delivers
@@ -126,8 +127,7 @@ writes_learned rules words before after status answer asked files is low = by_en
     by_end (whole answered has same takes) =
         let given = learn_given asked files has.task (planned rules asked files commands.Learn has.task is.built is.command_is has.is) in
         let answers : Some (done_with (learned_text given.0 given.1)) ≡ Some answered = subst (λ task. answer_of rules asked task ≡ Some answered) (sym given.2) has.answers in
-        let is_answer : done_with (learned_text given.0 given.1) ≡ answered = cc (answers) in
-        (
+        let is_answer : done_with (learned_text given.0 given.1) ≡ answered = cc (answers) in (
           same ∙ sym (ap (λ (a : Answered). verdict_status a.verdict) is_answer),
           given.0,
           given.1,
@@ -244,8 +244,7 @@ is_as_run rules words before after status answer asked files is low = by_end (ca
         → (work : FillWork rules asked files) × (end : Outcome × State) × (end_of rules asked.rule work.P asked.budget asked.seed ≡ Some end)
         × (status ≡ outcome_status end.0) × Takes (fill_text asked work.patterns work.palette work.layout work.P end) before.out after.out
     by_end (whole answered has same takes) =
-        let filled = fill_answered rules words before asked files answered is has in
-        (
+        let filled = fill_answered rules words before asked files answered is has in (
           filled.work,
           filled.end,
           filled.ends,
@@ -283,13 +282,17 @@ has_no_map rules words before after status answer asked files is one =
     by_outcome : (work : FillWork rules asked files) (o : Outcome) (s : State) → end_of rules asked.rule work.P asked.budget asked.seed ≡ Some (o, s) → status ≡ outcome_status o
         → Takes (fill_text asked work.patterns work.palette work.layout work.P (o, s)) before.out after.out
         → (work : FillWork rules asked files) × ((m : Raster) → IsLegalMap asked work m → ⊥) × (after.out ≡ before.out)
-    by_outcome work outcome.NoMap s ends same takes = (work, (λ m legal.
-        let sure = known rules words before asked files is work in
-        let ran = ran_by rules asked.rule work.P asked.budget asked.seed (outcome.NoMap, s) ends in
-        let numbers = numbers_of_windows work.patterns (output_of asked) m in
-        outcome_none work.P sure.problem ran.0 asked.budget (seeded asked.seed) s ran.1 numbers
-        (subst (λ P. IsLegalAssignment P numbers) (sym work.task.problem.problem)
-        (there work.task.sample.picture (rules_of asked) work.patterns (output_of asked) work.task.problem.pins m sure.patterns sure.taught legal))), takes)
+    by_outcome work outcome.NoMap s ends same takes = (
+      work,
+      (λ m legal.
+          let sure = known rules words before asked files is work in
+          let ran = ran_by rules asked.rule work.P asked.budget asked.seed (outcome.NoMap, s) ends in
+          let numbers = numbers_of_windows work.patterns (output_of asked) m in
+          outcome_none work.P sure.problem ran.0 asked.budget (seeded asked.seed) s ran.1 numbers
+          (subst (λ P. IsLegalAssignment P numbers) (sym work.task.problem.problem)
+          (there work.task.sample.picture (rules_of asked) work.patterns (output_of asked) work.task.problem.pins m sure.patterns sure.taught legal))),
+      takes,
+    )
     by_outcome work outcome.Map s ends same takes = absurd (omega (arith, same, one))
     by_outcome work outcome.Spent s ends same takes = absurd (omega (arith, same, one))
 
@@ -316,6 +319,7 @@ writes_front rules words before after status answer asked files is five = by_end
     by_outcome work outcome.Map s ends front = (work, picture_of work.patterns (output_of asked) (assignment_of work.P s.standing), map_is_legal rules words before asked files is work s ends, front)
     by_outcome work outcome.NoMap s ends front = absurd front
     by_outcome work outcome.Spent s ends front = absurd front
+
     by_end : CameTo rules asked files before after status
         → (after.out ≡ before.out) ⊎ ((work : FillWork rules asked files) × (m : Raster) × IsLegalMap asked work m × IsFaultAfterFront before.out after.out (map_text work.layout work.palette m))
     by_end (whole answered has same takes) = absurd (verdict_apart answered.verdict 5 (omega arith) (sym same ∙ five))
@@ -343,8 +347,7 @@ writes_domains rules words before after status answer asked files is low = by_en
     by_end (whole answered has same takes) =
         let given = domains_given asked files has.task (planned rules asked files commands.Domains has.task is.built is.command_is has.is) in
         let answers : Some (domains_answer given.0 given.1) ≡ Some answered = subst (λ task. answer_of rules asked task ≡ Some answered) (sym given.2) has.answers in
-        let is_answer : domains_answer given.0 given.1 ≡ answered = cc (answers) in
-        (
+        let is_answer : domains_answer given.0 given.1 ≡ answered = cc (answers) in (
           given.0,
           given.1,
           given.3,
@@ -370,8 +373,10 @@ writes_demo rules words before after status answer asked files is low = by_end (
   where
     patterns : PatternsView
     patterns = demo_patterns asked.number
+
     P : Network
     P = demo_problem asked.number
+
     by_answer : (answered : Answered) → status ≡ verdict_status answered.verdict → Takes answered.text before.out after.out → (end : Option (Outcome × State)) → end_of rules Fewest P demo_budget asked.number ≡ end
         → demo_answer patterns P end ≡ Some answered
         → (end : Outcome × State) × (end_of rules Fewest P demo_budget asked.number ≡ Some end) × (status ≡ outcome_status end.0)
@@ -380,13 +385,13 @@ writes_demo rules words before after status answer asked files is low = by_end (
     by_answer answered same takes (Some end) ends answers =
         let made : Answered = record { verdict = verdict_of demo_budget end.0; text = Some (demo_text (length patterns.windows) P.cells end.1.retractions (outcome_status end.0)) } in
         let is_answer : made ≡ answered = cc (answers) in
-        let status_is : status ≡ outcome_status end.0 = same ∙ sym (ap (λ (a : Answered). verdict_status a.verdict) is_answer) ∙ verdict_outcome demo_budget end.0 in
-        (
+        let status_is : status ≡ outcome_status end.0 = same ∙ sym (ap (λ (a : Answered). verdict_status a.verdict) is_answer) ∙ verdict_outcome demo_budget end.0 in (
           end,
           ends,
           status_is,
           subst (λ (a : Answered). Takes a.text before.out after.out) (sym is_answer) takes ∙ ap (λ k. after_finish (after_bytes before.out (demo_text (length patterns.windows) P.cells end.1.retractions k))) (sym status_is),
         )
+
     by_end : CameTo rules asked files before after status
         → (end : Outcome × State) × (end_of rules Fewest P demo_budget asked.number ≡ Some end) × (status ≡ outcome_status end.0)
         × (after.out ≡ after_finish (after_bytes before.out (demo_text (length patterns.windows) P.cells end.1.retractions status)))

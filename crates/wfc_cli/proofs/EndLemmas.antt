@@ -123,6 +123,7 @@ sample_asked asked command within built is takes by_grid =
   where
     of_windows : is_of_windows asked.source ≡ true
     of_windows = (and_parts (is_of_windows asked.source) (not (is_picture_name asked.file)) (sym (ap (λ c. is_built_by c asked) is ∙ by_grid) ∙ built)).0
+
     side : (source : SourceModel) → IsModel source → is_of_windows source ≡ true → (0 < side_of source) × (side_of source ≤ 6)
     side (Overlap n) model windows = model
     side Tiles model windows = absurd (false≢true windows)
@@ -168,6 +169,7 @@ unanswered rules words folder out old new status fault why same told = by_why wh
   where
     call : (fault : CommandFault) → status ≡ command_status fault → Tells (Some (command_text fault)) old new → IsRefusedCall fault (devices folder out old) (devices folder out new) status
     call fault same told = record { folder = refl; delivers = inl (record { taken = refl; told = told; same_status = same }) }
+
     by_why : (request_of words ≡ Err fault) ⊎ (fault ≡ NoMemory) → IsAnswer rules words (devices folder out old) (devices folder out new) status
     by_why (inl is) = record { answers = inl (subst (λ request. AnswersAsked rules request (devices folder out old) (devices folder out new) status) (sym is) (call fault same told)) }
     by_why (inr short) = record { answers = inr (call NoMemory (same ∙ ap command_status short) (subst (λ f. Tells (Some (command_text f)) old new) short told)) }

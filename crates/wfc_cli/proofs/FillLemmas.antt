@@ -53,6 +53,7 @@ small_layout form width height l again is = by_size (nat_lt MAX_MAP_PIXELS (pixe
   where
     made : Layout
     made = record { kind = kind.Grid; form = form; width = width; height = height; side = 1 }
+
     by_size : (large : Bool) → nat_lt MAX_MAP_PIXELS (pixels_of width height 1) ≡ large → (if large then Err (fault.TooLarge (pixels_of width height 1)) else Ok made) ≡ Ok l → IsGridLayout width height l
     by_size true large is = absurd (cc (is))
     by_size false small is =
@@ -99,7 +100,7 @@ painted_small : (limit : ℕ) (patterns : PatternsView) (output : Output) (a : L
 painted_small limit patterns output a some small =
     each_joined (λ n. n < limit) (λ y. map (λ x. pixel_of patterns output a x y) (range_with_len 0 output.width))
     (λ y. All-map (λ n. n < limit) (λ x. pixel_of patterns output a x y) (range_with_len 0 output.width) (λ k d inside.
-        small_entry limit (window_at patterns _) _ some (small_window limit patterns _ small)))
+    small_entry limit (window_at patterns _) _ some (small_window limit patterns _ small)))
     (range_with_len 0 output.height)
 
 -- ---- the picture

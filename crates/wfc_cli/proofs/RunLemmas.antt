@@ -104,6 +104,7 @@ demo_ran rules kind patterns P rule seed ran answer found is verdict_is answers 
   where
     text : ℕ → ℕ → List ℕ
     text retractions status = demo_text (length patterns.windows) P.cells retractions status
+
     by_end : (o : Outcome) (end : End) → IsHeld P is.state.standing o end → answer.verdict ≡ demo_verdict end
         → demo_answer patterns P (Some (o, is.state)) ≡ Some (record { verdict = answer.verdict; text = Some (text ran.retractions (verdict_status answer.verdict)) })
     by_end outcome.Map (held.Map assignment) same v = λ i. Some (record { verdict = sym v i; text = Some (text (sym is.retractions i) (verdict_status (sym v i))) })

@@ -97,6 +97,7 @@ only_unbuilt rules asked before after status answer three = by_reply answer.repl
     by_fault : (fault : Fault) → status_of fault ≡ 3 → FaultOf rules asked before.folder after.folder fault → is_built asked ≡ false
     by_fault fault is (of_plan goes) = words_unbuilt (kinds_of rules) asked before.folder after.folder fault goes is
     by_fault fault is (of_task six) = absurd (omega (arith, six, is))
+
     by_reply : (reply : Reply) → Ends rules asked before.folder after.folder reply → Delivers (said_of asked reply) before.out after.out before.err after.err status → is_built asked ≡ false
     by_reply (Ok answered) ends (inl delivered) = absurd (verdict_apart answered.verdict 3 (omega arith) (sym delivered.same_status ∙ three))
     by_reply (Err fault) ends (inl delivered) = by_fault fault (sym delivered.same_status ∙ three) (fault_from rules asked before.folder after.folder fault ends)
@@ -122,6 +123,7 @@ unbuilt_3 rules asked before after status answer unbuilt = by_end answer.ends.en
       | inl delivered ↦ elim low [ inl three ↦ inl (delivered.same_status ∙ three) | inr six ↦ inr (delivered.same_status ∙ six) ]
       | inr cut ↦ absurd cut.front
     ]
+
     by_end : (ended : Result Task Fault) → Goes (refuse NotBuilt) before.folder after.folder ended → Replied rules asked ended answer.reply → (status ≡ 3) ⊎ (status ≡ 6)
     by_end ended (inl refused) replied = by_status (Refused NotBuilt) (replied_fault rules asked ended answer.reply (Refused NotBuilt) refused.1 replied) (inl refl)
     by_end ended (inr (same, (fault, six, is))) replied = by_status fault (replied_fault rules asked ended answer.reply fault is replied) (inr six)
@@ -139,6 +141,7 @@ no_command_is_3 rules words before after status answer none = elim (answer.answe
       | inl three ↦ inl ((refused_status fault before after status answer).0 ∙ three)
       | inr six ↦ inr ((refused_status fault before after status answer).0 ∙ six)
     ]
+
     by_none : AnswersAsked rules (request_of words) before after status → IsNoCommand words → (status ≡ 3) ⊎ (status ≡ 6)
     by_none to (inl no_request) = by_request (request_of words) to no_request
     by_none to (inr (asked, spelled, unbuilt)) = unbuilt_3 rules asked before after status (subst (λ request. AnswersAsked rules request before after status) spelled to) unbuilt
@@ -154,6 +157,7 @@ keeps_counts rules words before after status answer not5 = elim (answer.answers)
   where
     by_refusal : (fault : CommandFault) → IsRefusedCall fault before after status → AreQuiet before after
     by_refusal fault answer = record { folder = answer.folder; out = ap (λ (s : SinkView). s.faults) (refused_status fault before after status answer).1 }
+
     by_reply : (asked : RequestView) (reply : Reply) → Ends rules asked before.folder after.folder reply → IsDelivered (said_of asked reply) before.out after.out before.err after.err status → AreQuiet before after
     by_reply asked reply ends delivered = record {
       folder = goes_quiet (plan_of (kinds_of rules) asked) before.folder after.folder ends.ended ends.goes (λ fault is five.
@@ -161,6 +165,7 @@ keeps_counts rules words before after status answer not5 = elim (answer.answers)
           not5 (delivered.same_status ∙ ap (λ r. (said_of asked r).status) as_fault ∙ five));
       out = taken_quiet (said_of asked reply).text before.out after.out delivered.taken;
     }
+
     by_request : (request : Result RequestView CommandFault) → AnswersAsked rules request before after status → AreQuiet before after
     by_request (Ok asked) answer = elim (answer.delivers) [ inl delivered ↦ by_reply asked answer.reply answer.ends delivered | inr cut ↦ absurd (not5 cut.five) ]
     by_request (Err fault) answer = by_refusal fault answer
@@ -177,10 +182,12 @@ keeps_out rules words before after status answer without = elim (answer.answers)
         | inr more ↦ elim more [ inl six ↦ (omega arith, λ five. omega arith) | inr seven ↦ (omega arith, λ five. omega arith) ]
       ]
     ]
+
     by_reply : (asked : RequestView) (reply : Reply) → Delivers (said_of asked reply) before.out after.out before.err after.err status → after.out ≡ before.out
     by_reply asked (Ok answered) (inl delivered) = absurd (verdict_apart answered.verdict status low.0 (sym delivered.same_status))
     by_reply asked (Err fault) (inl delivered) = delivered.taken
     by_reply asked reply (inr cut) = absurd (low.1 cut.five)
+
     by_request : (request : Result RequestView CommandFault) → AnswersAsked rules request before after status → after.out ≡ before.out
     by_request (Ok asked) answer = by_reply asked answer.reply answer.delivers
     by_request (Err fault) answer = (refused_status fault before after status answer).1
@@ -207,11 +214,13 @@ is_device_fault rules words before after status answer five = elim (answer.answe
     by_fault : (asked : RequestView) (fault : Fault) → status_of fault ≡ 5 → FaultOf rules asked before.folder after.folder fault → IsFileFault rules asked before.folder after.folder
     by_fault asked fault is (of_plan goes) = goes_device (plan_of (kinds_of rules) asked) before.folder after.folder fault goes is
     by_fault asked fault is (of_task six) = absurd (omega (arith, six, is))
+
     by_reply : (asked : RequestView) (reply : Reply) → Ends rules asked before.folder after.folder reply → Delivers (said_of asked reply) before.out after.out before.err after.err status
         → IsFileFault rules asked before.folder after.folder ⊎ HasRisen before.out.faults after.out.faults
     by_reply asked (Ok answered) ends (inl delivered) = absurd (verdict_apart answered.verdict 5 (omega arith) (sym delivered.same_status ∙ five))
     by_reply asked (Err fault) ends (inl delivered) = inl (by_fault asked fault (sym delivered.same_status ∙ five) (fault_from rules asked before.folder after.folder fault ends))
     by_reply asked reply ends (inr cut) = inr (cut_counted (said_of asked reply).text before.out after.out cut.front)
+
     by_request : (request : Result RequestView CommandFault) → AnswersAsked rules request before after status
         → (asked : RequestView) × (request ≡ Ok asked) × (IsFileFault rules asked before.folder after.folder ⊎ HasRisen before.out.faults after.out.faults)
     by_request (Ok asked) answer = (asked, refl, by_reply asked answer.reply answer.ends answer.delivers)
@@ -247,6 +256,7 @@ told_call rules words before after status answer asked files given = elim (answe
   where
     by_words : IsRefusedCall words_fault.NoMemory before after status → IsToldCall rules asked files before after status
     by_words call = let is = refused_status words_fault.NoMemory before after status call in short is.0 is.1
+
     by_request : AnswersAsked rules (request_of words) before after status → IsToldCall rules asked files before after status
     by_request answers =
         let to : IsAnswerTo rules asked before after status = subst (λ request. AnswersAsked rules request before after status) given.spelled answers in
@@ -258,17 +268,21 @@ has_first_fault rules words before after status answer which asked files given =
   where
     apart : (3 ≤ status) × (status ≡ 5 → ⊥) × (status ≡ 6 → ⊥)
     apart = elim which [ inl four ↦ (omega arith, λ five. omega arith, λ six. omega arith) | inr seven ↦ (omega arith, λ five. omega arith, λ six. omega arith) ]
+
     by_task : (task : Result Task Fault) (fault : Fault) → status_of fault ≡ status → Replied rules asked task (Err fault) → (first : Fault) × (task ≡ Err first) × (status_of first ≡ status)
     by_task (Ok task) fault is replied = absurd (apart.2 (sym is ∙ replied_short rules asked task fault replied))
     by_task (Err first) fault is replied = let same : fault ≡ first = cc (replied) in (first, refl, sym (ap status_of same) ∙ is)
+
     by_end : (fault : Fault) → status_of fault ≡ status → ToldReply rules asked before.folder after.folder files (Err fault) → IsRefusedWith rules asked files status
     by_end fault is (inl replied) = by_task (task_of rules asked files) fault is replied
     by_end fault is (inr (inl (other, six, same))) = let fault_is : fault ≡ other = cc (same) in absurd (apart.2 (sym is ∙ ap status_of fault_is ∙ six))
     by_end fault is (inr (inr hindered)) = let fault_is : fault ≡ Unread hindered.source reading.Failed = cc (hindered.is) in absurd (apart.1 (sym is ∙ ap status_of fault_is))
+
     by_delivery : (reply : Reply) → ToldReply rules asked before.folder after.folder files reply → Delivers (said_of asked reply) before.out after.out before.err after.err status → IsRefusedWith rules asked files status
     by_delivery (Ok answered) replied (inl delivered) = absurd (verdict_apart answered.verdict status apart.0 (sym delivered.same_status))
     by_delivery (Err fault) replied (inl delivered) = by_end fault (sym delivered.same_status) replied
     by_delivery reply replied (inr cut) = absurd (apart.1 cut.five)
+
     by_call : IsToldCall rules asked files before after status → IsRefusedWith rules asked files status
     by_call (short six same) = absurd (apart.2 six)
     by_call (told reply replied delivers) = by_delivery reply replied delivers
@@ -288,10 +302,12 @@ settled rules words before after status answer asked files given none = by_call 
     by_end reply (inl is) delivered = replied reply is delivered
     by_end reply (inr (inl (fault, six, is))) delivered = exhausted (delivered.same_status ∙ ap (λ r. (said_of asked r).status) is ∙ six)
     by_end reply (inr (inr hindered)) delivered = absurd (none.files hindered.name hindered.asked hindered.counted)
+
     by_delivery : (reply : Reply) → ToldReply rules asked before.folder after.folder files reply → Delivers (said_of asked reply) before.out after.out before.err after.err status
         → IsSettled rules asked files before after status
     by_delivery reply to (inl delivered) = by_end reply to delivered
     by_delivery reply to (inr cut) = absurd (none.out (cut_counted (said_of asked reply).text before.out after.out cut.front))
+
     by_call : IsToldCall rules asked files before after status → IsSettled rules asked files before after status
     by_call (short six same) = exhausted six
     by_call (told reply to delivers) = by_delivery reply to delivers
@@ -315,6 +331,7 @@ task_is_answered rules words before after status answer asked files given none t
     by_reply : (reply : Reply) → Replies rules asked task reply → IsDelivered (said_of asked reply) before.out after.out before.err after.err status → IsAnswered rules asked task before after status ⊎ (status ≡ 6)
     by_reply (Ok answered) to delivered = inl (answered, to, delivered)
     by_reply (Err fault) to delivered = inr (delivered.same_status ∙ replied_short rules asked task fault to)
+
     by_end : IsSettled rules asked files before after status → IsAnswered rules asked task before after status ⊎ (status ≡ 6)
     by_end (exhausted six) = inr six
     by_end (replied reply to delivered) = by_reply reply (subst (λ e. Replied rules asked e reply) is to) delivered

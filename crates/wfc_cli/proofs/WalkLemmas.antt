@@ -32,9 +32,12 @@ use Rattle.wfc_cli.specs.declared.reply.Verdict.TheVariants as verdict
 dead_longer : (P : Network) → IsProblem P → (literals more : List Literal) → is_dead P (greatest P literals) ≡ true → is_dead P (greatest P (literals ++ more)) ≡ true
 dead_longer P p literals more dead =
     let empty = (dead_iff P p (greatest P literals) (greatest_base P p literals)).0 dead in
-    (dead_iff P p (greatest P (literals ++ more)) (greatest_base P p (literals ++ more))).1
-    (empty.0, empty.1, λ v. false_from_ne_true (greatest P (literals ++ more) empty.0 v) (λ stands.
-        false≢true (sym (empty.2 v) ∙ (greatest_is P p literals empty.0 v).1 (greatest_lower P literals more empty.0 v ((greatest_is P p (literals ++ more) empty.0 v).0 stands)))))
+    (dead_iff P p (greatest P (literals ++ more)) (greatest_base P p (literals ++ more))).1 (
+      empty.0,
+      empty.1,
+      λ v. false_from_ne_true (greatest P (literals ++ more) empty.0 v) (λ stands.
+          false≢true (sym (empty.2 v) ∙ (greatest_is P p literals empty.0 v).1 (greatest_lower P literals more empty.0 v ((greatest_is P p (literals ++ more) empty.0 v).0 stands)))),
+    )
 
 -- where a store is not alive some cell is empty
 not_alive : (v : StoreView) → IsSound v → (v.verdict ≡ Alive → ⊥) → is_dead v.problem (greatest v.problem v.standing) ≡ true

@@ -12,11 +12,7 @@ use wfc_task::Fault;
 use wfc_words::{CommandFault, Request};
 
 /// Tells how a command ended, and answers the status.
-pub(crate) fn deliver<E: Sink>(
-    request: &Request,
-    ended: Result<Verdict, Stop>,
-    err: &mut E,
-) -> u8
+pub(crate) fn deliver<E: Sink>(request: &Request, ended: Result<Verdict, Stop>, err: &mut E) -> u8
     ensures says { Says request.now ended (E.seen err.old) (E.seen err.new) result }
 {
     match ended {

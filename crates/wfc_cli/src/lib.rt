@@ -100,6 +100,3 @@ pub fn refuse<E: Sink>(err: &mut E, fault: CommandFault) -> u8
 {
     refuse_words(err, fault)
 }
-
-#[cfg(test)]
-mod tests;

@@ -79,11 +79,7 @@ fn value_word(name: ValueName) -> &'static str
     }
 }
 
-fn tell_refusal<E: Sink>(
-    err: &mut E,
-    request: &Request,
-    refusal: Refusal,
-) -> Result<(), SinkFault>
+fn tell_refusal<E: Sink>(err: &mut E, request: &Request, refusal: Refusal) -> Result<(), SinkFault>
     ensures told { Puts (E.seen err.old) (E.seen err.new) (line (refusal_text request.now refusal)) result }
 {
     match refusal {
@@ -254,13 +250,7 @@ fn named<E: Sink>(err: &mut E, text: &str, file: &str) -> Result<(), SinkFault>
 {
     put(
         err,
-        &[
-            b"wfc: ",
-            text.as_bytes(),
-            b" file=",
-            file.as_bytes(),
-            b"\n",
-        ],
+        &[b"wfc: ", text.as_bytes(), b" file=", file.as_bytes(), b"\n"],
     )
 }
 

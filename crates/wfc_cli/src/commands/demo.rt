@@ -59,7 +59,13 @@ fn answer(
         ≡ Some (answer_view answer)) }
 {
     let chooser = first_of(choosers, RuleKind::Fewest);
-    let ran = run(alloc, &task.problem, chooser, DEMO_BUDGET, u64::from(request.number))?;
+    let ran = run(
+        alloc,
+        &task.problem,
+        chooser,
+        DEMO_BUDGET,
+        u64::from(request.number),
+    )?;
     let verdict = verdict(&ran.end);
     let text = lines(
         alloc,

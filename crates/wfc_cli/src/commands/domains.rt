@@ -54,13 +54,7 @@ pub(super) fn domains<F: Folder, O: Sink>(
         }
     };
     let verdict = walk.verdict();
-    put_blocks::<O, Brand>(
-        out,
-        walk,
-        &stepping.problem,
-        &stepping.steps,
-        Blank::new(1),
-    )?;
+    put_blocks::<O, Brand>(out, walk, &stepping.problem, &stepping.steps, Blank::new(1))?;
     out.finish()?;
     Ok(verdict)
 }
@@ -108,7 +102,13 @@ impl<'p> Walk<'p> {
     }
 
     /// Puts the block of a step.
-    fn put<O: Sink>(&self, out: &mut O, number: u32, count: u16, cells: u32) -> Result<(), SinkFault>
+    fn put<O: Sink>(
+        &self,
+        out: &mut O,
+        number: u32,
+        count: u16,
+        cells: u32,
+    ) -> Result<(), SinkFault>
         requires values { count ≡ values self.now.engine.problem }
         requires cells { cells ≡ self.now.engine.problem.cells }
         ensures put { (standing : List Literal) → IsWalk self.now.engine self.now.beside standing

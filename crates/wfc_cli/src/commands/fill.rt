@@ -66,7 +66,13 @@ fn answer(
         ≡ Some (answer_view answer)) }
 {
     let chooser = first_of(choosers, request.rule);
-    let ran = run(alloc, &filling.problem, chooser, request.budget, request.seed)?;
+    let ran = run(
+        alloc,
+        &filling.problem,
+        chooser,
+        request.budget,
+        request.seed,
+    )?;
     match ran.end {
         End::Map { assignment } => found(alloc, request, filling, &assignment),
         End::NoMap => Ok(Answer {
