@@ -1,9 +1,13 @@
-//! The images of a window: turned by quarter turns, and reflected.
+//! The images of a window, turned by quarter turns and reflected, and what the same does to the variants of a tile.
 #![tactic(auto)]
 
 ghost use Rattle.std.specs.Prelude.{◌≡◌, ◌*◌, ◌<◌, length, IfOk};
 ghost use Rattle.wfc_model.specs.Image.{image, reflected, rotated};
 
+mod class;
+pub mod laws;
+
+pub use class::{Class, act, cardinality};
 use std::alloc::Global;
 use std::mem;
 use wfc_outside::NoMemory;

@@ -1,8 +1,9 @@
-//! The images of windows, by tables.
+//! The images of windows and the actions on variants, by tables.
 
-ghost use Rattle.std.specs.Prelude.{◌≤◌};
+ghost use Rattle.std.specs.Prelude.{◌≤◌, ◌<◌};
+ghost use Rattle.wfc_symmetry.specs.Class.{variant_count};
 
-use crate::image;
+use crate::{Class, act, cardinality, image};
 use std::test::Fail;
 
 /// The images of a window of one to four, and the fourth of one of one to nine.
@@ -77,5 +78,34 @@ fn images_of_each_side(rt: HostRuntime) -> Result<(), Fail> {
             assert_eq!(rt; rest.next(), None);
         }
     }
+    Ok(())
+}
+
+/// Makes the eight actions on a variant.
+fn actions(class: Class, variant: u8) -> [u8; 8]
+    requires variant_in { variant < variant_count class }
+{
+    [
+        act(class, variant, 0),
+        act(class, variant, 1),
+        act(class, variant, 2),
+        act(class, variant, 3),
+        act(class, variant, 4),
+        act(class, variant, 5),
+        act(class, variant, 6),
+        act(class, variant, 7),
+    ]
+}
+
+/// The eight actions on the last variant of each class, by hand.
+#[test]
+fn actions_on_last_variants(rt: HostRuntime) -> Result<(), Fail> {
+    assert_eq!(rt; actions(Class::X, 0), [0, 0, 0, 0, 0, 0, 0, 0]);
+    assert_eq!(rt; actions(Class::I, 1), [1, 0, 1, 0, 1, 0, 1, 0]);
+    assert_eq!(rt; actions(Class::Slash, 1), [1, 0, 1, 0, 0, 1, 0, 1]);
+    assert_eq!(rt; actions(Class::L, 3), [3, 0, 1, 2, 2, 1, 0, 3]);
+    assert_eq!(rt; actions(Class::T, 3), [3, 0, 1, 2, 1, 0, 3, 2]);
+    assert_eq!(rt; actions(Class::F, 7), [7, 6, 5, 4, 3, 2, 1, 0]);
+    assert_eq!(rt; [cardinality(Class::L), cardinality(Class::F)], [4, 8]);
     Ok(())
 }

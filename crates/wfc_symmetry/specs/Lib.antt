@@ -1,0 +1,2 @@
+pub mod Class
+pub use Rattle.wfc_model.specs.Image
