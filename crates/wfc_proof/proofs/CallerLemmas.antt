@@ -1,9 +1,9 @@
 -- What callers cite: lines that are told one after another, and lines that are cut off.
-use Rattle.std.proofs.Common.{◌≡◌, ◌+◌, ◌<◌, ◌≤◌, ℕ, suc, List, [], ◌∷◌, ◌++◌, length, take, refl, sym, ◌∙◌, ap, subst, arith, append_assoc, append-nil, length-append, Option, Some, None}
+use Rattle.std.proofs.Common.{◌≡◌, ◌+◌, ℕ, suc, List, [], ◌∷◌, ◌++◌, length, take, refl, sym, ◌∙◌, ap, subst, arith, append_assoc, append-nil, length-append, Option, Some, None}
 use Rattle.std.specs.Option.{option_map}
 use Rattle.std.proofs.lemmas.List.{take-append-le}
 use Rattle.wfc_outside.specs.Count.{HasRisen}
-use Rattle.wfc_proof.specs.Journal.{JournalView, after_line, after_lines, counted_as, IsRefused, IsCutOff}
+use Rattle.wfc_proof.specs.Journal.{JournalView, after_lines, counted_as, IsRefused, IsCutOff}
 use Rattle.wfc_proof.specs.declared.Line.{Line}
 
 -- no lines change nothing

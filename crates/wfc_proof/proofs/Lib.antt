@@ -1,1 +1,8 @@
 pub mod CallerLemmas
+pub mod Forests
+pub mod Joins
+pub mod Least
+pub mod Nodes
+pub mod Sound
+pub mod Told
+pub mod Waiting

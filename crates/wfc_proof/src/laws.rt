@@ -1,6 +1,19 @@
 //! Laws of the definitions, each a function with no body whose contract is the law. They run nothing.
 
-ghost use Rattle.std.specs.Prelude.{◌≡◌, ℕ, [], ◌∷◌, List, None, Some, false, true};
+ghost use Rattle.std.specs.Prelude.{◌≡◌, ℕ, ◌↔◌, ◌+◌, ◌<◌, ◌≤◌, [], ◌∷◌, ◌++◌, List, length, map, None, Some, Ok, Err, false, true, IsTrue, IsFalse};
+ghost use Rattle.wfc_problem.specs.Assignment.{IsLegalAssignment, LiesIn};
+ghost use Rattle.wfc_problem.specs.Domains.{Test, Within, IsEmptyAt, cut};
+ghost use Rattle.wfc_problem.specs.Network.{Network, IsProblem, in_base, neighbour, ok};
+ghost use Rattle.wfc_problem.specs.declared.Literal.TheVariants.{Is, Not};
+ghost use Rattle.wfc_problem.specs.Rounds.{pairs, depth_of};
+ghost use Rattle.wfc_proof.specs.Checker.{line_steps, node_fault};
+ghost use Rattle.wfc_proof.specs.Checker.Point.{going, closed, ended};
+ghost use Rattle.wfc_proof.specs.Lines.{Spells, behind, joined, push, spelled};
+ghost use Rattle.wfc_proof.specs.Proof.{Proof, Closes, FollowsFrom, StopsThere, is_left_off, Node, nodes, IsRemoval, IsSplit};
+ghost use Rattle.wfc_proof.specs.Proof.Node.{removes, splits, empties};
+ghost use Rattle.wfc_proof.specs.Proof.Proof.{empty, remove, split, left_off};
+ghost use Rattle.wfc_proof.specs.Small.{wide, from_base};
+ghost use Rattle.wfc_proof.specs.declared.Reject.TheVariants.{NotStanding, HasSupport, NoNeighbour, NotEmpty, AfterEnd, IndexRange, NotClosed, OnlyValue};
 ghost use Rattle.wfc_proof.specs.Journal.{JournalView, quiet, IsWhole, counted_as, after_line, after_lines, IsRefused, IsCutOff};
 ghost use Rattle.wfc_proof.specs.declared.Line.{Line};
 ghost use Rattle.wfc_proof.specs.declared.Line.TheVariants.{Remove, Span, Try, Empty, End, Found, Out};
@@ -49,4 +62,119 @@ pub fn fronts_are_handed_over()
     ensures a_later_line { IsCutOff (record { lines = Some (Try 1 2 ∷ []); failed = false; faults = 3 })
         (record { lines = Some (Try 1 2 ∷ Empty 5 ∷ []); failed = true; faults = 4 }) (Remove 4 5 0 ∷ Empty 5 ∷ []) → ⊥ }
     ensures quiet { (lines : List Line) → IsCutOff quiet quiet lines → ⊥ }
+{}
+
+// ---- proofs, and the lines that spell them
+
+/// Where a proof closes domains, no legal assignment lies in them; and none at all where these are the base domains.
+pub fn proofs_are_sound()
+    ensures within { (P : Network) → IsProblem P → (a : List ℕ) → IsLegalAssignment P a → (D : Test) (proof : Proof) →
+        Closes P D proof → LiesIn a D → ⊥ }
+    ensures base { (P : Network) → IsProblem P → (proof : Proof) → Closes P (in_base P) proof →
+        (a : List ℕ) → IsLegalAssignment P a → ⊥ }
+{}
+
+/// A node is accepted exactly where it is right: a removal where the value stands and has no support in the direction, a
+/// split where another value stands beside it, an empty cell where no value stands.
+pub fn right_nodes_are_accepted()
+    ensures removals { (P : Network) → IsProblem P → (D : Test) → Within D (in_base P) → (c v d : ℕ) →
+        (node_fault P D (removes c v d) ≡ None) ↔ IsRemoval P D c v d }
+    ensures splits { (P : Network) → IsProblem P → (D : Test) → Within D (in_base P) → (c v : ℕ) →
+        (node_fault P D (splits c v) ≡ None) ↔ IsSplit D c v }
+    ensures empties { (P : Network) → IsProblem P → (D : Test) → Within D (in_base P) → (c : ℕ) →
+        (node_fault P D (empties c) ≡ None) ↔ ((c < P.cells) × IsEmptyAt D c) }
+{}
+
+/// The value that a refusal names is the least: of a removal the least standing value of the neighbour that may stand
+/// beside it, of an empty cell the least that stands.
+pub fn refusals_name_the_least()
+    ensures support { (P : Network) → IsProblem P → (D : Test) (c v d w : ℕ) →
+        node_fault P D (removes c v d) ≡ Some (HasSupport w) →
+        (n : ℕ) × (neighbour P c d ≡ Some n) × IsTrue (D n w) × IsTrue (ok P d v w)
+        × ((u : ℕ) → u < w → IsTrue (D n u) → IsFalse (ok P d v u)) }
+    ensures value { (P : Network) (D : Test) (c w : ℕ) → node_fault P D (empties c) ≡ Some (NotEmpty w) →
+        IsTrue (D c w) × ((u : ℕ) → u < w → IsFalse (D c u)) }
+{}
+
+/// All lines are accepted and the proof is closed exactly where the lines spell the nodes of a proof that closes the
+/// domains at the start; it has ended exactly where an `End` follows such lines; and a branch is open exactly where they
+/// spell a proof that follows, with branches left off at its end.
+pub fn accepted_lines_spell_proofs()
+    ensures closed { (P : Network) → IsProblem P → (D : Test) → Within D (in_base P) → (lines : List Line) →
+        (line_steps P (going D []) lines ≡ Ok closed)
+        ↔ ((proof : Proof) × Closes P D proof × Spells lines (nodes proof)) }
+    ensures ended { (P : Network) → IsProblem P → (D : Test) → Within D (in_base P) → (lines : List Line) →
+        (line_steps P (going D []) lines ≡ Ok ended)
+        ↔ ((before : List Line) × (lines ≡ before ++ End ∷ []) × (proof : Proof) × Closes P D proof
+        × Spells before (nodes proof)) }
+    ensures going { (P : Network) → IsProblem P → (D : Test) → Within D (in_base P) → (lines : List Line) →
+        ((E : Test) × (waiting : List Test) × (line_steps P (going D []) lines ≡ Ok (going E waiting)))
+        ↔ ((proof : Proof) × FollowsFrom P D proof × StopsThere proof × IsTrue (is_left_off proof)
+        × Spells lines (nodes proof)) }
+{}
+
+/// Where a branch is open, the domains lie within the base, and the branches that wait and the pairs that stand are
+/// together at most as many as the pairs of the base.
+pub fn few_branches_wait()
+    ensures few { (P : Network) → IsProblem P → (lines : List Line) (E : Test) (waiting : List Test) →
+        line_steps P (going (in_base P) []) lines ≡ Ok (going E waiting) →
+        Within E (in_base P) × (pairs P E + length waiting ≤ depth_of P) }
+{}
+
+/// Neighbouring removals joined in spans spell the nodes that they were made of. One more node changes the last line
+/// alone, or adds one.
+pub fn joined_lines_spell()
+    ensures spell { (told : List Node) → Spells (joined told) told }
+    ensures push { (told : List Node) (node : Node) → joined (told ++ node ∷ []) ≡ push (joined told) node }
+    ensures kept { (written : List Line) (kept : Line) (node : Node) →
+        push (written ++ kept ∷ []) node ≡ written ++ behind kept node }
+{}
+
+// ---- by example
+
+/// Why removals are refused: an index comes first, then a value that doesn't stand, a side without a neighbour, and the
+/// least support. A support that is gone counts no more, and a value that is gone isn't removed again.
+pub fn removals_by_example()
+    ensures base { map (node_fault wide (in_base wide)) (removes 0 1 2 ∷ removes 0 0 2 ∷ removes 0 2 2 ∷ removes 0 0 0 ∷ [])
+        ≡ None ∷ Some (HasSupport 1) ∷ Some (HasSupport 1) ∷ Some NoNeighbour ∷ [] }
+    ensures indexes { map (node_fault wide (in_base wide)) (removes 2 0 2 ∷ removes 0 3 2 ∷ removes 0 0 4 ∷ [])
+        ≡ Some IndexRange ∷ Some IndexRange ∷ Some IndexRange ∷ [] }
+    ensures later { map (node_fault wide (cut (in_base wide) (Not 1 1))) (removes 0 0 2 ∷ removes 0 2 2 ∷ removes 1 1 0 ∷ [])
+        ≡ None ∷ Some (HasSupport 2) ∷ Some NotStanding ∷ [] }
+{}
+
+/// Why splits and empty cells are refused: another value has to stand beside the one that is tried, and the least value
+/// that stands is named.
+pub fn splits_by_example()
+    ensures splits { map (node_fault wide (cut (in_base wide) (Is 0 2))) (splits 0 2 ∷ splits 0 1 ∷ splits 1 2 ∷ splits 2 2 ∷ splits 0 3 ∷ [])
+        ≡ Some OnlyValue ∷ Some NotStanding ∷ None ∷ Some IndexRange ∷ Some IndexRange ∷ [] }
+    ensures empties { map (node_fault wide (cut (in_base wide) (Is 0 2))) (empties 0 ∷ empties 1 ∷ empties 2 ∷ [])
+        ≡ Some (NotEmpty 2) ∷ Some (NotEmpty 0) ∷ Some IndexRange ∷ [] }
+{}
+
+/// A span closes a proof as its removals do, and so do both branches of a split. There is no end while a branch is open,
+/// nothing but the end behind a closed proof, nothing behind the end, and a span is refused for its first refusal.
+pub fn proofs_by_example()
+    ensures span { from_base (Span 0 0 1 2 ∷ Empty 0 ∷ End ∷ []) ≡ Ok ended }
+    ensures removals { from_base (Remove 0 0 2 ∷ Remove 0 1 2 ∷ Empty 0 ∷ End ∷ []) ≡ Ok ended }
+    ensures branches { from_base (Try 0 1 ∷ Remove 0 1 2 ∷ Empty 0 ∷ Remove 0 0 2 ∷ Empty 0 ∷ End ∷ []) ≡ Ok ended }
+    ensures one_branch { from_base (Try 0 1 ∷ Remove 0 1 2 ∷ Empty 0 ∷ End ∷ []) ≡ Err NotClosed }
+    ensures found { from_base (Found ∷ []) ≡ Err NotClosed }
+    ensures closed_twice { from_base (Span 0 0 1 2 ∷ Empty 0 ∷ Empty 0 ∷ []) ≡ Err AfterEnd }
+    ensures ended_twice { from_base (Span 0 0 1 2 ∷ Empty 0 ∷ End ∷ End ∷ []) ≡ Err AfterEnd }
+    ensures backwards { from_base (Span 0 1 0 2 ∷ []) ≡ Err IndexRange }
+    ensures past { from_base (Span 0 0 2 2 ∷ []) ≡ Err NotStanding }
+{}
+
+/// The first branch of a split comes first. Of another cell, another direction, a value that doesn't follow, or with
+/// another node between, no removals are joined.
+pub fn nodes_by_example()
+    ensures tree { nodes (split 0 1 (remove 0 1 2 (empty 0)) (remove 3 0 1 left_off))
+        ≡ splits 0 1 ∷ removes 0 1 2 ∷ empties 0 ∷ removes 3 0 1 ∷ [] }
+    ensures spelled { spelled (Span 3 1 3 2 ∷ Try 4 5 ∷ Remove 1 2 3 ∷ [])
+        ≡ removes 3 1 2 ∷ removes 3 2 2 ∷ removes 3 3 2 ∷ splits 4 5 ∷ removes 1 2 3 ∷ [] }
+    ensures joined { joined (removes 3 1 2 ∷ removes 3 2 2 ∷ removes 3 4 2 ∷ removes 3 5 1 ∷ removes 2 6 1 ∷ [])
+        ≡ Span 3 1 2 2 ∷ Span 3 4 4 2 ∷ Span 3 5 5 1 ∷ Span 2 6 6 1 ∷ [] }
+    ensures apart { joined (removes 2 6 1 ∷ splits 2 1 ∷ removes 2 7 1 ∷ empties 2 ∷ [])
+        ≡ Span 2 6 6 1 ∷ Try 2 1 ∷ Span 2 7 7 1 ∷ Empty 2 ∷ [] }
 {}

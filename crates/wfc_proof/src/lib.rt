@@ -47,6 +47,27 @@ pub enum Line {
     Out,
 }
 
+/// Why a line is refused.
+#[derive(Clone, Copy, Debug, PartialEq, Eq)]
+pub enum Reject {
+    /// The value isn't in the cell now.
+    NotStanding,
+    /// This least value of the neighbour may stand beside the value.
+    HasSupport { value: u16 },
+    /// The cell has no neighbour in the direction.
+    NoNeighbour,
+    /// This is the least value of the cell.
+    NotEmpty { value: u16 },
+    /// The proof is closed or has ended.
+    AfterEnd,
+    /// There is no such cell, value or direction, or a span ends before it begins.
+    IndexRange,
+    /// A branch is open.
+    NotClosed,
+    /// The cell has no other value.
+    OnlyValue,
+}
+
 /// Why a journal refused a line.
 #[derive(Clone, Copy, Debug, PartialEq, Eq, Error)]
 pub enum JournalFault {
