@@ -26,7 +26,8 @@ use Rattle.wfc_words.specs.Request.{request_of}
 use Rattle.wfc_words.specs.declared.fault.CommandFault.{CommandFault}
 use Rattle.wfc_words.specs.declared.fault.CommandFault.TheVariants.{NoMemory}
 use Rattle.wfc_cli.specs.Answer.{AnswersAsked, Devices, Ends, IsAnswer, IsRefusedCall, Replied, Replies, devices}
-use Rattle.wfc_cli.specs.ErrorLine.{command_status, command_text, fault_text}
+use Rattle.wfc_lines.specs.Command.{text_of_command}
+use Rattle.wfc_cli.specs.ErrorLine.{command_status, fault_text}
 use Rattle.wfc_cli.specs.Choosers.{kinds_of}
 use Rattle.wfc_cli.specs.Ending.{EndsPut, Leaves, Says}
 use Rattle.wfc_cli.specs.Reply.{Reply, CutsOff, Delivers, Takes, Tells, said_of, verdict_status, verdict_text}
@@ -164,12 +165,12 @@ answered rules words asked before after status ended spelled put says = record {
 
 -- a call whose words were read as no request
 pub unanswered : (rules : List Rule) (words : List (List ℕ)) (folder : FolderView) (out old new : SinkView) (status : ℕ) (fault : CommandFault) → (request_of words ≡ Err fault) ⊎ (fault ≡ NoMemory)
-    → status ≡ command_status fault → Tells (Some (command_text fault)) old new → IsAnswer rules words (devices folder out old) (devices folder out new) status
+    → status ≡ command_status fault → Tells (Some (text_of_command fault)) old new → IsAnswer rules words (devices folder out old) (devices folder out new) status
 unanswered rules words folder out old new status fault why same told = by_why why
   where
-    call : (fault : CommandFault) → status ≡ command_status fault → Tells (Some (command_text fault)) old new → IsRefusedCall fault (devices folder out old) (devices folder out new) status
+    call : (fault : CommandFault) → status ≡ command_status fault → Tells (Some (text_of_command fault)) old new → IsRefusedCall fault (devices folder out old) (devices folder out new) status
     call fault same told = record { folder = refl; delivers = inl (record { taken = refl; told = told; same_status = same }) }
 
     by_why : (request_of words ≡ Err fault) ⊎ (fault ≡ NoMemory) → IsAnswer rules words (devices folder out old) (devices folder out new) status
     by_why (inl is) = record { answers = inl (subst (λ request. AnswersAsked rules request (devices folder out old) (devices folder out new) status) (sym is) (call fault same told)) }
-    by_why (inr short) = record { answers = inr (call NoMemory (same ∙ ap command_status short) (subst (λ f. Tells (Some (command_text f)) old new) short told)) }
+    by_why (inr short) = record { answers = inr (call NoMemory (same ∙ ap command_status short) (subst (λ f. Tells (Some (text_of_command f)) old new) short told)) }

@@ -1,4 +1,3 @@
-pub mod Parts
 pub mod ChooserLemmas
 pub mod FillLemmas
 pub mod RunLemmas

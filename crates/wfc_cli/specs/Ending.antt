@@ -6,7 +6,8 @@ use Rattle.wfc_choose.specs.Pick.{Rule}
 use Rattle.wfc_words.specs.RequestView.{RequestView}
 use Rattle.wfc_task.specs.Fault.{status_of}
 use Rattle.wfc_cli.specs.Answer.{Ends}
-use Rattle.wfc_cli.specs.ErrorLine.{fault_text, out_text}
+use Rattle.wfc_lines.specs.Outcome.{out_failed_text}
+use Rattle.wfc_cli.specs.ErrorLine.{fault_text}
 use Rattle.wfc_cli.specs.Reply.{Reply, CutsOff, Takes, Tells, verdict_status, verdict_text}
 use Rattle.wfc_cli.specs.declared.reply.Verdict.{Verdict}
 use Rattle.wfc_cli.specs.declared.reply.Stop.{Stop}
@@ -28,5 +29,5 @@ pub record EndsPut (rules : List Rule) (asked : RequestView) (before after : Fol
 -- what the error stream is told of an ending, and the status
 abbrev pub Says : RequestView → Result Verdict Stop → SinkView → SinkView → ℕ → Type 0
 Says asked (Ok verdict) old new status = Tells (verdict_text verdict) old new × (status ≡ verdict_status verdict)
-Says asked (Err Cut) old new status = Tells (Some out_text) old new × (status ≡ 5)
+Says asked (Err Cut) old new status = Tells (Some out_failed_text) old new × (status ≡ 5)
 Says asked (Err (Unanswered fault)) old new status = Tells (Some (fault_text asked fault)) old new × (status ≡ status_of fault)

@@ -1,11 +1,14 @@
 -- What a command replies, and what of it the streams and the status say.
-use Rattle.std.specs.Prelude.{◌≡◌, ℕ, ◌++◌, ◌⊎◌, List, codes, decimal, Option, None, Some, Result, Ok, Err}
+use Rattle.std.specs.Prelude.{◌≡◌, ℕ, ◌⊎◌, List, Option, None, Some, Result, Ok, Err}
 use Rattle.wfc_outside.specs.Sink.{SinkView, after_bytes, after_finish, IsFaultAfterFront}
 use Rattle.wfc_words.specs.RequestView.{RequestView}
 use Rattle.wfc_words.specs.declared.fault.CommandFault.{CommandFault}
 use Rattle.wfc_task.specs.Fault.{status_of}
 use Rattle.wfc_task.specs.declared.fault.Fault.{Fault}
-use Rattle.wfc_cli.specs.ErrorLine.{command_status, command_text, fault_text, line, out_text}
+use Rattle.wfc_lines.specs.Command.{text_of_command}
+use Rattle.wfc_lines.specs.Line.{line}
+use Rattle.wfc_lines.specs.Outcome.{no_domains_text, no_map_text, out_failed_text, text_of_budget}
+use Rattle.wfc_cli.specs.ErrorLine.{command_status, fault_text}
 use Rattle.wfc_cli.specs.declared.reply.Verdict.{Verdict}
 use Rattle.wfc_cli.specs.declared.reply.Verdict.TheVariants.{Done, NoMap, Spent, Dead}
 
@@ -32,9 +35,9 @@ verdict_status Dead = 1
 -- what the error stream is told of a verdict
 abbrev pub verdict_text : Verdict → Option (List ℕ)
 verdict_text Done = None
-verdict_text NoMap = Some (codes "no map")
-verdict_text (Spent budget) = Some (codes "budget spent budget=" ++ decimal budget)
-verdict_text Dead = Some (codes "no consistent domains")
+verdict_text NoMap = Some no_map_text
+verdict_text (Spent budget) = Some (text_of_budget budget)
+verdict_text Dead = Some no_domains_text
 
 -- what leaves a call: its status, the text for the sink of the answer, and the text of the line for the error stream
 pub record Said : Type 0 where
@@ -49,7 +52,7 @@ said_of asked (Err fault) = record { status = status_of fault; text = None; told
 
 -- what words say that were read as no request
 abbrev pub said_of_words : CommandFault → Said
-said_of_words fault = record { status = command_status fault; text = None; told = Some (command_text fault) }
+said_of_words fault = record { status = command_status fault; text = None; told = Some (text_of_command fault) }
 
 -- the sink took the whole text and was finished, or there is none and it is as before
 abbrev pub Takes : Option (List ℕ) → SinkView → SinkView → Type 0
@@ -79,7 +82,7 @@ CutsOff (Some text) old new = IsFaultAfterFront old new text
 -- a front of the text was put, and the stream is told of the sink
 pub record IsCutOff (said : Said) (out_old out_new err_old err_new : SinkView) (status : ℕ) : Type 0 where
   pub front : CutsOff said.text out_old out_new
-  pub told : Tells (Some out_text) err_old err_new
+  pub told : Tells (Some out_failed_text) err_old err_new
   pub five : status ≡ 5
 
 -- what a call does to its streams that says this, and its status

@@ -5,8 +5,9 @@ ghost use Rattle.wfc_cli.specs.Ending.{Leaves, Says};
 ghost use Rattle.wfc_cli.specs.Reply.{Tells, said_of_words, verdict_text};
 ghost use Rattle.wfc_cli.specs.ReplyView.{reply_view};
 
-use crate::lines::{counted, plain, tell_fault, tell_words};
+use crate::lines::tell_fault;
 use crate::reply::{Answer, Stop, Verdict};
+use wfc_lines::{budget_spent, command, no_domains, no_map, out_failed};
 use wfc_outside::{Sink, write_all};
 use wfc_task::Fault;
 use wfc_words::{CommandFault, Request};
@@ -21,7 +22,7 @@ pub(crate) fn deliver<E: Sink>(request: &Request, ended: Result<Verdict, Stop>, 
             verdict.status()
         }
         Err(Stop::Cut) => {
-            let _ = plain(err, "device Failed out");
+            let _ = out_failed(err);
             5
         }
         Err(Stop::Unanswered { fault }) => {
@@ -36,7 +37,7 @@ pub(crate) fn refuse_words<E: Sink>(err: &mut E, fault: CommandFault) -> u8
     ensures status { result ≡ (said_of_words fault).status }
     ensures told { Tells (said_of_words fault).told (E.seen err.old) (E.seen err.new) }
 {
-    let _ = tell_words(err, fault);
+    let _ = command(err, fault);
     match fault {
         CommandFault::NoMemory => 6,
         _ => 3,
@@ -61,8 +62,8 @@ fn tell_verdict<E: Sink>(err: &mut E, verdict: Verdict)
 {
     let _ = match verdict {
         Verdict::Done => Ok(()),
-        Verdict::NoMap => plain(err, "no map"),
-        Verdict::Spent { budget } => counted(err, "budget spent budget=", u64::from(budget)),
-        Verdict::Dead => plain(err, "no consistent domains"),
+        Verdict::NoMap => no_map(err),
+        Verdict::Spent { budget } => budget_spent(err, budget),
+        Verdict::Dead => no_domains(err),
     };
 }

@@ -11,6 +11,7 @@ ghost use Rattle.wfc_cli.specs.Theorem.{AreQuiet, HasFirstFault, IsComplete, IsD
 mod choosers;
 mod commands;
 mod deliver;
+pub mod laws;
 mod lines;
 mod reply;
 mod runs;

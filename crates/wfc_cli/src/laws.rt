@@ -1,0 +1,43 @@
+//! Laws of the definitions, each a function with no body whose contract is the law. They run nothing.
+
+ghost use Rattle.std.specs.Prelude.{◌≡◌, ◌∷◌, [], None, Some, codes};
+ghost use Rattle.wfc_choose.specs.declared.RuleKind.TheVariants as rules;
+ghost use Rattle.wfc_pins.specs.declared.steps.Step.TheVariants.{Assume, Undo};
+ghost use Rattle.wfc_problem.specs.declared.Literal.TheVariants.{Is, Not};
+ghost use Rattle.wfc_search.specs.declared.Outcome.TheVariants as outcomes;
+ghost use Rattle.wfc_cli.specs.Answers.{demo_text, outcome_status, standings};
+ghost use Rattle.wfc_cli.specs.Choosers.{chosen};
+ghost use Rattle.wfc_cli.specs.Reply.{verdict_status};
+ghost use Rattle.wfc_cli.specs.declared.reply.Verdict.TheVariants as verdicts;
+
+/// What stands before steps and after each, by example: an undo takes the last literal that stands.
+pub fn standings_by_example()
+    ensures none { standings [] [] ≡ [] ∷ [] }
+    ensures undone { standings [] (record { line = 1; step = Assume (Is 0 0) } ∷ record { line = 2; step = Assume (Not 2 1) }
+        ∷ record { line = 5; step = Undo } ∷ []) ≡ [] ∷ (Is 0 0 ∷ []) ∷ (Is 0 0 ∷ Not 2 1 ∷ []) ∷ (Is 0 0 ∷ []) ∷ [] }
+    ensures all_undone { standings (Is 7 3 ∷ []) (record { line = 1; step = Undo } ∷ record { line = 2; step = Assume (Is 1 0) } ∷ [])
+        ≡ (Is 7 3 ∷ []) ∷ [] ∷ (Is 1 0 ∷ []) ∷ [] }
+{}
+
+/// The four lines of a demonstration, by example.
+pub fn demonstrations_by_example()
+    ensures lines { demo_text 9 2116 0 1 ≡ codes "patterns 9\ncells 2116\nretractions 0\nstatus 1\n" }
+{}
+
+/// The status of each end of a run, and of each verdict.
+pub fn statuses_are()
+    ensures map { outcome_status outcomes.Map ≡ 0 }
+    ensures no_map { outcome_status outcomes.NoMap ≡ 1 }
+    ensures spent { outcome_status outcomes.Spent ≡ 2 }
+    ensures done { verdict_status verdicts.Done ≡ 0 }
+    ensures none { verdict_status verdicts.NoMap ≡ 1 }
+    ensures dead { verdict_status verdicts.Dead ≡ 1 }
+    ensures budget { verdict_status (verdicts.Spent 1000) ≡ 2 }
+{}
+
+/// The first rule of a kind is used, by example.
+pub fn first_rules_are_chosen()
+    ensures first { chosen rules.Fewest (record { kind = rules.Ranked; ranks = 5 ∷ [] } ∷ record { kind = rules.Fewest; ranks = 1 ∷ [] }
+        ∷ record { kind = rules.Fewest; ranks = 2 ∷ [] } ∷ []) ≡ Some (record { kind = rules.Fewest; ranks = 1 ∷ [] }) }
+    ensures none { chosen rules.Scanline (record { kind = rules.Fewest; ranks = [] } ∷ []) ≡ None }
+{}
