@@ -1,0 +1,103 @@
+//! Command lines with what they answer.
+
+ghost use Rattle.std.specs.Prelude.{◌≤◌};
+
+mod devices;
+mod rows;
+
+use crate::run;
+use std::alloc::{AllocError, Global};
+use std::process::Abort;
+use std::test::Fail;
+use wfc_choose::{Buckets, Chooser, Scanning};
+use wfc_outside::{Folder, MemoryFolder, MemorySink};
+
+/// The files of the tests.
+const FILES: [(&str, &str); 21] = [
+    ("chk.txt", "ab\nba\n"),
+    ("a.txt", "a\n"),
+    ("e.txt", ""),
+    ("r.txt", "ab\nb\n"),
+    ("tab.txt", "ab\r\nb\t"),
+    ("one.ppm", "P3\n1 1\n255\n1 2 3\n"),
+    (
+        "town.txt",
+        "################\n#...#...#...#...\n#...#...#...#...\n#...#...#...#...\n",
+    ),
+    ("a.pins", "pin 0 0 a\n"),
+    ("ab.pins", "pin 0 0 a\npin 0 0 b\n"),
+    ("not_a.pins", "# none\n\nban 0 0 a\n"),
+    ("last.pins", "ban 2 1 a\nban 2 0 a\n"),
+    ("z.pins", "pin 0 0 z\n"),
+    ("out.pins", "pin 3 0 z\n"),
+    ("bad.pins", "pin 0 a\n"),
+    ("two.steps", "choose 0 0\nchoose 2 1\nundo\nundo\n"),
+    ("ring.steps", "choose 0 0\nundo\n"),
+    ("none.steps", "# no step\n"),
+    ("undo.steps", "undo\n"),
+    ("out.steps", "choose 3 0\n"),
+    ("bad.steps", "choose 3\n"),
+    ("low.steps", "choose 0 2\n"),
+];
+
+pub fn folder_of(alloc: Global, piece: usize) -> Result<MemoryFolder, AllocError>
+    requires some { 1 ≤ piece }
+{
+    let mut folder = MemoryFolder::new(alloc, piece);
+    for (name, text) in FILES {
+        let name = String::from_str(alloc, name)?;
+        let bytes = Vec::from_slice(alloc, text.as_bytes())?;
+        folder.add(name, bytes).map_err(|_| AllocError)?;
+    }
+    Ok(folder)
+}
+
+/// A sink with room enough that never fails.
+pub fn sink_of(alloc: Global, piece: usize) -> Result<MemorySink, AllocError>
+    requires some { 1 ≤ piece }
+{
+    MemorySink::new(alloc, piece, 500).map_err(|_| AllocError)
+}
+
+/// The words of a command line, parted by blanks; no words where it is empty.
+fn words_of(alloc: Global, line: &str) -> Result<Vec<String>, AllocError> {
+    let mut words = Vec::new(alloc);
+    for word in line.split_whitespace() {
+        words.push(String::from_str(alloc, word)?)?;
+    }
+    Ok(words)
+}
+
+/// A command line with its status, its answer and its line on the error stream.
+pub type Row = (&'static str, u8, &'static str, &'static str);
+
+/// The status of a command line over these devices, with a chooser of the least cell and one of the fewest values.
+pub fn status_of<F: Folder>(
+    alloc: Global,
+    line: &str,
+    folder: &mut F,
+    out: &mut MemorySink,
+    err: &mut MemorySink,
+) -> Result<u8, AllocError> {
+    let words = words_of(alloc, line)?;
+    let mut choosers: Vec<Box<dyn Chooser>> = Vec::new(alloc);
+    choosers.push(Box::new(alloc, Scanning::scanline(alloc))?)?;
+    choosers.push(Box::new(alloc, Buckets::new(alloc))?)?;
+    Ok(run(alloc, &words, folder, out, err, choosers))
+}
+
+/// Runs a command line over these devices, and compares what comes of it.
+pub fn check<F: Folder>(
+    rt: &(impl Abort + AllocGlobal),
+    row: Row,
+    folder: &mut F,
+    mut out: MemorySink,
+    mut err: MemorySink,
+) -> Result<(), Fail> {
+    let (line, status, answer, told) = row;
+    let got = status_of(rt.alloc(), line, folder, &mut out, &mut err)?;
+    assert_eq!(rt; got, status, "{line}");
+    assert_eq!(rt; out.bytes(), answer.as_bytes(), "{line}");
+    assert_eq!(rt; err.bytes(), told.as_bytes(), "{line}");
+    Ok(())
+}

@@ -1,0 +1,158 @@
+//! Devices that fail, and files that no command names.
+
+ghost use Rattle.std.specs.Prelude.{◌≤◌};
+ghost use Rattle.wfc_outside.specs.MemoryFolder.{seen_folder};
+
+use super::{check, folder_of, sink_of, status_of};
+use crate::refuse;
+use std::process::Abort;
+use std::test::Fail;
+use wfc_outside::{Folder, FolderFault, MemoryFolder, MemorySink};
+use wfc_words::CommandFault;
+
+const LINE: &str = "fill chk.txt 2 3 3 --wrap-in --pins a.pins";
+
+/// Runs a command whose folder fails at one of its calls. It gives so many bytes at a time, and one call more finds
+/// the end of a file.
+fn check_failing_folder(
+    rt: &(impl Abort + AllocGlobal),
+    piece: usize,
+    call: u64,
+    status: u8,
+    answer: &'static str,
+    told: &'static str,
+) -> Result<(), Fail>
+    requires some { 1 ≤ piece }
+{
+    let mut folder = folder_of(rt.alloc(), piece)?;
+    folder.fail_at(call)?;
+    let out = sink_of(rt.alloc(), 100)?;
+    let err = sink_of(rt.alloc(), 100)?;
+    check(rt, (LINE, status, answer, told), &mut folder, out, err)
+}
+
+#[test]
+fn folders_fail(rt: HostRuntime) -> Result<(), Fail> {
+    check_failing_folder(&rt, 2, 3, 5, "", "wfc: device Failed file=chk.txt\n")?;
+    check_failing_folder(&rt, 100, 1, 5, "", "wfc: device Failed file=chk.txt\n")?;
+    check_failing_folder(&rt, 100, 2, 5, "", "wfc: device Failed file=chk.txt\n")?;
+    check_failing_folder(&rt, 100, 3, 5, "", "wfc: device Failed file=a.pins\n")?;
+    check_failing_folder(&rt, 100, 4, 5, "", "wfc: device Failed file=a.pins\n")?;
+    check_failing_folder(&rt, 100, 5, 0, "aba\nbab\naba\n", "")
+}
+
+/// Runs a command whose sink takes five bytes at a time, and fails at one of its calls.
+fn check_failing_sink(
+    rt: &(impl Abort + AllocGlobal),
+    call: u64,
+    status: u8,
+    answer: &'static str,
+    told: &'static str,
+) -> Result<(), Fail> {
+    let mut folder = folder_of(rt.alloc(), 100)?;
+    let mut out = sink_of(rt.alloc(), 5)?;
+    out.fail_at(call)?;
+    let err = sink_of(rt.alloc(), 100)?;
+    check(rt, (LINE, status, answer, told), &mut folder, out, err)
+}
+
+#[test]
+fn sinks_fail(rt: HostRuntime) -> Result<(), Fail> {
+    check_failing_sink(&rt, 1, 5, "", "wfc: device Failed out\n")?;
+    check_failing_sink(&rt, 2, 5, "aba\nb", "wfc: device Failed out\n")?;
+    check_failing_sink(&rt, 3, 5, "aba\nbab\nab", "wfc: device Failed out\n")?;
+    check_failing_sink(&rt, 4, 0, "aba\nbab\naba\n", "")
+}
+
+/// The last flush fails: the whole answer was taken, and the call says that its device failed.
+#[test]
+fn sinks_fail_to_finish(rt: HostRuntime) -> Result<(), Fail> {
+    let mut folder = folder_of(rt.alloc(), 100)?;
+    let mut out = sink_of(rt.alloc(), 5)?;
+    out.fail_finish();
+    let err = sink_of(rt.alloc(), 100)?;
+    let row = (LINE, 5, "aba\nbab\naba\n", "wfc: device Failed out\n");
+    check(&rt, row, &mut folder, out, err)
+}
+
+/// A folder in memory that counts its calls that ask for another file than the two named ones.
+#[derive(Drop)]
+struct Recorder {
+    folder: MemoryFolder,
+    others: u32,
+}
+
+impl Folder for Recorder {
+    ghost seen = { λ f. seen_folder f.folder };
+
+    fn read_at(&mut self, name: &str, at: u64, buf: &mut [u8]) -> Result<usize, FolderFault> {
+        if name != "chk.txt" && name != "a.pins" {
+            self.others = self.others.saturating_add(1);
+        }
+        Folder::read_at(&mut self.folder, name, at, buf)
+    }
+}
+
+#[test]
+fn no_file_is_read_that_is_not_named(rt: HostRuntime) -> Result<(), Fail> {
+    let mut folder = Recorder {
+        folder: folder_of(rt.alloc(), 100)?,
+        others: 0,
+    };
+    let out = sink_of(rt.alloc(), 100)?;
+    let err = sink_of(rt.alloc(), 100)?;
+    let row = (LINE, 0, "aba\nbab\naba\n", "");
+    check(&rt, row, &mut folder, out, err)?;
+    assert_eq!(rt; folder.others, 0);
+    Ok(())
+}
+
+/// An error stream with room for eight bytes, which takes seven at a time, changes nothing else.
+#[test]
+fn error_streams_fail(rt: HostRuntime) -> Result<(), Fail> {
+    let mut folder = folder_of(rt.alloc(), 100)?;
+    let out = sink_of(rt.alloc(), 100)?;
+    let err = MemorySink::new(rt.alloc(), 7, 8)?;
+    let row = ("fill chk.txt 2 3 2", 1, "", "wfc: no ");
+    check(&rt, row, &mut folder, out, err)
+}
+
+/// What a program says that could not read its words.
+#[test]
+fn unread_words_are_told(rt: HostRuntime) -> Result<(), Fail> {
+    let mut err = sink_of(rt.alloc(), 100)?;
+    assert_eq!(rt; refuse(&mut err, CommandFault::NoMemory), 6);
+    assert_eq!(rt; err.bytes(), b"wfc: out of memory\n".as_slice());
+    Ok(())
+}
+
+const TOWN: &str = "fill town.txt 3 48 48 --symmetry 8 --wrap-in --seed 1 --budget 0";
+
+/// A town is filled without a retraction, at each run in the same way. A sink that fails has a front of it.
+#[test]
+fn towns_are_filled(rt: HostRuntime) -> Result<(), Fail> {
+    let mut folder = folder_of(rt.alloc(), 16)?;
+    let mut whole = MemorySink::new(rt.alloc(), 4000, 4000)?;
+    let mut again = MemorySink::new(rt.alloc(), 7, 4000)?;
+    let mut cut = MemorySink::new(rt.alloc(), 100, 4000)?;
+    cut.fail_at(2)?;
+    let mut err = sink_of(rt.alloc(), 100)?;
+    assert_eq!(rt;
+        status_of(rt.alloc(), TOWN, &mut folder, &mut whole, &mut err)?,
+        0
+    );
+    assert_eq!(rt;
+        status_of(rt.alloc(), TOWN, &mut folder, &mut again, &mut err)?,
+        0
+    );
+    assert_eq!(rt;
+        status_of(rt.alloc(), TOWN, &mut folder, &mut cut, &mut err)?,
+        5
+    );
+    assert_eq!(rt; err.bytes(), b"wfc: device Failed out\n".as_slice());
+    assert_eq!(rt; whole.bytes().len(), 2352);
+    assert_eq!(rt; again.bytes(), whole.bytes());
+    assert_eq!(rt; cut.bytes().len(), 100);
+    assert!(rt; whole.bytes().starts_with(cut.bytes()));
+    Ok(())
+}

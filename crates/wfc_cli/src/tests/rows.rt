@@ -1,0 +1,279 @@
+//! The rows of each command.
+
+use super::{Row, check, folder_of, sink_of};
+use std::process::Abort;
+use std::test::Fail;
+
+static FILL: [Row; 35] = [
+    ("fill chk.txt 2 2 2", 0, "ab\nba\n", ""),
+    // The one pattern disagrees with itself.
+    ("fill chk.txt 2 3 2", 1, "", "wfc: no map\n"),
+    ("fill chk.txt 2 1 2", 4, "", "wfc: build SizeBelowN\n"),
+    ("fill chk.txt 2 2 1", 4, "", "wfc: build SizeBelowN\n"),
+    (
+        "fill chk.txt 2 3 3 --wrap-in --pins a.pins",
+        0,
+        "aba\nbab\naba\n",
+        "",
+    ),
+    (
+        "fill chk.txt 2 3 3 --wrap-in --pins=not_a.pins",
+        0,
+        "bab\naba\nbab\n",
+        "",
+    ),
+    (
+        "fill chk.txt 2 3 2 --wrap-in --pins last.pins --form grid",
+        1,
+        "",
+        "wfc: no map\n",
+    ),
+    (
+        "fill chk.txt 2 3 3 --wrap-in --form cells --pins a.pins",
+        0,
+        "0 1 0\n1 0 1\n0 1 0\n",
+        "",
+    ),
+    // A ring of three has no map, and one retraction shows it.
+    (
+        "fill chk.txt 2 3 3 --wrap-in --wrap-out --budget 1",
+        1,
+        "",
+        "wfc: no map\n",
+    ),
+    (
+        "fill chk.txt 2 3 3 --wrap-in --wrap-out --budget 0",
+        2,
+        "",
+        "wfc: budget spent budget=0\n",
+    ),
+    (
+        "fill chk.txt 2 3 3 --wrap-in --pins ab.pins --budget 0",
+        1,
+        "",
+        "wfc: no map\n",
+    ),
+    (
+        "fill chk.txt 2 2 2 --wrap-in --wrap-out --pins a.pins",
+        0,
+        "ab\nba\n",
+        "",
+    ),
+    (
+        "fill chk.txt 2 3 3 --wrap-in --pins z.pins",
+        4,
+        "",
+        "wfc: build UnknownSymbol line=1 file=z.pins\n",
+    ),
+    (
+        "fill chk.txt 2 3 3 --wrap-in --pins out.pins",
+        4,
+        "",
+        "wfc: build PinOutside line=1 file=out.pins\n",
+    ),
+    (
+        "fill chk.txt 2 3 3 --wrap-in --pins bad.pins",
+        4,
+        "",
+        "wfc: pins BadLine line=1 file=bad.pins\n",
+    ),
+    (
+        "fill chk.txt 2 3 3 --pins none.pins",
+        5,
+        "",
+        "wfc: device Missing file=none.pins\n",
+    ),
+    // The layout is looked at before the pins file is read.
+    (
+        "fill chk.txt 2 3 3 --pins none.pins --form p6",
+        4,
+        "",
+        "wfc: render FormDiffers\n",
+    ),
+    ("fill a.txt 1 3 2", 0, "aaa\naaa\n", ""),
+    (
+        "fill a.txt 2 3 3",
+        4,
+        "",
+        "wfc: learn SampleBelowN file=a.txt\n",
+    ),
+    ("fill a.txt 2 3 3 --wrap-in", 0, "aaa\naaa\naaa\n", ""),
+    (
+        "fill a.txt 1 4096 2049",
+        4,
+        "",
+        "wfc: build TooLarge product=8392704\n",
+    ),
+    ("fill e.txt 1 1 1", 4, "", "wfc: grid Empty file=e.txt\n"),
+    (
+        "fill r.txt 1 1 1",
+        4,
+        "",
+        "wfc: grid Ragged line=2 file=r.txt\n",
+    ),
+    (
+        "fill tab.txt 1 1 1",
+        4,
+        "",
+        "wfc: grid BadByte line=2 column=2 file=tab.txt\n",
+    ),
+    (
+        "fill none.txt 2 2 2",
+        5,
+        "",
+        "wfc: device Missing file=none.txt\n",
+    ),
+    // The chooser is looked for before any file is read.
+    (
+        "fill none.txt 2 2 2 --rule ranked",
+        7,
+        "",
+        "wfc: chooser missing rule=ranked\n",
+    ),
+    ("fill chk.txt 7 2 2", 3, "", "wfc: command value MODEL\n"),
+    ("fill chk.txt 2 4097 0", 3, "", "wfc: command value WIDTH\n"),
+    (
+        "fill chk.txt 2 2 2 --seed=-1",
+        3,
+        "",
+        "wfc: command value seed\n",
+    ),
+    (
+        "fill chk.txt 2 2 2 --budget 1000000001",
+        3,
+        "",
+        "wfc: command value budget\n",
+    ),
+    ("fill chk.txt 2 2", 3, "", "wfc: command refused\n"),
+    ("paint chk.txt", 3, "", "wfc: command refused\n"),
+    ("", 3, "", "wfc: command refused\n"),
+    // What isn't built yet.
+    ("fill one.ppm 1 2 1", 3, "", "wfc: command refused\n"),
+    ("refute chk.txt 2 3 2", 3, "", "wfc: command refused\n"),
+];
+
+static LEARN: [Row; 5] = [
+    (
+        "learn chk.txt 2 --wrap-in",
+        0,
+        "overlap 2\ncolours 2\n0 a\n1 b\npatterns 2\n0 2: 0 1 1 0\n1 2: 1 0 0 1\n",
+        "",
+    ),
+    (
+        "learn chk.txt 2 --symmetry 8",
+        0,
+        "overlap 2\ncolours 2\n0 a\n1 b\npatterns 2\n0 4: 0 1 1 0\n1 4: 1 0 0 1\n",
+        "",
+    ),
+    ("learn e.txt 1", 4, "", "wfc: grid Empty file=e.txt\n"),
+    (
+        "learn none.txt 1",
+        5,
+        "",
+        "wfc: device Missing file=none.txt\n",
+    ),
+    (
+        "learn chk.txt 2 --symmetry 9",
+        3,
+        "",
+        "wfc: command value symmetry\n",
+    ),
+];
+
+static DOMAINS: [Row; 9] = [
+    (
+        "domains chk.txt 2 4 2 --wrap-in --steps two.steps",
+        0,
+        "step 0\n0: 0 1\n1: 0 1\n2: 0 1\nstep 1\n0: 0\n1: 1\n2: 0\nstep 2\ndead\nstep 3\n0: 0\n1: 1\n2: 0\nstep 4\n0: 0 1\n1: 0 1\n2: 0 1\n",
+        "",
+    ),
+    (
+        "domains chk.txt 2 3 3 --wrap-in --wrap-out --steps ring.steps",
+        0,
+        "step 0\n0: 0 1\n1: 0 1\n2: 0 1\n3: 0 1\n4: 0 1\n5: 0 1\n6: 0 1\n7: 0 1\n8: 0 1\nstep 1\ndead\nstep 2\n0: 0 1\n1: 0 1\n2: 0 1\n3: 0 1\n4: 0 1\n5: 0 1\n6: 0 1\n7: 0 1\n8: 0 1\n",
+        "",
+    ),
+    // A cell of the root is empty, whatever the steps are.
+    (
+        "domains chk.txt 2 3 2 --steps none.steps",
+        1,
+        "step 0\ndead\n",
+        "wfc: no consistent domains\n",
+    ),
+    (
+        "domains chk.txt 2 3 2 --steps ring.steps",
+        1,
+        "step 0\ndead\nstep 1\ndead\nstep 2\ndead\n",
+        "wfc: no consistent domains\n",
+    ),
+    (
+        "domains chk.txt 2 4 2 --wrap-in --steps undo.steps",
+        4,
+        "",
+        "wfc: steps NothingToUndo line=1 file=undo.steps\n",
+    ),
+    (
+        "domains chk.txt 2 4 2 --wrap-in --steps out.steps",
+        4,
+        "",
+        "wfc: steps OutOfRange line=1 file=out.steps\n",
+    ),
+    (
+        "domains chk.txt 2 4 2 --wrap-in --steps low.steps",
+        4,
+        "",
+        "wfc: steps OutOfRange line=1 file=low.steps\n",
+    ),
+    (
+        "domains chk.txt 2 4 2 --wrap-in --steps bad.steps",
+        4,
+        "",
+        "wfc: steps BadLine line=1 file=bad.steps\n",
+    ),
+    (
+        "domains chk.txt 2 4 2 --wrap-in --steps gone.steps",
+        5,
+        "",
+        "wfc: device Missing file=gone.steps\n",
+    ),
+];
+
+static DEMO: [Row; 3] = [
+    (
+        "demo 0",
+        0,
+        "patterns 9\ncells 2116\nretractions 0\nstatus 0\n",
+        "",
+    ),
+    (
+        "demo 6",
+        0,
+        "patterns 16\ncells 2116\nretractions 0\nstatus 0\n",
+        "",
+    ),
+    ("demo 1000001", 3, "", "wfc: command value NUMBER\n"),
+];
+
+/// Runs rows over devices that give and take so many bytes at a time.
+fn check_in_pieces(rt: &(impl Abort + AllocGlobal), piece: usize, rows: &[Row]) -> Result<(), Fail>
+    requires some { 1 ≤ piece }
+{
+    for row in rows {
+        let mut folder = folder_of(rt.alloc(), piece)?;
+        let out = sink_of(rt.alloc(), piece)?;
+        let err = sink_of(rt.alloc(), piece)?;
+        check(rt, *row, &mut folder, out, err)?;
+    }
+    Ok(())
+}
+
+ghost use Rattle.std.specs.Prelude.{◌≤◌};
+
+#[test]
+fn commands_answer(rt: HostRuntime) -> Result<(), Fail> {
+    check_in_pieces(&rt, 1, &FILL)?;
+    check_in_pieces(&rt, 64, &FILL)?;
+    check_in_pieces(&rt, 7, &LEARN)?;
+    check_in_pieces(&rt, 5, &DOMAINS)?;
+    check_in_pieces(&rt, 64, &DEMO)
+}
