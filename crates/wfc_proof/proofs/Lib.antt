@@ -6,3 +6,5 @@ pub mod Nodes
 pub mod Sound
 pub mod Told
 pub mod Waiting
+mod WordLemmas
+mod LineLemmas

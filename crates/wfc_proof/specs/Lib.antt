@@ -3,5 +3,8 @@ pub mod Proof
 pub mod Lines
 pub mod Checker
 pub mod Small
+pub mod Words
+pub mod WordsLeft
+pub mod Text
 -- passed on from the crate below
 pub use Rattle.wfc_outside.specs.Count

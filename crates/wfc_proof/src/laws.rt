@@ -13,6 +13,7 @@ ghost use Rattle.wfc_proof.specs.Proof.{Proof, Closes, FollowsFrom, StopsThere, 
 ghost use Rattle.wfc_proof.specs.Proof.Node.{removes, splits, empties};
 ghost use Rattle.wfc_proof.specs.Proof.Proof.{empty, remove, split, left_off};
 ghost use Rattle.wfc_proof.specs.Small.{wide, from_base};
+ghost use Rattle.wfc_proof.specs.Text.{line_text, line_of, line_2_of, IsOfFormat1, IsOfFormat2};
 ghost use Rattle.wfc_proof.specs.declared.Reject.TheVariants.{NotStanding, HasSupport, NoNeighbour, NotEmpty, AfterEnd, IndexRange, NotClosed, OnlyValue};
 ghost use Rattle.wfc_proof.specs.Journal.{JournalView, quiet, IsWhole, counted_as, after_line, after_lines, IsRefused, IsCutOff};
 ghost use Rattle.wfc_proof.specs.declared.Line.{Line};
@@ -128,6 +129,16 @@ pub fn joined_lines_spell()
     ensures push { (told : List Node) (node : Node) → joined (told ++ node ∷ []) ≡ push (joined told) node }
     ensures kept { (written : List Line) (kept : Line) (node : Node) →
         push (written ++ kept ∷ []) node ≡ written ++ behind kept node }
+{}
+
+// ---- texts
+
+/// Bytes are read as a line exactly where they are its text and the line is of the format, its numbers within the limits.
+pub fn lines_are_their_texts()
+    ensures one { (bytes : List ℕ) (line : Line) →
+        (line_of bytes ≡ Ok line) ↔ ((bytes ≡ line_text line) × IsOfFormat1 line) }
+    ensures two { (bytes : List ℕ) (line : Line) →
+        (line_2_of bytes ≡ Ok line) ↔ ((bytes ≡ line_text line) × IsOfFormat2 line) }
 {}
 
 // ---- by example

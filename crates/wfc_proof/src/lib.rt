@@ -11,7 +11,10 @@ ghost use Rattle.wfc_proof.specs.Journal.{JournalView, IsWhole, after_line, IsRe
 pub mod laws;
 #[cfg(test)]
 mod tests;
+mod text;
+mod words;
 
+pub use text::{LineFault, read_line, read_line_2};
 use thiserror::Error;
 
 /// A line of a journal or of a refutation. Cells, values and directions count from 0.
