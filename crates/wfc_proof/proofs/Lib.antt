@@ -8,3 +8,4 @@ pub mod Told
 pub mod Waiting
 mod WordLemmas
 mod LineLemmas
+mod HeadLemmas

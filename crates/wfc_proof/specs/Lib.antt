@@ -6,5 +6,6 @@ pub mod Small
 pub mod Words
 pub mod WordsLeft
 pub mod Text
+pub mod Heads
 -- passed on from the crate below
 pub use Rattle.wfc_outside.specs.Count

@@ -1,6 +1,6 @@
 //! Laws of the definitions, each a function with no body whose contract is the law. They run nothing.
 
-ghost use Rattle.std.specs.Prelude.{◌≡◌, ℕ, ◌↔◌, ◌+◌, ◌<◌, ◌≤◌, [], ◌∷◌, ◌++◌, List, length, map, None, Some, Ok, Err, false, true, IsTrue, IsFalse};
+ghost use Rattle.std.specs.Prelude.{◌≡◌, ℕ, ◌↔◌, ◌+◌, ◌<◌, ◌≤◌, [], ◌∷◌, ◌++◌, List, codes, length, map, None, Some, Ok, Err, false, true, IsTrue, IsFalse};
 ghost use Rattle.wfc_problem.specs.Assignment.{IsLegalAssignment, LiesIn};
 ghost use Rattle.wfc_problem.specs.Domains.{Test, Within, IsEmptyAt, cut};
 ghost use Rattle.wfc_problem.specs.Network.{Network, IsProblem, in_base, neighbour, ok};
@@ -14,6 +14,12 @@ ghost use Rattle.wfc_proof.specs.Proof.Node.{removes, splits, empties};
 ghost use Rattle.wfc_proof.specs.Proof.Proof.{empty, remove, split, left_off};
 ghost use Rattle.wfc_proof.specs.Small.{wide, from_base};
 ghost use Rattle.wfc_proof.specs.Text.{line_text, line_of, line_2_of, IsOfFormat1, IsOfFormat2};
+ghost use Rattle.wfc_proof.specs.Heads.{AreNumbers, IsShape, format_of, format_text, head_text, head_2_text, numbers_of, numbers_text, shape_of, shape_text};
+ghost use Rattle.wfc_proof.specs.declared.heads.Format.{Format};
+ghost use Rattle.wfc_proof.specs.declared.heads.Format.TheVariants.{One, Two};
+ghost use Rattle.wfc_proof.specs.declared.heads.Numbers.{Numbers};
+ghost use Rattle.wfc_proof.specs.declared.heads.Shape.{Shape};
+ghost use Rattle.wfc_proof.specs.declared.text.LineFault.TheVariants.{BadLine};
 ghost use Rattle.wfc_proof.specs.declared.Reject.TheVariants.{NotStanding, HasSupport, NoNeighbour, NotEmpty, AfterEnd, IndexRange, NotClosed, OnlyValue};
 ghost use Rattle.wfc_proof.specs.Journal.{JournalView, quiet, IsWhole, counted_as, after_line, after_lines, IsRefused, IsCutOff};
 ghost use Rattle.wfc_proof.specs.declared.Line.{Line};
@@ -141,6 +147,15 @@ pub fn lines_are_their_texts()
         (line_2_of bytes ≡ Ok line) ↔ ((bytes ≡ line_text line) × IsOfFormat2 line) }
 {}
 
+/// The lines of a head are read exactly where they are their texts, within the limits.
+pub fn heads_are_their_texts()
+    ensures format { (bytes : List ℕ) (format : Format) → (format_of bytes ≡ Ok format) ↔ (bytes ≡ format_text format) }
+    ensures numbers { (bytes : List ℕ) (numbers : Numbers) →
+        (numbers_of bytes ≡ Ok numbers) ↔ ((bytes ≡ numbers_text numbers.cells numbers.values) × AreNumbers numbers) }
+    ensures shape { (bytes : List ℕ) (shape : Shape) →
+        (shape_of bytes ≡ Ok shape) ↔ ((bytes ≡ shape_text shape) × IsShape shape) }
+{}
+
 // ---- by example
 
 /// Why removals are refused: an index comes first, then a value that doesn't stand, a side without a neighbour, and the
@@ -188,4 +203,42 @@ pub fn nodes_by_example()
         ≡ Span 3 1 2 2 ∷ Span 3 4 4 2 ∷ Span 3 5 5 1 ∷ Span 2 6 6 1 ∷ [] }
     ensures apart { joined (removes 2 6 1 ∷ splits 2 1 ∷ removes 2 7 1 ∷ empties 2 ∷ [])
         ≡ Span 2 6 6 1 ∷ Try 2 1 ∷ Span 2 7 7 1 ∷ Empty 2 ∷ [] }
+{}
+
+/// The texts of lines. A removal is of one value or of a span, and the order of the numbers is cell, value, direction.
+pub fn texts_by_example()
+    ensures removes { line_text (Remove 10 2 3) ≡ codes "r 10 2 3" }
+    ensures spans { line_text (Span 10 2 4 3) ≡ codes "r 10 2 4 3" }
+    ensures tries { line_text (Try 4294967295 65535) ≡ codes "t 4294967295 65535" }
+    ensures empties { line_text (Empty 0) ≡ codes "x 0" }
+    ensures ends { map line_text (End ∷ Found ∷ Out ∷ []) ≡ codes "q" ∷ codes "s" ∷ codes "o" ∷ [] }
+    ensures head { head_text 12 3 ≡ codes "wfc-refutation 1\ncells 12 values 3\n" }
+    ensures head_2 { head_2_text (record { n = 2; width = 3; height = 4; depth = 1; symmetry = 8; wrap_in = true; wrap_out = false }) 12 5
+        ≡ codes "wfc-refutation 2\ncells 12 values 5\nfor 2 3 4 1 8 1 0\n" }
+{}
+
+/// Bytes that spell lines, each in its format, and bytes that spell none: a blank too many, a zero in front, a number too
+/// large or too few, a sign, a span that ends before it begins.
+pub fn readings_by_example()
+    ensures removes { line_of (codes "r 10 2 3") ≡ Ok (Remove 10 2 3) }
+    ensures spans { line_2_of (codes "r 10 2 4 3") ≡ Ok (Span 10 2 4 3) }
+    ensures one { line_2_of (codes "r 10 4 4 3") ≡ Ok (Span 10 4 4 3) }
+    ensures other_format { (line_of (codes "r 10 2 4 3") ≡ Err BadLine) × (line_2_of (codes "r 10 2 3") ≡ Err BadLine) }
+    ensures most { (line_of (codes "t 4294967295 65535") ≡ Ok (Try 4294967295 65535)) × (line_2_of (codes "x 0") ≡ Ok (Empty 0)) }
+    ensures too_large { map line_of (codes "x 4294967296" ∷ codes "t 0 65536" ∷ codes "r 0 0 256" ∷ []) ≡ Err BadLine ∷ Err BadLine ∷ Err BadLine ∷ [] }
+    ensures blanks { map line_of (codes "x  0" ∷ codes " x 0" ∷ codes "x 0 " ∷ codes "q " ∷ []) ≡ Err BadLine ∷ Err BadLine ∷ Err BadLine ∷ Err BadLine ∷ [] }
+    ensures digits { map line_of (codes "x 00" ∷ codes "x 07" ∷ codes "x +7" ∷ codes "x" ∷ []) ≡ Err BadLine ∷ Err BadLine ∷ Err BadLine ∷ Err BadLine ∷ [] }
+    ensures backwards { line_2_of (codes "r 10 4 3 3") ≡ Err BadLine }
+    ensures letters { map line_2_of (codes "q" ∷ codes "s" ∷ codes "o" ∷ codes "Q" ∷ []) ≡ Ok End ∷ Ok Found ∷ Ok Out ∷ Err BadLine ∷ [] }
+{}
+
+/// Lines of heads, and lines that are none.
+pub fn heads_by_example()
+    ensures format { map format_of (codes "wfc-refutation 1" ∷ codes "wfc-refutation 2" ∷ codes "wfc-refutation 3" ∷ []) ≡ Ok One ∷ Ok Two ∷ Err BadLine ∷ [] }
+    ensures numbers { numbers_of (codes "cells 12 values 4294967295") ≡ Ok (record { cells = 12; values = 4294967295 }) }
+    ensures zero_first { numbers_of (codes "cells 02 values 1") ≡ Err BadLine }
+    ensures exchanged { numbers_of (codes "values 2 cells 1") ≡ Err BadLine }
+    ensures shape { shape_of (codes "for 2 3 4 1 8 1 0") ≡ Ok (record { n = 2; width = 3; height = 4; depth = 1; symmetry = 8; wrap_in = true; wrap_out = false }) }
+    ensures too_large { map shape_of (codes "for 7 3 4 1 8 1 0" ∷ codes "for 2 3 4 1 256 1 0" ∷ codes "for 2 3 4 1 8 2 0" ∷ []) ≡ Err BadLine ∷ Err BadLine ∷ Err BadLine ∷ [] }
+    ensures too_few { shape_of (codes "for 2 3 4 1 8 1") ≡ Err BadLine }
 {}

@@ -8,14 +8,28 @@
 ghost use Rattle.std.specs.Prelude.{◌≡◌, ◌≤◌, false, OnOk, OnErr};
 ghost use Rattle.wfc_proof.specs.Journal.{JournalView, IsWhole, after_line, IsRefused};
 
+mod gathered;
+mod heads;
 pub mod laws;
 #[cfg(test)]
 mod tests;
 mod text;
 mod words;
+mod writing;
 
+pub use heads::{
+    Format,
+    Numbers,
+    Shape,
+    read_format,
+    read_numbers,
+    read_shape,
+    write_header,
+    write_header_2,
+};
 pub use text::{LineFault, read_line, read_line_2};
 use thiserror::Error;
+pub use writing::write_line;
 
 /// A line of a journal or of a refutation. Cells, values and directions count from 0.
 #[derive(Clone, Copy, Debug, PartialEq, Eq)]
