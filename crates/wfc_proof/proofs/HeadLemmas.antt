@@ -14,6 +14,7 @@ use Rattle.wfc_proof.specs.declared.text.LineFault.{LineFault}
 use Rattle.wfc_proof.specs.declared.text.LineFault.TheVariants.{BadLine}
 use Rattle.wfc_proof.specs.Words.{is_space, spaced_words, with_spaces, decimal_within}
 use Rattle.wfc_proof.specs.Heads.{format_text, format_of, numbers_words, numbers_text, AreNumbers, head_word, numbers_with, numbers_of_words, numbers_of, bit, bit_word, shape_words, shape_text, IsShape, shape_with, shape_of_words, shape_of}
+use Rattle.wfc_proof.specs.Text.{line_of, line_of_words}
 use Rattle.wfc_proof.proofs.WordLemmas.{AreSpaceless, spaced_back, decimal_spaceless, decimal_within-decimal, decimal_within-some}
 use Rattle.wfc_proof.proofs.LineLemmas.{with_spaces-back}
 
@@ -89,10 +90,16 @@ searched word none k d inside = position_fails is_space word none k d inside
 pub is-numbers_of : (bytes : List ℕ) (numbers : Numbers) → bytes ≡ numbers_text numbers.cells numbers.values → AreNumbers numbers → numbers_of bytes ≡ Ok numbers
 is-numbers_of bytes numbers text keeps =
     let spaceless : AreSpaceless (numbers_words numbers.cells numbers.values) =
-        (searched (codes "cells") refl, (plain numbers.cells keeps.0, (searched (codes "values") refl, (plain numbers.values keeps.1, record { })))) in
+    (searched (codes "cells") refl, (plain numbers.cells keeps.0, (searched (codes "values") refl, (plain numbers.values keeps.1, record {})))) in
     ap numbers_of text
     ∙ ap (λ words. ok_or (numbers_of_words words) BadLine) (spaced_back (codes "cells") (decimal numbers.cells ∷ codes "values" ∷ decimal numbers.values ∷ []) spaceless)
     ∙ (λ i. ok_or (numbers_with (head_back numbers.cells keeps.0 i) (head_back numbers.values keeps.1 i)) BadLine)
+
+-- and it is no line of format 1
+pub no_numbers : (c v : ℕ) → c < 2 ^ 32 → v < 2 ^ 32 → line_of (numbers_text c v) ≡ Err BadLine
+no_numbers c v cells values =
+    let spaceless : AreSpaceless (numbers_words c v) = (searched (codes "cells") refl, (plain c cells, (searched (codes "values") refl, (plain v values, record { })))) in
+    ap (λ words. ok_or (line_of_words words) BadLine) (spaced_back (codes "cells") (decimal c ∷ codes "values" ∷ decimal v ∷ []) spaceless)
 
 -- ---- the third line
 
@@ -171,9 +178,9 @@ bit_plain false = plain 0 (omega arith)
 pub is-shape_of : (bytes : List ℕ) (shape : Shape) → bytes ≡ shape_text shape → IsShape shape → shape_of bytes ≡ Ok shape
 is-shape_of bytes shape text keeps =
     let images : AreSpaceless (decimal shape.symmetry ∷ decimal (bit shape.wrap_in) ∷ decimal (bit shape.wrap_out) ∷ []) =
-        (plain shape.symmetry (omega (arith, keeps.symmetry)), (bit_plain shape.wrap_in, (bit_plain shape.wrap_out, record { }))) in
+    (plain shape.symmetry (omega (arith, keeps.symmetry)), (bit_plain shape.wrap_in, (bit_plain shape.wrap_out, record {}))) in
     let spaceless : AreSpaceless (shape_words shape) =
-        (searched (codes "for") refl, (plain shape.n (omega (arith, keeps.n)), (plain shape.width keeps.width, (plain shape.height keeps.height, (plain shape.depth keeps.depth, images))))) in
+    (searched (codes "for") refl, (plain shape.n (omega (arith, keeps.n)), (plain shape.width keeps.width, (plain shape.height keeps.height, (plain shape.depth keeps.depth, images))))) in
     let n = decimal_within-decimal 6 shape.n (omega arith) keeps.n in
     let symmetry = decimal_within-decimal (2 ^ 8 - 1) shape.symmetry (omega arith) (omega (arith, keeps.symmetry)) in
     ap shape_of text

@@ -9,3 +9,5 @@ pub mod Waiting
 mod WordLemmas
 mod LineLemmas
 mod HeadLemmas
+mod TellingLemmas
+mod PutLemmas

@@ -112,9 +112,9 @@ mark-is word line is = q (bytes_eq word (codes "q")) (bytes_eq word (codes "s"))
   where
     q : (a b c : Bool) → bytes_eq word (codes "q") ≡ a → bytes_eq word (codes "s") ≡ b → bytes_eq word (codes "o") ≡ c
         → cond a (Some End) (cond b (Some Found) (cond c (Some Out) None)) ≡ Some line → Are IsOfBoth (word ∷ []) line
-    q true b c ea eb ec is = answered IsOfBoth _ End line is (ap (λ w. w ∷ []) (letter word (codes "q") ea)) (record { })
-    q false true c ea eb ec is = answered IsOfBoth _ Found line is (ap (λ w. w ∷ []) (letter word (codes "s") eb)) (record { })
-    q false false true ea eb ec is = answered IsOfBoth _ Out line is (ap (λ w. w ∷ []) (letter word (codes "o") ec)) (record { })
+    q true b c ea eb ec is = answered IsOfBoth _ End line is (ap (λ w. w ∷ []) (letter word (codes "q") ea)) (record {})
+    q false true c ea eb ec is = answered IsOfBoth _ Found line is (ap (λ w. w ∷ []) (letter word (codes "s") eb)) (record {})
+    q false false true ea eb ec is = answered IsOfBoth _ Out line is (ap (λ w. w ∷ []) (letter word (codes "o") ec)) (record {})
     q false false false ea eb ec is = cc
 
 either-is : (word : List ℕ) (words : List (List ℕ)) (line : Line) → either_of word words ≡ Some line → Are IsOfBoth (word ∷ words) line
@@ -222,22 +222,22 @@ plain : (n : ℕ) → n < 2 ^ 32 → All (λ x. is_space x ≡ false) (decimal n
 plain n below = decimal_spaceless n (omega arith)
 
 spaceless_1 : (line : Line) → IsOfFormat1 line → AreSpaceless (line_words line)
-spaceless_1 (Remove c v d) keeps = (r, (plain c keeps.0, (plain v (omega (arith, keeps.1)), (plain d (omega (arith, keeps.2)), record { }))))
+spaceless_1 (Remove c v d) keeps = (r, (plain c keeps.0, (plain v (omega (arith, keeps.1)), (plain d (omega (arith, keeps.2)), record {}))))
 spaceless_1 (Span c first last d) keeps = absurd keeps
-spaceless_1 (Try c v) keeps = (t, (plain c keeps.0, (plain v (omega (arith, keeps.1)), record { })))
-spaceless_1 (Empty c) keeps = (x, (plain c keeps, record { }))
-spaceless_1 End keeps = (lone 113 refl, record { })
-spaceless_1 Found keeps = (lone 115 refl, record { })
-spaceless_1 Out keeps = (lone 111 refl, record { })
+spaceless_1 (Try c v) keeps = (t, (plain c keeps.0, (plain v (omega (arith, keeps.1)), record {})))
+spaceless_1 (Empty c) keeps = (x, (plain c keeps, record {}))
+spaceless_1 End keeps = (lone 113 refl, record {})
+spaceless_1 Found keeps = (lone 115 refl, record {})
+spaceless_1 Out keeps = (lone 111 refl, record {})
 
 spaceless_2 : (line : Line) → IsOfFormat2 line → AreSpaceless (line_words line)
 spaceless_2 (Remove c v d) keeps = absurd keeps
-spaceless_2 (Span c first last d) keeps = (r, (plain c keeps.0, (plain first (omega (arith, keeps.1, keeps.2)), (plain last (omega (arith, keeps.2)), (plain d (omega (arith, keeps.3)), record { })))))
-spaceless_2 (Try c v) keeps = (t, (plain c keeps.0, (plain v (omega (arith, keeps.1)), record { })))
-spaceless_2 (Empty c) keeps = (x, (plain c keeps, record { }))
-spaceless_2 End keeps = (lone 113 refl, record { })
-spaceless_2 Found keeps = (lone 115 refl, record { })
-spaceless_2 Out keeps = (lone 111 refl, record { })
+spaceless_2 (Span c first last d) keeps = (r, (plain c keeps.0, (plain first (omega (arith, keeps.1, keeps.2)), (plain last (omega (arith, keeps.2)), (plain d (omega (arith, keeps.3)), record {})))))
+spaceless_2 (Try c v) keeps = (t, (plain c keeps.0, (plain v (omega (arith, keeps.1)), record {})))
+spaceless_2 (Empty c) keeps = (x, (plain c keeps, record {}))
+spaceless_2 End keeps = (lone 113 refl, record {})
+spaceless_2 Found keeps = (lone 115 refl, record {})
+spaceless_2 Out keeps = (lone 111 refl, record {})
 
 words_back_1 : (line : Line) → IsOfFormat1 line → line_of_words (line_words line) ≡ Some line
 words_back_1 (Remove c v d) keeps = λ i. removal (cell_back c keeps.0 i) (value_back v keeps.1 i) (dir_back d keeps.2 i)

@@ -124,7 +124,7 @@ digit : (b : ℕ) → is_ascii_digit b ≡ true → digit_value b < 10
 digit b is = grind (arith, nat_tests)
 
 pass_digits : (word : List ℕ) → AllPass is_ascii_digit word → AllDigits 10 word
-pass_digits [] pass = record { }
+pass_digits [] pass = record {}
 pass_digits (b ∷ bs) pass = (digit b (pass 0 0 (omega arith)), pass_digits bs (λ k d inside. pass (suc k) d (omega arith)))
 
 -- digits as they are

@@ -7,5 +7,6 @@ pub mod Words
 pub mod WordsLeft
 pub mod Text
 pub mod Heads
+pub mod Telling
 -- passed on from the crate below
 pub use Rattle.wfc_outside.specs.Count

@@ -66,7 +66,10 @@ fn numbers_of_words(mut words: Words<'_>) -> Option<Numbers>
     let cells = words.next()?;
     let before_values = words.next()?;
     let values = words.next()?;
-    if words.next().is_some() || !is_word(before_cells, "cells") || !is_word(before_values, "values") {
+    if words.next().is_some()
+        || !is_word(before_cells, "cells")
+        || !is_word(before_values, "values")
+    {
         return None;
     }
     let cells = decimal32(cells)?;

@@ -18,14 +18,7 @@ mod words;
 mod writing;
 
 pub use heads::{
-    Format,
-    Numbers,
-    Shape,
-    read_format,
-    read_numbers,
-    read_shape,
-    write_header,
-    write_header_2,
+    Format, Numbers, Shape, read_format, read_numbers, read_shape, write_header, write_header_2,
 };
 pub use text::{LineFault, read_line, read_line_2};
 use thiserror::Error;

@@ -1,25 +1,37 @@
-//! Lines and heads, written.
+//! Lines, written.
 
 ghost use Rattle.std.specs.Prelude.{◌≡◌, ◌≤◌, ◌+◌, ◌∷◌, ◌++◌, [], length};
-ghost use Rattle.wfc_outside.specs.Sink.{Puts};
-ghost use Rattle.wfc_proof.specs.Journal.{IsWhole};
+ghost use Rattle.wfc_proof.specs.Journal.{IsWhole, counted_as};
 ghost use Rattle.wfc_proof.specs.Text.{line_text};
 ghost use Rattle.wfc_proof.specs.Heads.{ended};
+ghost use Rattle.wfc_proof.specs.Telling.{PutsOrCuts, PutsCounted};
+ghost use Rattle.wfc_proof.specs.declared.Line.TheVariants.{Span};
 
 use crate::Line;
 use crate::gathered::Gathered;
-use wfc_outside::{Sink, SinkFault, write_all};
+use wfc_outside::{Sink, SinkFault};
 
 /// Puts a line with its end: a `Remove` as format 1 spells it, and a `Span` as format 2 does. After `Failed` the sink has
-/// taken a front of it. It takes no memory.
+/// taken a front of it that isn't the whole. It takes no memory.
 pub fn write_line<S: Sink>(sink: &mut S, line: Line) -> Result<(), SinkFault>
     requires whole { IsWhole line }
-    ensures put { Puts (S.seen sink.old) (S.seen sink.new) (ended (line_text line)) result }
+    ensures put { PutsOrCuts (S.seen sink.old) (S.seen sink.new) (ended (line_text line)) result }
 {
     let mut text = Gathered::new();
     gather_line(&mut text, line);
     text.push(b"\n");
-    write_all(sink, text.as_slice())
+    put_bytes(sink, text.as_slice())
+}
+
+/// Puts all the bytes into the sink, one piece after another.
+fn put_bytes<S: Sink>(sink: &mut S, bytes: &[u8]) -> Result<(), SinkFault>
+    ensures put { PutsOrCuts (S.seen sink.old) (S.seen sink.new) bytes.now result }
+{
+    let mut done = 0;
+    while done < bytes.len() {
+        done += sink.write(&bytes[done..])?;
+    }
+    Ok(())
 }
 
 /// Gathers the text of a line.
@@ -60,4 +72,56 @@ fn gather_line(text: &mut Gathered, line: Line)
         Line::Found => text.push(b"s"),
         Line::Out => text.push(b"o"),
     }
+}
+
+/// Puts the lines of format 1 that a line counts as. Where one isn't wholly put, the answer is the line that counts as it
+/// and those behind it.
+pub(crate) fn put_counted<S: Sink>(sink: &mut S, line: Line) -> Result<(), Line>
+    requires whole { IsWhole line }
+    ensures put { PutsCounted (S.seen sink.old) (S.seen sink.new) line result }
+{
+    match line {
+        Line::Span {
+            cell,
+            first,
+            last,
+            dir,
+        } => put_span(sink, cell, first, last, dir),
+        _ => put_alone(sink, line),
+    }
+}
+
+/// Puts a line that counts as itself.
+fn put_alone<S: Sink>(sink: &mut S, line: Line) -> Result<(), Line>
+    requires whole { IsWhole line }
+    requires alone { counted_as line ≡ line ∷ [] }
+    ensures put { PutsCounted (S.seen sink.old) (S.seen sink.new) line result }
+{
+    match write_line(sink, line) {
+        Ok(()) => Ok(()),
+        Err(_) => Err(line),
+    }
+}
+
+/// Puts the removals of a span.
+fn put_span<S: Sink>(sink: &mut S, cell: u32, first: u16, last: u16, dir: u8) -> Result<(), Line>
+    requires whole { first ≤ last }
+    ensures put { PutsCounted (S.seen sink.old) (S.seen sink.new) (Span cell first last dir) result }
+{
+    let mut next = u32::from(first);
+    while next <= u32::from(last) {
+        let value = next as u16;
+        match write_line(sink, Line::Remove { cell, value, dir }) {
+            Ok(()) => next += 1,
+            Err(_) => {
+                return Err(Line::Span {
+                    cell,
+                    first: value,
+                    last,
+                    dir,
+                });
+            }
+        }
+    }
+    Ok(())
 }
