@@ -1,6 +1,6 @@
 -- What a journal tells after more lines were put into its sink.
-use Rattle.std.proofs.Common.{◌≡◌, ℕ, zero, suc, ◌+◌, ◌-◌, ◌^◌, ◌<◌, ◌≤◌, Bool, true, false, cond, nat_eq, List, [], ◌∷◌, ◌++◌, length, take, drop, codes, decimal, position, Option, None, Some, Result, Ok, Err, map, is_some, refl, sym, ap, ◌∙◌, subst, arith, append_assoc, append-nil, length-append}
-use Rattle.std.specs.List.{All, flat_map, range_with_len}
+use Rattle.std.proofs.Common.{◌≡◌, ℕ, ◌+◌, ◌-◌, ◌^◌, ◌<◌, ◌≤◌, Bool, true, false, cond, nat_eq, List, [], ◌∷◌, ◌++◌, length, take, drop, codes, decimal, position, Option, None, Some, Result, Ok, Err, refl, sym, ap, ◌∙◌, subst, arith, append_assoc, append-nil, length-append}
+use Rattle.std.specs.List.{All, flat_map}
 use Rattle.std.specs.Option.{option_map}
 use Rattle.std.proofs.lemmas.Bool.{false≢true, ne_eqb}
 use Rattle.std.proofs.lemmas.Fmt.{decimal_is_IsNumeral}
@@ -17,7 +17,7 @@ use Rattle.wfc_outside.proofs.CallerLemmas.{after_bytes-append}
 use Rattle.wfc_proof.specs.Heads.{ended, head_text, numbers_text, numbers_words}
 use Rattle.wfc_proof.specs.Journal.{JournalView, counted_as, after_line, IsRefused}
 use Rattle.wfc_proof.specs.Telling.{Reading, begins_head, and_line, read_byte, read_on, read_text, text_of, refused_lines, journal_of, is_none_left, is_at_line, is_begun, IsCut, IsCutAt}
-use Rattle.wfc_proof.specs.Text.{line_of, line_text, line_words, IsOfFormat1, AreOfFormat1}
+use Rattle.wfc_proof.specs.Text.{line_of, line_text, line_words, IsOfFormat1}
 use Rattle.wfc_proof.specs.Words.{with_spaces}
 use Rattle.wfc_proof.specs.declared.Line.TheVariants.{Remove, Span, Try, Empty, End, Found, Out}
 use Rattle.wfc_proof.specs.declared.Line.{Line}
@@ -40,7 +40,7 @@ read_plain lines part [] plain = ap (λ p. let r : Reading = record { lines = li
 read_plain lines part (b ∷ text) plain =
     let next : Reading = record { lines = lines; part = part ++ b ∷ [] } in
     let step : read_byte (record { lines = lines; part = part }) b ≡ next =
-    ap (λ t. cond t (let r : Reading = record { lines = and_line lines part (line_of part); part = [] } in r) next) (All-head (λ x. nat_eq x 10 ≡ false) b text plain) in
+        ap (λ t. cond t (let r : Reading = record { lines = and_line lines part (line_of part); part = [] } in r) next) (All-head (λ x. nat_eq x 10 ≡ false) b text plain) in
     ap (λ r. read_on r text) step
     ∙ read_plain lines (part ++ b ∷ []) text (All-tail (λ x. nat_eq x 10 ≡ false) b text plain)
     ∙ ap (λ p. let r : Reading = record { lines = lines; part = p } in r) (append_assoc part (b ∷ []) text)
@@ -77,14 +77,14 @@ letter_free f b low = All-cons (λ x. nat_eq x f ≡ false) b [] (ne_eqb b f (λ
 line_free : (f : ℕ) (line : Line) → f < 48 → nat_eq 32 f ≡ false → IsOfFormat1 line → All (λ b. nat_eq b f ≡ false) (line_text line)
 line_free f (Remove c v d) low space keeps =
     let plain : AreFree f (line_words (Remove c v d)) =
-    (letter_free f 114 (omega arith), (decimal_free f c low keeps.0, (decimal_free f v low (omega (arith, keeps.1)), (decimal_free f d low (omega (arith, keeps.2)), record {})))) in
+        (letter_free f 114 (omega arith), (decimal_free f c low keeps.0, (decimal_free f v low (omega (arith, keeps.1)), (decimal_free f d low (omega (arith, keeps.2)), record { })))) in
     joined_free f (line_words (Remove c v d)) space plain
 line_free f (Span c first last d) low space keeps = absurd keeps
 line_free f (Try c v) low space keeps =
-    let plain : AreFree f (line_words (Try c v)) = (letter_free f 116 (omega arith), (decimal_free f c low keeps.0, (decimal_free f v low (omega (arith, keeps.1)), record {}))) in
+    let plain : AreFree f (line_words (Try c v)) = (letter_free f 116 (omega arith), (decimal_free f c low keeps.0, (decimal_free f v low (omega (arith, keeps.1)), record { }))) in
     joined_free f (line_words (Try c v)) space plain
 line_free f (Empty c) low space keeps =
-    let plain : AreFree f (line_words (Empty c)) = (letter_free f 120 (omega arith), (decimal_free f c low keeps, record {})) in
+    let plain : AreFree f (line_words (Empty c)) = (letter_free f 120 (omega arith), (decimal_free f c low keeps, record { })) in
     joined_free f (line_words (Empty c)) space plain
 line_free f End low space keeps = letter_free f 113 (omega arith)
 line_free f Found low space keeps = letter_free f 115 (omega arith)
@@ -92,6 +92,11 @@ line_free f Out low space keeps = letter_free f 111 (omega arith)
 
 line_feedless : (line : Line) → IsOfFormat1 line → IsFeedless (line_text line)
 line_feedless line keeps = line_free 10 line (omega arith) refl keeps
+
+-- lines of format 1
+abbrev pub AreOfFormat1 : List Line → Type 0
+AreOfFormat1 [] = Unit {0}
+AreOfFormat1 (line ∷ lines) = IsOfFormat1 line × AreOfFormat1 lines
 
 -- the text of lines is that many more lines
 read_lines : (told lines : List Line) → AreOfFormat1 lines → read_on (record { lines = told; part = [] }) (text_of lines) ≡ record { lines = told ++ lines; part = [] }
@@ -134,9 +139,9 @@ pub told_on : (old new : SinkView) (lines : List Line) → AreOfFormat1 lines �
     → (new.faults ≡ old.faults) × (is_at_line new.told ≡ true)
     × ((journal_of new None).lines ≡ option_map (λ (told : List Line). told ++ lines) (journal_of old None).lines)
 told_on old new lines keep at put = (
-  ap (λ (s : SinkView). s.faults) put,
-  ap (λ (s : SinkView). is_at_line s.told) put ∙ line old.told at,
-  ap (λ (s : SinkView). (journal_of s None).lines) put ∙ told old.told at,
+    ap (λ (s : SinkView). s.faults) put,
+    ap (λ (s : SinkView). is_at_line s.told) put ∙ line old.told at,
+    ap (λ (s : SinkView). (journal_of s None).lines) put ∙ told old.told at,
 )
   where
     line : (o : Option Taken) → is_at_line o ≡ true → is_at_line (option_map (λ (taken : Taken). with_bytes taken (text_of lines)) o) ≡ true
@@ -172,12 +177,12 @@ told_cut old new done first refused keep keeps at cut =
     told (Some taken) is =
         let before = (read_text taken.bytes).lines in
         let middle : read_text (with_bytes taken (text_of done)).bytes ≡ record { lines = before ++ done; part = [] } =
-        read_behind taken (text_of done) is ∙ read_lines before done keep in
+            read_behind taken (text_of done) is ∙ read_lines before done keep in
         let line : is_none_left (read_text (with_bytes taken (text_of done)).bytes).part ≡ true = ap (λ (r : Reading). is_none_left r.part) middle in
         let lines : (read_text (after taken).bytes).lines ≡ before ++ done =
-        ap (λ (r : Reading). r.lines) (read_behind (with_bytes taken (text_of done)) (take cut.n (ended (line_text first))) line)
-        ∙ read_front (read_text (with_bytes taken (text_of done)).bytes).lines first cut.n keeps cut.less
-        ∙ ap (λ (r : Reading). r.lines) middle in
+            ap (λ (r : Reading). r.lines) (read_behind (with_bytes taken (text_of done)) (take cut.n (ended (line_text first))) line)
+            ∙ read_front (read_text (with_bytes taken (text_of done)).bytes).lines first cut.n keeps cut.less
+            ∙ ap (λ (r : Reading). r.lines) middle in
         ap (λ (ls : List Line). Some ls)
         (ap (λ ls. ls ++ counted_as refused) lines ∙ append_assoc before done (counted_as refused) ∙ ap (λ ls. ls ++ (done ++ counted_as refused)) (sym (append-nil before)))
 
@@ -217,7 +222,7 @@ none_told text is = ap (and_line [] text) is ∙ either (begins_head text)
 -- the second line of a head
 numbers_free : (c v : ℕ) → c < 2 ^ 32 → v < 2 ^ 32 → IsFeedless (numbers_text c v)
 numbers_free c v cells values =
-    let plain : AreFree 10 (numbers_words c v) = (searched (codes "cells") refl, (decimal_free 10 c (omega arith) cells, (searched (codes "values") refl, (decimal_free 10 v (omega arith) values, record {})))) in
+    let plain : AreFree 10 (numbers_words c v) = (searched (codes "cells") refl, (decimal_free 10 c (omega arith) cells, (searched (codes "values") refl, (decimal_free 10 v (omega arith) values, record { })))) in
     joined_free 10 (numbers_words c v) refl plain
   where
     searched : (word : List ℕ) → position (λ b. nat_eq b 10) word ≡ None → IsFeedless word
@@ -228,11 +233,11 @@ read_head : (read : Reading) (c v : ℕ) → c < 2 ^ 32 → v < 2 ^ 32 → read_
 read_head read c v cells values =
     let none : Reading = record { lines = []; part = [] } in
     let first : read_on read (ended head) ≡ none =
-    read_more read head (10 ∷ []) ∙ ap (λ r. read_on r (10 ∷ [])) (read_plain read.lines read.part head (plain head refl))
-    ∙ ap (λ ls. let r : Reading = record { lines = ls; part = [] } in r) (anew read.lines read.part) in
+        read_more read head (10 ∷ []) ∙ ap (λ r. read_on r (10 ∷ [])) (read_plain read.lines read.part head (plain head refl))
+        ∙ ap (λ ls. let r : Reading = record { lines = ls; part = [] } in r) (anew read.lines read.part) in
     let second : read_on none (ended (numbers_text c v)) ≡ none =
-    read_more none (numbers_text c v) (10 ∷ []) ∙ ap (λ r. read_on r (10 ∷ [])) (read_plain [] [] (numbers_text c v) (numbers_free c v cells values))
-    ∙ ap (λ ls. let r : Reading = record { lines = ls; part = [] } in r) (none_told (numbers_text c v) (no_numbers c v cells values)) in
+        read_more none (numbers_text c v) (10 ∷ []) ∙ ap (λ r. read_on r (10 ∷ [])) (read_plain [] [] (numbers_text c v) (numbers_free c v cells values))
+        ∙ ap (λ ls. let r : Reading = record { lines = ls; part = [] } in r) (none_told (numbers_text c v) (no_numbers c v cells values)) in
     read_more read (ended head) (ended (numbers_text c v)) ∙ ap (λ r. read_on r (ended (numbers_text c v))) first ∙ second
   where
     plain : (word : List ℕ) → position (λ b. nat_eq b 10) word ≡ None → IsFeedless word
@@ -242,8 +247,8 @@ read_head read c v cells values =
 pub head_told : (old new : SinkView) (c v : ℕ) → c < 2 ^ 32 → v < 2 ^ 32 → new ≡ after_bytes old (head_text c v)
     → (is_at_line new.told ≡ true) × ((journal_of new None).lines ≡ option_map (λ (taken : Taken). let none : List Line = [] in none) old.told)
 head_told old new c v cells values put = (
-  ap (λ (s : SinkView). is_at_line s.told) put ∙ line old.told,
-  ap (λ (s : SinkView). (journal_of s None).lines) put ∙ told old.told,
+    ap (λ (s : SinkView). is_at_line s.told) put ∙ line old.told,
+    ap (λ (s : SinkView). (journal_of s None).lines) put ∙ told old.told,
 )
   where
     behind : (taken : Taken) → read_text (with_bytes taken (head_text c v)).bytes ≡ record { lines = []; part = [] }
@@ -257,49 +262,3 @@ head_told old new c v cells values put = (
         ≡ option_map (λ (taken : Taken). let none : List Line = [] in none) o
     told None = refl
     told (Some taken) = ap (λ (r : Reading). Some (r.lines ++ [])) (behind taken)
-
--- ---- a line is told
-
--- the removals of a span are of format 1
-pub removals_keep : (c d : ℕ) → c < 2 ^ 32 → d < 2 ^ 8 → (v n : ℕ) → v + n ≤ 2 ^ 16 → AreOfFormat1 (map (λ w. Remove c w d) (range_with_len v n))
-removals_keep c d cell dir v zero low = record {}
-removals_keep c d cell dir v (suc n) low = ((cell, omega arith, dir), removals_keep c d cell dir (v + 1) n (omega arith))
-
-none_refused : (refused : Option Line) → is_some refused ≡ false → refused ≡ None
-none_refused None is = refl
-none_refused (Some line) is = absurd (false≢true (sym is))
-
--- where no line was refused, the bytes end with a line
-at : (sink : SinkView) (refused : Option Line) → is_begun sink refused ≡ true → is_some refused ≡ false → is_at_line sink.told ≡ true
-at sink None begun going = begun
-at sink (Some line) begun going = absurd (false≢true (sym going))
-
--- a line that was put is told
-pub line_told : (old new : SinkView) (refused : Option Line) (line : Line) → is_begun old refused ≡ true → is_some refused ≡ false → AreOfFormat1 (counted_as line)
-    → new ≡ after_bytes old (text_of (counted_as line)) → (is_at_line new.told ≡ true) × (journal_of new None ≡ after_line (journal_of old refused) line)
-line_told old new refused line begun going keep put =
-    let told = told_on old new (counted_as line) keep (at old refused begun going) put in
-    (told.1, same (none_refused refused going) told)
-  where
-    same : refused ≡ None → (new.faults ≡ old.faults) × (is_at_line new.told ≡ true) × ((journal_of new None).lines ≡ option_map (λ (ls : List Line). ls ++ counted_as line) (journal_of old None).lines)
-        → journal_of new None ≡ after_line (journal_of old refused) line
-    same none told =
-        (λ i. let j : JournalView = record { lines = told.2 i; failed = false; faults = told.0 i } in j) ∙ ap (λ o. after_line (journal_of old o) line) (sym none)
-
--- a line that was cut off is refused
-pub line_refused : (old new : SinkView) (refused : Option Line) (line left : Line) → is_begun old refused ≡ true → is_some refused ≡ false → AreOfFormat1 (counted_as line)
-    → IsCutAt old new line left → IsRefused (journal_of old refused) (journal_of new (Some left)) line
-line_refused old new refused line left begun going keep cut =
-    let keeps : AreOfFormat1 (cut.done ++ (cut.first ∷ cut.rest)) = subst AreOfFormat1 cut.split keep in
-    let parts = parted cut.done cut.first cut.rest keeps in
-    let told = told_cut old new cut.done cut.first left parts.0 parts.1 (at old refused begun going) cut.cut in
-    let whole : cut.done ++ counted_as left ≡ counted_as line = ap (λ ls. cut.done ++ ls) cut.left ∙ sym cut.split in
-    record {
-      handed = told ∙ ap (λ ls. option_map (λ (xs : List Line). xs ++ ls) (journal_of old None).lines) whole ∙ ap (λ o. (after_line (journal_of old o) line).lines) (sym (none_refused refused going));
-      failed = refl;
-      counted = cut.cut.counted;
-    }
-  where
-    parted : (done : List Line) (first : Line) (rest : List Line) → AreOfFormat1 (done ++ (first ∷ rest)) → AreOfFormat1 done × IsOfFormat1 first
-    parted [] first rest keep = (record {}, keep.0)
-    parted (line ∷ done) first rest keep = let more = parted done first rest keep.1 in ((keep.0, more.0), more.1)

@@ -42,11 +42,6 @@ IsOfFormat1 End = ⊤
 IsOfFormat1 Found = ⊤
 IsOfFormat1 Out = ⊤
 
--- lines of format 1
-abbrev pub AreOfFormat1 : List Line → Type 0
-AreOfFormat1 [] = ⊤
-AreOfFormat1 (line ∷ lines) = IsOfFormat1 line × AreOfFormat1 lines
-
 -- a line of format 2, its numbers within the limits: a removal is of the values from one to another
 abbrev pub IsOfFormat2 : Line → Type 0
 IsOfFormat2 (Remove c v d) = ⊥
