@@ -1,0 +1,46 @@
+-- What a checker remembers: the values that were taken away and the branches that wait, in the order in which they came.
+use Rattle.std.specs.Prelude.{ℕ, Bool, true, false, ◌&&◌, List, [], ◌∷◌, ◌++◌, if◌then◌else◌}
+use Rattle.wfc_problem.specs.Domains.{Test, cut}
+use Rattle.wfc_problem.specs.Network.{Network, in_base}
+use Rattle.wfc_problem.specs.declared.Literal.TheVariants.{Not}
+use Rattle.wfc_check.specs.declared.trail.Entry.{Entry}
+
+-- the domains behind an entry: without its value, unless a branch waits there
+abbrev pub behind : Test → Entry → Test
+behind D e = if e.waits then D else cut D (Not e.cell e.value)
+
+-- the domains behind all entries
+abbrev pub left : Test → List Entry → Test
+left D [] = D
+left D (e ∷ es) = left (behind D e) es
+
+-- the branches that wait, with those before the entries behind them: an entry's branch is without its value
+abbrev pub put_off : Test → List Test → Entry → List Test
+put_off D waits e = if e.waits then cut D (Not e.cell e.value) ∷ waits else waits
+
+-- the branches that wait behind all entries, the innermost first
+abbrev pub waiting : Test → List Test → List Entry → List Test
+waiting D waits [] = waits
+waiting D waits (e ∷ es) = waiting (behind D e) (put_off D waits e) es
+
+-- the value of each entry stood when it came
+abbrev pub are_stood : Test → List Entry → Bool
+are_stood D [] = true
+are_stood D (e ∷ es) = D e.cell e.value && are_stood (behind D e) es
+
+-- a trail: its problem, and its entries
+pub record TrailView : Type 0 where
+  pub problem : Network
+  pub entries : List Entry
+
+-- the values that stand
+abbrev pub standing : TrailView → Test
+standing t = left (in_base t.problem) t.entries
+
+-- the branches that wait, the innermost first
+abbrev pub waits_of : TrailView → List Test
+waits_of t = waiting (in_base t.problem) [] t.entries
+
+-- one more entry
+abbrev pub with_more : TrailView → Entry → TrailView
+with_more t e = record t { entries = t.entries ++ e ∷ [] }
