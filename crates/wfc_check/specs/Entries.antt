@@ -1,8 +1,8 @@
 -- What a checker remembers: the values that were taken away and the branches that wait, in the order in which they came.
-use Rattle.std.specs.Prelude.{ℕ, Bool, true, false, ◌&&◌, List, [], ◌∷◌, ◌++◌, if◌then◌else◌}
+use Rattle.std.specs.Prelude.{◌≡◌, ℕ, IsTrue, Bool, true, false, ◌&&◌, List, [], ◌∷◌, ◌++◌, if◌then◌else◌}
 use Rattle.wfc_problem.specs.Domains.{Test, cut}
 use Rattle.wfc_problem.specs.Network.{Network, in_base}
-use Rattle.wfc_problem.specs.declared.Literal.TheVariants.{Not}
+use Rattle.wfc_problem.specs.declared.Literal.TheVariants.{Is, Not}
 use Rattle.wfc_check.specs.declared.trail.Entry.{Entry}
 
 -- the domains behind an entry: without its value, unless a branch waits there
@@ -44,3 +44,14 @@ waits_of t = waiting (in_base t.problem) [] t.entries
 -- one more entry
 abbrev pub with_more : TrailView → Entry → TrailView
 with_more t e = record t { entries = t.entries ++ e ∷ [] }
+
+-- the branch of this entry waited innermost, and the trail is as it was where the branch was put off
+pub record Resumes (old new : TrailView) (entry : Entry) : Type 0 where
+  pub stands : IsTrue (standing new entry.cell entry.value)
+  pub waited : waits_of old ≡ cut (standing new) (Not entry.cell entry.value) ∷ waits_of new
+
+-- the branch with the value came first, and that without it waits
+pub record Branches (old new : TrailView) (cell value : ℕ) : Type 0 where
+  pub problem : new.problem ≡ old.problem
+  pub first : standing new ≡ cut (standing old) (Is cell value)
+  pub second : waits_of new ≡ cut (standing old) (Not cell value) ∷ waits_of old

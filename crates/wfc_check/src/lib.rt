@@ -4,6 +4,11 @@
 //! whatever wrote the lines.
 #![tactic(auto)]
 
+mod checker;
+mod nodes;
+mod progress;
 mod trail;
 
+pub use checker::Checker;
+pub use progress::Progress;
 pub use wfc_proof::Reject;

@@ -1,9 +1,9 @@
 //! The values that stand, with what was taken away and which branches wait.
 
-ghost use Rattle.std.specs.Prelude.{◌≡◌, ℕ, ◌*◌, ◌<◌, ◌≤◌, [], ◌∷◌, ◌++◌, true, false, length, take, IsTrue, IfOk, None, MatchOption};
-ghost use Rattle.wfc_problem.specs.Network.{values};
+ghost use Rattle.std.specs.Prelude.{◌≡◌, ℕ, ◌*◌, ◌<◌, ◌≤◌, [], ◌∷◌, ◌++◌, true, false, length, take, IsTrue, IfOk, None, MatchOption, ⊤};
+ghost use Rattle.wfc_problem.specs.Network.{values, IsProblem};
 ghost use Rattle.wfc_problem.specs.Rounds.{depth_of};
-ghost use Rattle.wfc_check.specs.Entries.{standing, waits_of, with_more};
+ghost use Rattle.wfc_check.specs.Entries.{standing, waits_of, with_more, Resumes};
 
 use std::alloc::Global;
 use std::marker::Model;
@@ -57,6 +57,7 @@ impl<'p> Trail<'p> {
     #[inline]
     pub fn problem(&self) -> &'p Problem
         ensures value { result.now ≡ self.now.problem }
+        ensures problem { IsProblem self.now.problem }
     {
         self.problem
     }
@@ -119,5 +120,29 @@ impl<'p> Trail<'p> {
             self.flags[entry.cell as usize * self.problem.values() as usize + entry.value as usize] = true;
         }
         Some(entry)
+    }
+
+    /// Takes back all entries but the first ones, so many of them.
+    pub fn back_to(&mut self, mark: usize)
+        requires mark_in { mark ≤ length self.old.entries }
+        ensures front { self.new ≡ record self.old { entries = take mark self.old.entries } }
+    {
+        while self.len() > mark {
+            let _ = self.back();
+        }
+    }
+
+    /// Takes back the innermost branch that waits, and all entries behind it.
+    pub fn close(&mut self) -> Option<Entry>
+        ensures none { result ≡ None → waits_of self.old ≡ [] }
+        ensures some { MatchOption result ⊤ (λ entry. Resumes self.old self.new entry) }
+        ensures same { self.new.problem ≡ self.old.problem }
+    {
+        while let Some(entry) = self.back() {
+            if entry.waits {
+                return Some(entry);
+            }
+        }
+        None
     }
 }

@@ -1,0 +1,115 @@
+//! The checker itself.
+
+ghost use Rattle.std.specs.Prelude.{◌≡◌, ◌+◌, ◌≤◌, length, IfOk, OnErr, Ok};
+ghost use Rattle.wfc_problem.specs.Network.{IsProblem};
+ghost use Rattle.wfc_problem.specs.Rounds.{depth_of, pairs};
+ghost use Rattle.wfc_proof.specs.Checker.{line_step, closed_step};
+ghost use Rattle.wfc_check.specs.Entries.{standing, waits_of};
+ghost use Rattle.wfc_check.specs.Checker.{point_at, point_of, problem_of, told, led_to, IsTaken, IsOpened};
+ghost use Rattle.wfc_check.specs.declared.progress.Progress.TheVariants.{Going};
+
+use crate::nodes;
+use crate::progress::Progress;
+use crate::trail::Trail;
+use std::alloc::Global;
+use std::marker::Model;
+use wfc_outside::NoMemory;
+use wfc_problem::Problem;
+use wfc_proof::{Line, Reject};
+
+/// Takes the lines of a proof one after another, and refuses the first that isn't right where it stands.
+///
+/// It holds a flag for each pair of a cell and a value, and has room for two entries of 8 bytes for each pair of a cell
+/// and a value of its base. All of that is taken by `open`.
+#[derive(Drop)]
+pub struct Checker<'p> {
+    trail: Trail<'p>,
+    progress: Progress,
+}
+
+impl<'p> Model for Checker<'p> {
+    ghost use Rattle.wfc_check.specs.Checker.{CheckerView, point_at, IsReached};
+
+    ghost Value = { CheckerView };
+
+    ghost view = { λ a. record { trail = a.trail; progress = a.progress } };
+
+    ghost invariant = { λ a. IsReached a.trail.problem (point_at a.progress a.trail) };
+}
+
+impl<'p> Checker<'p> {
+    /// A checker at the base domains of the problem, with no branch that waits.
+    pub fn open(alloc: Global, problem: &'p Problem) -> Result<Checker<'p>, NoMemory>
+        ensures ok { IfOk result (IsOpened problem.now) }
+    {
+        let trail = Trail::new(alloc, problem)?;
+        Ok(Checker {
+            trail,
+            progress: Progress::Going,
+        })
+    }
+
+    /// Takes a line, or refuses it and stays as it was. It takes no memory.
+    ///
+    /// A removal and a split cost as much as the values of a cell at most, and so do a branch that closes and the next
+    /// one that begins, but for what is taken back, which was paid for when it was taken away.
+    pub fn line(&mut self, line: Line) -> Result<Progress, Reject>
+        ensures value { result ≡ told (line_step (problem_of self.old) (point_of self.old) line) }
+        ensures next { point_of self.new ≡ led_to (point_of self.old) (line_step (problem_of self.old) (point_of self.old) line) }
+        ensures same { problem_of self.new ≡ problem_of self.old }
+        ensures refused { OnErr result (self.new ≡ self.old) }
+    {
+        let progress = take_line(&mut self.trail, self.progress, line)?;
+        self.progress = progress;
+        Ok(progress)
+    }
+}
+
+/// A line, as far as the proof has come.
+fn take_line(trail: &mut Trail, progress: Progress, line: Line) -> Result<Progress, Reject>
+    requires problem { IsProblem trail.old.problem }
+    requires few { progress ≡ Going →
+        pairs trail.old.problem (standing trail.old) + length (waits_of trail.old) ≤ depth_of trail.old.problem }
+    ensures taken { IsTaken (line_step trail.old.problem (point_at progress trail.old) line) trail.old trail.new result }
+{
+    match progress {
+        Progress::Going => open_line(trail, line),
+        Progress::Closed => closed_line(line),
+        Progress::Ended => Err(Reject::AfterEnd),
+    }
+}
+
+/// A line while a branch is open.
+fn open_line(trail: &mut Trail, line: Line) -> Result<Progress, Reject>
+    requires problem { IsProblem trail.old.problem }
+    requires few { pairs trail.old.problem (standing trail.old) + length (waits_of trail.old) ≤ depth_of trail.old.problem }
+    ensures taken { IsTaken (line_step trail.old.problem (point_at Going trail.old) line) trail.old trail.new result }
+{
+    match line {
+        Line::Remove { cell, value, dir } => nodes::remove(trail, cell, value, dir),
+        Line::Span {
+            cell,
+            first,
+            last,
+            dir,
+        } => {
+            if first > last {
+                return Err(Reject::IndexRange);
+            }
+            nodes::remove_span(trail, cell, first, last, dir)
+        }
+        Line::Try { cell, value } => nodes::split(trail, cell, value),
+        Line::Empty { cell } => nodes::close(trail, cell),
+        Line::End | Line::Found | Line::Out => Err(Reject::NotClosed),
+    }
+}
+
+/// A line where the proof is closed: only its end may follow.
+fn closed_line(line: Line) -> Result<Progress, Reject>
+    ensures value { result ≡ told (closed_step line) }
+{
+    match line {
+        Line::End => Ok(Progress::Ended),
+        _ => Err(Reject::AfterEnd),
+    }
+}
