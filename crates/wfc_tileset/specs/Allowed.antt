@@ -1,0 +1,65 @@
+-- Which variants may stand beside each other: what each declared pair allows under the eight actions, and nothing else.
+use Rattle.std.specs.Prelude.{ℕ, ◌<◌, List, [], ◌∷◌, Contains}
+use Rattle.std.specs.List.{All, flat_map}
+use Rattle.wfc_tileset.specs.declared.tile.End.{End}
+use Rattle.wfc_tileset.specs.declared.tile.Pair.{Pair}
+use Rattle.wfc_tileset.specs.Tiles.{TileView, TileSetView, Variant, moved}
+use Rattle.std.specs.Prelude.{length}
+
+-- the variant that one end of a declared pair names: an action on the first variant of its tile
+abbrev pub named_variant : List TileView → End → Variant
+named_variant tiles end = moved tiles (end.tile, 0) end.turn
+
+-- left and right, as a declared pair of variants allows them
+abbrev pub beside : List TileView → Variant → Variant → List (Variant × Variant)
+beside tiles left right =
+    (left, right)
+    ∷ (moved tiles left 6, moved tiles right 6)
+    ∷ (moved tiles right 4, moved tiles left 4)
+    ∷ (moved tiles right 2, moved tiles left 2)
+    ∷ []
+
+-- upper and lower, as the upper and the lower one of the pair allow them after a quarter turn
+abbrev pub stacked : List TileView → Variant → Variant → List (Variant × Variant)
+stacked tiles upper lower =
+    (upper, lower)
+    ∷ (moved tiles lower 6, moved tiles upper 6)
+    ∷ (moved tiles upper 4, moved tiles lower 4)
+    ∷ (moved tiles lower 2, moved tiles upper 2)
+    ∷ []
+
+-- what a declared pair allows: a quarter turn brings its right end up
+abbrev pub beside_by : List TileView → Pair → List (Variant × Variant)
+beside_by tiles pair = beside tiles (named_variant tiles pair.left) (named_variant tiles pair.right)
+
+abbrev pub stacked_by : List TileView → Pair → List (Variant × Variant)
+stacked_by tiles pair =
+    stacked tiles (moved tiles (named_variant tiles pair.right) 1) (moved tiles (named_variant tiles pair.left) 1)
+
+-- all allowed pairs of a left and a right variant, and of an upper and a lower one
+abbrev pub across_pairs : TileSetView → List (Variant × Variant)
+across_pairs set = flat_map (beside_by set.tiles) set.pairs
+
+abbrev pub down_pairs : TileSetView → List (Variant × Variant)
+down_pairs set = flat_map (stacked_by set.tiles) set.pairs
+
+-- the first variant may stand to the left of the second
+abbrev pub IsAcross : TileSetView → Variant → Variant → Type 0
+IsAcross set left right = Contains (across_pairs set) (left, right)
+
+-- the first variant may stand above the second
+abbrev pub IsDown : TileSetView → Variant → Variant → Type 0
+IsDown set upper lower = Contains (down_pairs set) (upper, lower)
+
+-- an end names a tile and one of the eight actions
+pub record IsEnd (tiles : List TileView) (end : End) : Type 0 where
+  pub tile_in : end.tile < length tiles
+  pub turn_in : end.turn < 8
+
+pub record IsPair (tiles : List TileView) (pair : Pair) : Type 0 where
+  pub left_in : IsEnd tiles pair.left
+  pub right_in : IsEnd tiles pair.right
+
+-- each declared pair has two ends
+abbrev pub ArePairs : TileSetView → Type 0
+ArePairs set = All (IsPair set.tiles) set.pairs

@@ -1,0 +1,52 @@
+-- What a tile set is, as contracts see it: its tiles, the pairs that it declares, and its variants.
+use Rattle.std.specs.Prelude.{ℕ, ◌+◌, List, [], ◌∷◌, ◌++◌, map, take, length, Option, None, slice_index_or}
+use Rattle.std.specs.List.{range_with_len, sum_by}
+use Rattle.wfc_symmetry.specs.Class.{variant_count, acted}
+use Rattle.wfc_symmetry.specs.declared.class.Class.{Class}
+use Rattle.wfc_symmetry.specs.declared.class.Class.TheVariants.{X}
+use Rattle.wfc_tileset.specs.declared.tile.Pair.{Pair}
+
+-- a tile: its name, its class, how much each of its variants weighs in a draw, and the name of its picture's file, if any
+pub record TileView : Type 0 where
+  pub name : List ℕ
+  pub class : Class
+  pub weight : ℕ
+  pub picture : Option (List ℕ)
+
+-- a tile set: its tiles, and the declared pairs, of which one may stand to the left of the other
+pub record TileSetView : Type 0 where
+  pub tiles : List TileView
+  pub pairs : List Pair
+
+-- a variant: the number of its tile, and its own among the variants of that tile
+abbrev pub Variant : Type 0
+Variant = ℕ × ℕ
+
+-- how many variants a tile has
+abbrev pub variants_of_tile : TileView → ℕ
+variants_of_tile tile = variant_count tile.class
+
+-- a tile by its number, and one without a name where there is none
+abbrev pub tile_at : List TileView → ℕ → TileView
+tile_at tiles t = slice_index_or tiles t (record { name = []; class = X; weight = 0; picture = None })
+
+-- the variants of the tiles, tile by tile, where the first tile has a number
+abbrev pub variants_from : ℕ → List TileView → List Variant
+variants_from t [] = []
+variants_from t (tile ∷ tiles) = map (λ i. (t, i)) (range_with_len 0 (variants_of_tile tile)) ++ variants_from (t + 1) tiles
+
+-- all variants, tile by tile
+abbrev pub variants : List TileView → List Variant
+variants tiles = variants_from 0 tiles
+
+-- how many variants there are
+abbrev pub variant_total : List TileView → ℕ
+variant_total tiles = sum_by variants_of_tile tiles
+
+-- a variant by its number
+abbrev pub variant_at : List TileView → ℕ → Variant
+variant_at tiles v = slice_index_or (variants tiles) v (0, 0)
+
+-- what an action makes of a variant
+abbrev pub moved : List TileView → Variant → ℕ → Variant
+moved tiles v k = (v.0, acted (tile_at tiles v.0).class v.1 k)
