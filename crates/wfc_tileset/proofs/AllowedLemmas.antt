@@ -1,11 +1,11 @@
 -- What declared pairs allow, under one action behind another.
-use Rattle.std.proofs.Common.{◌≡◌, ℕ, zero, suc, ◌+◌, ◌<◌, List, [], ◌∷◌, ◌++◌, length, refl, sym, subst, ap, ◌∙◌, arith, inl, inr, ◌⊎◌}
-use Rattle.std.specs.Prelude.{Contains, slice_index_or}
+use Rattle.std.proofs.Common.{◌≡◌, ℕ, ◌+◌, ◌<◌, List, [], ◌∷◌, ◌++◌, length, refl, sym, subst, ap, ◌∙◌, arith, inl, inr, ◌⊎◌}
+use Rattle.std.specs.Prelude.{Contains}
 use Rattle.std.specs.List.{flat_map, All}
-use Rattle.std.proofs.lemmas.List.{get_or_append_left, get_or-append-add, get_or_default}
-use Rattle.std.proofs.Common.{length-append, get_or, lit<}
+use Rattle.std.proofs.lemmas.List.{get_or_append_left, get_or-append-add}
+use Rattle.std.proofs.Common.{length-append, lit<}
 use Rattle.wfc_lists.proofs.Lists.{Contains_cases, Contains_none, Contains_later}
-use Rattle.wfc_symmetry.specs.Class.{acted, action_behind, variant_count}
+use Rattle.wfc_symmetry.specs.Class.{action_behind, variant_count}
 use Rattle.wfc_symmetry.proofs.ClassLemmas.{acted_behind, acted_below}
 use Rattle.wfc_symmetry.specs.declared.class.Class.{Class}
 use Rattle.wfc_symmetry.specs.declared.class.Class.TheVariants.{X, I, L, T, F, Slash}
@@ -62,7 +62,7 @@ carried f g h P xs all each y c =
     Contains-flat_map g xs found.0 (h y) found.1 (each found.0 y (All_at P xs found.0 all found.1) found.2)
 
 -- what holds of each of four holds of a member
-of_four : {X : Type 0} (P : X → Type 0) (a b c d x : X) → P a → P b → P c → P d → Contains (a ∷ b ∷ c ∷ d ∷ []) x → P x
+pub of_four : {X : Type 0} (P : X → Type 0) (a b c d x : X) → P a → P b → P c → P d → Contains (a ∷ b ∷ c ∷ d ∷ []) x → P x
 of_four P a b c d x at_a at_b at_c at_d m = elim (Contains_cases a (b ∷ c ∷ d ∷ []) x m) [
   | inl e ↦ subst P e at_a
   | inr m ↦ elim (Contains_cases b (c ∷ d ∷ []) x m) [

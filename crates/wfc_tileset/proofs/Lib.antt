@@ -1,1 +1,4 @@
 pub mod AllowedLemmas
+pub mod VariantLemmas
+pub mod MarkLemmas
+pub mod TileSetLemmas

@@ -1,5 +1,5 @@
 -- Which variants may stand beside each other: what each declared pair allows under the eight actions, and nothing else.
-use Rattle.std.specs.Prelude.{ℕ, ◌<◌, List, [], ◌∷◌, Contains}
+use Rattle.std.specs.Prelude.{◌<◌, List, [], ◌∷◌, Contains}
 use Rattle.std.specs.List.{All, flat_map}
 use Rattle.wfc_tileset.specs.declared.tile.End.{End}
 use Rattle.wfc_tileset.specs.declared.tile.Pair.{Pair}

@@ -1,3 +1,5 @@
 pub mod Tiles
 pub mod Allowed
+pub mod Numbers
+pub mod TileSets
 pub mod Samples

@@ -1,9 +1,8 @@
 -- Small tile sets for laws.
-use Rattle.std.specs.Prelude.{ℕ, List, [], ◌∷◌, None}
+use Rattle.std.specs.Prelude.{ℕ, [], ◌∷◌, None}
 use Rattle.wfc_symmetry.specs.declared.class.Class.{Class}
 use Rattle.wfc_symmetry.specs.declared.class.Class.TheVariants.{I, T, F}
 use Rattle.wfc_tileset.specs.declared.tile.End.{End}
-use Rattle.wfc_tileset.specs.declared.tile.Pair.{Pair}
 use Rattle.wfc_tileset.specs.Tiles.{TileView, TileSetView}
 
 -- a tile of a class, without a name

@@ -1,5 +1,5 @@
 -- What a tile set is, as contracts see it: its tiles, the pairs that it declares, and its variants.
-use Rattle.std.specs.Prelude.{ℕ, ◌+◌, List, [], ◌∷◌, ◌++◌, map, take, length, Option, None, slice_index_or}
+use Rattle.std.specs.Prelude.{ℕ, ◌+◌, List, [], ◌∷◌, ◌++◌, map, Option, None, slice_index_or}
 use Rattle.std.specs.List.{range_with_len, sum_by}
 use Rattle.wfc_symmetry.specs.Class.{variant_count, acted}
 use Rattle.wfc_symmetry.specs.declared.class.Class.{Class}
