@@ -2,3 +2,4 @@ pub mod AllowedLemmas
 pub mod VariantLemmas
 pub mod MarkLemmas
 pub mod TileSetLemmas
+pub mod SpellingLemmas

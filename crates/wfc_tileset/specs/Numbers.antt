@@ -17,6 +17,12 @@ pub record IsVariant (tiles : List TileView) (v : Variant) : Type 0 where
   pub tile_in : v.0 < length tiles
   pub index_in : v.1 < variants_of_tile (tile_at tiles v.0)
 
+-- a tile has this name, and a variant with this number
+pub record IsNamed (tiles : List TileView) (name : List ℕ) (index tile : ℕ) : Type 0 where
+  pub tile_in : tile < length tiles
+  pub named : (tile_at tiles tile).name ≡ name
+  pub index_in : index < variants_of_tile (tile_at tiles tile)
+
 -- the variants of tiles in order, and the number of each tile's first one
 pub record IsNumbered (tiles : List TileView) (list : List Variant) (first : List ℕ) : Type 0 where
   pub listed : list ≡ variants tiles

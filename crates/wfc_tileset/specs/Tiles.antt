@@ -1,5 +1,5 @@
 -- What a tile set is, as contracts see it: its tiles, the pairs that it declares, and its variants.
-use Rattle.std.specs.Prelude.{ℕ, ◌+◌, List, [], ◌∷◌, ◌++◌, map, Option, None, slice_index_or}
+use Rattle.std.specs.Prelude.{◌≡◌, ℕ, ◌+◌, ◌<◌, List, [], ◌∷◌, ◌++◌, map, Option, None, slice_index_or}
 use Rattle.std.specs.List.{range_with_len, sum_by}
 use Rattle.wfc_symmetry.specs.Class.{variant_count, acted}
 use Rattle.wfc_symmetry.specs.declared.class.Class.{Class}
@@ -50,3 +50,11 @@ variant_at tiles v = slice_index_or (variants tiles) v (0, 0)
 -- what an action makes of a variant
 abbrev pub moved : List TileView → Variant → ℕ → Variant
 moved tiles v k = (v.0, acted (tile_at tiles v.0).class v.1 k)
+
+-- how a variant is spelled: the name of its tile, a slash and its number among the variants of that tile
+abbrev pub spelling : List TileView → Variant → List ℕ
+spelling tiles v = (tile_at tiles v.0).name ++ 47 ∷ (48 + v.1) ∷ []
+
+-- the word spells the variant with this number
+abbrev pub Spells : List TileView → List ℕ → ℕ → Type 0
+Spells tiles word v = (v < variant_total tiles) × (spelling tiles (variant_at tiles v) ≡ word)

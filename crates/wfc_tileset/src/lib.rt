@@ -2,8 +2,8 @@
 //! each other.
 #![tactic(auto)]
 
-ghost use Rattle.std.specs.Prelude.{◌≡◌, ◌<◌, ◌≤◌, ◌↔◌, length, IfOk, IsTrue};
-ghost use Rattle.wfc_tileset.specs.Tiles.{variant_total, variant_at, tile_at};
+ghost use Rattle.std.specs.Prelude.{◌≡◌, ℕ, ◌<◌, ◌≤◌, ◌↔◌, length, IfOk, IfSome, IfNone, IsTrue};
+ghost use Rattle.wfc_tileset.specs.Tiles.{variant_total, variant_at, tile_at, Spells};
 ghost use Rattle.wfc_tileset.specs.Allowed.{IsAcross, IsDown};
 ghost use Rattle.wfc_tileset.specs.TileSets.{IsTileSet};
 
@@ -11,6 +11,7 @@ pub mod laws;
 mod marks;
 mod tile;
 mod variants;
+mod word;
 
 use marks::{across_table, down_table, is_marked};
 use std::alloc::Global;
@@ -90,6 +91,16 @@ impl TileSet {
         let tiles = self.variants.tiles();
         let named = &tiles[tile as usize];
         named.name.as_str()
+    }
+
+    /// The variant that a word spells: the first, where several tiles have one name.
+    pub fn find(&self, word: &[u8]) -> Option<u16>
+        ensures found { IfSome result (Spells self.now.tiles word.now) }
+        ensures none { IfNone result ((v : ℕ) → Spells self.now.tiles word.now v → ⊥) }
+    {
+        let (name, index) = word::parts(word)?;
+        let tile = self.variants.named_first(name, index)?;
+        Some(self.variants.number((tile, index)))
     }
 
     /// How much a variant weighs in a draw: as much as its tile.

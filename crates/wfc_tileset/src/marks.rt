@@ -2,7 +2,7 @@
 
 ghost use Rattle.std.specs.Prelude.{◌≡◌, ◌*◌, ◌+◌, ◌<◌, [], false, length, IfOk, slice_index_or};
 ghost use Rattle.std.specs.List.{All, flat_map};
-ghost use Rattle.wfc_tileset.specs.Tiles.{variant_total};
+ghost use Rattle.wfc_tileset.specs.Tiles.{variant_total, moved};
 ghost use Rattle.wfc_tileset.specs.Allowed.{beside, stacked, beside_by, stacked_by, IsPair};
 ghost use Rattle.wfc_tileset.specs.Numbers.{IsVariant, marked, all_marked, table_of};
 
@@ -74,24 +74,9 @@ fn mark_beside(flags: &mut [bool], variants: &Variants, left: (u32, u8), right: 
     ensures marked { flags.new ≡ all_marked variants.now flags.old (beside variants.now left right) }
 {
     mark(flags, variants, left, right);
-    mark(
-        flags,
-        variants,
-        variants.moved(left, 6),
-        variants.moved(right, 6),
-    );
-    mark(
-        flags,
-        variants,
-        variants.moved(right, 4),
-        variants.moved(left, 4),
-    );
-    mark(
-        flags,
-        variants,
-        variants.moved(right, 2),
-        variants.moved(left, 2),
-    );
+    mark_image(flags, variants, left, right, 6);
+    mark_image(flags, variants, right, left, 4);
+    mark_image(flags, variants, right, left, 2);
 }
 
 /// Marks what an upper and a lower variant allow.
@@ -102,24 +87,20 @@ fn mark_stacked(flags: &mut [bool], variants: &Variants, upper: (u32, u8), lower
     ensures marked { flags.new ≡ all_marked variants.now flags.old (stacked variants.now upper lower) }
 {
     mark(flags, variants, upper, lower);
-    mark(
-        flags,
-        variants,
-        variants.moved(lower, 6),
-        variants.moved(upper, 6),
-    );
-    mark(
-        flags,
-        variants,
-        variants.moved(upper, 4),
-        variants.moved(lower, 4),
-    );
-    mark(
-        flags,
-        variants,
-        variants.moved(lower, 2),
-        variants.moved(upper, 2),
-    );
+    mark_image(flags, variants, lower, upper, 6);
+    mark_image(flags, variants, upper, lower, 4);
+    mark_image(flags, variants, lower, upper, 2);
+}
+
+/// Sets the flag of what action `k` makes of two variants.
+fn mark_image(flags: &mut [bool], variants: &Variants, v: (u32, u8), w: (u32, u8), k: u8)
+    requires v { IsVariant variants.now v }
+    requires w { IsVariant variants.now w }
+    requires action_in { k < 8 }
+    requires square { length flags.old ≡ variant_total variants.now * variant_total variants.now }
+    ensures marked { flags.new ≡ marked variants.now flags.old (moved variants.now v k, moved variants.now w k) }
+{
+    mark(flags, variants, variants.moved(v, k), variants.moved(w, k));
 }
 
 /// Sets the flag of two variants.

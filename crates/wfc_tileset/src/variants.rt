@@ -1,13 +1,14 @@
 //! The variants of tiles, numbered tile by tile.
 
-ghost use Rattle.std.specs.Prelude.{◌≡◌, ◌<◌, ◌≤◌, ◌++◌, length, map, IfOk, OnOk};
+ghost use Rattle.std.specs.Prelude.{◌≡◌, ℕ, ◌<◌, ◌≤◌, ◌++◌, length, map, IfOk, OnOk, IfSome, IfNone};
 ghost use Rattle.std.specs.List.{range_with_len};
 ghost use Rattle.wfc_symmetry.specs.Class.{variant_count};
 ghost use Rattle.wfc_tileset.specs.Tiles.{variant_total, variant_at, tile_at, moved};
 ghost use Rattle.wfc_tileset.specs.Allowed.{named_variant, IsEnd};
-ghost use Rattle.wfc_tileset.specs.Numbers.{number_of, IsVariant};
+ghost use Rattle.wfc_tileset.specs.Numbers.{number_of, IsNamed, IsVariant};
 
 use crate::tile::{End, Tile};
+use crate::word::has_variant;
 use std::alloc::Global;
 use std::marker::Model;
 use wfc_outside::NoMemory;
@@ -87,6 +88,21 @@ impl Variants {
         ensures number_in { result < variant_total self.now }
     {
         self.first[variant.0 as usize] + u16::from(variant.1)
+    }
+
+    /// The first tile that has this name and a variant with this number.
+    pub fn named_first(&self, name: &[u8], index: u8) -> Option<u32>
+        ensures found { IfSome result (λ tile. IsNamed self.now name.now index tile) }
+        ensures none { IfNone result ((tile : ℕ) → IsNamed self.now name.now index tile → ⊥) }
+    {
+        let tiles = self.tiles();
+        for t in 0..tiles.len() as u32 {
+            let tile = &tiles[t as usize];
+            if has_variant(tile, name, index) {
+                return Some(t);
+            }
+        }
+        None
     }
 
     /// What action `k` makes of a variant.

@@ -1,0 +1,51 @@
+-- Which words spell which variants.
+use Rattle.std.proofs.Common.{◌≡◌, ℕ, ◌+◌, ◌<◌, ◌≤◌, List, [], ◌∷◌, ◌++◌, length, take, drop, refl, sym, subst, ap, ◌∙◌, arith, length-append, lit≤}
+use Rattle.std.proofs.Math.Seq.{take-append_seam, drop-append_seam}
+use Rattle.wfc_symmetry.specs.Class.{variant_count}
+use Rattle.wfc_symmetry.specs.declared.class.Class.{Class}
+use Rattle.wfc_symmetry.specs.declared.class.Class.TheVariants.{X, I, L, T, F, Slash}
+use Rattle.wfc_tileset.specs.Tiles.{TileView, Variant, tile_at, variant_at, spelling, Spells}
+use Rattle.wfc_tileset.specs.Numbers.{number_of, IsNamed, IsVariant}
+use Rattle.wfc_tileset.proofs.VariantLemmas.{number_below, variant-number, variant_there}
+
+-- a tile has at most eight variants
+eight : (class : Class) → variant_count class ≤ 8
+eight X = lit≤ tt
+eight I = lit≤ tt
+eight Slash = lit≤ tt
+eight L = lit≤ tt
+eight T = lit≤ tt
+eight F = lit≤ tt
+
+-- words that are equal have equal names and numbers
+equal_parts : (xs ys : List ℕ) (b c : ℕ) → xs ++ 47 ∷ b ∷ [] ≡ ys ++ 47 ∷ c ∷ [] → (xs ≡ ys) × (b ≡ c)
+equal_parts xs ys b c e =
+    let long : length xs ≡ length ys = omega (arith, ap length e, length-append xs (47 ∷ b ∷ []), length-append ys (47 ∷ c ∷ [])) in
+    let names : xs ≡ ys = sym (take-append_seam xs (47 ∷ b ∷ [])) ∙ ap (take (length xs)) e ∙ ap (λ n. take n (ys ++ 47 ∷ c ∷ [])) long ∙ take-append_seam ys (47 ∷ c ∷ []) in
+    let ends : 47 ∷ b ∷ [] ≡ 47 ∷ c ∷ [] = sym (drop-append_seam xs (47 ∷ b ∷ [])) ∙ ap (drop (length xs)) e ∙ ap (λ n. drop n (ys ++ 47 ∷ c ∷ [])) long ∙ drop-append_seam ys (47 ∷ c ∷ []) in
+    (names, cc)
+
+-- a word of a tile's name and the number of one of its variants spells that variant
+pub spelled : (tiles : List TileView) (word name : List ℕ) (t i : ℕ) → IsNamed tiles name i t → name ++ 47 ∷ (48 + i) ∷ [] ≡ word
+    → Spells tiles word (number_of tiles (t, i))
+spelled tiles word name t i is e = (
+  number_below tiles t i is.tile_in is.index_in,
+  ap (spelling tiles) (variant-number tiles (t, i) (record { tile_in = is.tile_in; index_in = is.index_in }))
+      ∙ ap (λ n. n ++ 47 ∷ (48 + i) ∷ []) is.named ∙ e,
+)
+
+-- a word that is no name with a slash and a digit spells nothing
+pub no_parts : (tiles : List TileView) (word : List ℕ) → ((name : List ℕ) (index : ℕ) → index < 8 → name ++ 47 ∷ (48 + index) ∷ [] ≡ word → ⊥)
+    → (v : ℕ) → Spells tiles word v → ⊥
+no_parts tiles word none v s =
+    let is = variant_there tiles v s.0 in
+    none (tile_at tiles (variant_at tiles v).0).name (variant_at tiles v).1 (omega (arith, is.index_in, eight (tile_at tiles (variant_at tiles v).0).class)) s.1
+
+-- and so does one whose name and number no tile has
+pub no_tile : (tiles : List TileView) (word name : List ℕ) (i : ℕ) → name ++ 47 ∷ (48 + i) ∷ [] ≡ word → ((t : ℕ) → IsNamed tiles name i t → ⊥)
+    → (v : ℕ) → Spells tiles word v → ⊥
+no_tile tiles word name i e none v s =
+    let is = variant_there tiles v s.0 in
+    let same = equal_parts (tile_at tiles (variant_at tiles v).0).name name (48 + (variant_at tiles v).1) (48 + i) (s.1 ∙ sym e) in
+    let at : (variant_at tiles v).1 ≡ i = omega (arith, same.1) in
+    none (variant_at tiles v).0 (record { tile_in = is.tile_in; named = same.0; index_in = omega (arith, is.index_in) })
