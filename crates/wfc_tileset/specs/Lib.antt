@@ -3,3 +3,5 @@ pub mod Allowed
 pub mod Numbers
 pub mod TileSets
 pub mod Samples
+pub mod Document
+pub mod Documents

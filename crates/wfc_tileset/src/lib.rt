@@ -7,12 +7,15 @@ ghost use Rattle.wfc_tileset.specs.Tiles.{variant_total, variant_at, tile_at, Sp
 ghost use Rattle.wfc_tileset.specs.Allowed.{IsAcross, IsDown};
 ghost use Rattle.wfc_tileset.specs.TileSets.{IsTileSet};
 
+pub mod document_laws;
+mod fault;
 pub mod laws;
 mod marks;
 mod tile;
 mod variants;
 mod word;
 
+pub use fault::{Key, Place, TileFault};
 use marks::{across_table, down_table, is_marked};
 use std::alloc::Global;
 use std::marker::Model;
