@@ -65,9 +65,9 @@ below_taken D c v n x w ne =
 pub below_skipped : (D : Test) (c v n x w : ℕ) → (not (n == v) && cut_below D c v n c n) ≡ false → cut_below D c v n x w ≡ cut_below D c v (n + 1) x w
 below_skipped D c v n x w skip =
     one (D x w) (x == c) (w == v) (w == n) (nat_le n w) (λ a o.
-        let e = eqb-true x c a in
-        let f = eqb-true w n o in
-        ap (λ y. not (w == v) && cut_below D c v n y w) e ∙ ap (λ y. not (y == v) && cut_below D c v n c y) f ∙ skip)
+    let e = eqb-true x c a in
+    let f = eqb-true w n o in
+    ap (λ y. not (w == v) && cut_below D c v n y w) e ∙ ap (λ y. not (y == v) && cut_below D c v n c y) f ∙ skip)
     ∙ ap (λ l. D x w && (not (x == c) || (w == v || l))) (sym (le_next n w))
   where
     one : (d a b o l : Bool) → (a ≡ true → o ≡ true → (not b && (d && (not a || (b || l)))) ≡ false) → (d && (not a || (b || l))) ≡ (d && (not a || (b || (l && not o))))

@@ -76,8 +76,8 @@ pub flag_restored : (n : ℕ) (flags : List Bool) (D : Test) (c v rows : ℕ) �
 flag_restored n flags D c v rows whole hc hv t each c' v' =
     flag_set n flags c v rows true c' v' whole hc hv ∙ ap (λ x. cond ((c' == c) && (v' == v)) true x) (each c' v')
     ∙ on ((c' == c) && (v' == v)) (D c' v') (λ both.
-        let parts = and_parts _ _ both in
-        ap (λ x. D x v') (eqb-true c' c parts.0) ∙ ap (D c) (eqb-true v' v parts.1) ∙ t)
+    let parts = and_parts _ _ both in
+    ap (λ x. D x v') (eqb-true c' c parts.0) ∙ ap (D c) (eqb-true v' v parts.1) ∙ t)
   where
     on : (b x : Bool) → (b ≡ true → x ≡ true) → cond b true (x && not b) ≡ x
     on true x h = sym (h refl)

@@ -99,7 +99,7 @@ pub took_close : (old mid new : TrailView) (c : ℕ) (e : Entry) → node_fault 
 took_close old mid new c e f same r is =
     taken_ok _ old new Going
     (accepted old.problem old (empties c) f ∙ ap (λ (W : List Test). Ok (after_close W)) r.waited
-        ∙ ap (λ (q : Point). Ok q) (sym (removed_point mid new e.cell e.value 0 is)))
+    ∙ ap (λ (q : Point). Ok q) (sym (removed_point mid new e.cell e.value 0 is)))
     (ap (λ t. t.problem) is ∙ same)
 
 -- and with none

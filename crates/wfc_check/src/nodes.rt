@@ -144,7 +144,13 @@ pub fn remove(trail: &mut Trail, cell: u32, value: u16, dir: u8) -> Result<Progr
 }
 
 /// Takes away the values from `first` to `last` one after another, or none where one of them is refused.
-pub fn remove_span(trail: &mut Trail, cell: u32, first: u16, last: u16, dir: u8) -> Result<Progress, Reject>
+pub fn remove_span(
+    trail: &mut Trail,
+    cell: u32,
+    first: u16,
+    last: u16,
+    dir: u8,
+) -> Result<Progress, Reject>
     requires whole { first ≤ last }
     ensures taken { IsTaken (node_steps trail.old.problem (point_at Going trail.old)
         (map (λ value. removes cell value dir) (range_with_len first (last + 1 - first)))) trail.old trail.new result }

@@ -117,7 +117,8 @@ impl<'p> Trail<'p> {
     {
         let entry = self.entries.pop()?;
         if !entry.waits {
-            self.flags[entry.cell as usize * self.problem.values() as usize + entry.value as usize] = true;
+            self.flags[entry.cell as usize * self.problem.values() as usize
+                + entry.value as usize] = true;
         }
         Some(entry)
     }

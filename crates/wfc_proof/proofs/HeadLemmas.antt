@@ -98,7 +98,7 @@ is-numbers_of bytes numbers text keeps =
 -- and it is no line of format 1
 pub no_numbers : (c v : ℕ) → c < 2 ^ 32 → v < 2 ^ 32 → line_of (numbers_text c v) ≡ Err BadLine
 no_numbers c v cells values =
-    let spaceless : AreSpaceless (numbers_words c v) = (searched (codes "cells") refl, (plain c cells, (searched (codes "values") refl, (plain v values, record { })))) in
+    let spaceless : AreSpaceless (numbers_words c v) = (searched (codes "cells") refl, (plain c cells, (searched (codes "values") refl, (plain v values, record {})))) in
     ap (λ words. ok_or (line_of_words words) BadLine) (spaced_back (codes "cells") (decimal c ∷ codes "values" ∷ decimal v ∷ []) spaceless)
 
 -- ---- the third line

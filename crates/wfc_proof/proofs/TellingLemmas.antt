@@ -40,7 +40,7 @@ read_plain lines part [] plain = ap (λ p. let r : Reading = record { lines = li
 read_plain lines part (b ∷ text) plain =
     let next : Reading = record { lines = lines; part = part ++ b ∷ [] } in
     let step : read_byte (record { lines = lines; part = part }) b ≡ next =
-        ap (λ t. cond t (let r : Reading = record { lines = and_line lines part (line_of part); part = [] } in r) next) (All-head (λ x. nat_eq x 10 ≡ false) b text plain) in
+    ap (λ t. cond t (let r : Reading = record { lines = and_line lines part (line_of part); part = [] } in r) next) (All-head (λ x. nat_eq x 10 ≡ false) b text plain) in
     ap (λ r. read_on r text) step
     ∙ read_plain lines (part ++ b ∷ []) text (All-tail (λ x. nat_eq x 10 ≡ false) b text plain)
     ∙ ap (λ p. let r : Reading = record { lines = lines; part = p } in r) (append_assoc part (b ∷ []) text)
@@ -77,14 +77,14 @@ letter_free f b low = All-cons (λ x. nat_eq x f ≡ false) b [] (ne_eqb b f (λ
 line_free : (f : ℕ) (line : Line) → f < 48 → nat_eq 32 f ≡ false → IsOfFormat1 line → All (λ b. nat_eq b f ≡ false) (line_text line)
 line_free f (Remove c v d) low space keeps =
     let plain : AreFree f (line_words (Remove c v d)) =
-        (letter_free f 114 (omega arith), (decimal_free f c low keeps.0, (decimal_free f v low (omega (arith, keeps.1)), (decimal_free f d low (omega (arith, keeps.2)), record { })))) in
+    (letter_free f 114 (omega arith), (decimal_free f c low keeps.0, (decimal_free f v low (omega (arith, keeps.1)), (decimal_free f d low (omega (arith, keeps.2)), record {})))) in
     joined_free f (line_words (Remove c v d)) space plain
 line_free f (Span c first last d) low space keeps = absurd keeps
 line_free f (Try c v) low space keeps =
-    let plain : AreFree f (line_words (Try c v)) = (letter_free f 116 (omega arith), (decimal_free f c low keeps.0, (decimal_free f v low (omega (arith, keeps.1)), record { }))) in
+    let plain : AreFree f (line_words (Try c v)) = (letter_free f 116 (omega arith), (decimal_free f c low keeps.0, (decimal_free f v low (omega (arith, keeps.1)), record {}))) in
     joined_free f (line_words (Try c v)) space plain
 line_free f (Empty c) low space keeps =
-    let plain : AreFree f (line_words (Empty c)) = (letter_free f 120 (omega arith), (decimal_free f c low keeps, record { })) in
+    let plain : AreFree f (line_words (Empty c)) = (letter_free f 120 (omega arith), (decimal_free f c low keeps, record {})) in
     joined_free f (line_words (Empty c)) space plain
 line_free f End low space keeps = letter_free f 113 (omega arith)
 line_free f Found low space keeps = letter_free f 115 (omega arith)
@@ -139,9 +139,9 @@ pub told_on : (old new : SinkView) (lines : List Line) → AreOfFormat1 lines �
     → (new.faults ≡ old.faults) × (is_at_line new.told ≡ true)
     × ((journal_of new None).lines ≡ option_map (λ (told : List Line). told ++ lines) (journal_of old None).lines)
 told_on old new lines keep at put = (
-    ap (λ (s : SinkView). s.faults) put,
-    ap (λ (s : SinkView). is_at_line s.told) put ∙ line old.told at,
-    ap (λ (s : SinkView). (journal_of s None).lines) put ∙ told old.told at,
+  ap (λ (s : SinkView). s.faults) put,
+  ap (λ (s : SinkView). is_at_line s.told) put ∙ line old.told at,
+  ap (λ (s : SinkView). (journal_of s None).lines) put ∙ told old.told at,
 )
   where
     line : (o : Option Taken) → is_at_line o ≡ true → is_at_line (option_map (λ (taken : Taken). with_bytes taken (text_of lines)) o) ≡ true
@@ -177,12 +177,12 @@ told_cut old new done first refused keep keeps at cut =
     told (Some taken) is =
         let before = (read_text taken.bytes).lines in
         let middle : read_text (with_bytes taken (text_of done)).bytes ≡ record { lines = before ++ done; part = [] } =
-            read_behind taken (text_of done) is ∙ read_lines before done keep in
+        read_behind taken (text_of done) is ∙ read_lines before done keep in
         let line : is_none_left (read_text (with_bytes taken (text_of done)).bytes).part ≡ true = ap (λ (r : Reading). is_none_left r.part) middle in
         let lines : (read_text (after taken).bytes).lines ≡ before ++ done =
-            ap (λ (r : Reading). r.lines) (read_behind (with_bytes taken (text_of done)) (take cut.n (ended (line_text first))) line)
-            ∙ read_front (read_text (with_bytes taken (text_of done)).bytes).lines first cut.n keeps cut.less
-            ∙ ap (λ (r : Reading). r.lines) middle in
+        ap (λ (r : Reading). r.lines) (read_behind (with_bytes taken (text_of done)) (take cut.n (ended (line_text first))) line)
+        ∙ read_front (read_text (with_bytes taken (text_of done)).bytes).lines first cut.n keeps cut.less
+        ∙ ap (λ (r : Reading). r.lines) middle in
         ap (λ (ls : List Line). Some ls)
         (ap (λ ls. ls ++ counted_as refused) lines ∙ append_assoc before done (counted_as refused) ∙ ap (λ ls. ls ++ (done ++ counted_as refused)) (sym (append-nil before)))
 
@@ -222,7 +222,7 @@ none_told text is = ap (and_line [] text) is ∙ either (begins_head text)
 -- the second line of a head
 numbers_free : (c v : ℕ) → c < 2 ^ 32 → v < 2 ^ 32 → IsFeedless (numbers_text c v)
 numbers_free c v cells values =
-    let plain : AreFree 10 (numbers_words c v) = (searched (codes "cells") refl, (decimal_free 10 c (omega arith) cells, (searched (codes "values") refl, (decimal_free 10 v (omega arith) values, record { })))) in
+    let plain : AreFree 10 (numbers_words c v) = (searched (codes "cells") refl, (decimal_free 10 c (omega arith) cells, (searched (codes "values") refl, (decimal_free 10 v (omega arith) values, record {})))) in
     joined_free 10 (numbers_words c v) refl plain
   where
     searched : (word : List ℕ) → position (λ b. nat_eq b 10) word ≡ None → IsFeedless word
@@ -233,11 +233,11 @@ read_head : (read : Reading) (c v : ℕ) → c < 2 ^ 32 → v < 2 ^ 32 → read_
 read_head read c v cells values =
     let none : Reading = record { lines = []; part = [] } in
     let first : read_on read (ended head) ≡ none =
-        read_more read head (10 ∷ []) ∙ ap (λ r. read_on r (10 ∷ [])) (read_plain read.lines read.part head (plain head refl))
-        ∙ ap (λ ls. let r : Reading = record { lines = ls; part = [] } in r) (anew read.lines read.part) in
+    read_more read head (10 ∷ []) ∙ ap (λ r. read_on r (10 ∷ [])) (read_plain read.lines read.part head (plain head refl))
+    ∙ ap (λ ls. let r : Reading = record { lines = ls; part = [] } in r) (anew read.lines read.part) in
     let second : read_on none (ended (numbers_text c v)) ≡ none =
-        read_more none (numbers_text c v) (10 ∷ []) ∙ ap (λ r. read_on r (10 ∷ [])) (read_plain [] [] (numbers_text c v) (numbers_free c v cells values))
-        ∙ ap (λ ls. let r : Reading = record { lines = ls; part = [] } in r) (none_told (numbers_text c v) (no_numbers c v cells values)) in
+    read_more none (numbers_text c v) (10 ∷ []) ∙ ap (λ r. read_on r (10 ∷ [])) (read_plain [] [] (numbers_text c v) (numbers_free c v cells values))
+    ∙ ap (λ ls. let r : Reading = record { lines = ls; part = [] } in r) (none_told (numbers_text c v) (no_numbers c v cells values)) in
     read_more read (ended head) (ended (numbers_text c v)) ∙ ap (λ r. read_on r (ended (numbers_text c v))) first ∙ second
   where
     plain : (word : List ℕ) → position (λ b. nat_eq b 10) word ≡ None → IsFeedless word
@@ -247,8 +247,8 @@ read_head read c v cells values =
 pub head_told : (old new : SinkView) (c v : ℕ) → c < 2 ^ 32 → v < 2 ^ 32 → new ≡ after_bytes old (head_text c v)
     → (is_at_line new.told ≡ true) × ((journal_of new None).lines ≡ option_map (λ (taken : Taken). let none : List Line = [] in none) old.told)
 head_told old new c v cells values put = (
-    ap (λ (s : SinkView). is_at_line s.told) put ∙ line old.told,
-    ap (λ (s : SinkView). (journal_of s None).lines) put ∙ told old.told,
+  ap (λ (s : SinkView). is_at_line s.told) put ∙ line old.told,
+  ap (λ (s : SinkView). (journal_of s None).lines) put ∙ told old.told,
 )
   where
     behind : (taken : Taken) → read_text (with_bytes taken (head_text c v)).bytes ≡ record { lines = []; part = [] }

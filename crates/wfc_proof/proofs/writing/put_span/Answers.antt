@@ -22,6 +22,6 @@ pub returns : goal.returns
 returns g c =
     let sink = g.S.Sink.seen c.loop-next.sink in
     let last : c.loop-next.next ≡ c.args.last + 1 = omega (arith, c.loop-next.invariant.inside, c.loop-next-test.false) in
-    let none : PutsCounted sink sink (Span c.args.cell c.loop-next.next c.args.last c.args.dir) (let r : Result (Unit {0}) Line = Ok (record { }) in r) =
-        subst (λ n. PutsCounted sink sink (Span c.args.cell n c.args.last c.args.dir) (let r : Result (Unit {0}) Line = Ok (record { }) in r)) (sym last) (counted_none {T = Unit {0}} sink c.args.cell c.args.last c.args.dir (record { })) in
-    record { put = c.loop-next.invariant.rest sink (Ok (record { })) none }
+    let none : PutsCounted sink sink (Span c.args.cell c.loop-next.next c.args.last c.args.dir) (let r : Result (Unit {0}) Line = Ok (record {}) in r) =
+    subst (λ n. PutsCounted sink sink (Span c.args.cell n c.args.last c.args.dir) (let r : Result (Unit {0}) Line = Ok (record {}) in r)) (sym last) (counted_none {T = Unit {0}} sink c.args.cell c.args.last c.args.dir (record {})) in
+    record { put = c.loop-next.invariant.rest sink (Ok (record {})) none }
