@@ -10,12 +10,14 @@ ghost use Rattle.wfc_tileset.specs.Tiles.{TileView, TileSetView};
 ghost use Rattle.wfc_tileset.specs.Document.{set_from, class_of, weight_of, is_name, same_kind, few_variants, tile_with, set_with, pair_with, end_with};
 ghost use Rattle.wfc_tileset.specs.Documents.{tile_data, drawn_data, pair_data, document_of, items_of, tiles_f_t, with_pair};
 
-/// What a document says of two tiles and a pair: an action stands behind a blank, and none is action 0.
+/// What a document says of two tiles and a pair: an action stands behind a blank, and none is
+/// action 0.
 pub fn documents_by_example()
     ensures pair { set_from (with_pair (codes "f 5") (codes "t")) ≡ Ok (set_with
         (tile_with (codes "f") F 1 None ∷ tile_with (codes "t") T 1 None ∷ [])
         (pair_with (end_with 0 5) (end_with 1 0) ∷ [])) }
-    ensures picture { set_from (document_of (drawn_data (codes "a") (codes "b") 70 ∷ []) []) ≡ Ok (set_with
+    ensures picture { set_from (document_of (drawn_data (codes "a") (codes "b") 70 ∷ []) [])
+        ≡ Ok (set_with
         (tile_with (codes "a") T 70 (Some (codes "b")) ∷ []) []) }
     ensures without_pairs { set_from (member (codes "tile") (array (items_of tiles_f_t)) no_members) ≡ Ok (set_with
         (tile_with (codes "f") F 1 None ∷ tile_with (codes "t") T 1 None ∷ []) []) }
@@ -31,35 +33,48 @@ pub fn faults_of_pairs()
         ∷ with_pair (codes "f") (codes "t  1")
         ∷ with_pair (codes "f") (codes "")
         ∷ document_of tiles_f_t (pair_data (codes "f") (codes "t") ∷ boolean true ∷ [])
-        ∷ document_of tiles_f_t (table (member (codes "right") (string (codes "f")) no_members) ∷ [])
+        ∷ document_of tiles_f_t
+        (table (member (codes "right") (string (codes "f")) no_members) ∷ [])
         ∷ document_of tiles_f_t (table (member (codes "left") (integer (pos 7)) no_members) ∷ [])
         ∷ [])
-        ≡ Err (fault.BadTurn 0) ∷ Err (fault.UnknownTile 0) ∷ Err (fault.BadTurn 0) ∷ Err (fault.BadTurn 0)
-        ∷ Err (fault.BadTurn 0) ∷ Err (fault.UnknownTile 0) ∷ Err (fault.WrongKind (place.Pair 1) key.Pair)
-        ∷ Err (fault.MissingKey (place.Pair 0) key.Left) ∷ Err (fault.WrongKind (place.Pair 0) key.Left) ∷ [] }
+        ≡ Err (fault.BadTurn 0) ∷ Err (fault.UnknownTile 0) ∷ Err (fault.BadTurn 0)
+        ∷ Err (fault.BadTurn 0)
+        ∷ Err (fault.BadTurn 0) ∷ Err (fault.UnknownTile 0)
+        ∷ Err (fault.WrongKind (place.Pair 1) key.Pair)
+        ∷ Err (fault.MissingKey (place.Pair 0) key.Left)
+        ∷ Err (fault.WrongKind (place.Pair 0) key.Left) ∷ [] }
 {}
 
-/// The first fault of the tiles, which come before any pair, and of the two arrays, which come before any tile.
+/// The first fault of the tiles, which come before any pair, and of the two arrays, which come
+/// before any tile.
 pub fn faults_of_tiles()
     ensures first { map set_from
         (document_of [] (boolean true ∷ [])
         ∷ member (codes "pair") (boolean true) no_members
         ∷ member (codes "pair") (boolean true) (member (codes "tile") (boolean true) no_members)
         ∷ document_of (tile_data (codes "f") (codes "Y") ∷ boolean true ∷ []) []
-        ∷ document_of (tile_data (codes "f") (codes "F") ∷ tile_data (codes "f") (codes "Y") ∷ []) []
-        ∷ document_of (tile_data (codes "f") (codes "F") ∷ tile_data (codes "f.") (codes "Y") ∷ []) []
+        ∷ document_of
+        (tile_data (codes "f") (codes "F") ∷ tile_data (codes "f") (codes "Y") ∷ []) []
+        ∷ document_of
+        (tile_data (codes "f") (codes "F") ∷ tile_data (codes "f.") (codes "Y") ∷ []) []
         ∷ document_of (table no_members ∷ []) (boolean true ∷ [])
         ∷ document_of (drawn_data (codes "a") (codes "b") 0 ∷ []) []
-        ∷ document_of (drawn_data (codes "a") (codes "b.ppm") 1 ∷ drawn_data (codes "c") (codes "d.PPM") 1000000 ∷ tile_data (codes "e") (codes "X") ∷ []) []
-        ∷ document_of (drawn_data (codes "a") (codes "b.txt") 1 ∷ drawn_data (codes "c") (codes "d.PPM") 1 ∷ []) []
+        ∷ document_of (drawn_data (codes "a") (codes "b.ppm") 1
+        ∷ drawn_data (codes "c") (codes "d.PPM") 1000000
+        ∷ tile_data (codes "e") (codes "X") ∷ []) []
+        ∷ document_of (drawn_data (codes "a") (codes "b.txt") 1
+        ∷ drawn_data (codes "c") (codes "d.PPM") 1 ∷ []) []
         ∷ [])
-        ≡ Err fault.NoTiles ∷ Err (fault.WrongKind place.Top key.Pair) ∷ Err (fault.WrongKind place.Top key.Tile)
-        ∷ Err (fault.BadClass 0) ∷ Err (fault.DoubleName 1) ∷ Err (fault.BadName 1) ∷ Err (fault.MissingKey (place.Tile 0) key.Name)
+        ≡ Err fault.NoTiles ∷ Err (fault.WrongKind place.Top key.Pair)
+        ∷ Err (fault.WrongKind place.Top key.Tile)
+        ∷ Err (fault.BadClass 0) ∷ Err (fault.DoubleName 1) ∷ Err (fault.BadName 1)
+        ∷ Err (fault.MissingKey (place.Tile 0) key.Name)
         ∷ Err (fault.BadWeight 0) ∷ Err (fault.MixedKinds 2) ∷ Err (fault.MixedKinds 1) ∷ [] }
 {}
 
 /// Classes by their letters, and the bounds of names and weights.
 pub fn words_of_tiles()
-    ensures classes { map class_of (codes "X" ∷ codes "I" ∷ codes "L" ∷ codes "T" ∷ codes "F" ∷ (92 ∷ []) ∷ codes "x" ∷ codes "XX" ∷ [] ∷ [])
+    ensures classes { map class_of (codes "X" ∷ codes "I" ∷ codes "L" ∷ codes "T" ∷ codes "F"
+        ∷ (92 ∷ []) ∷ codes "x" ∷ codes "XX" ∷ [] ∷ [])
         ≡ Some X ∷ Some I ∷ Some L ∷ Some T ∷ Some F ∷ Some Slash ∷ None ∷ None ∷ None ∷ [] }
 {}

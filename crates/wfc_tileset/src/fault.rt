@@ -2,7 +2,8 @@
 
 use thiserror::Error;
 
-/// Where a fault stands: at the top of the document, in a tile or in a declared pair, which count from 0.
+/// Where a fault stands: at the top of the document, in a tile or in a declared pair, which count
+/// from 0.
 #[derive(Clone, Copy, Debug, PartialEq, Eq)]
 pub enum Place {
     Top,
@@ -23,8 +24,9 @@ pub enum Key {
     Right,
 }
 
-/// Why bytes are no tile set: the first fault, where the document itself comes first, then the two arrays, the tiles one by
-/// one, the number of variants, the pairs one by one and at last the pictures one by one.
+/// Why bytes are no tile set: the first fault, where the document itself comes first, then the two
+/// arrays, the tiles one by one, the number of variants, the pairs one by one and at last the
+/// pictures one by one.
 #[derive(Clone, Copy, Debug, PartialEq, Eq, Error)]
 pub enum TileFault {
     /// The bytes aren't UTF-8, or no TOML document.

@@ -1,4 +1,5 @@
-//! Laws of the allowed pairs, each a function with no body whose contract is the law. They run nothing.
+//! Laws of the allowed pairs, each a function with no body whose contract is the law. They run
+//! nothing.
 
 ghost use Rattle.std.specs.Prelude.{◌≡◌, ℕ, ◌<◌, List, [], ◌∷◌, length, Contains, None, map};
 ghost use Rattle.std.specs.List.{range_with_len, All};
@@ -13,14 +14,17 @@ ghost use Rattle.wfc_tileset.specs.Samples.{lines, crossing, tile_of_class};
 pub fn variants_by_example()
     ensures numbered { variants (tile_of_class T ∷ tile_of_class X ∷ tile_of_class I ∷ [])
         ≡ (0, 0) ∷ (0, 1) ∷ (0, 2) ∷ (0, 3) ∷ (1, 0) ∷ (2, 0) ∷ (2, 1) ∷ [] }
-    ensures fifth { variant_at (tile_of_class T ∷ tile_of_class X ∷ tile_of_class I ∷ []) 5 ≡ (2, 0) }
+    ensures fifth { variant_at (tile_of_class T ∷ tile_of_class X ∷ tile_of_class I ∷ []) 5
+        ≡ (2, 0) }
     ensures total { variant_total (tile_of_class T ∷ tile_of_class X ∷ tile_of_class I ∷ []) ≡ 7 }
 {}
 
 /// Straight lines that may go on to the right: then they may go on below too, and nothing else may.
 pub fn lines_by_example()
-    ensures across { across_pairs lines ≡ ((0, 0), (0, 0)) ∷ ((0, 0), (0, 0)) ∷ ((0, 0), (0, 0)) ∷ ((0, 0), (0, 0)) ∷ [] }
-    ensures down { down_pairs lines ≡ ((0, 1), (0, 1)) ∷ ((0, 1), (0, 1)) ∷ ((0, 1), (0, 1)) ∷ ((0, 1), (0, 1)) ∷ [] }
+    ensures across { across_pairs lines ≡ ((0, 0), (0, 0)) ∷ ((0, 0), (0, 0)) ∷ ((0, 0), (0, 0))
+        ∷ ((0, 0), (0, 0)) ∷ [] }
+    ensures down { down_pairs lines ≡ ((0, 1), (0, 1)) ∷ ((0, 1), (0, 1)) ∷ ((0, 1), (0, 1))
+        ∷ ((0, 1), (0, 1)) ∷ [] }
 {}
 
 /// A tile without symmetry after action 5, to the left of a junction after a quarter turn.
@@ -37,8 +41,8 @@ pub fn declared_pairs_are_allowed()
         → IsAcross set (named_variant set.tiles pair.left) (named_variant set.tiles pair.right) }
 {}
 
-/// What is allowed stays so after a quarter turn, which brings the right one up and the upper one to the left, and after a
-/// reflection, which exchanges left and right.
+/// What is allowed stays so after a quarter turn, which brings the right one up and the upper one
+/// to the left, and after a reflection, which exchanges left and right.
 pub fn allowed_under_the_group()
     ensures turned_up { (set : TileSetView) (v w : Variant) → ArePairs set → IsAcross set v w
         → IsDown set (moved set.tiles w 1) (moved set.tiles v 1) }

@@ -1,5 +1,5 @@
-//! Tile sets: tiles with their classes and weights, the pairs that may touch, and which variants may therefore stand beside
-//! each other.
+//! Tile sets: tiles with their classes and weights, the pairs that may touch, and which variants
+//! may therefore stand beside each other.
 #![tactic(auto)]
 
 ghost use Rattle.std.specs.Prelude.{◌≡◌, ℕ, ◌<◌, ◌≤◌, ◌↔◌, length, IfOk, IfSome, IfNone, IsTrue};
@@ -24,8 +24,8 @@ pub use variants::MAX_VARIANTS;
 use variants::Variants;
 use wfc_outside::NoMemory;
 
-/// Tiles, the pairs that they declare, and what these allow. Tiles and variants count from 0, and variants are numbered tile
-/// by tile. Two flags are kept for each two variants.
+/// Tiles, the pairs that they declare, and what these allow. Tiles and variants count from 0, and
+/// variants are numbered tile by tile. Two flags are kept for each two variants.
 #[derive(Drop)]
 pub struct TileSet {
     variants: Variants,
@@ -46,10 +46,12 @@ impl Model for TileSet {
 }
 
 impl TileSet {
-    /// The tile set of tiles and declared pairs. Its time is linear in the pairs and in the square of the number of variants.
+    /// The tile set of tiles and declared pairs. Its time is linear in the pairs and in the square
+    /// of the number of variants.
     pub fn new(alloc: Global, tiles: Vec<Tile>, pairs: Vec<Pair>) -> Result<TileSet, NoMemory>
         requires tile_set { IsTileSet (record { tiles = tiles.items; pairs = pairs.items }) }
-        ensures ok { IfOk result (λ set. set ≡ record { tiles = tiles.items; pairs = pairs.items }) }
+        ensures ok { IfOk result (λ set. set
+            ≡ record { tiles = tiles.items; pairs = pairs.items }) }
     {
         let variants = Variants::new(alloc, tiles)?;
         let across = across_table(alloc, &variants, &pairs)?;
