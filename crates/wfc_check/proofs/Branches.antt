@@ -1,12 +1,12 @@
 -- A branch that is put off, and one that comes back.
-use Rattle.std.proofs.Common.{◌≡◌, ◌≢◌, ℕ, ◌+◌, ◌<◌, ◌≤◌, Bool, true, false, cond, List, [], ◌∷◌, ◌++◌, refl, sym, ◌∙◌, ap, subst, arith}
+use Rattle.std.proofs.Common.{◌≡◌, ℕ, ◌+◌, ◌<◌, ◌≤◌, Bool, true, false, cond, [], ◌∷◌, refl, sym, ◌∙◌, ap, arith}
 use Rattle.std.specs.Prelude.{not, ◌&&◌, ◌||◌, ◌==◌, nat_le, IsTrue}
 use Rattle.std.proofs.lemmas.Bool.Decides.{nat_tests}
 use Rattle.std.proofs.lemmas.Bool.{eqb-true}
-use Rattle.wfc_problem.specs.Domains.{Test, Within, cut}
+use Rattle.wfc_problem.specs.Domains.{Test, cut}
 use Rattle.wfc_problem.specs.Network.{IsProblem, in_base, values}
 use Rattle.wfc_problem.specs.declared.Literal.TheVariants.{Is, Not}
-use Rattle.wfc_check.specs.Entries.{behind, left, put_off, waiting, TrailView, standing, waits_of, with_more, Resumes, Branches}
+use Rattle.wfc_check.specs.Entries.{behind, put_off, TrailView, standing, waits_of, with_more, Resumes, Branches}
 use Rattle.wfc_check.specs.declared.trail.Entry.{Entry}
 use Rattle.wfc_check.proofs.Entries.{left_more, waiting_more, left_inside}
 use Rattle.wfc_check.proofs.Kept.{taken, waits_at}

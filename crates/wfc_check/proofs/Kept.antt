@@ -1,5 +1,5 @@
 -- What a trail is kept in, with an entry more or less.
-use Rattle.std.proofs.Common.{◌≡◌, ℕ, ◌+◌, ◌*◌, ◌<◌, ◌≤◌, Bool, true, false, List, [], ◌∷◌, ◌++◌, length, set, refl, sym, ◌∙◌, ap, subst, arith}
+use Rattle.std.proofs.Common.{◌≡◌, ℕ, ◌+◌, ◌*◌, ◌<◌, ◌≤◌, Bool, true, false, List, [], ◌∷◌, ◌++◌, length, set, sym, ◌∙◌, ap, subst, arith}
 use Rattle.std.specs.Prelude.{not}
 use Rattle.std.proofs.lemmas.Bool.{and_parts, and_from}
 use Rattle.std.proofs.lemmas.Nat.{mul-add-lt}
@@ -7,7 +7,7 @@ use Rattle.std.proofs.lemmas.List.{length-set}
 use Rattle.wfc_problem.specs.Domains.{Test}
 use Rattle.wfc_problem.specs.Network.{Network, values, in_base}
 use Rattle.wfc_problem.specs.Rounds.{depth_of}
-use Rattle.wfc_check.specs.Entries.{behind, left, put_off, waiting, are_stood}
+use Rattle.wfc_check.specs.Entries.{left, waiting, are_stood}
 use Rattle.wfc_check.specs.Flags.{AreKept}
 use Rattle.wfc_check.specs.declared.trail.Entry.{Entry}
 use Rattle.wfc_check.proofs.Rows.{flag_removed, flag_restored}

@@ -4,3 +4,4 @@ pub mod Kept
 pub mod Branches
 pub mod Scans
 pub mod Taken
+pub mod Proved

@@ -1,9 +1,9 @@
 -- One flag of a table is written.
 use Rattle.std.proofs.Common.{◌≡◌, ◌≢◌, ℕ, zero, suc, ◌+◌, ◌-◌, ◌*◌, ◌<◌, ◌≤◌, Bool, true, false, cond, List, [], ◌∷◌, length, get_or, take, drop, set, refl, sym, ◌∙◌, ap, arith, inl, inr}
 use Rattle.std.specs.Prelude.{not, ◌&&◌, ◌==◌}
-use Rattle.std.proofs.lemmas.List.{length-take, length-drop, get_or-set_same, get_or-set_other, drop-set-add, drop-set-lt, take-set-le, get_or_past}
+use Rattle.std.proofs.lemmas.List.{length-take, length-drop, get_or-set_same, get_or-set_other, drop-set-add, drop-set-lt, take-set-le}
 use Rattle.std.proofs.Math.Nat.{mul-le-mul_right}
-use Rattle.std.proofs.lemmas.Bool.{cases_eq, cases_lt, cases_Bool, eq-eqb, ne_eqb, cond-true, cond-false, and_parts, eqb-true}
+use Rattle.std.proofs.lemmas.Bool.{cases_eq, cases_lt, eq-eqb, ne_eqb, cond-true, cond-false, and_parts, eqb-true}
 use Rattle.wfc_problem.specs.Domains.{Test, cut}
 use Rattle.wfc_problem.specs.Network.{row_of, has_flag}
 use Rattle.wfc_problem.specs.declared.Literal.TheVariants.{Not}

@@ -1,6 +1,6 @@
 -- Scans of the values from the least on.
-use Rattle.std.proofs.Common.{◌≡◌, ℕ, suc, ◌+◌, ◌-◌, ◌<◌, ◌≤◌, Bool, true, false, cond, List, [], ◌∷◌, length, get_or, refl, sym, ◌∙◌, ap, arith, Some}
-use Rattle.std.specs.Prelude.{not, ◌&&◌, ◌||◌, ◌==◌}
+use Rattle.std.proofs.Common.{◌≡◌, ℕ, suc, ◌+◌, ◌-◌, ◌<◌, ◌≤◌, Bool, true, false, cond, List, [], ◌∷◌, length, get_or, ◌∙◌, ap, arith, Some}
+use Rattle.std.specs.Prelude.{not, ◌&&◌, ◌||◌}
 use Rattle.std.specs.List.{find, list_all, range_with_len}
 use Rattle.wfc_problem.specs.Network.{Network, IsProblem, values, supports_of}
 use Rattle.wfc_problem.proofs.CallerLemmas.{support_in}

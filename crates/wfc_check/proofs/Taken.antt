@@ -1,14 +1,13 @@
 -- Nodes and lines that a trail took or refused.
 use Rattle.std.proofs.Common.{◌≡◌, ℕ, ◌+◌, ◌-◌, ◌<◌, ◌≤◌, List, [], ◌∷◌, ◌++◌, length, take, map, true, refl, sym, ◌∙◌, ap, subst, arith, Option, Some, None}
-use Rattle.std.specs.Prelude.{Result, Ok, Err, IsTrue}
+use Rattle.std.specs.Prelude.{Result, Ok, Err}
 use Rattle.std.specs.List.{range_with_len}
 use Rattle.std.proofs.lemmas.List.{take-append-le, length-append, take_all}
-use Rattle.wfc_problem.specs.Domains.{Test, Within, cut}
+use Rattle.wfc_problem.specs.Domains.{Test}
 use Rattle.wfc_problem.specs.Network.{Network, IsProblem, in_base}
 use Rattle.wfc_problem.specs.Rounds.{pairs, depth_of}
-use Rattle.wfc_problem.specs.declared.Literal.TheVariants.{Is, Not}
 use Rattle.wfc_proof.specs.Checker.{Point, after_close, after_node, node_fault, node_step, node_steps, or_else, and_on, closed_step, line_step, line_steps}
-use Rattle.wfc_proof.specs.Checker.Point.{going, closed, ended}
+use Rattle.wfc_proof.specs.Checker.Point.{going}
 use Rattle.wfc_proof.specs.Proof.{Node}
 use Rattle.wfc_proof.specs.Proof.Node.{removes, splits, empties}
 use Rattle.wfc_proof.specs.declared.Line.{Line}

@@ -1,9 +1,13 @@
 -- What a checker is seen as, and what it answers.
-use Rattle.std.specs.Prelude.{◌≡◌, List, [], Result, Ok, Err}
+use Rattle.std.specs.Prelude.{◌≡◌, ℕ, List, [], ◌∷◌, ◌++◌, Result, Ok, Err}
+use Rattle.wfc_problem.specs.Assignment.{IsLegalAssignment}
 use Rattle.wfc_problem.specs.Network.{Network, IsProblem, in_base}
 use Rattle.wfc_proof.specs.Checker.{Point, line_steps}
 use Rattle.wfc_proof.specs.Checker.Point.{going, closed, ended}
+use Rattle.wfc_proof.specs.Lines.{Spells}
+use Rattle.wfc_proof.specs.Proof.{Proof, Closes, nodes}
 use Rattle.wfc_proof.specs.declared.Line.{Line}
+use Rattle.wfc_proof.specs.declared.Line.TheVariants.{End}
 use Rattle.wfc_proof.specs.declared.Reject.{Reject}
 use Rattle.wfc_check.specs.Entries.{TrailView, standing, waits_of}
 use Rattle.wfc_check.specs.declared.progress.Progress.{Progress}
@@ -61,3 +65,19 @@ pub record IsReached (P : Network) (point : Point) : Type 0 where
   pub problem : IsProblem P
   pub lines : List Line
   pub lead : line_steps P (going (in_base P) []) lines ≡ Ok point
+
+-- the lines are accepted from the base domains on, and the last of them ends the proof
+abbrev pub AreEnded : Network → List Line → Type 0
+AreEnded P lines = line_steps P (going (in_base P) []) lines ≡ Ok ended
+
+-- the lines spell the nodes of a proof that closes the base domains, with its end behind them
+pub record SpellClosing (P : Network) (lines : List Line) : Type 0 where
+  pub before : List Line
+  pub last : lines ≡ before ++ End ∷ []
+  pub proof : Proof
+  pub closes : Closes P (in_base P) proof
+  pub spells : Spells before (nodes proof)
+
+-- there is no legal assignment
+abbrev pub HasNone : Network → Type 0
+HasNone P = (a : List ℕ) → IsLegalAssignment P a → ⊥

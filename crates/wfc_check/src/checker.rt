@@ -1,11 +1,11 @@
 //! The checker itself.
 
-ghost use Rattle.std.specs.Prelude.{◌≡◌, ◌+◌, ◌≤◌, length, IfOk, OnErr, Ok};
+ghost use Rattle.std.specs.Prelude.{◌≡◌, ◌+◌, ◌≤◌, ◌↔◌, length, IsTrue, IfOk, OnErr, Ok};
 ghost use Rattle.wfc_problem.specs.Network.{IsProblem};
 ghost use Rattle.wfc_problem.specs.Rounds.{depth_of, pairs};
 ghost use Rattle.wfc_proof.specs.Checker.{line_step, closed_step};
 ghost use Rattle.wfc_check.specs.Entries.{standing, waits_of};
-ghost use Rattle.wfc_check.specs.Checker.{point_at, point_of, problem_of, told, led_to, IsTaken, IsOpened};
+ghost use Rattle.wfc_check.specs.Checker.{point_at, point_of, problem_of, told, led_to, IsTaken, IsOpened, AreEnded, SpellClosing, HasNone};
 ghost use Rattle.wfc_check.specs.declared.progress.Progress.TheVariants.{Going};
 
 use crate::nodes;
@@ -41,6 +41,7 @@ impl<'p> Checker<'p> {
     /// A checker at the base domains of the problem, with no branch that waits.
     pub fn open(alloc: Global, problem: &'p Problem) -> Result<Checker<'p>, NoMemory>
         ensures ok { IfOk result (IsOpened problem.now) }
+        ensures problem { IsProblem problem.now }
     {
         let trail = Trail::new(alloc, problem)?;
         Ok(Checker {
@@ -63,6 +64,32 @@ impl<'p> Checker<'p> {
         self.progress = progress;
         Ok(progress)
     }
+}
+
+/// Whether these lines are a proof that the problem has no legal assignment: each of them is right where it stands, and
+/// the last one ends the proof.
+pub fn is_proof(alloc: Global, problem: &Problem, lines: &[Line]) -> Result<bool, NoMemory>
+    ensures exact { IfOk result (λ yes. IsTrue yes ↔ AreEnded problem.now lines.now) }
+    ensures spelled { IfOk result (λ yes. IsTrue yes ↔ SpellClosing problem.now lines.now) }
+    ensures sound { IfOk result (λ yes. IsTrue yes → HasNone problem.now) }
+{
+    are_ended(alloc, problem, lines)
+}
+
+/// Whether each of these lines is accepted, and the last one ends the proof.
+fn are_ended(alloc: Global, problem: &Problem, lines: &[Line]) -> Result<bool, NoMemory>
+    ensures exact { IfOk result (λ yes. IsTrue yes ↔ AreEnded problem.now lines.now) }
+    ensures problem { IsProblem problem.now }
+{
+    let mut checker = Checker::open(alloc, problem)?;
+    let mut progress = Progress::Going;
+    for line in lines {
+        match checker.line(*line) {
+            Ok(next) => progress = next,
+            Err(_) => return Ok(false),
+        }
+    }
+    Ok(progress == Progress::Ended)
 }
 
 /// A line, as far as the proof has come.

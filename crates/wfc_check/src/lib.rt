@@ -7,8 +7,10 @@
 mod checker;
 mod nodes;
 mod progress;
+#[cfg(test)]
+mod tests;
 mod trail;
 
-pub use checker::Checker;
+pub use checker::{Checker, is_proof};
 pub use progress::Progress;
 pub use wfc_proof::Reject;

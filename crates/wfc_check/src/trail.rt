@@ -43,6 +43,7 @@ impl<'p> Trail<'p> {
     /// The base domains, with room for as many values and branches as there are pairs.
     pub fn new(alloc: Global, problem: &'p Problem) -> Result<Trail<'p>, NoMemory>
         ensures ok { IfOk result (λ trail. trail ≡ record { problem = problem.now; entries = [] }) }
+        ensures problem { IsProblem problem.now }
     {
         let flags = Vec::from_slice(alloc, problem.base())?;
         let entries = Vec::with_capacity(alloc, 2 * problem.depth() as usize)?;

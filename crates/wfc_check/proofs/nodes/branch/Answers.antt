@@ -1,7 +1,7 @@
-use Rattle.std.proofs.Common.{◌≡◌, ◌∙◌, ◌<◌, sym, ap, subst, arith}
+use Rattle.std.proofs.Common.{◌∙◌, ◌<◌, sym, ap, subst, arith}
 use Rattle.wfc_problem.specs.Network.{Network, IsProblem, values}
 use Rattle.wfc_check.proofs.Entries.{left_inside}
-use Rattle.wfc_check.proofs.Branches.{IsCutting, cutting_begins, cutting_taken, cutting_skipped, cutting_ends}
+use Rattle.wfc_check.proofs.Branches.{cutting_begins, cutting_taken, cutting_skipped, cutting_ends}
 use Rattle.wfc_check.proofs.nodes.branch.Goals as goal
 use Rattle.wfc_check.proofs.nodes.branch.Goals.{then-stands_beside, else-stands_beside}
 

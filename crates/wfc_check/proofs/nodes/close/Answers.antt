@@ -1,4 +1,4 @@
-use Rattle.std.proofs.Common.{◌≡◌, ◌∙◌, sym}
+use Rattle.std.proofs.Common.{◌∙◌, sym}
 use Rattle.wfc_check.proofs.Taken.{took_close}
 use Rattle.wfc_check.proofs.nodes.close.Goals as goal
 

@@ -1,4 +1,4 @@
-use Rattle.std.proofs.Common.{◌≡◌, ◌∙◌, sym, ap, arith}
+use Rattle.std.proofs.Common.{◌∙◌, ap}
 use Rattle.wfc_problem.specs.Network.{supports_of}
 use Rattle.wfc_check.proofs.Scans.{supports_below}
 use Rattle.wfc_check.proofs.nodes.removal_fault.Goals as goal

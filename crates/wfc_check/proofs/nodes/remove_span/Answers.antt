@@ -1,4 +1,4 @@
-use Rattle.std.proofs.Common.{◌≡◌, ◌∙◌, sym, ap, arith, take}
+use Rattle.std.proofs.Common.{◌∙◌, sym, ap, arith, take}
 use Rattle.wfc_check.specs.Entries.{TrailView}
 use Rattle.wfc_check.proofs.Taken.{spanning_on, spanning_refused}
 use Rattle.wfc_check.proofs.nodes.remove_span.Goals as goal

@@ -1,4 +1,3 @@
-use Rattle.std.proofs.Common.{◌≡◌, length}
 use Rattle.wfc_check.proofs.Taken.{IsSpanning}
 use Rattle.wfc_check.proofs.nodes.remove_span.Given as goal
 

@@ -1,4 +1,4 @@
-use Rattle.std.proofs.Common.{◌≡◌, ◌∙◌, sym}
+use Rattle.std.proofs.Common.{◌∙◌, sym}
 use Rattle.wfc_check.proofs.Taken.{split_few}
 use Rattle.wfc_check.proofs.nodes.split.Goals as goal
 

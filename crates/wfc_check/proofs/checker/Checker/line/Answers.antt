@@ -1,4 +1,4 @@
-use Rattle.std.proofs.Common.{◌≡◌, ◌∙◌, sym, ap, subst, refl}
+use Rattle.std.proofs.Common.{sym, subst, refl}
 use Rattle.wfc_problem.specs.Network.{Network}
 use Rattle.wfc_proof.specs.Checker.{Point, line_step}
 use Rattle.wfc_check.specs.Entries.{TrailView, standing, waits_of}

@@ -1,4 +1,4 @@
-use Rattle.std.proofs.Common.{◌≡◌, ◌∙◌, sym, ap, arith}
+use Rattle.std.proofs.Common.{arith}
 use Rattle.wfc_check.proofs.Kept.{back_flag, back_taken, back_awaited, back_stood}
 use Rattle.wfc_check.proofs.trail.Trail.back.Goals as goal
 

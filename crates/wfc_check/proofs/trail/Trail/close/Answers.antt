@@ -1,4 +1,4 @@
-use Rattle.std.proofs.Common.{◌≡◌, ◌∙◌, sym, ap, arith}
+use Rattle.std.proofs.Common.{◌∙◌, sym, ap}
 use Rattle.wfc_check.proofs.Branches.{resumes, waits_same}
 use Rattle.wfc_check.proofs.trail.Trail.close.Goals as goal
 

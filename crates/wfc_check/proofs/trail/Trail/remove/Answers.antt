@@ -1,4 +1,4 @@
-use Rattle.std.proofs.Common.{◌≡◌, ◌∙◌, sym, ap, arith}
+use Rattle.std.proofs.Common.{arith}
 use Rattle.wfc_check.proofs.Kept.{kept_room, kept_removed}
 use Rattle.wfc_check.proofs.trail.Trail.remove.Goals as goal
 
