@@ -11,3 +11,4 @@ mod LineLemmas
 mod HeadLemmas
 mod TellingLemmas
 mod PutLemmas
+pub mod ProofTextLemmas

@@ -8,5 +8,6 @@ pub mod WordsLeft
 pub mod Text
 pub mod Heads
 pub mod Telling
+pub mod ProofText
 -- passed on from the crate below
 pub use Rattle.wfc_outside.specs.Count
