@@ -3,3 +3,4 @@ pub mod VariantLemmas
 pub mod MarkLemmas
 pub mod TileSetLemmas
 pub mod SpellingLemmas
+pub mod DocumentLemmas

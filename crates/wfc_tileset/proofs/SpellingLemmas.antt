@@ -1,12 +1,16 @@
 -- Which words spell which variants.
-use Rattle.std.proofs.Common.{◌≡◌, ℕ, ◌+◌, ◌<◌, ◌≤◌, List, [], ◌∷◌, ◌++◌, length, take, drop, refl, sym, subst, ap, ◌∙◌, arith, length-append, lit≤}
+use Rattle.std.proofs.Common.{◌≡◌, ℕ, zero, suc, ◌+◌, ◌<◌, ◌≤◌, Bool, true, false, List, [], ◌∷◌, ◌++◌, length, take, drop, None, Some, inl, inr, refl, sym, subst, ap, ◌∙◌, arith, length-append, lit≤}
+use Rattle.std.specs.Str.{bytes_eq}
+use Rattle.std.proofs.lemmas.Bool.{cases_Bool, cases_lt}
+use Rattle.std.proofs.lemmas.Slice.Eq.{bytes_eq-Decides}
+use Rattle.wfc_lists.proofs.Positions.{position_at, position_none}
 use Rattle.std.proofs.Math.Seq.{take-append_seam, drop-append_seam}
 use Rattle.wfc_symmetry.specs.Class.{variant_count}
 use Rattle.wfc_symmetry.specs.declared.class.Class.{Class}
 use Rattle.wfc_symmetry.specs.declared.class.Class.TheVariants.{X, I, L, T, F, Slash}
-use Rattle.wfc_tileset.specs.Tiles.{TileView, Variant, tile_at, variant_at, spelling, Spells}
-use Rattle.wfc_tileset.specs.Numbers.{number_of, IsNamed, IsVariant}
-use Rattle.wfc_tileset.proofs.VariantLemmas.{number_below, variant-number, variant_there}
+use Rattle.wfc_tileset.specs.Tiles.{TileView, Variant, tile_at, variants, variant_total, variant_at, variant_of, spelling, Spells}
+use Rattle.wfc_tileset.specs.Numbers.{first_of, number_of, IsNamed, IsVariant}
+use Rattle.wfc_tileset.proofs.VariantLemmas.{first-suc, length-variants_from, number_below, number-variant, variant-number, variant_there}
 
 -- a tile has at most eight variants
 eight : (class : Class) → variant_count class ≤ 8
@@ -49,3 +53,44 @@ no_tile tiles word name i e none v s =
     let same = equal_parts (tile_at tiles (variant_at tiles v).0).name name (48 + (variant_at tiles v).1) (48 + i) (s.1 ∙ sym e) in
     let at : (variant_at tiles v).1 ≡ i = omega (arith, same.1) in
     none (variant_at tiles v).0 (record { tile_in = is.tile_in; named = same.0; index_in = omega (arith, is.index_in) })
+
+-- ---- the first variant that a word spells
+
+-- the variants of later tiles are numbered later
+first_rises : (tiles : List TileView) (s t : ℕ) → s ≤ t → first_of tiles s ≤ first_of tiles t
+first_rises [] zero t le = omega arith
+first_rises [] (suc s) zero le = omega arith
+first_rises [] (suc s) (suc t) le = omega arith
+first_rises (x ∷ xs) zero t le = omega arith
+first_rises (x ∷ xs) (suc s) zero le = absurd (omega arith)
+first_rises (x ∷ xs) (suc s) (suc t) le = omega (arith, first_rises xs s t (omega arith), first-suc x xs s, first-suc x xs t)
+
+-- before the first tile with that name and number, no variant is spelled so
+pub none_before : (tiles : List TileView) (word name : List ℕ) (t i : ℕ) → name ++ 47 ∷ (48 + i) ∷ [] ≡ word
+    → ((k : ℕ) → k < t → IsNamed tiles name i k → ⊥) → (w : ℕ) → w < number_of tiles (t, i) → Spells tiles word w → ⊥
+none_before tiles word name t i e none w below s =
+    let is = variant_there tiles w s.0 in
+    let same = equal_parts (tile_at tiles (variant_at tiles w).0).name name (48 + (variant_at tiles w).1) (48 + i) (s.1 ∙ sym e) in
+    let at : (variant_at tiles w).1 ≡ i = omega (arith, same.1) in
+    let named : IsNamed tiles name i (variant_at tiles w).0 = record { tile_in = is.tile_in; named = same.0; index_in = omega (arith, is.index_in) } in
+    elim (cases_lt (variant_at tiles w).0 t) [
+      | inl before ↦ none (variant_at tiles w).0 before named
+      | inr after ↦ absurd (omega (arith, number-variant tiles w s.0, first_rises tiles t (variant_at tiles w).0 after))
+    ]
+
+-- a variant with another spelling fails the test
+fails : (tiles : List TileView) (word : List ℕ) (v : ℕ) → v < variant_total tiles → (Spells tiles word v → ⊥) → bytes_eq (spelling tiles (variant_at tiles v)) word ≡ false
+fails tiles word v below other = elim (cases_Bool (bytes_eq (spelling tiles (variant_at tiles v)) word)) [
+  | inl same ↦ absurd (other (below, (bytes_eq-Decides _ word).0 same))
+  | inr different ↦ different
+]
+
+pub first_variant : (tiles : List TileView) (word : List ℕ) (v : ℕ) → Spells tiles word v → ((w : ℕ) → w < v → Spells tiles word w → ⊥) → variant_of tiles word ≡ Some v
+first_variant tiles word v s none =
+    let below : v < variant_total tiles = s.0 in
+    position_at (λ (p : Variant). bytes_eq (spelling tiles p) word) (variants tiles) v (0, 0) (omega (arith, length-variants_from 0 tiles, s.0))
+    ((bytes_eq-Decides _ word).1 s.1) (λ k before. fails tiles word k (omega arith) (none k before))
+
+pub no_variant : (tiles : List TileView) (word : List ℕ) → ((v : ℕ) → Spells tiles word v → ⊥) → variant_of tiles word ≡ None
+no_variant tiles word none =
+    position_none (λ (p : Variant). bytes_eq (spelling tiles p) word) (variants tiles) (0, 0) (λ k within. fails tiles word k (omega (arith, length-variants_from 0 tiles)) (none k))

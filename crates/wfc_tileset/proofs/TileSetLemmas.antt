@@ -66,7 +66,7 @@ pub across_says : (set : TileSetView) (across down : List Bool) (a b : ℕ) (r :
     → r ≡ get_or across (a * variant_total set.tiles + b) false → a < variant_total set.tiles → b < variant_total set.tiles
     → IsTrue r ↔ IsAcross set (variant_at set.tiles a) (variant_at set.tiles b)
 across_says set across down a b r is e in_a in_b =
-    let says = table_says set.tiles (across_pairs set) a b in_a in_b (across_variants set is.pairs) in
+    let says = table_says set.tiles (across_pairs set) a b in_a in_b (across_variants set is.tile_set.pairs) in
     let read = e ∙ ap (λ (flags : List Bool). get_or flags (a * variant_total set.tiles + b) false) is.across_is in
     (λ on. says.0 (sym read ∙ on), λ there. read ∙ says.1 there)
 
@@ -74,6 +74,6 @@ pub down_says : (set : TileSetView) (across down : List Bool) (a b : ℕ) (r : B
     → r ≡ get_or down (a * variant_total set.tiles + b) false → a < variant_total set.tiles → b < variant_total set.tiles
     → IsTrue r ↔ IsDown set (variant_at set.tiles a) (variant_at set.tiles b)
 down_says set across down a b r is e in_a in_b =
-    let says = table_says set.tiles (down_pairs set) a b in_a in_b (down_variants set is.pairs) in
+    let says = table_says set.tiles (down_pairs set) a b in_a in_b (down_variants set is.tile_set.pairs) in
     let read = e ∙ ap (λ (flags : List Bool). get_or flags (a * variant_total set.tiles + b) false) is.down_is in
     (λ on. says.0 (sym read ∙ on), λ there. read ∙ says.1 there)

@@ -29,7 +29,7 @@ few_tiles [] = omega arith
 few_tiles (x ∷ xs) = omega (arith, few_tiles xs, some_of x.class, sum_by-cons variants_of_tile x xs)
 
 -- the number of the first variant, behind one more tile
-first-suc : (x : TileView) (xs : List TileView) (t : ℕ) → first_of (x ∷ xs) (suc t) ≡ variants_of_tile x + first_of xs t
+pub first-suc : (x : TileView) (xs : List TileView) (t : ℕ) → first_of (x ∷ xs) (suc t) ≡ variants_of_tile x + first_of xs t
 first-suc x xs t = sum_by-cons variants_of_tile x (take t xs)
 
 -- a variant stands at its number

@@ -181,6 +181,10 @@ set_from ms =
     some_tiles tile_items >>= few_variants >>= (λ tiles.
     pairs_from tiles [] pair_items >>= (λ pairs. Ok (set_with tiles pairs)))))
 
+-- the document that bytes spell
+abbrev pub parsed : List ℕ → Result Members TileFault
+parsed bytes = if is_utf8 bytes then ok_or (parse_document bytes) fault.Toml else Err fault.Toml
+
 -- the tile set of bytes
 abbrev pub set_of : List ℕ → Result TileSetView TileFault
-set_of bytes = if is_utf8 bytes then and_then (ok_or (parse_document bytes) fault.Toml) set_from else Err fault.Toml
+set_of bytes = and_then (parsed bytes) set_from

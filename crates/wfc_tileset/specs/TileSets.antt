@@ -1,12 +1,15 @@
 -- What stands in a tile set, as its tables say it.
-use Rattle.std.specs.Prelude.{◌≡◌, ◌≤◌, Bool, List}
+use Rattle.std.specs.Prelude.{◌≡◌, ◌<◌, ◌≤◌, Bool, List, length}
+use Rattle.std.specs.List.{All}
 use Rattle.wfc_tileset.specs.declared.variants.TheConstants.{MAX_VARIANTS}
-use Rattle.wfc_tileset.specs.Tiles.{TileSetView, variant_total}
+use Rattle.wfc_tileset.specs.Tiles.{TileSetView, IsWeighed, variant_total}
 use Rattle.wfc_tileset.specs.Allowed.{across_pairs, down_pairs, ArePairs}
 use Rattle.wfc_tileset.specs.Numbers.{table_of}
 
--- a tile set has few enough variants, and each end of a pair names a tile and an action
+-- a tile set has a tile and few enough variants, each tile has its weight, and each end of a pair names a tile and an action
 pub record IsTileSet (set : TileSetView) : Type 0 where
+  pub some_tile : 0 < length set.tiles
+  pub weighed : All IsWeighed set.tiles
   pub limit : variant_total set.tiles ≤ MAX_VARIANTS
   pub pairs : ArePairs set
 
@@ -14,4 +17,4 @@ pub record IsTileSet (set : TileSetView) : Type 0 where
 pub record IsClosed (set : TileSetView) (across down : List Bool) : Type 0 where
   pub across_is : across ≡ table_of set.tiles (across_pairs set)
   pub down_is : down ≡ table_of set.tiles (down_pairs set)
-  pub pairs : ArePairs set
+  pub tile_set : IsTileSet set

@@ -1,6 +1,7 @@
 -- What a tile set is, as contracts see it: its tiles, the pairs that it declares, and its variants.
-use Rattle.std.specs.Prelude.{◌≡◌, ℕ, ◌+◌, ◌<◌, List, [], ◌∷◌, ◌++◌, map, Option, None, slice_index_or}
+use Rattle.std.specs.Prelude.{◌≡◌, ℕ, ◌+◌, ◌<◌, ◌≤◌, List, [], ◌∷◌, ◌++◌, map, Option, None, position, slice_index_or}
 use Rattle.std.specs.List.{range_with_len, sum_by}
+use Rattle.std.specs.Str.{bytes_eq}
 use Rattle.wfc_symmetry.specs.Class.{variant_count, acted}
 use Rattle.wfc_symmetry.specs.declared.class.Class.{Class}
 use Rattle.wfc_symmetry.specs.declared.class.Class.TheVariants.{X}
@@ -12,6 +13,11 @@ pub record TileView : Type 0 where
   pub class : Class
   pub weight : ℕ
   pub picture : Option (List ℕ)
+
+-- the tile's weight is 1 to 1,000,000
+pub record IsWeighed (tile : TileView) : Type 0 where
+  pub some_weight : 1 ≤ tile.weight
+  pub small_weight : tile.weight ≤ 1000000
 
 -- a tile set: its tiles, and the declared pairs, of which one may stand to the left of the other
 pub record TileSetView : Type 0 where
@@ -54,6 +60,10 @@ moved tiles v k = (v.0, acted (tile_at tiles v.0).class v.1 k)
 -- how a variant is spelled: the name of its tile, a slash and its number among the variants of that tile
 abbrev pub spelling : List TileView → Variant → List ℕ
 spelling tiles v = (tile_at tiles v.0).name ++ 47 ∷ (48 + v.1) ∷ []
+
+-- the number of the first variant that a word spells, if any
+abbrev pub variant_of : List TileView → List ℕ → Option ℕ
+variant_of tiles word = position (λ v. bytes_eq (spelling tiles v) word) (variants tiles)
 
 -- the word spells the variant with this number
 abbrev pub Spells : List TileView → List ℕ → ℕ → Type 0

@@ -1,6 +1,10 @@
 //! Why bytes are no tile set.
 
+ghost use Rattle.std.specs.Prelude.{◌≡◌};
+
+use std::alloc::{AllocError, AllocFailed};
 use thiserror::Error;
+use wfc_outside::NoMemory;
 
 /// Where a fault stands: at the top of the document, in a tile or in a declared pair, which count
 /// from 0.
@@ -71,4 +75,34 @@ pub enum TileFault {
     /// The name isn't 1 to 64 letters, digits, `_` and `-`.
     #[error("a name has other bytes, or is too long")]
     BadName { tile: u32 },
+}
+
+impl From<NoMemory> for TileFault {
+    ghost use Rattle.wfc_tileset.specs.declared.fault.TileFault.TheVariants as faults;
+
+    ghost from_gives = { λ _ fault. fault ≡ faults.NoMemory };
+
+    fn from(_error: NoMemory) -> TileFault {
+        TileFault::NoMemory
+    }
+}
+
+impl From<AllocError> for TileFault {
+    ghost use Rattle.wfc_tileset.specs.declared.fault.TileFault.TheVariants as faults;
+
+    ghost from_gives = { λ _ fault. fault ≡ faults.NoMemory };
+
+    fn from(_error: AllocError) -> TileFault {
+        TileFault::NoMemory
+    }
+}
+
+impl<T: Drop> From<AllocFailed<T>> for TileFault {
+    ghost use Rattle.wfc_tileset.specs.declared.fault.TileFault.TheVariants as faults;
+
+    ghost from_gives = { λ _ fault. fault ≡ faults.NoMemory };
+
+    fn from(_error: AllocFailed<T>) -> TileFault {
+        TileFault::NoMemory
+    }
 }

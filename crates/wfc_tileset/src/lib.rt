@@ -3,20 +3,26 @@
 #![tactic(auto)]
 
 ghost use Rattle.std.specs.Prelude.{◌≡◌, ℕ, ◌<◌, ◌≤◌, ◌↔◌, length, IfOk, IfSome, IfNone, IsTrue};
-ghost use Rattle.wfc_tileset.specs.Tiles.{variant_total, variant_at, tile_at, Spells};
+ghost use Rattle.wfc_tileset.specs.Tiles.{variant_total, variant_at, variant_of, tile_at, Spells};
 ghost use Rattle.wfc_tileset.specs.Allowed.{IsAcross, IsDown};
 ghost use Rattle.wfc_tileset.specs.TileSets.{IsTileSet};
 
+mod document;
 pub mod document_laws;
 mod fault;
 pub mod laws;
 mod marks;
+mod pairs;
+mod reading;
+mod terms;
 mod tile;
+mod tiles;
 mod variants;
 mod word;
 
 pub use fault::{Key, Place, TileFault};
 use marks::{across_table, down_table, is_marked};
+pub use reading::{MAX_DOCUMENT_BYTES, read};
 use std::alloc::Global;
 use std::marker::Model;
 pub use tile::{End, Pair, Tile};
@@ -76,6 +82,7 @@ impl TileSet {
     pub fn variants(&self) -> u16
         ensures value { result ≡ variant_total self.now.tiles }
         ensures limit { result ≤ MAX_VARIANTS }
+        ensures tile_set { IsTileSet self.now }
     {
         self.variants.count()
     }
@@ -100,6 +107,7 @@ impl TileSet {
 
     /// The variant that a word spells: the first, where several tiles have one name.
     pub fn find(&self, word: &[u8]) -> Option<u16>
+        ensures exact { result ≡ variant_of self.now.tiles word.now }
         ensures found { IfSome result (Spells self.now.tiles word.now) }
         ensures none { IfNone result ((v : ℕ) → Spells self.now.tiles word.now v → ⊥) }
     {
@@ -141,3 +149,6 @@ impl TileSet {
         is_marked(&self.down, &self.variants, upper, lower)
     }
 }
+
+#[cfg(test)]
+mod tests;

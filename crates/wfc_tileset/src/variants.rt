@@ -93,6 +93,8 @@ impl Variants {
     /// The first tile that has this name and a variant with this number.
     pub fn named_first(&self, name: &[u8], index: u8) -> Option<u32>
         ensures found { IfSome result (λ tile. IsNamed self.now name.now index tile) }
+        ensures first { IfSome result (λ tile.
+            (t : ℕ) → t < tile → IsNamed self.now name.now index t → ⊥) }
         ensures none { IfNone result ((tile : ℕ) → IsNamed self.now name.now index tile → ⊥) }
     {
         let tiles = self.tiles();
