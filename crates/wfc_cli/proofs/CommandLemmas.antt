@@ -4,19 +4,13 @@ use Rattle.std.proofs.lemmas.Bool.Decides.{nat_tests}
 use Rattle.std.specs.Option.{ok_or, option_map}
 use Rattle.std.specs.Prelude.{All}
 use Rattle.std.specs.Str.{bytes_eq}
-use Rattle.std.proofs.lemmas.List.{length-map}
 use Rattle.std.proofs.lemmas.List.Elements.{All-cons, All-nil}
 use Rattle.wfc_outside.specs.Folder.{File}
 use Rattle.wfc_outside.specs.Sink.{SinkView, after_bytes, after_finish, IsFaultAfterFront}
-use Rattle.std.proofs.Math.Nat.{mul-div-le}
-use Rattle.wfc_model.specs.Raster.{Raster, height_of, raster_of}
-use Rattle.wfc_model.proofs.CallerLemmas.{height-raster_of}
+use Rattle.wfc_model.specs.Raster.{Raster}
 use Rattle.wfc_model.specs.Legal.{Pin}
 use Rattle.wfc_pattern.specs.Patterns.{PatternsView, IsPatterns}
-use Rattle.wfc_pattern.proofs.CallerLemmas.{taught_are_patterns}
-use Rattle.wfc_picture.specs.Palette.{numbered}
 use Rattle.wfc_picture.specs.declared.symbol.Symbol.{Symbol}
-use Rattle.wfc_picture.specs.declared.symbol.Symbol.TheVariants.{Char}
 use Rattle.wfc_pins.specs.InOrder.{all_in_order, and_rest}
 use Rattle.wfc_pins.specs.PinView.{PinView}
 use Rattle.wfc_pins.specs.declared.fault.BuildFault.{BuildFault}
@@ -53,14 +47,13 @@ use Rattle.wfc_task.specs.Task.{Task, learn, fill, domains, demo, plan_by, plan_
 use Rattle.wfc_task.specs.declared.fault.Fault.{Fault}
 use Rattle.wfc_task.specs.Built.{side_of}
 use Rattle.wfc_task.specs.Demo.{demo_patterns, demo_problem}
-use Rattle.wfc_task.specs.Given.{IsDomainsTask, IsFillTask, IsSample}
+use Rattle.wfc_task.specs.Given.{IsDomainsTask, IsFillTask, IsTaught}
 use Rattle.wfc_task.specs.Plan.{and_then, done, step}
-use Rattle.wfc_task.specs.Steps.{chosen as choosing, or_refuse, symbols_of}
+use Rattle.wfc_task.specs.Steps.{chosen as choosing, or_refuse}
 use Rattle.wfc_task.specs.Task.{demo_plan}
 use Rattle.wfc_task.specs.declared.fault.Refusal.{Refusal}
 use Rattle.wfc_task.specs.declared.fault.Refusal.TheVariants as refusals
-use Rattle.wfc_task.proofs.CallerLemmas.{domains_given, fill_given, indexed_is, learn_given, learned_is}
-use Rattle.wfc_task.proofs.FillingLemmas.{numbered_grid}
+use Rattle.wfc_task.proofs.CallerLemmas.{domains_given, fill_given, learn_given, learned_is, sample_lesson}
 use Rattle.wfc_words.proofs.RangeLemmas.{asked-in_range}
 use Rattle.wfc_cli.specs.Answer.{Devices, IsAnswer, Replied}
 use Rattle.wfc_cli.specs.Answers.{answer_of, demo_answer, demo_budget, demo_text, domains_answer, fill_answer, fill_text, outcome_status, output_of, root_verdict, steps_text, verdict_of}
@@ -123,7 +116,7 @@ pub writes_learned : (rules : List Rule) (words : List (List ℕ)) (before after
 writes_learned rules words before after status answer asked files is low = by_end (came_to rules commands.Learn words before after status answer asked files is)
   where
     by_end : CameTo rules asked files before after status
-        → (status ≡ 0) × (patterns : PatternsView) × (palette : List Symbol) × IsSample asked files patterns palette × (after.out ≡ after_finish (after_bytes before.out (learned_text patterns palette)))
+        → (status ≡ 0) × (patterns : PatternsView) × (palette : List Symbol) × IsTaught asked files patterns palette × (after.out ≡ after_finish (after_bytes before.out (learned_text patterns palette)))
     by_end (whole answered has same takes) =
         let given = learn_given asked files has.task (planned rules asked files commands.Learn has.task is.built is.command_is has.is) in
         let answers : Some (done_with (learned_text given.0 given.1)) ≡ Some answered = subst (λ task. answer_of rules asked task ≡ Some answered) (sym given.2) has.answers in
@@ -179,25 +172,14 @@ known : (rules : List Rule) (words : List (List ℕ)) (before : Devices) (asked 
     → IsKnown rules words asked files work
 known rules words before asked files is work =
     let sample = work.task.sample in
-    let grid = sample.file.spelled.grid in
-    let symbols = symbols_of sample.grid in
-    let w = sample.grid.width in
-    let of_palette = numbered_grid sample.grid (sample.picture, work.palette) grid (ap (or_refuse refusals.Colours) sample.numbered) in
-    let made : sample.picture ≡ raster_of w (length symbols / w) (numbered symbols) = ap (λ (m : Raster × List Symbol). m.0) (indexed_is symbols w (sample.picture, work.palette) sample.numbered) in
-    let wide : sample.picture.width ≡ w = ap (λ (m : Raster). m.width) made in
-    let high : height_of sample.picture ≡ length symbols / w = ap height_of made ∙ height-raster_of w (length symbols / w) (numbered symbols) in
-    let many : length symbols ≡ w * sample.grid.height = length-map sample.grid.bytes (λ byte. Char byte) ∙ grid.filled.as_many in
-    let small : sample.picture.width * height_of sample.picture ≤ 1048576 =
-    subst (λ k. k * height_of sample.picture ≤ 1048576) (sym wide) (subst (λ h. w * h ≤ 1048576) (sym high) (omega (arith, mul-div-le (length symbols) w, many, sample.file.small))) in
     let asks = sample_asked asked commands.Fill (asked-in_range words asked is.given.spelled) is.built is.command_is refl refl in
+    let lesson = sample_lesson asked files work.task.kind work.patterns work.palette asks sample in
     let learned = learned_is sample.picture (side_of asked.source) asked.symmetry asked.wrap_in work.patterns sample.learned in
-    let are : IsPatterns work.patterns =
-    taught_are_patterns sample.picture (side_of asked.source) asked.symmetry asked.wrap_in work.patterns of_palette.raster asks.some_side asks.small_side asks.some_image asks.eight_images small sample.learned in
     record {
-      patterns = are;
+      patterns = lesson.patterns;
       taught = record { same_side = ap (λ (p : PatternsView). p.n) learned.2; same_wrap = refl; windows = ap (λ (p : PatternsView). p.windows) learned.2 };
       inside = pins_inside (texts_of work.palette) asked.width asked.height work.task.problem.lines work.task.problem.pins work.task.problem.meant;
-      problem = subst IsProblem (sym work.task.problem.problem) (sample_problem work.patterns (output_of asked) work.task.problem.pins are work.task.problem.room);
+      problem = subst IsProblem (sym work.task.problem.problem) (sample_problem work.patterns (output_of asked) work.task.problem.pins lesson.patterns work.task.problem.room);
     }
 
 -- the rule by which a run went

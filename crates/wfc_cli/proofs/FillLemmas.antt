@@ -1,7 +1,7 @@
 -- What `fill` has to know before it paints and writes a map.
 use Rattle.std.proofs.Common.{◌≡◌, ℕ, ◌<◌, ◌≤◌, ◌*◌, ◌⊎◌, inl, inr, true, false, Bool, nat_lt, List, [], ◌∷◌, length, map, Option, Some, None, Result, Ok, Err, ap, sym, ◌∙◌, subst, refl, arith, get_or, if◌then◌else◌}
 use Rattle.std.specs.Prelude.{All, IsTrue, slice_index}
-use Rattle.std.specs.List.{concat, range_with_len}
+use Rattle.std.specs.List.{concat, list_any, range_with_len}
 use Rattle.std.proofs.lemmas.List.{get_or_past, get_or_default}
 use Rattle.std.proofs.lemmas.List.Elements.{All-append, All-map}
 use Rattle.std.proofs.lemmas.List.FromFn.{length-map-range_with_len}
@@ -10,7 +10,7 @@ use Rattle.wfc_model.specs.Raster.{Raster, IsSized, numbers_of}
 use Rattle.wfc_model.specs.Window.{places}
 use Rattle.wfc_model.specs.Legal.{Pin}
 use Rattle.wfc_picture.specs.declared.symbol.Kind.{Kind}
-use Rattle.wfc_picture.specs.declared.symbol.Kind.TheVariants as kind
+use Rattle.wfc_picture.specs.declared.symbol.Kind.TheVariants as kinds
 use Rattle.wfc_picture.specs.declared.symbol.Symbol.{Symbol}
 use Rattle.wfc_pattern.specs.Patterns.{PatternsView, IsPatterns, window_at}
 use Rattle.wfc_problem.specs.Assignment.{IsLegalAssignment}
@@ -18,7 +18,7 @@ use Rattle.wfc_problem.specs.Network.{Network, IsProblem, values}
 use Rattle.wfc_problem.proofs.CallerLemmas.{base_inside}
 use Rattle.wfc_overlap.specs.Sample.{Output, output_with, problem_of_sample}
 use Rattle.wfc_overlap.specs.Bridge.{picture_of, pixel_of}
-use Rattle.wfc_render.specs.Layout.{IsLayout, layout_of, pixels_of, unless_large}
+use Rattle.wfc_render.specs.Layout.{IsLayout, form_for, forms_of, layout_in, layout_of, pixels_of, same_form}
 use Rattle.wfc_render.specs.Map.{IsWritten, is_of_kind}
 use Rattle.wfc_render.specs.declared.form.Form.{Form}
 use Rattle.wfc_render.specs.declared.form.Form.TheVariants as form
@@ -37,36 +37,53 @@ use Rattle.wfc_cli.specs.Answers.{output_of}
 
 -- ---- the layout
 
--- what the layout of a map of pixels of a grid is
-pub record IsGridLayout (width height : ℕ) (l : Layout) : Type 0 where
+-- what the layout of a map of pixels is
+pub record IsPixelLayout (kind : Kind) (width height : ℕ) (l : Layout) : Type 0 where
   pub layout : IsLayout l
-  pub kind : l.kind ≡ kind.Grid
+  pub same_kind : l.kind ≡ kind
   pub width_is : l.width ≡ width
   pub height_is : l.height ≡ height
   pub side : l.side ≡ 1
 
--- a layout that isn't too large
-small_layout : (form : Form) (width height : ℕ) (l : Layout)
-    → ((made : Layout) → made ≡ record { kind = kind.Grid; form = form; width = width; height = height; side = 1 } → layout_of kind.Grid (Some form) width height 1 ≡ unless_large made (pixels_of width height 1))
-    → (let made : Layout = record { kind = kind.Grid; form = form; width = width; height = height; side = 1 } in unless_large made (pixels_of width height 1)) ≡ Ok l → IsGridLayout width height l
-small_layout form width height l again is = by_size (nat_lt MAX_MAP_PIXELS (pixels_of width height 1)) refl is
+-- a form that a kind has can be asked for again
+form_again : (kind : Kind) (asked : Option Form) (form : Form) → form_for kind asked ≡ Some form → form_for kind (Some form) ≡ Some form
+form_again kinds.Grid None form.Grid is = refl
+form_again kinds.Grid None form.Cells is = refl
+form_again kinds.Grid None form.P6 is = absurd (cc)
+form_again kinds.Grid None form.P3 is = absurd (cc)
+form_again (kinds.Ppm maxval) None form.P6 is = refl
+form_again (kinds.Ppm maxval) None form.P3 is = refl
+form_again (kinds.Ppm maxval) None form.Cells is = refl
+form_again (kinds.Ppm maxval) None form.Grid is = absurd (cc)
+form_again kinds.Plain None form.Cells is = refl
+form_again kinds.Plain None form.Grid is = absurd (cc)
+form_again kinds.Plain None form.P6 is = absurd (cc)
+form_again kinds.Plain None form.P3 is = absurd (cc)
+form_again kind (Some wanted) form is = by_test (list_any (same_form wanted) (forms_of kind)) is
   where
-    made : Layout
-    made = record { kind = kind.Grid; form = form; width = width; height = height; side = 1 }
+    by_test : (there : Bool) → (if there then Some wanted else None) ≡ Some form → form_for kind (Some form) ≡ Some form
+    by_test true same = let one : wanted ≡ form = cc (same) in ap (form_for kind) (ap (λ f. let form : Option Form = Some f in form) (sym one)) ∙ is
+    by_test false same = absurd (cc)
 
-    by_size : (large : Bool) → nat_lt MAX_MAP_PIXELS (pixels_of width height 1) ≡ large → (if large then Err (fault.TooLarge (pixels_of width height 1)) else Ok made) ≡ Ok l → IsGridLayout width height l
-    by_size true large is = absurd (cc (is))
-    by_size false small is =
-        let same : made ≡ l = cc (is) in
-        let is_layout : IsLayout made = again made refl ∙ ap (λ b. if b then Err (fault.TooLarge (pixels_of width height 1)) else Ok made) small in
-        subst (λ l. IsGridLayout width height l) same (record { layout = is_layout; kind = refl; width_is = refl; height_is = refl; side = refl })
+-- a layout of pixels
+pixel_layout : (kind : Kind) (asked : Option Form) (width height : ℕ) (l : Layout) → layout_of kind asked width height 1 ≡ Ok l → IsPixelLayout kind width height l
+pixel_layout kind asked width height l is = by_form (form_for kind asked) refl is
+  where
+    made : Form → Layout
+    made form = record { kind = kind; form = form; width = width; height = height; side = 1 }
 
-grid_layout : (asked : Option Form) (width height : ℕ) (l : Layout) → layout_of kind.Grid asked width height 1 ≡ Ok l → IsGridLayout width height l
-grid_layout None width height l is = small_layout form.Grid width height l (λ made same. ap (λ l. unless_large l (pixels_of width height 1)) (sym same)) is
-grid_layout (Some form.Grid) width height l is = small_layout form.Grid width height l (λ made same. ap (λ l. unless_large l (pixels_of width height 1)) (sym same)) is
-grid_layout (Some form.Cells) width height l is = small_layout form.Cells width height l (λ made same. ap (λ l. unless_large l (pixels_of width height 1)) (sym same)) is
-grid_layout (Some form.P6) width height l is = absurd (cc (is))
-grid_layout (Some form.P3) width height l is = absurd (cc (is))
+    by_size : (form : Form) (large : Bool) → form_for kind (Some form) ≡ Some form → nat_lt MAX_MAP_PIXELS (pixels_of width height 1) ≡ large
+        → (if large then Err (fault.TooLarge (pixels_of width height 1)) else Ok (made form)) ≡ Ok l → IsPixelLayout kind width height l
+    by_size form true again large is = absurd (cc (is))
+    by_size form false again small is =
+        let same : made form ≡ l = cc (is) in
+        let is_layout : IsLayout (made form)
+        = ap (λ f. layout_in kind f width height 1) again ∙ ap (λ b. if b then Err (fault.TooLarge (pixels_of width height 1)) else Ok (made form)) small in
+        subst (λ l. IsPixelLayout kind width height l) same (record { layout = is_layout; same_kind = refl; width_is = refl; height_is = refl; side = refl })
+
+    by_form : (form : Option Form) → form_for kind asked ≡ form → layout_in kind form width height 1 ≡ Ok l → IsPixelLayout kind width height l
+    by_form None was is = absurd (cc (is))
+    by_form (Some form) was is = by_size form (nat_lt MAX_MAP_PIXELS (pixels_of width height 1)) (form_again kind asked form was) refl is
 
 -- what isn't refused is a layout
 laid_is : (result : Result Layout RenderFault) (l : Layout) → or_refuse Render result ≡ Ok l → result ≡ Ok l
@@ -124,17 +141,18 @@ painted_sized patterns output a wide high =
 pub picture_written : (asked : RequestView) (task : Filling) (a : List ℕ) (m : Raster) → IsOutputAsked asked → IsFilling asked task → m ≡ picture_of task.patterns (output_of asked) a
     → IsWritten task.layout task.palette m
 picture_written asked task a m output filling is =
-    let laid_out : IsGridLayout asked.width asked.height task.layout = grid_layout asked.form asked.width asked.height task.layout (laid_is (layout_of kind.Grid asked.form asked.width asked.height 1) task.layout filling.layout) in
+    let laid_out : IsPixelLayout filling.kind asked.width asked.height task.layout
+    = pixel_layout filling.kind asked.form asked.width asked.height task.layout (laid_is (layout_of filling.kind asked.form asked.width asked.height 1) task.layout filling.layout) in
     subst (λ m. IsWritten task.layout task.palette m) (sym is) (record {
       answered = laid_out.layout;
       pixels = laid_out.side;
-      kind = subst (λ k. All (λ symbol. IsTrue (is_of_kind k symbol)) task.palette) (sym laid_out.kind) filling.symbols;
-      some_symbol = filling.some_symbol;
+      kind = subst (λ k. All (λ symbol. IsTrue (is_of_kind k symbol)) task.palette) (sym laid_out.same_kind) filling.shown.symbols;
+      some_symbol = filling.shown.some_symbol;
       sized =
           subst (λ w. IsSized (picture_of task.patterns (output_of asked) a) w task.layout.height) (sym laid_out.width_is)
           (subst (λ h. IsSized (picture_of task.patterns (output_of asked) a) asked.width h) (sym laid_out.height_is)
           (painted_sized task.patterns (output_of asked) a output.some_width output.some_height));
-      numbers = painted_small (length task.palette) task.patterns (output_of asked) a filling.some_symbol filling.numbers;
+      numbers = painted_small (length task.palette) task.patterns (output_of asked) a filling.shown.some_symbol filling.numbers;
     })
 
 -- ---- the assignment

@@ -23,7 +23,7 @@ use Rattle.wfc_words.specs.declared.kinds.CommandKind.{CommandKind}
 use Rattle.wfc_words.specs.declared.kinds.CommandKind.TheVariants as commands
 use Rattle.wfc_task.specs.Built.{is_built, side_of}
 use Rattle.wfc_task.specs.Demo.{demo_patterns, demo_problem}
-use Rattle.wfc_task.specs.Given.{IsDomainsTask, IsFillTask, IsSample}
+use Rattle.wfc_task.specs.Given.{IsDomainsTask, IsFillTask, IsTaught}
 use Rattle.wfc_cli.specs.Answer.{Devices}
 use Rattle.wfc_cli.specs.Answers.{demo_budget, demo_text, fill_text, outcome_status, steps_text}
 use Rattle.wfc_cli.specs.Choosers.{kinds_of}
@@ -92,7 +92,7 @@ IsNeverSpent rules words before status =
 abbrev pub WritesLearned : List (List ℕ) → Devices → Devices → ℕ → Type 0
 WritesLearned words before after status =
     (asked : RequestView) (files : List File) → IsCommand commands.Learn words before asked files → status ≤ 2
-    → (status ≡ 0) × (patterns : PatternsView) × (palette : List Symbol) × IsSample asked files patterns palette × (after.out ≡ after_finish (after_bytes before.out (learned_text patterns palette)))
+    → (status ≡ 0) × (patterns : PatternsView) × (palette : List Symbol) × IsTaught asked files patterns palette × (after.out ≡ after_finish (after_bytes before.out (learned_text patterns palette)))
 
 -- statuses 0 and 1 of `domains`: the blocks before the first step and after each were written, and the status is 1 exactly where the root is dead
 abbrev pub WritesDomains : List (List ℕ) → Devices → Devices → ℕ → Type 0

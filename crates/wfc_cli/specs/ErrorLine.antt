@@ -25,6 +25,7 @@ abbrev pub name_of : RequestView → Source → List ℕ
 name_of asked source.Sample = asked.file
 name_of asked source.Pins = unwrap_or asked.pins []
 name_of asked source.Steps = unwrap_or asked.steps []
+name_of asked source.Refutation = unwrap_or asked.refutation []
 
 -- the exit status of words that were read as no request
 abbrev pub command_status : CommandFault → ℕ

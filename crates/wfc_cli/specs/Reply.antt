@@ -7,10 +7,10 @@ use Rattle.wfc_task.specs.Fault.{status_of}
 use Rattle.wfc_task.specs.declared.fault.Fault.{Fault}
 use Rattle.wfc_lines.specs.Command.{text_of_command}
 use Rattle.wfc_lines.specs.Line.{line}
-use Rattle.wfc_lines.specs.Outcome.{no_domains_text, no_map_text, out_failed_text, text_of_budget}
+use Rattle.wfc_lines.specs.Outcome.{map_exists_text, no_domains_text, no_map_text, out_failed_text, text_of_budget}
 use Rattle.wfc_cli.specs.ErrorLine.{command_status, fault_text}
 use Rattle.wfc_cli.specs.declared.reply.Verdict.{Verdict}
-use Rattle.wfc_cli.specs.declared.reply.Verdict.TheVariants.{Done, NoMap, Spent, Dead}
+use Rattle.wfc_cli.specs.declared.reply.Verdict.TheVariants.{Done, NoMap, Spent, Dead, MapExists}
 
 -- an answer: how the command ended, and the text that it writes, if it writes any
 pub record Answered : Type 0 where
@@ -31,6 +31,7 @@ verdict_status Done = 0
 verdict_status NoMap = 1
 verdict_status (Spent budget) = 2
 verdict_status Dead = 1
+verdict_status MapExists = 1
 
 -- what the error stream is told of a verdict
 abbrev pub verdict_text : Verdict → Option (List ℕ)
@@ -38,6 +39,7 @@ verdict_text Done = None
 verdict_text NoMap = Some no_map_text
 verdict_text (Spent budget) = Some (text_of_budget budget)
 verdict_text Dead = Some no_domains_text
+verdict_text MapExists = Some map_exists_text
 
 -- what leaves a call: its status, the text for the sink of the answer, and the text of the line for the error stream
 pub record Said : Type 0 where

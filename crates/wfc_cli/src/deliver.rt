@@ -7,7 +7,7 @@ ghost use Rattle.wfc_cli.specs.ReplyView.{reply_view};
 
 use crate::lines::tell_fault;
 use crate::reply::{Answer, Stop, Verdict};
-use wfc_lines::{budget_spent, command, no_domains, no_map, out_failed};
+use wfc_lines::{budget_spent, command, map_exists, no_domains, no_map, out_failed};
 use wfc_outside::{Sink, write_all};
 use wfc_task::Fault;
 use wfc_words::{CommandFault, Request};
@@ -65,5 +65,6 @@ fn tell_verdict<E: Sink>(err: &mut E, verdict: Verdict)
         Verdict::NoMap => no_map(err),
         Verdict::Spent { budget } => budget_spent(err, budget),
         Verdict::Dead => no_domains(err),
+        Verdict::MapExists => map_exists(err),
     };
 }

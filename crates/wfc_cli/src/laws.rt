@@ -32,6 +32,7 @@ pub fn statuses_are()
     ensures done { verdict_status verdicts.Done ≡ 0 }
     ensures none { verdict_status verdicts.NoMap ≡ 1 }
     ensures dead { verdict_status verdicts.Dead ≡ 1 }
+    ensures exists { verdict_status verdicts.MapExists ≡ 1 }
     ensures budget { verdict_status (verdicts.Spent 1000) ≡ 2 }
 {}
 

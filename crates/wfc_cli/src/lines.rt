@@ -34,6 +34,7 @@ fn name(request: &Request, source: Source) -> &str
         Source::Sample => request.file(),
         Source::Pins => request.pins().unwrap_or(""),
         Source::Steps => request.steps().unwrap_or(""),
+        Source::Refutation => request.refutation().unwrap_or(""),
     }
 }
 

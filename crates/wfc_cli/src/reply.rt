@@ -17,6 +17,8 @@ pub enum Verdict {
     Spent { budget: u32 },
     /// Some cell has no value before the first step.
     Dead,
+    /// A map was found where none was wanted.
+    MapExists,
 }
 
 /// The answer of a command.
@@ -65,7 +67,7 @@ impl Verdict {
     {
         match self {
             Verdict::Done => 0,
-            Verdict::NoMap | Verdict::Dead => 1,
+            Verdict::NoMap | Verdict::Dead | Verdict::MapExists => 1,
             Verdict::Spent { .. } => 2,
         }
     }

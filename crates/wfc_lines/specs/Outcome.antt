@@ -4,6 +4,9 @@ use Rattle.std.specs.Prelude.{ℕ, List, ◌++◌, codes, decimal}
 abbrev pub no_map_text : List ℕ
 no_map_text = codes "no map"
 
+abbrev pub map_exists_text : List ℕ
+map_exists_text = codes "map exists"
+
 abbrev pub no_domains_text : List ℕ
 no_domains_text = codes "no consistent domains"
 

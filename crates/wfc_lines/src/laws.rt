@@ -8,7 +8,7 @@ ghost use Rattle.wfc_lines.specs.Command.{text_of_chooser, text_of_command};
 ghost use Rattle.wfc_lines.specs.Grid.{text_of_grid};
 ghost use Rattle.wfc_lines.specs.Learn.{text_of_learn};
 ghost use Rattle.wfc_lines.specs.Line.{line};
-ghost use Rattle.wfc_lines.specs.Outcome.{no_domains_text, no_map_text, no_memory_text, out_failed_text, text_of_budget};
+ghost use Rattle.wfc_lines.specs.Outcome.{map_exists_text, no_domains_text, no_map_text, no_memory_text, out_failed_text, text_of_budget};
 ghost use Rattle.wfc_lines.specs.Palette.{text_of_palette};
 ghost use Rattle.wfc_lines.specs.Pins.{text_of_pins};
 ghost use Rattle.wfc_lines.specs.Reading.{text_of_reading};
@@ -34,6 +34,7 @@ pub fn lines_by_example()
 
 /// The texts of commands and devices, by example.
 pub fn texts_of_commands_by_example()
+    ensures map { map_exists_text ≡ codes "map exists" }
     ensures domains { no_domains_text ≡ codes "no consistent domains" }
     ensures budget { text_of_budget 1000 ≡ codes "budget spent budget=1000" }
     ensures refused { text_of_command commands.Refused ≡ codes "command refused" }

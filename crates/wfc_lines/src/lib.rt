@@ -23,7 +23,7 @@ pub use grids::grid;
 pub use layouts::render;
 pub use learning::learn;
 pub use line::{count, named, numbered, plain};
-pub use outcome::{budget_spent, no_domains, no_map, no_memory, out_failed};
+pub use outcome::{budget_spent, map_exists, no_domains, no_map, no_memory, out_failed};
 pub use palettes::palette;
 pub use pin_files::pins;
 pub use reads::reading;

@@ -3,7 +3,7 @@
 ghost use Rattle.std.specs.Prelude.{◌≡◌};
 ghost use Rattle.wfc_outside.specs.Sink.{Puts};
 ghost use Rattle.wfc_lines.specs.Line.{line};
-ghost use Rattle.wfc_lines.specs.Outcome.{no_domains_text, no_map_text, no_memory_text, out_failed_text, text_of_budget};
+ghost use Rattle.wfc_lines.specs.Outcome.{map_exists_text, no_domains_text, no_map_text, no_memory_text, out_failed_text, text_of_budget};
 
 use crate::line::{count, plain};
 use wfc_outside::{Sink, SinkFault};
@@ -13,6 +13,13 @@ pub fn no_map<E: Sink>(err: &mut E) -> Result<(), SinkFault>
     ensures told { Puts (E.seen err.old) (E.seen err.new) (line no_map_text) result }
 {
     plain(err, "no map")
+}
+
+/// Puts that there is a map.
+pub fn map_exists<E: Sink>(err: &mut E) -> Result<(), SinkFault>
+    ensures told { Puts (E.seen err.old) (E.seen err.new) (line map_exists_text) result }
+{
+    plain(err, "map exists")
 }
 
 /// Puts that no domains are consistent.

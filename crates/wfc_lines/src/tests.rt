@@ -1,7 +1,7 @@
 //! The lines of every kind, by a table, and a front of a line where the sink is full.
 
 use crate::{
-    budget_spent, build, chooser, command, grid, learn, no_domains, no_map, no_memory, out_failed,
+    budget_spent, build, chooser, command, grid, learn, map_exists, no_domains, no_map, no_memory, out_failed,
     palette, pins, range, reading, render, steps,
 };
 use std::test::Fail;
@@ -18,6 +18,7 @@ use wfc_words::{CommandFault, ValueName};
 #[derive(Clone, Copy)]
 enum Kind {
     NoMap,
+    MapExists,
     NoDomains,
     Budget(u32),
     Out,
@@ -38,6 +39,7 @@ enum Kind {
 fn put(sink: &mut MemorySink, kind: Kind, file: &str) -> Result<(), SinkFault> {
     match kind {
         Kind::NoMap => no_map(sink),
+        Kind::MapExists => map_exists(sink),
         Kind::NoDomains => no_domains(sink),
         Kind::Budget(budget) => budget_spent(sink, budget),
         Kind::Out => out_failed(sink),
@@ -58,8 +60,9 @@ fn put(sink: &mut MemorySink, kind: Kind, file: &str) -> Result<(), SinkFault> {
 
 #[test]
 fn puts_lines(rt: HostRuntime) -> Result<(), Fail> {
-    let cases: [(Kind, &str); 29] = [
+    let cases: [(Kind, &str); 30] = [
         (Kind::NoMap, "no map"),
+        (Kind::MapExists, "map exists"),
         (Kind::NoDomains, "no consistent domains"),
         (Kind::Budget(1_000_000), "budget spent budget=1000000"),
         (Kind::Out, "device Failed out"),

@@ -1,7 +1,6 @@
 -- How many steps a file has.
-use Rattle.std.proofs.Common.{◌≡◌, ℕ, ◌+◌, ◌≤◌, not, List, [], ◌∷◌, ◌++◌, length, Result, Ok, Err, ap, sym, ◌∙◌, refl, arith}
+use Rattle.std.proofs.Common.{◌≡◌, ℕ, ◌+◌, ◌≤◌, not, List, [], ◌∷◌, ◌++◌, length, Result, Ok, Err, ap, sym, refl, arith}
 use Rattle.std.proofs.lemmas.List.Sums.{count_by-le-length, length-filter}
-use Rattle.wfc_outside.specs.Gives.{result_map}
 use Rattle.wfc_text.specs.Line.{LineView, lines_of}
 use Rattle.wfc_pins.specs.InOrder.{and_rest}
 use Rattle.wfc_pins.specs.Words.{is_skipped, read_lines}

@@ -1,20 +1,18 @@
 -- What a demonstration runs on: nothing of it is refused.
-use Rattle.std.proofs.Common.{◌≡◌, ℕ, ◌+◌, ◌-◌, ◌*◌, ◌/◌, ◌%◌, ◌<◌, ◌≤◌, nat_lt, nat_eq, ◌||◌, Bool, true, false, List, [], ◌∷◌, ◌++◌, length, map, take, drop, Result, Ok, Err, ap, sym, ◌∙◌, subst, refl, arith, add-one, zero-add, inl, inr, if◌then◌else◌}
+use Rattle.std.proofs.Common.{◌≡◌, ℕ, ◌+◌, ◌*◌, ◌/◌, ◌%◌, ◌<◌, ◌≤◌, nat_lt, nat_eq, ◌||◌, false, List, [], ◌∷◌, ◌++◌, length, map, take, drop, Result, Ok, Err, ap, sym, ◌∙◌, subst, refl, arith, add-one, zero-add, inl, inr}
 use Rattle.std.specs.List.{position_or_len, range_with_len}
 use Rattle.std.proofs.lemmas.Bool.Decides.{nat_tests}
 use Rattle.std.proofs.lemmas.List.{length-map, length-take, map-append}
 use Rattle.std.proofs.lemmas.List.FromFn.{length-map-range_with_len}
 use Rattle.std.proofs.lemmas.Nat.{div-mul-add, mul-le}
 use Rattle.std.specs.Cmp.Lexicographic.{pointwise}
-use Rattle.wfc_lists.specs.Unrepeated.{unrepeated}
 use Rattle.wfc_lists.proofs.Unrepeated.{length-unrepeated}
 use Rattle.wfc_lists.proofs.Ranges.{range_more}
-use Rattle.wfc_outside.specs.Gives.{result_map}
 use Rattle.wfc_model.specs.Raster.{IsFilled, Raster, height_of, raster_of}
 use Rattle.wfc_model.specs.Window.{places, starts}
 use Rattle.wfc_model.specs.Learned.{arising, learned}
 use Rattle.wfc_model.proofs.CallerLemmas.{length-places, IsSized-raster_of}
-use Rattle.wfc_picture.specs.Palette.{first_past, indexed, numbered, palette_of}
+use Rattle.wfc_picture.specs.Palette.{indexed, numbered, palette_of}
 use Rattle.wfc_picture.specs.Symbol.{same_symbol}
 use Rattle.wfc_picture.specs.declared.palette.PaletteFault.{PaletteFault}
 use Rattle.wfc_picture.specs.declared.palette.TheConstants.{MAX_COLOURS}
@@ -22,11 +20,8 @@ use Rattle.wfc_picture.specs.declared.symbol.Symbol.{Symbol}
 use Rattle.wfc_picture.proofs.PaletteLemmas.{none_past, indexed-made}
 use Rattle.wfc_pattern.specs.Learning.{is_below_n, learned_patterns, patterns_of}
 use Rattle.wfc_pattern.specs.Patterns.{PatternsView, IsPatterns}
-use Rattle.wfc_pattern.specs.declared.learning.LearnFault.{LearnFault}
 use Rattle.wfc_pattern.proofs.CallerLemmas.{few_enough, taught_are_patterns}
 use Rattle.wfc_pattern.proofs.LearningLemmas.{length-arising}
-use Rattle.wfc_problem.specs.Network.{Network}
-use Rattle.wfc_pins.specs.declared.fault.BuildFault.{BuildFault}
 use Rattle.wfc_overlap.specs.Built.{built}
 use Rattle.wfc_overlap.specs.Bridge.{pairs}
 use Rattle.wfc_overlap.specs.Sample.{Output, output_with, problem_of_sample}

@@ -1,31 +1,30 @@
 -- What holds of what steps come to.
-use Rattle.std.proofs.Common.{◌≡◌, ℕ, ◌+◌, ◌*◌, ◌/◌, ◌<◌, ◌≤◌, ◌||◌, nat_lt, Bool, true, false, inl, inr, List, [], length, map, Option, None, Some, Result, Ok, Err, ap, sym, ◌∙◌, subst, refl, arith, if◌then◌else◌}
+use Rattle.std.proofs.Common.{◌≡◌, ℕ, ◌+◌, ◌*◌, ◌/◌, ◌%◌, ◌<◌, ◌≤◌, ◌||◌, nat_lt, Bool, true, false, inl, inr, List, length, Option, None, Some, Result, Ok, Err, ap, sym, ◌∙◌, subst, refl, arith, if◌then◌else◌}
 use Rattle.std.specs.Prelude.{IfOk, All, Contains, IsTrue}
-use Rattle.std.specs.Str.{bytes_eq}
 use Rattle.std.proofs.lemmas.Bool.Decides.{nat_tests}
 use Rattle.std.proofs.lemmas.Nat.{div-mul-add, mul-le}
-use Rattle.std.proofs.Math.Nat.{mul_comm}
+use Rattle.std.proofs.Math.Nat.{mul_comm, mul-mod_right}
 use Rattle.std.proofs.lemmas.List.{length-map}
 use Rattle.std.proofs.lemmas.List.Elements.{All-contains, All-map, All-weaker}
 use Rattle.wfc_lists.proofs.Unrepeated.{All-unrepeated, some_unrepeated}
 use Rattle.wfc_outside.specs.Gives.{result_map}
-use Rattle.wfc_model.specs.Raster.{Raster, IsFilled, IsRaster, IsSized, height_of, numbers_of, raster_of}
+use Rattle.wfc_model.specs.Raster.{Raster, IsFilled, height_of, numbers_of, raster_of}
 use Rattle.wfc_model.specs.Legal.{Pin}
 use Rattle.wfc_model.specs.Learned.{learned}
 use Rattle.wfc_model.proofs.CallerLemmas.{IsSized-raster_of, learned_known, numbers_of-raster_of}
-use Rattle.wfc_grid.specs.Grid.{GridView, IsGrid, is_cell}
+use Rattle.wfc_grid.specs.Grid.{GridView, IsGrid}
+use Rattle.wfc_grid.specs.declared.reading.TheConstants.{MAX_CELLS}
 use Rattle.wfc_picture.specs.Palette.{first_past, indexed, numbered, palette_of, unless_past}
 use Rattle.wfc_picture.specs.Symbol.{same_symbol}
-use Rattle.wfc_picture.specs.declared.palette.PaletteFault.{PaletteFault}
 use Rattle.wfc_picture.specs.declared.palette.TheConstants.{MAX_COLOURS, MAX_PIXELS}
 use Rattle.wfc_picture.specs.declared.symbol.Symbol.{Symbol}
 use Rattle.wfc_picture.specs.declared.symbol.Symbol.TheVariants.{Char}
-use Rattle.wfc_picture.specs.declared.symbol.Kind.TheVariants as kind
+use Rattle.wfc_picture.specs.declared.symbol.Kind.{Kind}
+use Rattle.wfc_picture.specs.declared.symbol.Kind.TheVariants as kinds
 use Rattle.wfc_picture.proofs.CallerLemmas.{numbered_below}
 use Rattle.wfc_pattern.specs.Learning.{is_below_n, learned_patterns, patterns_of}
 use Rattle.wfc_pattern.specs.Patterns.{PatternsView, IsPatterns}
 use Rattle.wfc_pattern.specs.declared.TheConstants.{MAX_PATTERNS}
-use Rattle.wfc_pattern.specs.declared.learning.LearnFault.{LearnFault}
 use Rattle.wfc_pattern.specs.declared.learning.LearnFault.TheVariants.{SampleBelowN, TooManyPatterns}
 use Rattle.wfc_pattern.proofs.CallerLemmas.{taught_are_patterns}
 use Rattle.wfc_problem.specs.Network.{Network, IsProblem}
@@ -40,13 +39,12 @@ use Rattle.wfc_overlap.proofs.CallerLemmas.{sample_problem}
 use Rattle.wfc_render.specs.Map.{is_of_kind}
 use Rattle.wfc_words.specs.RequestView.{RequestView}
 use Rattle.wfc_task.specs.declared.fault.Refusal.{Refusal}
-use Rattle.wfc_task.specs.declared.fault.Refusal.TheVariants.{Colours}
-use Rattle.wfc_task.specs.declared.task.Taught.{Taught}
-use Rattle.wfc_task.specs.Asked.{IsSampleAsked, IsOutputAsked}
+use Rattle.wfc_task.specs.Asked.{IsSampleAsked}
 use Rattle.wfc_task.specs.Built.{side_of}
-use Rattle.wfc_task.specs.Filling.{IsShown, IsNumbered, IsLesson, IsPosed}
+use Rattle.wfc_task.specs.Filling.{IsNumbered, IsLesson, IsPosed, IsSampled}
 use Rattle.wfc_task.specs.Plan.{GivesStep}
-use Rattle.wfc_task.specs.Steps.{coloured, or_refuse, posed, symbols_of, taught}
+use Rattle.wfc_task.specs.Sampled.{SampledView, of_grid, symbols_of}
+use Rattle.wfc_task.specs.Steps.{coloured, or_refuse, posed, taught}
 
 -- a step that came to a value is that value
 pub step_is : {T : Type 0} (wanted : Result T Refusal) (value : T) → GivesStep wanted (Ok value) → wanted ≡ Ok value
@@ -94,23 +92,44 @@ built_is patterns palette output lines P is =
     by_tests false false false (Err fault) p q r t is = absurd (cc)
     by_tests false false false (Ok pins) p q r t is = (record { wide = grind (arith, nat_tests, p); high = grind (arith, nat_tests, q); few_pairs = grind (arith, nat_tests, r) }, (pins, t, cc))
 
--- what a grid's pixels are numbered as
-pub numbered_grid : (grid : GridView) (made : Raster × List Symbol) → IsGrid grid → coloured grid ≡ Ok made → IsNumbered made.0 made.1
-numbered_grid grid made is_grid is =
-    let symbols = symbols_of grid in
-    let many : length symbols ≡ grid.width * grid.height = length-map grid.bytes (λ byte. Char byte) ∙ is_grid.filled.as_many in
-    let same : made ≡ (raster_of grid.width (length symbols / grid.width) (numbered symbols), palette_of symbols) = indexed_is symbols grid.width made (unrefused _ (indexed symbols grid.width) made is) in
-    let high : length symbols / grid.width ≡ grid.height = ap (λ m. m / grid.width) many ∙ whole grid.width grid.height is_grid.filled.some_column in
-    let as_many : length (numbered symbols) ≡ grid.width * grid.height = length-map symbols _ ∙ many in
-    let filled : IsFilled grid.width (length symbols / grid.width) (numbered symbols)
-    = subst (λ h. IsFilled grid.width h (numbered symbols)) (sym high) (record { some_column = is_grid.filled.some_column; some_row = is_grid.filled.some_row; as_many = as_many }) in
-    subst (λ (made : Raster × List Symbol). IsNumbered made.0 made.1) (sym same) (record {
-      raster = (IsSized-raster_of grid.width (length symbols / grid.width) (numbered symbols) filled).raster;
+-- what a grid shows
+pub grid_sampled : (grid : GridView) → IsGrid grid → grid.width * grid.height ≤ MAX_CELLS → IsSampled (of_grid grid)
+grid_sampled grid is_grid small =
+    let many : length (symbols_of grid) ≡ grid.width * grid.height = length-map grid.bytes (λ byte. Char byte) ∙ is_grid.filled.as_many in
+    record {
+      height = grid.height;
+      filled = record { some_column = is_grid.filled.some_column; some_row = is_grid.filled.some_row; as_many = many };
+      small = omega (arith, many, small);
+      symbols = All-map (λ symbol. IsTrue (is_of_kind kinds.Grid symbol)) (λ byte. Char byte) grid.bytes is_grid.printable;
+    }
+
+-- whose pixels are whole rows, and some
+pub sampled_rows : (sampled : SampledView) → IsSampled sampled → length sampled.symbols % sampled.width ≡ 0
+sampled_rows sampled is = ap (λ n. n % sampled.width) is.filled.as_many ∙ mul-mod_right sampled.width is.height
+
+pub sampled_some : (sampled : SampledView) → IsSampled sampled → 0 < length sampled.symbols
+sampled_some sampled is = some_pixel sampled.width is.height (length sampled.symbols) is.filled.as_many is.filled.some_column is.filled.some_row
+  where
+    some_pixel : (width height many : ℕ) → many ≡ width * height → 0 < width → 0 < height → 0 < many
+    some_pixel width height many is some high = let one : 1 * 1 ≤ width * height = mul-le 1 1 width height some high in omega arith
+
+-- what the pixels of a sample are numbered as
+pub numbered_sample : (sampled : SampledView) (made : Raster × List Symbol) → IsSampled sampled → coloured sampled ≡ Ok made → IsNumbered sampled.kind made.0 made.1
+numbered_sample sampled made shows is =
+    let symbols = sampled.symbols in
+    let many : length symbols ≡ sampled.width * shows.height = shows.filled.as_many in
+    let same : made ≡ (raster_of sampled.width (length symbols / sampled.width) (numbered symbols), palette_of symbols) = indexed_is symbols sampled.width made (unrefused _ (indexed symbols sampled.width) made is) in
+    let high : length symbols / sampled.width ≡ shows.height = ap (λ m. m / sampled.width) many ∙ whole sampled.width shows.height shows.filled.some_column in
+    let as_many : length (numbered symbols) ≡ sampled.width * shows.height = length-map symbols _ ∙ many in
+    let filled : IsFilled sampled.width (length symbols / sampled.width) (numbered symbols)
+    = subst (λ h. IsFilled sampled.width h (numbered symbols)) (sym high) (record { some_column = shows.filled.some_column; some_row = shows.filled.some_row; as_many = as_many }) in
+    subst (λ (made : Raster × List Symbol). IsNumbered sampled.kind made.0 made.1) (sym same) (record {
+      raster = (IsSized-raster_of sampled.width (length symbols / sampled.width) (numbered symbols) filled).raster;
       shown = record {
-        symbols = All-unrepeated same_symbol (λ symbol. IsTrue (is_of_kind kind.Grid symbol)) symbols (All-map (λ symbol. IsTrue (is_of_kind kind.Grid symbol)) (λ byte. Char byte) grid.bytes is_grid.printable);
-        some_symbol = some_unrepeated same_symbol symbols (some_pixel grid.width grid.height (length symbols) many is_grid.filled.some_column is_grid.filled.some_row);
+        symbols = All-unrepeated same_symbol (λ symbol. IsTrue (is_of_kind sampled.kind symbol)) symbols shows.symbols;
+        some_symbol = some_unrepeated same_symbol symbols (sampled_some sampled shows);
       };
-      numbers = subst (λ ns. All (λ number. number < length (palette_of symbols)) ns) (sym (numbers_of-raster_of grid.width (length symbols / grid.width) (numbered symbols) filled.as_many)) (numbered_below symbols);
+      numbers = subst (λ ns. All (λ number. number < length (palette_of symbols)) ns) (sym (numbers_of-raster_of sampled.width (length symbols / sampled.width) (numbered symbols) filled.as_many)) (numbered_below symbols);
     })
   where
     commute : (width height : ℕ) → width * height ≡ height * width + 0
@@ -119,13 +138,10 @@ numbered_grid grid made is_grid is =
     whole : (width height : ℕ) → 0 < width → width * height / width ≡ height
     whole width height some = ap (λ m. m / width) (commute width height) ∙ div-mul-add height width 0 some
 
-    some_pixel : (width height many : ℕ) → many ≡ width * height → 0 < width → 0 < height → 0 < many
-    some_pixel width height many is some high = let one : 1 * 1 ≤ width * height = mul-le 1 1 width height some high in omega arith
-
 -- what such a picture teaches
-pub lesson_of : (asked : RequestView) (picture : Raster) (palette : List Symbol) (patterns : PatternsView) → IsSampleAsked asked → IsNumbered picture palette → picture.width * height_of picture ≤ MAX_PIXELS
-    → taught asked picture ≡ Ok patterns → IsLesson (record { palette = palette; patterns = patterns })
-lesson_of asked picture palette patterns asks of_palette small is =
+pub lesson_of : (asked : RequestView) (kind : Kind) (picture : Raster) (palette : List Symbol) (patterns : PatternsView) → IsSampleAsked asked → IsNumbered kind picture palette → picture.width * height_of picture ≤ MAX_PIXELS
+    → taught asked picture ≡ Ok patterns → IsLesson (record { kind = kind; palette = palette; patterns = patterns })
+lesson_of asked kind picture palette patterns asks of_palette small is =
     let n = side_of asked.source in
     let gives = unrefused _ (patterns_of picture n asked.symmetry asked.wrap_in) patterns is in
     let same = (learned_is picture n asked.symmetry asked.wrap_in patterns gives).2 in
@@ -152,10 +168,9 @@ posed_of asked patterns palette lines P are is =
     }
 
 -- the same of results
-pub numbered_result : (grid : GridView) (symbols : List Symbol) (result : Result (Raster × List Symbol) Refusal) → symbols ≡ symbols_of grid → IsGrid grid → GivesStep (or_refuse Colours (indexed symbols grid.width)) result
-    → IfOk result (λ made. IsNumbered made.0 made.1)
-numbered_result grid symbols (Err refusal) same is_grid gives = tt
-numbered_result grid symbols (Ok made) same is_grid gives = numbered_grid grid made is_grid (ap (λ symbols. or_refuse Colours (indexed symbols grid.width)) (sym same) ∙ step_is (or_refuse Colours (indexed symbols grid.width)) made gives)
+pub numbered_result : (sampled : SampledView) (result : Result (Raster × List Symbol) Refusal) → IsSampled sampled → GivesStep (coloured sampled) result → IfOk result (λ made. IsNumbered sampled.kind made.0 made.1)
+numbered_result sampled (Err refusal) shows gives = tt
+numbered_result sampled (Ok made) shows gives = numbered_sample sampled made shows (step_is (coloured sampled) made gives)
 
 pub posed_result : (asked : RequestView) (patterns : PatternsView) (palette : List Symbol) (lines : List PinView) (result : Result Network Refusal) → IsPatterns patterns → GivesStep (posed asked patterns palette lines) result
     → IfOk result (IsPosed asked patterns)

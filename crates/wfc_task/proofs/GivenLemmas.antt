@@ -1,12 +1,11 @@
 -- What plans come to over told files, in the subject's words.
-use Rattle.std.proofs.Common.{◌≡◌, ℕ, ◌+◌, ◌*◌, ◌<◌, ◌≤◌, ◌||◌, nat_lt, Bool, true, false, List, [], ◌∷◌, length, Option, None, Some, Result, Ok, Err, ap, sym, ◌∙◌, subst, refl, arith, if◌then◌else◌}
+use Rattle.std.proofs.Common.{◌≡◌, ℕ, nat_lt, Bool, true, false, List, [], length, Option, None, Some, Result, Ok, Err, ap, sym, ◌∙◌, subst, refl, arith, inl, if◌then◌else◌}
 use Rattle.std.specs.Prelude.{Contains}
 use Rattle.std.specs.List.{list_any}
 use Rattle.std.proofs.lemmas.Bool.Decides.{nat_tests}
 use Rattle.wfc_lists.proofs.Lists.{any_Contains, Contains_any}
 use Rattle.wfc_outside.specs.Gives.{result_map}
 use Rattle.wfc_outside.specs.Folder.{File, file_of}
-use Rattle.wfc_outside.specs.declared.whole.ReadFault.{ReadFault}
 use Rattle.wfc_outside.specs.declared.whole.ReadFault.TheVariants as reading
 use Rattle.wfc_model.specs.Legal.{Pin}
 use Rattle.wfc_model.specs.Raster.{Raster}
@@ -16,7 +15,8 @@ use Rattle.wfc_grid.specs.declared.reading.GridFault.{GridFault}
 use Rattle.wfc_grid.proofs.CallerLemmas.{grid_read, read_grid}
 use Rattle.wfc_picture.specs.Palette.{indexed}
 use Rattle.wfc_picture.specs.declared.symbol.Symbol.{Symbol}
-use Rattle.wfc_picture.specs.declared.symbol.Kind.TheVariants as kind
+use Rattle.wfc_picture.specs.declared.symbol.Kind.{Kind}
+use Rattle.wfc_picture.specs.declared.palette.PaletteFault.{PaletteFault}
 use Rattle.wfc_pattern.specs.Learning.{patterns_of}
 use Rattle.wfc_pattern.specs.Patterns.{PatternsView}
 use Rattle.wfc_problem.specs.Network.{Network}
@@ -25,7 +25,6 @@ use Rattle.wfc_pins.specs.PinView.{PinView}
 use Rattle.wfc_pins.specs.Pins.{pins_of}
 use Rattle.wfc_pins.specs.Steps.{range_fault, steps_of}
 use Rattle.wfc_pins.specs.declared.fault.BuildFault.{BuildFault}
-use Rattle.wfc_pins.specs.declared.fault.BuildFault.TheVariants.{SizeBelowN, TooLarge}
 use Rattle.wfc_pins.specs.declared.steps.StepLine.{StepLine}
 use Rattle.wfc_pins.specs.declared.steps.RangeFault.{RangeFault}
 use Rattle.wfc_overlap.specs.Bridge.{IsRoom, pairs}
@@ -44,14 +43,18 @@ use Rattle.wfc_task.specs.declared.fault.Refusal.TheVariants as refusals
 use Rattle.wfc_task.specs.declared.task.Taught.{Taught}
 use Rattle.wfc_task.specs.Built.{side_of}
 use Rattle.wfc_task.specs.Demo.{demo_patterns, demo_problem}
-use Rattle.wfc_task.specs.Given.{IsFile, IsGridFile, IsSample, HoldsPins, HoldsSteps, IsProblemOf, IsFillTask, IsDomainsTask}
-use Rattle.wfc_task.specs.Plan.{Plan, done, read, step, and_then, most_bytes, reading_of, after_reading, outcome}
-use Rattle.wfc_task.specs.Steps.{chosen, coloured, fitting, grid_in, laid, or_refuse, posed, same_rule, steps_in, symbols_of, taught, unless_out}
+use Rattle.wfc_task.specs.Given.{IsFile, IsSample, IsSampleFile, IsTaught, ShowsGrid, HoldsPins, HoldsSteps, IsProblemOf, IsFillTask, IsDomainsTask}
+use Rattle.wfc_task.specs.Plan.{Plan, done, step, and_then, most_bytes, reading_of, after_reading, outcome}
+use Rattle.wfc_task.specs.Sampled.{SampledView, of_grid}
+use Rattle.wfc_task.specs.Steps.{chosen, coloured, fitting, grid_in, laid, or_refuse, posed, same_rule, sampled_in, steps_in, taught, unless_out}
 use Rattle.wfc_task.specs.Steps.{pins_in as lines_in}
-use Rattle.wfc_task.specs.Task.{Task, learn, fill, domains, demo, file_plan, grid_plan, picture_plan, sample_plan, pins_plan, pins_file_plan, problem_plan, steps_file_plan, steps_plan, learn_plan, fill_plan, domains_plan, demo_plan}
-use Rattle.wfc_task.proofs.FillingLemmas.{built_is, unrefused}
+use Rattle.wfc_task.specs.Task.{Task, learn, fill, domains, demo, file_plan, picture_plan, sample_plan, sampled_plan, pins_plan, problem_plan, steps_plan, learn_plan, fill_plan, domains_plan, demo_plan}
+use Rattle.wfc_task.specs.Asked.{IsSampleAsked}
+use Rattle.wfc_task.specs.Filling.{IsLesson, IsNumbered, IsSampled}
+use Rattle.wfc_task.proofs.FillingLemmas.{built_is, grid_sampled, lesson_of, numbered_sample, unrefused}
+use Rattle.wfc_task.proofs.StepLemmas.{made_small}
 use Rattle.wfc_task.proofs.PlanLemmas.{outcome_on, outcome_parts}
-use Rattle.wfc_task.proofs.TaskLemmas.{behind_lesson, behind_layout, behind_picture, behind_problem, behind_sample}
+use Rattle.wfc_task.proofs.TaskLemmas.{behind_lesson, behind_layout, behind_picture, behind_problem, behind_sample, behind_sampled}
 
 -- a step that comes to a value, and a value that a step comes to
 step_ok : {T : Type 0} (result : Result T Refusal) (files : List File) (value : T) → outcome (step result) files ≡ Ok value → result ≡ Ok value
@@ -88,43 +91,76 @@ given_file source name files bytes file =
     let reading : reading_of most_bytes (file_of files name) ≡ Ok bytes = rw (file.there, short) refl in
     ap (after_reading source (λ bytes. let end : Result (List ℕ) Fault = Ok bytes in end)) reading
 
--- grids
-grid_given : (source : Source) (name : List ℕ) (files : List File) (grid : GridView) → outcome (grid_plan source name) files ≡ Ok grid → IsGridFile files name grid
-grid_given source name files grid is =
-    let parts = outcome_parts (file_plan source name) (λ bytes. step (grid_in source bytes)) files grid is in
-    let spelled = read_grid parts.0 grid (unrefused (refusals.Grid source) (grid_of parts.0) grid (step_ok (grid_in source parts.0) files grid parts.2)) in
-    record { bytes = parts.0; file = file_given source name files parts.0 parts.1; spelled = spelled.0; small = spelled.1 }
-
-given_grid : (source : Source) (name : List ℕ) (files : List File) (grid : GridView) → IsGridFile files name grid → outcome (grid_plan source name) files ≡ Ok grid
-given_grid source name files grid file =
-    outcome_on (file_plan source name) (λ bytes. step (grid_in source bytes)) files file.bytes (given_file source name files file.bytes file.file)
-    ∙ ok_step (grid_in source file.bytes) files grid (ok_refused (refusals.Grid source) (grid_of file.bytes) grid (grid_read file.bytes grid file.spelled file.small))
-
 -- samples
-sample_given : (asked : RequestView) (files : List File) (lesson : Taught) → outcome (sample_plan asked) files ≡ Ok lesson → IsSample asked files lesson.patterns lesson.palette
+shown_given : (bytes : List ℕ) (sampled : SampledView) → result_map of_grid (grid_in Sample bytes) ≡ Ok sampled → ShowsGrid bytes sampled
+shown_given bytes sampled is = by_grid (grid_of bytes) refl is
+  where
+    by_grid : (read : Result GridView GridFault) → grid_of bytes ≡ read → result_map of_grid (or_refuse (refusals.Grid Sample) read) ≡ Ok sampled → ShowsGrid bytes sampled
+    by_grid (Ok grid) was is = let spelled = read_grid bytes grid was in record { grid = grid; spelled = spelled.0; small = spelled.1; shows = let same : of_grid grid ≡ sampled = cc (is) in sym same }
+    by_grid (Err fault) was is = absurd (cc (is))
+
+given_shown : (bytes : List ℕ) (sampled : SampledView) → ShowsGrid bytes sampled → result_map of_grid (grid_in Sample bytes) ≡ Ok sampled
+given_shown bytes sampled shown =
+    ap (λ read. result_map of_grid (or_refuse (refusals.Grid Sample) read)) (grid_read bytes shown.grid shown.spelled shown.small)
+    ∙ ap (λ sampled. let end : Result SampledView Refusal = Ok sampled in end) (sym shown.shows)
+
+sampled_given : (asked : RequestView) (files : List File) (sampled : SampledView) → outcome (sampled_plan asked) files ≡ Ok sampled → IsSampleFile files asked.file sampled
+sampled_given asked files sampled is =
+    let parts = outcome_parts (file_plan Sample asked.file) (λ bytes. step (sampled_in asked bytes)) files sampled is in
+    record { bytes = parts.0; file = file_given Sample asked.file files parts.0 parts.1; shows = shown_given parts.0 sampled (step_ok (sampled_in asked parts.0) files sampled parts.2) }
+
+given_sampled : (asked : RequestView) (files : List File) (sampled : SampledView) → IsSampleFile files asked.file sampled → outcome (sampled_plan asked) files ≡ Ok sampled
+given_sampled asked files sampled file =
+    outcome_on (file_plan Sample asked.file) (λ bytes. step (sampled_in asked bytes)) files file.bytes (given_file Sample asked.file files file.bytes file.file)
+    ∙ ok_step (sampled_in asked file.bytes) files sampled (given_shown file.bytes sampled file.shows)
+
+sample_given : (asked : RequestView) (files : List File) (lesson : Taught) → outcome (sample_plan asked) files ≡ Ok lesson → IsSample asked files lesson.kind lesson.patterns lesson.palette
 sample_given asked files lesson is =
     let seen = outcome_parts (picture_plan asked) (behind_picture asked) files lesson is in
-    let shown = outcome_parts (grid_plan Sample asked.file) (λ grid. step (coloured grid)) files seen.0 seen.1 in
-    let known = outcome_parts (step (taught asked seen.0.0)) (λ patterns. let end : Plan Taught = done (record { patterns = patterns; palette = seen.0.1 }) in end) files lesson seen.2 in
-    let same : record { patterns = known.0; palette = seen.0.1 } ≡ lesson = done_is _ lesson files known.2 in
-    subst (λ (lesson : Taught). IsSample asked files lesson.patterns lesson.palette) same (record {
-      grid = shown.0;
-      file = grid_given Sample asked.file files shown.0 shown.1;
-      picture = seen.0.0;
-      numbered = unrefused refusals.Colours (indexed (symbols_of shown.0) shown.0.width) seen.0 (step_ok (coloured shown.0) files seen.0 shown.2);
-      learned = unrefused refusals.Learn (patterns_of seen.0.0 (side_of asked.source) asked.symmetry asked.wrap_in) known.0 (step_ok (taught asked seen.0.0) files known.0 known.1);
+    let shown = outcome_parts (sampled_plan asked) behind_sampled files seen.0 seen.1 in
+    let painted = outcome_parts (step (coloured shown.0)) (λ made. let end : Plan (Kind × Raster × List Symbol) = done (shown.0.kind, made.0, made.1) in end) files seen.0 shown.2 in
+    let known = outcome_parts (step (taught asked seen.0.1)) (λ patterns. let end : Plan Taught = done (record { kind = seen.0.0; palette = seen.0.2; patterns = patterns }) in end) files lesson seen.2 in
+    let same : record { kind = seen.0.0; palette = seen.0.2; patterns = known.0 } ≡ lesson = done_is _ lesson files known.2 in
+    let pieces : (shown.0.kind, painted.0.0, painted.0.1) ≡ seen.0 = done_is _ seen.0 files painted.2 in
+    let numbers : indexed shown.0.symbols shown.0.width ≡ Ok painted.0 = unrefused refusals.Colours (indexed shown.0.symbols shown.0.width) painted.0 (step_ok (coloured shown.0) files painted.0 painted.1) in
+    subst (λ (lesson : Taught). IsSample asked files lesson.kind lesson.patterns lesson.palette) same (record {
+      sampled = shown.0;
+      file = sampled_given asked files shown.0 shown.1;
+      same_kind = ap (λ (made : Kind × Raster × List Symbol). made.0) pieces;
+      picture = seen.0.1;
+      numbered = numbers ∙ ap (λ (made : Kind × Raster × List Symbol). let end : Result (Raster × List Symbol) PaletteFault = Ok (made.1, made.2) in end) pieces;
+      learned = unrefused refusals.Learn (patterns_of seen.0.1 (side_of asked.source) asked.symmetry asked.wrap_in) known.0 (step_ok (taught asked seen.0.1) files known.0 known.1);
     })
 
-given_sample : (asked : RequestView) (files : List File) (patterns : PatternsView) (palette : List Symbol) → IsSample asked files patterns palette
-    → outcome (sample_plan asked) files ≡ Ok (record { patterns = patterns; palette = palette })
-given_sample asked files patterns palette sample =
-    let coloured_as = ok_step (coloured sample.grid) files (sample.picture, palette) (ok_refused refusals.Colours (indexed (symbols_of sample.grid) sample.grid.width) (sample.picture, palette) sample.numbered) in
-    let seen : outcome (picture_plan asked) files ≡ Ok (sample.picture, palette)
-    = outcome_on (grid_plan Sample asked.file) (λ grid. step (coloured grid)) files sample.grid (given_grid Sample asked.file files sample.grid sample.file) ∙ coloured_as in
+given_sample : (asked : RequestView) (files : List File) (kind : Kind) (patterns : PatternsView) (palette : List Symbol) → IsSample asked files kind patterns palette
+    → outcome (sample_plan asked) files ≡ Ok (record { kind = kind; palette = palette; patterns = patterns })
+given_sample asked files kind patterns palette sample =
+    let sampled = sample.sampled in
+    let coloured_as : outcome (step (coloured sampled)) files ≡ Ok (sample.picture, palette)
+    = ok_step (coloured sampled) files (sample.picture, palette) (ok_refused refusals.Colours (indexed sampled.symbols sampled.width) (sample.picture, palette) sample.numbered) in
+    let seen : outcome (picture_plan asked) files ≡ Ok (kind, sample.picture, palette)
+    = outcome_on (sampled_plan asked) behind_sampled files sampled (given_sampled asked files sampled sample.file)
+    ∙ outcome_on (step (coloured sampled)) (λ made. let end : Plan (Kind × Raster × List Symbol) = done (sampled.kind, made.0, made.1) in end) files (sample.picture, palette) coloured_as
+    ∙ ap (λ kind. let end : Result (Kind × Raster × List Symbol) Fault = Ok (kind, sample.picture, palette) in end) sample.same_kind in
     let known : outcome (step (taught asked sample.picture)) files ≡ Ok patterns
     = ok_step (taught asked sample.picture) files patterns (ok_refused refusals.Learn (patterns_of sample.picture (side_of asked.source) asked.symmetry asked.wrap_in) patterns sample.learned) in
-    outcome_on (picture_plan asked) (behind_picture asked) files (sample.picture, palette) seen
-    ∙ outcome_on (step (taught asked sample.picture)) (λ patterns. let end : Plan Taught = done (record { patterns = patterns; palette = palette }) in end) files patterns known
+    outcome_on (picture_plan asked) (behind_picture asked) files (kind, sample.picture, palette) seen
+    ∙ outcome_on (step (taught asked sample.picture)) (λ patterns. let end : Plan Taught = done (record { kind = kind; palette = palette; patterns = patterns }) in end) files patterns known
+
+-- what a file shows are the pixels of a picture
+file_sampled : (files : List File) (name : List ℕ) (sampled : SampledView) → IsSampleFile files name sampled → IsSampled sampled
+file_sampled files name sampled file = subst IsSampled (sym file.shows.shows) (grid_sampled file.shows.grid file.shows.spelled.grid file.shows.small)
+
+-- what a sample teaches are patterns of its palette's numbers
+pub sample_lesson : (asked : RequestView) (files : List File) (kind : Kind) (patterns : PatternsView) (palette : List Symbol) → IsSampleAsked asked → IsSample asked files kind patterns palette
+    → IsLesson (record { kind = kind; palette = palette; patterns = patterns })
+sample_lesson asked files kind patterns palette asks sample =
+    let sampled = sample.sampled in
+    let shows = file_sampled files asked.file sampled sample.file in
+    let of_palette = numbered_sample sampled (sample.picture, palette) shows (ok_refused refusals.Colours (indexed sampled.symbols sampled.width) (sample.picture, palette) sample.numbered) in
+    let small = made_small sampled.symbols sampled.width (sample.picture, palette) (inl (sym sample.numbered)) shows.small in
+    lesson_of asked kind sample.picture palette patterns asks (subst (λ kind. IsNumbered kind sample.picture palette) sample.same_kind of_palette) small
+    (ok_refused refusals.Learn (patterns_of sample.picture (side_of asked.source) asked.symmetry asked.wrap_in) patterns sample.learned)
 
 -- pins and steps
 pins_given : (name : Option (List ℕ)) (files : List File) (lines : List PinView) → outcome (pins_plan name) files ≡ Ok lines → HoldsPins files name lines
@@ -213,14 +249,14 @@ given_chooser kinds rule there = rw (Contains_any (same_rule rule) kinds rule th
 -- what `learn` comes to, whatever it is
 
 pub learn_given : (asked : RequestView) (files : List File) (task : Task) → outcome (learn_plan asked) files ≡ Ok task
-    → (patterns : PatternsView) × (palette : List Symbol) × (learn patterns palette ≡ task) × IsSample asked files patterns palette
+    → (patterns : PatternsView) × (palette : List Symbol) × (learn patterns palette ≡ task) × IsTaught asked files patterns palette
 learn_given asked files task is =
     let known = outcome_parts (sample_plan asked) (λ (lesson : Taught). let end : Plan Task = done (learn lesson.patterns lesson.palette) in end) files task is in
-    (known.0.patterns, known.0.palette, done_is _ task files known.2, sample_given asked files known.0 known.1)
+    (known.0.patterns, known.0.palette, done_is _ task files known.2, (known.0.kind, sample_given asked files known.0 known.1))
 
-pub given_learn : (asked : RequestView) (files : List File) (patterns : PatternsView) (palette : List Symbol) → IsSample asked files patterns palette → outcome (learn_plan asked) files ≡ Ok (learn patterns palette)
+pub given_learn : (asked : RequestView) (files : List File) (patterns : PatternsView) (palette : List Symbol) → IsTaught asked files patterns palette → outcome (learn_plan asked) files ≡ Ok (learn patterns palette)
 given_learn asked files patterns palette sample =
-    outcome_on (sample_plan asked) (λ (lesson : Taught). let end : Plan Task = done (learn lesson.patterns lesson.palette) in end) files (record { patterns = patterns; palette = palette }) (given_sample asked files patterns palette sample)
+    outcome_on (sample_plan asked) (λ (lesson : Taught). let end : Plan Task = done (learn lesson.patterns lesson.palette) in end) files (record { kind = sample.0; palette = palette; patterns = patterns }) (given_sample asked files sample.0 patterns palette sample.1)
 
 -- what `fill` comes to
 pub fill_given : (kinds : List RuleKind) (asked : RequestView) (files : List File) (task : Task) → outcome (fill_plan kinds asked) files ≡ Ok task
@@ -228,7 +264,7 @@ pub fill_given : (kinds : List RuleKind) (asked : RequestView) (files : List Fil
 fill_given kinds asked files task is =
     let found = outcome_parts (step (chosen kinds asked.rule)) (λ _. and_then (sample_plan asked) (behind_sample asked)) files task is in
     let known = outcome_parts (sample_plan asked) (behind_sample asked) files task found.2 in
-    let written = outcome_parts (step (laid asked)) (behind_layout asked known.0) files task known.2 in
+    let written = outcome_parts (step (laid known.0.kind asked)) (behind_layout asked known.0) files task known.2 in
     let made = outcome_parts (problem_plan asked known.0) (λ P. let end : Plan Task = done (fill known.0.patterns known.0.palette written.0 P) in end) files task written.2 in (
       known.0.patterns,
       known.0.palette,
@@ -237,8 +273,9 @@ fill_given kinds asked files task is =
       done_is _ task files made.2,
       record {
         chooser = chooser_given kinds asked.rule found.0 (step_ok (chosen kinds asked.rule) files found.0 found.1);
+        kind = known.0.kind;
         sample = sample_given asked files known.0 known.1;
-        written = unrefused refusals.Render (layout_of kind.Grid asked.form asked.width asked.height 1) written.0 (step_ok (laid asked) files written.0 written.1);
+        written = unrefused refusals.Render (layout_of known.0.kind asked.form asked.width asked.height 1) written.0 (step_ok (laid known.0.kind asked) files written.0 written.1);
         problem = problem_given asked files known.0 made.0 made.1;
       },
     )
@@ -246,10 +283,10 @@ fill_given kinds asked files task is =
 pub given_fill : (kinds : List RuleKind) (asked : RequestView) (files : List File) (patterns : PatternsView) (palette : List Symbol) (layout : Layout) (P : Network)
     → IsFillTask kinds asked files patterns palette layout P → outcome (fill_plan kinds asked) files ≡ Ok (fill patterns palette layout P)
 given_fill kinds asked files patterns palette layout P task =
-    let lesson : Taught = record { patterns = patterns; palette = palette } in
+    let lesson : Taught = record { kind = task.kind; palette = palette; patterns = patterns } in
     outcome_on (step (chosen kinds asked.rule)) (λ _. and_then (sample_plan asked) (behind_sample asked)) files tt (ok_step (chosen kinds asked.rule) files tt (given_chooser kinds asked.rule task.chooser))
-    ∙ outcome_on (sample_plan asked) (behind_sample asked) files lesson (given_sample asked files patterns palette task.sample)
-    ∙ outcome_on (step (laid asked)) (behind_layout asked lesson) files layout (ok_step (laid asked) files layout (ok_refused refusals.Render (layout_of kind.Grid asked.form asked.width asked.height 1) layout task.written))
+    ∙ outcome_on (sample_plan asked) (behind_sample asked) files lesson (given_sample asked files task.kind patterns palette task.sample)
+    ∙ outcome_on (step (laid task.kind asked)) (behind_layout asked lesson) files layout (ok_step (laid task.kind asked) files layout (ok_refused refusals.Render (layout_of task.kind asked.form asked.width asked.height 1) layout task.written))
     ∙ outcome_on (problem_plan asked lesson) (λ P. let end : Plan Task = done (fill patterns palette layout P) in end) files P (given_problem asked files lesson P task.problem)
 
 -- what `domains` comes to
@@ -264,6 +301,7 @@ domains_given asked files task is =
       said.0,
       done_is _ task files said.2,
       record {
+        kind = known.0.kind;
         patterns = known.0.patterns;
         palette = known.0.palette;
         sample = sample_given asked files known.0 known.1;
@@ -275,8 +313,8 @@ domains_given asked files task is =
 
 pub given_domains : (asked : RequestView) (files : List File) (P : Network) (steps : List StepLine) → IsDomainsTask asked files P steps → outcome (domains_plan asked) files ≡ Ok (domains P steps)
 given_domains asked files P steps task =
-    let lesson : Taught = record { patterns = task.patterns; palette = task.palette } in
-    outcome_on (sample_plan asked) (behind_lesson asked) files lesson (given_sample asked files task.patterns task.palette task.sample)
+    let lesson : Taught = record { kind = task.kind; palette = task.palette; patterns = task.patterns } in
+    outcome_on (sample_plan asked) (behind_lesson asked) files lesson (given_sample asked files task.kind task.patterns task.palette task.sample)
     ∙ outcome_on (problem_plan asked lesson) (behind_problem asked) files P (given_problem asked files lesson P task.problem)
     ∙ outcome_on (steps_plan asked.steps P) (λ steps. let end : Plan Task = done (domains P steps) in end) files steps (given_steps asked.steps P files steps task.held task.inside)
 

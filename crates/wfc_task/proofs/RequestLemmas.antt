@@ -1,5 +1,5 @@
 -- What a request in its ranges asks for, by its command.
-use Rattle.std.proofs.Common.{◌≡◌, ℕ, ◌<◌, ◌≤◌, Bool, true, false, not, ◌&&◌, arith, refl}
+use Rattle.std.proofs.Common.{◌≡◌, ◌<◌, ◌≤◌, Bool, true, false, not, ◌&&◌, refl}
 use Rattle.std.specs.Prelude.{codes}
 use Rattle.wfc_words.specs.Commands.{takes_word}
 use Rattle.wfc_words.specs.InRange.{IsInRange, IsModel}

@@ -1,23 +1,20 @@
 -- What the steps of tasks answer.
-use Rattle.std.proofs.Common.{◌≡◌, ℕ, ◌*◌, ◌/◌, ◌%◌, ◌<◌, ◌≤◌, ◌+◌, inl, inr, Bool, true, false, List, [], ◌∷◌, length, map, take, drop, Option, None, Some, Result, Ok, Err, ap, sym, ◌∙◌, subst, refl, arith}
-use Rattle.std.proofs.Math.Nat.{mul-div-le, mul-mod_right}
+use Rattle.std.proofs.Common.{◌≡◌, ℕ, ◌*◌, ◌/◌, ◌≤◌, inl, inr, List, length, map, take, drop, Option, None, Some, Result, Ok, ap, sym, subst, arith}
+use Rattle.std.proofs.Math.Nat.{mul-div-le}
 use Rattle.std.proofs.lemmas.List.FromFn.{length-map-range_with_len}
 use Rattle.std.specs.List.{range_with_len}
-use Rattle.wfc_model.specs.Raster.{IsFilled, Raster, height_of, raster_of}
-use Rattle.wfc_grid.specs.Grid.{GridView}
-use Rattle.std.proofs.lemmas.List.{length-map}
+use Rattle.wfc_model.specs.Raster.{Raster, height_of, raster_of}
 use Rattle.wfc_picture.specs.Palette.{first_past, indexed, numbered, palette_of, unless_past}
 use Rattle.wfc_picture.specs.declared.palette.PaletteFault.{PaletteFault}
 use Rattle.wfc_picture.specs.declared.palette.PaletteFault.TheVariants as palettes
 use Rattle.wfc_picture.specs.declared.palette.TheConstants.{MAX_COLOURS, MAX_PIXELS}
 use Rattle.wfc_picture.specs.declared.symbol.Symbol.{Symbol}
-use Rattle.wfc_picture.specs.declared.symbol.Symbol.TheVariants.{Char}
 use Rattle.wfc_outside.specs.Gives.{Gives, result_map}
 use Rattle.wfc_task.specs.declared.fault.Refusal.{Refusal}
 use Rattle.wfc_task.specs.declared.fault.Class.TheVariants.{Memory}
 use Rattle.wfc_task.specs.Fault.{class_of}
 use Rattle.wfc_task.specs.Plan.{GivesStep}
-use Rattle.wfc_task.specs.Steps.{or_refuse, symbols_of}
+use Rattle.wfc_task.specs.Steps.{or_refuse}
 
 -- a call that gives what is wanted, or lacks memory, gives that step, whatever its faults are refused as
 pub gives_step : {X Y E : Type 0} (refusal : E → Refusal) (no_memory : E) (view : X → Y) (result : Result X E) (wanted : Result Y E)
@@ -40,8 +37,3 @@ made_small symbols width made (inl is) few = by_past (first_past MAX_COLOURS sym
         let same : made ≡ (raster_of width (length symbols / width) (numbered symbols), palette_of symbols) = cc in
         let fits : width * (length symbols / width) ≤ length symbols = mul-div-le (length symbols) width in
         subst (λ (m : Raster × List Symbol). m.0.width * height_of m.0 ≤ MAX_PIXELS) (sym same) (subst (λ h. width * h ≤ MAX_PIXELS) (sym high) (omega (arith, fits, few)))
-
--- the pixels of a grid are whole rows
-pub whole_rows : (grid : GridView) (symbols : List Symbol) → symbols ≡ symbols_of grid → IsFilled grid.width grid.height grid.bytes → length symbols % grid.width ≡ 0
-whole_rows grid symbols is filled =
-    ap (λ n. n % grid.width) (ap length is ∙ length-map grid.bytes (λ byte. Char byte) ∙ filled.as_many) ∙ mul-mod_right grid.width grid.height

@@ -1,26 +1,22 @@
 -- How the code of tasks goes by their plans: each exit, and the end.
-use Rattle.std.proofs.Common.{◌≡◌, ℕ, List, Option, Result, Ok, Err, ap, ◌∙◌, inl, subst, refl}
+use Rattle.std.proofs.Common.{◌≡◌, List, Result, Ok, Err, ap, ◌∙◌, inl}
 use Rattle.wfc_outside.specs.Folder.{FolderView}
 use Rattle.wfc_model.specs.Raster.{Raster}
+use Rattle.wfc_picture.specs.declared.symbol.Kind.{Kind}
 use Rattle.wfc_picture.specs.declared.symbol.Symbol.{Symbol}
-use Rattle.wfc_grid.specs.Grid.{GridView}
-use Rattle.wfc_pattern.specs.Patterns.{PatternsView}
 use Rattle.wfc_problem.specs.Network.{Network}
-use Rattle.wfc_pins.specs.PinView.{PinView}
-use Rattle.wfc_pins.specs.declared.steps.StepLine.{StepLine}
 use Rattle.wfc_choose.specs.declared.RuleKind.{RuleKind}
 use Rattle.wfc_render.specs.declared.form.Layout.{Layout}
 use Rattle.wfc_words.specs.RequestView.{RequestView}
-use Rattle.wfc_task.specs.declared.fault.Source.{Source}
-use Rattle.wfc_task.specs.declared.fault.Source.TheVariants.{Sample, Pins, Steps}
 use Rattle.wfc_task.specs.declared.fault.Fault.{Fault}
 use Rattle.wfc_task.specs.declared.fault.Fault.TheVariants.{Refused}
 use Rattle.wfc_task.specs.declared.fault.Refusal.{Refusal}
 use Rattle.wfc_task.specs.declared.task.Taught.{Taught}
 use Rattle.wfc_task.specs.Plan.{Plan, Goes, GivesStep, done, step, and_then}
-use Rattle.wfc_task.specs.Steps.{chosen, coloured, fitting, grid_in, laid, pins_in, posed, steps_in, taught}
-use Rattle.wfc_task.specs.Task.{Task, learn, fill, domains, file_plan, grid_plan, picture_plan, sample_plan, pins_file_plan, pins_plan, problem_plan, steps_file_plan, steps_plan, learn_plan, fill_plan, domains_plan}
-use Rattle.wfc_task.proofs.PlanLemmas.{refused, goes_step, goes_on, goes_out, goes_done}
+use Rattle.wfc_task.specs.Sampled.{SampledView}
+use Rattle.wfc_task.specs.Steps.{chosen, coloured, laid, taught}
+use Rattle.wfc_task.specs.Task.{Task, fill, domains, sample_plan, problem_plan, steps_plan, fill_plan}
+use Rattle.wfc_task.proofs.PlanLemmas.{refused, goes_step, goes_on, goes_out}
 
 -- a step behind a plan that came to something, as the last
 pub then_step : {A B : Type 0} (plan : Plan A) (next : A → Result B Refusal) (before after : FolderView) (value : A) (result : Result B Refusal)
@@ -38,15 +34,18 @@ pub step_on : {A B : Type 0} (wanted : Result A Refusal) (next : A → Plan B) (
     → GivesStep wanted (Ok value) → Goes (next value) before after result → Goes (and_then (step wanted) next) before after result
 step_on wanted next before after value result gives rest = goes_on (step wanted) next before before after value result (goes_step wanted (Ok value) before gives) rest
 
--- what follows the picture of a sample, and what follows a sample in `fill` and in `domains`
-abbrev pub behind_picture : RequestView → Raster × List Symbol → Plan Taught
-behind_picture asked made = and_then (step (taught asked made.0)) (λ patterns. done (record { patterns = patterns; palette = made.1 }))
+-- what follows what a sample shows, what follows its picture, and what follows a sample in `fill` and in `domains`
+abbrev pub behind_sampled : SampledView → Plan (Kind × Raster × List Symbol)
+behind_sampled sampled = and_then (step (coloured sampled)) (λ made. done (sampled.kind, made.0, made.1))
+
+abbrev pub behind_picture : RequestView → Kind × Raster × List Symbol → Plan Taught
+behind_picture asked made = and_then (step (taught asked made.1)) (λ patterns. done (record { kind = made.0; palette = made.2; patterns = patterns }))
 
 abbrev pub behind_layout : RequestView → Taught → Layout → Plan Task
 behind_layout asked lesson layout = and_then (problem_plan asked lesson) (λ P. done (fill lesson.patterns lesson.palette layout P))
 
 abbrev pub behind_sample : RequestView → Taught → Plan Task
-behind_sample asked lesson = and_then (step (laid asked)) (behind_layout asked lesson)
+behind_sample asked lesson = and_then (step (laid lesson.kind asked)) (behind_layout asked lesson)
 
 abbrev pub behind_problem : RequestView → Network → Plan Task
 behind_problem asked P = and_then (steps_plan asked.steps P) (λ steps. done (domains P steps))

@@ -1,16 +1,20 @@
 -- Plans that refuse nothing for the words: which they are, and that a call which goes by one never ends with the status of the words.
-use Rattle.std.proofs.Common.{◌≡◌, ℕ, ◌⊎◌, inl, inr, Bool, true, false, if◌then◌else◌, List, Option, None, Some, Result, Ok, Err, ap, sym, ◌∙◌, subst, refl, arith}
+use Rattle.std.proofs.Common.{◌≡◌, ℕ, inl, inr, Bool, true, false, if◌then◌else◌, List, Option, None, Some, Result, Ok, Err, ap, sym, ◌∙◌, refl, arith}
 use Rattle.wfc_outside.specs.Folder.{FolderView}
 use Rattle.wfc_outside.specs.declared.whole.ReadFault.{ReadFault}
 use Rattle.wfc_outside.specs.declared.whole.ReadFault.TheVariants as reading
 use Rattle.std.specs.List.{list_any}
+use Rattle.wfc_outside.specs.Gives.{result_map}
+use Rattle.wfc_grid.specs.Grid.{GridView}
 use Rattle.wfc_grid.specs.Reading.{grid_of}
 use Rattle.wfc_grid.specs.declared.reading.GridFault.{GridFault}
 use Rattle.wfc_grid.specs.declared.reading.GridFault.TheVariants as grids
 use Rattle.wfc_picture.specs.Palette.{indexed}
 use Rattle.wfc_picture.specs.declared.palette.PaletteFault.{PaletteFault}
 use Rattle.wfc_picture.specs.declared.palette.PaletteFault.TheVariants as palettes
-use Rattle.wfc_picture.specs.declared.symbol.Kind.TheVariants as kind
+use Rattle.wfc_picture.specs.declared.symbol.Kind.{Kind}
+use Rattle.wfc_picture.specs.declared.symbol.Symbol.{Symbol}
+use Rattle.wfc_model.specs.Raster.{Raster}
 use Rattle.wfc_pattern.specs.Learning.{patterns_of}
 use Rattle.wfc_pattern.specs.declared.learning.LearnFault.{LearnFault}
 use Rattle.wfc_pattern.specs.declared.learning.LearnFault.TheVariants as learning
@@ -34,13 +38,14 @@ use Rattle.wfc_words.specs.RequestView.{RequestView}
 use Rattle.wfc_words.specs.declared.kinds.CommandKind.{CommandKind}
 use Rattle.wfc_words.specs.declared.kinds.CommandKind.TheVariants as commands
 use Rattle.wfc_task.specs.declared.fault.Source.TheVariants.{Sample}
-use Rattle.wfc_task.specs.declared.fault.Refusal.TheVariants.{NotBuilt, Chooser, Grid, Colours, Learn, Render, Pins, Build, Steps, Range}
+use Rattle.wfc_task.specs.declared.fault.Refusal.TheVariants.{NotBuilt, Chooser, Grid, Colours, Learn, Render, Pins, Build, Steps}
 use Rattle.wfc_task.specs.declared.task.Taught.{Taught}
 use Rattle.wfc_task.specs.Built.{is_built, is_built_by, side_of}
 use Rattle.wfc_task.specs.Demo.{demo_patterns, demo_problem}
-use Rattle.wfc_task.specs.Steps.{chosen, coloured, fitting, grid_in, laid, or_refuse, posed, same_rule, steps_in, symbols_of, taught, unless_out}
-use Rattle.wfc_task.specs.Task.{Task, learn, fill, domains, demo, picture_plan, sample_plan, pins_plan, problem_plan, steps_plan, learn_plan, fill_plan, domains_plan, demo_plan, plan_by, plan_of}
-use Rattle.wfc_task.proofs.TaskLemmas.{behind_lesson, behind_layout, behind_picture, behind_problem, behind_sample}
+use Rattle.wfc_task.specs.Sampled.{of_grid}
+use Rattle.wfc_task.specs.Steps.{chosen, coloured, fitting, laid, or_refuse, posed, same_rule, steps_in, taught, unless_out}
+use Rattle.wfc_task.specs.Task.{Task, learn, fill, domains, demo, picture_plan, sample_plan, sampled_plan, pins_plan, problem_plan, steps_plan, learn_plan, fill_plan, domains_plan, demo_plan, plan_by, plan_of}
+use Rattle.wfc_task.proofs.TaskLemmas.{behind_lesson, behind_layout, behind_picture, behind_problem, behind_sample, behind_sampled}
 use Rattle.wfc_task.specs.declared.fault.Source.{Source}
 use Rattle.wfc_task.specs.declared.fault.Fault.{Fault}
 use Rattle.wfc_task.specs.declared.fault.Fault.TheVariants.{Unread, Refused}
@@ -143,11 +148,20 @@ chosen_never kinds rule = by_test (list_any (same_rule rule) kinds)
     by_test true = tt
     by_test false = λ words. cc
 
+sampled_never : (asked : RequestView) → NeverWords (sampled_plan asked)
+sampled_never asked = λ bytes. by_grid (grid_of bytes)
+  where
+    by_grid : (read : Result GridView GridFault) → NeverWords (step (result_map of_grid (or_refuse (Grid Sample) read)))
+    by_grid (Ok grid) = tt
+    by_grid (Err fault) = grids_never Sample fault
+
 sample_never : (asked : RequestView) → NeverWords (sample_plan asked)
 sample_never asked =
     never_then (picture_plan asked) (behind_picture asked)
-    (λ bytes. never_then (step (grid_in Sample bytes)) (λ grid. step (coloured grid)) (never_refused (Grid Sample) (grid_of bytes) (grids_never Sample)) (λ grid. never_refused Colours (indexed (symbols_of grid) grid.width) colours_never))
-    (λ made. never_then (step (taught asked made.0)) (λ patterns. let end : Plan Taught = done (record { patterns = patterns; palette = made.1 }) in end) (never_refused Learn (patterns_of made.0 (side_of asked.source) asked.symmetry asked.wrap_in) lessons_never) (λ patterns. tt))
+    (never_then (sampled_plan asked) behind_sampled (sampled_never asked) (λ sampled.
+    never_then (step (coloured sampled)) (λ made. let end : Plan (Kind × Raster × List Symbol) = done (sampled.kind, made.0, made.1) in end) (never_refused Colours (indexed sampled.symbols sampled.width) colours_never) (λ made. tt)))
+    (λ made. never_then (step (taught asked made.1)) (λ patterns. let end : Plan Taught = done (record { kind = made.0; palette = made.2; patterns = patterns }) in end)
+    (never_refused Learn (patterns_of made.1 (side_of asked.source) asked.symmetry asked.wrap_in) lessons_never) (λ patterns. tt))
 
 pins_plan_never : (name : Option (List ℕ)) → NeverWords (pins_plan name)
 pins_plan_never None = tt
@@ -174,7 +188,7 @@ fill_never : (kinds : List RuleKind) (asked : RequestView) → NeverWords (fill_
 fill_never kinds asked =
     never_then (step (chosen kinds asked.rule)) (λ _. and_then (sample_plan asked) (behind_sample asked)) (chosen_never kinds asked.rule) (λ _.
     never_then (sample_plan asked) (behind_sample asked) (sample_never asked) (λ lesson.
-    never_then (step (laid asked)) (behind_layout asked lesson) (never_refused Render (layout_of kind.Grid asked.form asked.width asked.height 1) (λ fault words. cc)) (λ layout.
+    never_then (step (laid lesson.kind asked)) (behind_layout asked lesson) (never_refused Render (layout_of lesson.kind asked.form asked.width asked.height 1) (λ fault words. cc)) (λ layout.
     never_then (problem_plan asked lesson) (λ P. let end : Plan Task = done (fill lesson.patterns lesson.palette layout P) in end) (problem_never asked lesson) (λ P. tt))))
 
 domains_never : (asked : RequestView) → NeverWords (domains_plan asked)

@@ -1,5 +1,5 @@
 -- What a request has to say, so that a sample can be learned from and a map made.
-use Rattle.std.specs.Prelude.{ℕ, ◌<◌, ◌≤◌}
+use Rattle.std.specs.Prelude.{◌<◌, ◌≤◌}
 use Rattle.wfc_words.specs.RequestView.{RequestView}
 use Rattle.wfc_task.specs.Built.{side_of}
 

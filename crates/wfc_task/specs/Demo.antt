@@ -1,5 +1,5 @@
 -- What a demonstration runs on: a grid of 24 by 24 with lines across and down, and an output of 48 by 48.
-use Rattle.std.specs.Prelude.{ℕ, ◌+◌, ◌*◌, ◌/◌, ◌%◌, ◌==◌, ◌||◌, false, List, [], length, map, if◌then◌else◌}
+use Rattle.std.specs.Prelude.{ℕ, ◌+◌, ◌*◌, ◌/◌, ◌%◌, ◌==◌, ◌||◌, false, List, [], map, if◌then◌else◌}
 use Rattle.std.specs.List.{range_with_len}
 use Rattle.wfc_model.specs.Raster.{Raster, raster_of}
 use Rattle.wfc_picture.specs.Palette.{numbered}

@@ -7,7 +7,7 @@ use Rattle.wfc_grid.specs.Grid.{GridView}
 use Rattle.wfc_grid.specs.Spelling.{SpellsGrid}
 use Rattle.wfc_picture.specs.Palette.{indexed}
 use Rattle.wfc_picture.specs.declared.symbol.Symbol.{Symbol}
-use Rattle.wfc_picture.specs.declared.symbol.Kind.TheVariants as kind
+use Rattle.wfc_picture.specs.declared.symbol.Kind.{Kind}
 use Rattle.wfc_pattern.specs.Learning.{patterns_of}
 use Rattle.wfc_pattern.specs.Patterns.{PatternsView}
 use Rattle.wfc_problem.specs.Network.{Network}
@@ -23,27 +23,38 @@ use Rattle.wfc_render.specs.Layout.{layout_of}
 use Rattle.wfc_render.specs.declared.form.Layout.{Layout}
 use Rattle.wfc_words.specs.RequestView.{RequestView}
 use Rattle.wfc_task.specs.Built.{side_of}
-use Rattle.wfc_task.specs.Steps.{symbols_of}
+use Rattle.wfc_task.specs.Sampled.{SampledView, of_grid}
 
 -- the file of that name has these bytes, which are no more than a file may have
 pub record IsFile (files : List File) (name bytes : List ℕ) : Type 0 where
   pub there : file_of files name ≡ Some bytes
   pub short : length bytes ≤ 16777216
 
--- the file of that name spells this grid, within the limits of a file and of a grid
-pub record IsGridFile (files : List File) (name : List ℕ) (grid : GridView) : Type 0 where
-  pub bytes : List ℕ
-  pub file : IsFile files name bytes
+-- the bytes spell a grid, within the limit of a grid, that shows this
+pub record ShowsGrid (bytes : List ℕ) (sampled : SampledView) : Type 0 where
+  pub grid : GridView
   pub spelled : SpellsGrid bytes grid
   pub small : grid.width * grid.height ≤ 1048576
+  pub shows : sampled ≡ of_grid grid
 
--- the file asked for spells a grid, whose symbols have this palette, and whose numbers teach these patterns by the request
-pub record IsSample (asked : RequestView) (files : List File) (patterns : PatternsView) (palette : List Symbol) : Type 0 where
-  pub grid : GridView
-  pub file : IsGridFile files asked.file grid
+-- the file of that name shows this
+pub record IsSampleFile (files : List File) (name : List ℕ) (sampled : SampledView) : Type 0 where
+  pub bytes : List ℕ
+  pub file : IsFile files name bytes
+  pub shows : ShowsGrid bytes sampled
+
+-- the file asked for shows symbols of this kind, which have this palette, and whose numbers teach these patterns by the request
+pub record IsSample (asked : RequestView) (files : List File) (kind : Kind) (patterns : PatternsView) (palette : List Symbol) : Type 0 where
+  pub sampled : SampledView
+  pub file : IsSampleFile files asked.file sampled
+  pub same_kind : sampled.kind ≡ kind
   pub picture : Raster
-  pub numbered : indexed (symbols_of grid) grid.width ≡ Ok (picture, palette)
+  pub numbered : indexed sampled.symbols sampled.width ≡ Ok (picture, palette)
   pub learned : patterns_of picture (side_of asked.source) asked.symmetry asked.wrap_in ≡ Ok patterns
+
+-- whatever the kind of its symbols is
+abbrev pub IsTaught : RequestView → List File → PatternsView → List Symbol → Type 0
+IsTaught asked files patterns palette = (kind : Kind) × IsSample asked files kind patterns palette
 
 -- the pins file has these lines; there are none where no file is named
 abbrev pub HoldsPins : List File → Option (List ℕ) → List PinView → Type 0
@@ -67,15 +78,17 @@ pub record IsProblemOf (asked : RequestView) (files : List File) (patterns : Pat
 -- a chooser goes by the rule, and the sample, the layout and the problem are those of the request
 pub record IsFillTask (kinds : List RuleKind) (asked : RequestView) (files : List File) (patterns : PatternsView) (palette : List Symbol) (layout : Layout) (P : Network) : Type 0 where
   pub chooser : Contains kinds asked.rule
-  pub sample : IsSample asked files patterns palette
-  pub written : layout_of kind.Grid asked.form asked.width asked.height 1 ≡ Ok layout
+  pub kind : Kind
+  pub sample : IsSample asked files kind patterns palette
+  pub written : layout_of kind asked.form asked.width asked.height 1 ≡ Ok layout
   pub problem : IsProblemOf asked files patterns palette P
 
 -- the problem is that of the request, and the steps are those of the steps file, each of them in the problem
 pub record IsDomainsTask (asked : RequestView) (files : List File) (P : Network) (steps : List StepLine) : Type 0 where
+  pub kind : Kind
   pub patterns : PatternsView
   pub palette : List Symbol
-  pub sample : IsSample asked files patterns palette
+  pub sample : IsSample asked files kind patterns palette
   pub problem : IsProblemOf asked files patterns palette P
   pub held : HoldsSteps files asked.steps steps
   pub inside : range_fault P steps ≡ None

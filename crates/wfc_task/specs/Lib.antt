@@ -2,6 +2,7 @@ pub mod Fault
 pub mod Plan
 pub mod Built
 pub mod Asked
+pub mod Sampled
 pub mod Steps
 pub mod Demo
 pub mod Task

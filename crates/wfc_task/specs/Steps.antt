@@ -1,5 +1,5 @@
 -- The steps of tasks that read no file, each with its first fault.
-use Rattle.std.specs.Prelude.{ℕ, Bool, true, false, List, map, Option, None, Some, Result, Ok, Err, if◌then◌else◌}
+use Rattle.std.specs.Prelude.{ℕ, Bool, true, false, List, Option, None, Some, Result, Ok, Err, if◌then◌else◌}
 use Rattle.std.specs.List.{list_any}
 use Rattle.wfc_outside.specs.Gives.{result_map}
 use Rattle.wfc_model.specs.Raster.{Raster}
@@ -7,8 +7,7 @@ use Rattle.wfc_grid.specs.Grid.{GridView}
 use Rattle.wfc_grid.specs.Reading.{grid_of}
 use Rattle.wfc_picture.specs.Palette.{indexed}
 use Rattle.wfc_picture.specs.declared.symbol.Symbol.{Symbol}
-use Rattle.wfc_picture.specs.declared.symbol.Symbol.TheVariants.{Char}
-use Rattle.wfc_picture.specs.declared.symbol.Kind.TheVariants as kind
+use Rattle.wfc_picture.specs.declared.symbol.Kind.{Kind}
 use Rattle.wfc_pattern.specs.Learning.{patterns_of}
 use Rattle.wfc_pattern.specs.Patterns.{PatternsView}
 use Rattle.wfc_problem.specs.Network.{Network}
@@ -25,9 +24,11 @@ use Rattle.wfc_render.specs.Layout.{layout_of}
 use Rattle.wfc_render.specs.declared.form.Layout.{Layout}
 use Rattle.wfc_words.specs.RequestView.{RequestView}
 use Rattle.wfc_task.specs.declared.fault.Source.{Source}
+use Rattle.wfc_task.specs.declared.fault.Source.TheVariants.{Sample}
 use Rattle.wfc_task.specs.declared.fault.Refusal.{Refusal}
 use Rattle.wfc_task.specs.declared.fault.Refusal.TheVariants.{Chooser, Grid, Colours, Learn, Render, Pins, Build, Steps, Range}
 use Rattle.wfc_task.specs.Built.{side_of}
+use Rattle.wfc_task.specs.Sampled.{SampledView, of_grid}
 
 -- a result whose fault is refused
 abbrev pub or_refuse : {T E : Type 0} → (E → Refusal) → Result T E → Result T Refusal
@@ -49,21 +50,21 @@ chosen kinds rule = if list_any (same_rule rule) kinds then Ok tt else Err (Choo
 abbrev pub grid_in : Source → List ℕ → Result GridView Refusal
 grid_in source text = or_refuse (Grid source) (grid_of text)
 
--- what the pixels of a grid show
-abbrev pub symbols_of : GridView → List Symbol
-symbols_of grid = map (λ byte. Char byte) grid.bytes
+-- what the bytes of a sample show
+abbrev pub sampled_in : RequestView → List ℕ → Result SampledView Refusal
+sampled_in asked text = result_map of_grid (grid_in Sample text)
 
--- the picture of a grid in numbers, and the palette that says what they stand for
-abbrev pub coloured : GridView → Result (Raster × List Symbol) Refusal
-coloured grid = or_refuse Colours (indexed (symbols_of grid) grid.width)
+-- the picture of a sample in numbers, and the palette that says what they stand for
+abbrev pub coloured : SampledView → Result (Raster × List Symbol) Refusal
+coloured sampled = or_refuse Colours (indexed sampled.symbols sampled.width)
 
 -- what a picture teaches by a request
 abbrev pub taught : RequestView → Raster → Result PatternsView Refusal
 taught asked picture = or_refuse Learn (patterns_of picture (side_of asked.source) asked.symmetry asked.wrap_in)
 
--- how the map is written
-abbrev pub laid : RequestView → Result Layout Refusal
-laid asked = or_refuse Render (layout_of kind.Grid asked.form asked.width asked.height 1)
+-- how the map of a sample of this kind is written
+abbrev pub laid : Kind → RequestView → Result Layout Refusal
+laid kind asked = or_refuse Render (layout_of kind asked.form asked.width asked.height 1)
 
 -- the pins and bans that a file has
 abbrev pub pins_in : List ℕ → Result (List PinView) Refusal

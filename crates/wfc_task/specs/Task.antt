@@ -1,7 +1,7 @@
 -- The task of a request: what is read and refused, in order, and what it comes to.
-use Rattle.std.specs.Prelude.{ℕ, List, [], Option, None, Some, Result, Ok, Err, if◌then◌else◌}
+use Rattle.std.specs.Prelude.{ℕ, List, [], Option, None, Some, if◌then◌else◌}
 use Rattle.wfc_model.specs.Raster.{Raster}
-use Rattle.wfc_grid.specs.Grid.{GridView}
+use Rattle.wfc_picture.specs.declared.symbol.Kind.{Kind}
 use Rattle.wfc_picture.specs.declared.symbol.Symbol.{Symbol}
 use Rattle.wfc_pattern.specs.Patterns.{PatternsView}
 use Rattle.wfc_problem.specs.Network.{Network}
@@ -20,7 +20,8 @@ use Rattle.wfc_task.specs.declared.task.Taught.{Taught}
 use Rattle.wfc_task.specs.Built.{is_built}
 use Rattle.wfc_task.specs.Demo.{demo_patterns, demo_problem}
 use Rattle.wfc_task.specs.Plan.{Plan, done, refuse, read, step, and_then, most_bytes}
-use Rattle.wfc_task.specs.Steps.{chosen, grid_in, coloured, taught, laid, pins_in, posed, steps_in, fitting}
+use Rattle.wfc_task.specs.Sampled.{SampledView}
+use Rattle.wfc_task.specs.Steps.{chosen, sampled_in, coloured, taught, laid, pins_in, posed, steps_in, fitting}
 
 -- what a command works on
 pub data Task : Type 0 where
@@ -33,20 +34,23 @@ pub data Task : Type 0 where
 abbrev pub file_plan : Source → List ℕ → Plan (List ℕ)
 file_plan source name = read source name most_bytes (λ bytes. done bytes)
 
--- the grid of a file
-abbrev pub grid_plan : Source → List ℕ → Plan GridView
-grid_plan source name = and_then (file_plan source name) (λ bytes. step (grid_in source bytes))
+-- the sample is read: what its pixels show
+abbrev pub sampled_plan : RequestView → Plan SampledView
+sampled_plan asked = and_then (file_plan Sample asked.file) (λ bytes. step (sampled_in asked bytes))
 
--- the sample is read, and its pixels are numbered
-abbrev pub picture_plan : RequestView → Plan (Raster × List Symbol)
-picture_plan asked = and_then (grid_plan Sample asked.file) (λ grid. step (coloured grid))
+-- the sample is read, and its pixels are numbered: its kind, its picture and its palette
+abbrev pub picture_plan : RequestView → Plan (Kind × Raster × List Symbol)
+picture_plan asked =
+    and_then (sampled_plan asked) (λ sampled.
+    and_then (step (coloured sampled)) (λ made.
+    done (sampled.kind, made.0, made.1)))
 
 -- the sample is read, and then learned from
 abbrev pub sample_plan : RequestView → Plan Taught
 sample_plan asked =
     and_then (picture_plan asked) (λ made.
-    and_then (step (taught asked made.0)) (λ patterns.
-    done (record { patterns = patterns; palette = made.1 })))
+    and_then (step (taught asked made.1)) (λ patterns.
+    done (record { kind = made.0; palette = made.2; patterns = patterns })))
 
 -- the pins file is read, if one is named
 abbrev pub pins_file_plan : List ℕ → Plan (List PinView)
@@ -80,7 +84,7 @@ abbrev pub fill_plan : List RuleKind → RequestView → Plan Task
 fill_plan kinds asked =
     and_then (step (chosen kinds asked.rule)) (λ _.
     and_then (sample_plan asked) (λ lesson.
-    and_then (step (laid asked)) (λ layout.
+    and_then (step (laid lesson.kind asked)) (λ layout.
     and_then (problem_plan asked lesson) (λ P.
     done (fill lesson.patterns lesson.palette layout P)))))
 

@@ -16,6 +16,7 @@ pub enum Source {
     Sample,
     Pins,
     Steps,
+    Refutation,
 }
 
 /// What a step refuses that reads nothing.

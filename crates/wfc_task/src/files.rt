@@ -8,17 +8,18 @@ ghost use Rattle.wfc_pattern.specs.Patterns.{IsPatterns};
 ghost use Rattle.wfc_pins.specs.Steps.{IsStepIn};
 ghost use Rattle.wfc_pins.specs.declared.steps.StepLine.{StepLine};
 ghost use Rattle.wfc_task.specs.Asked.{IsSampleAsked, IsOutputAsked};
-ghost use Rattle.wfc_task.specs.Filling.{IsLesson, IsNumbered, IsPosed};
+ghost use Rattle.wfc_task.specs.Filling.{IsLesson, IsNumbered, IsPosed, IsSampled};
 ghost use Rattle.wfc_task.specs.Plan.{Goes};
-ghost use Rattle.wfc_task.specs.Task.{file_plan, grid_plan, picture_plan, pins_file_plan, pins_plan, problem_plan, sample_plan, steps_file_plan, steps_plan};
+ghost use Rattle.wfc_task.specs.Sampled.{sampled_view};
+ghost use Rattle.wfc_task.specs.Task.{file_plan, picture_plan, pins_file_plan, pins_plan, problem_plan, sample_plan, sampled_plan, steps_file_plan, steps_plan};
 
 use crate::fault::{Fault, Source};
-use crate::steps::{coloured, fitting, grid, pins_in, posed, steps_in, taught};
+use crate::sampled::{Sampled, shown};
+use crate::steps::{coloured, fitting, pins_in, posed, steps_in, taught};
 use crate::task::Taught;
 use std::alloc::Global;
-use wfc_grid::{Grid, MAX_CELLS};
 use wfc_outside::{Folder, MAX_FILE_BYTES, read_all};
-use wfc_picture::{MAX_PIXELS, Palette, Picture};
+use wfc_picture::{Kind, MAX_PIXELS, Palette, Picture};
 use wfc_pins::{PinLine, StepLine};
 use wfc_problem::Problem;
 use wfc_words::Request;
@@ -40,34 +41,34 @@ fn file<F: Folder>(
     }
 }
 
-/// The grid of a file.
-fn grid_file<F: Folder>(
+/// What the sample shows.
+fn sample_file<F: Folder>(
     alloc: Global,
+    request: &Request,
     folder: &mut F,
-    source: Source,
-    name: &str,
-) -> Result<Grid, Fault>
-    ensures goes { Goes (grid_plan source name.now) (F.seen folder.old) (F.seen folder.new) result }
-    ensures small { IfOk result (λ grid. grid.width * grid.height ≤ MAX_CELLS) }
+) -> Result<Sampled, Fault>
+    ensures goes { Goes (sampled_plan request.now)
+        (F.seen folder.old) (F.seen folder.new) (result_map sampled_view result) }
+    ensures sampled { IfOk result (λ sampled. IsSampled (sampled_view sampled)) }
 {
-    let bytes = file(alloc, folder, source, name)?;
-    let grid = grid(alloc, source, &bytes)?;
-    Ok(grid)
+    let bytes = file(alloc, folder, Source::Sample, request.file())?;
+    let sampled = shown(alloc, request, &bytes)?;
+    Ok(sampled)
 }
 
-/// The picture of the sample in numbers, and its palette.
+/// The kind of the sample, its picture in numbers, and its palette.
 fn picture<F: Folder>(
     alloc: Global,
     request: &Request,
     folder: &mut F,
-) -> Result<(Picture, Palette), Fault>
+) -> Result<(Kind, Picture, Palette), Fault>
     ensures goes { Goes (picture_plan request.now) (F.seen folder.old) (F.seen folder.new) result }
-    ensures numbered { IfOk result (λ made. IsNumbered made.0 made.1) }
-    ensures small { IfOk result (λ made. made.0.width * height_of made.0 ≤ MAX_PIXELS) }
+    ensures numbered { IfOk result (λ made. IsNumbered made.0 made.1 made.2) }
+    ensures small { IfOk result (λ made. made.1.width * height_of made.1 ≤ MAX_PIXELS) }
 {
-    let grid = grid_file(alloc, folder, Source::Sample, request.file())?;
-    let made = coloured(alloc, grid)?;
-    Ok(made)
+    let sampled = sample_file(alloc, request, folder)?;
+    let (picture, palette) = coloured(alloc, &sampled)?;
+    Ok((sampled.kind, picture, palette))
 }
 
 /// What the sample teaches.
@@ -80,9 +81,13 @@ pub(crate) fn sample<F: Folder>(
     ensures goes { Goes (sample_plan request.now) (F.seen folder.old) (F.seen folder.new) result }
     ensures lesson { IfOk result IsLesson }
 {
-    let (picture, palette) = picture(alloc, request, folder)?;
+    let (kind, picture, palette) = picture(alloc, request, folder)?;
     let patterns = taught(alloc, request, &picture)?;
-    Ok(Taught { palette, patterns })
+    Ok(Taught {
+        kind,
+        palette,
+        patterns,
+    })
 }
 
 /// The pins and bans of a pins file.

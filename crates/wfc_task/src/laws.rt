@@ -13,7 +13,7 @@ ghost use Rattle.wfc_render.specs.declared.form.Layout.{Layout};
 ghost use Rattle.wfc_words.specs.RequestView.{RequestView};
 ghost use Rattle.wfc_task.specs.Built.{is_built, is_picture_name};
 ghost use Rattle.wfc_task.specs.Demo.{demo_patterns, demo_problem, demo_symbol};
-ghost use Rattle.wfc_task.specs.Given.{IsDomainsTask, IsFillTask, IsSample};
+ghost use Rattle.wfc_task.specs.Given.{IsDomainsTask, IsFillTask, IsTaught};
 ghost use Rattle.wfc_task.specs.Plan.{outcome, refuse};
 ghost use Rattle.wfc_task.specs.Steps.{chosen};
 ghost use Rattle.wfc_task.specs.Task.{demo, demo_plan, domains, domains_plan, fill, fill_plan, learn, learn_plan, plan_of};
@@ -26,7 +26,7 @@ ghost use Rattle.wfc_task.specs.declared.fault.Source.TheVariants.{Sample};
 pub fn learn_tasks_are_given()
     ensures task { (asked : RequestView) (files : List File) (patterns : PatternsView)
         (palette : List Symbol) → (outcome (learn_plan asked) files ≡ Ok (learn patterns palette))
-        ↔ IsSample asked files patterns palette }
+        ↔ IsTaught asked files patterns palette }
 {}
 
 /// `fill` comes to this task exactly where a chooser is there, the sample teaches the patterns, the map has the layout,

@@ -6,6 +6,7 @@ mod demo;
 mod fault;
 mod files;
 pub mod laws;
+mod sampled;
 mod steps;
 mod task;
 

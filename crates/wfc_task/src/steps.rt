@@ -1,6 +1,6 @@
 //! The steps of tasks that read no file.
 
-ghost use Rattle.std.specs.Prelude.{◌≡◌, ◌+◌, ◌*◌, ◌%◌, ◌<◌, ◌≤◌, length, map, Contains, IfOk, OnOk, All};
+ghost use Rattle.std.specs.Prelude.{◌≡◌, ◌+◌, ◌*◌, ◌%◌, ◌<◌, ◌≤◌, length, Contains, IfOk, OnOk, All};
 ghost use Rattle.wfc_outside.specs.Gives.{result_map};
 ghost use Rattle.wfc_model.specs.Raster.{height_of};
 ghost use Rattle.wfc_picture.specs.Palette.{indexed};
@@ -11,18 +11,20 @@ ghost use Rattle.wfc_pins.specs.declared.steps.StepLine.{StepLine};
 ghost use Rattle.wfc_overlap.specs.Built.{built};
 ghost use Rattle.wfc_overlap.specs.Sample.{output_with};
 ghost use Rattle.wfc_task.specs.Asked.{IsSampleAsked, IsOutputAsked};
-ghost use Rattle.wfc_task.specs.Filling.{IsNumbered, IsPosed};
+ghost use Rattle.wfc_task.specs.Filling.{IsNumbered, IsPosed, IsSampled};
 ghost use Rattle.wfc_task.specs.Plan.{GivesStep};
-ghost use Rattle.wfc_task.specs.Steps.{chosen, coloured, fitting, grid_in, laid, or_refuse, pins_in, posed, same_rule, steps_in, symbols_of, taught};
+ghost use Rattle.wfc_task.specs.Sampled.{sampled_view};
+ghost use Rattle.wfc_task.specs.Steps.{chosen, coloured, fitting, grid_in, laid, or_refuse, pins_in, posed, same_rule, steps_in, taught};
 ghost use Rattle.wfc_task.specs.declared.fault.Refusal.TheVariants.{Build, Colours, Learn};
 
 use crate::built::side_of;
 use crate::fault::{Refusal, Source};
+use crate::sampled::Sampled;
 use crate::task::Taught;
 use std::alloc::Global;
 use wfc_choose::RuleKind;
 use wfc_grid::{Grid, MAX_CELLS};
-use wfc_outside::{MAX_FILE_BYTES, NoMemory};
+use wfc_outside::MAX_FILE_BYTES;
 use wfc_overlap::build;
 use wfc_pattern::{Patterns, learn};
 use wfc_picture::{Kind, MAX_PIXELS, Palette, Picture, Symbol};
@@ -56,27 +58,13 @@ pub(crate) fn grid(alloc: Global, source: Source, bytes: &[u8]) -> Result<Grid, 
 }
 
 /// The picture of a sample in numbers, and its palette.
-pub(crate) fn coloured(alloc: Global, grid: Grid) -> Result<(Picture, Palette), Refusal>
-    requires small { grid.width * grid.height ≤ MAX_CELLS }
-    ensures exact { GivesStep (coloured grid) result }
-    ensures numbered { IfOk result (λ made. IsNumbered made.0 made.1) }
+pub(crate) fn coloured(alloc: Global, sampled: &Sampled) -> Result<(Picture, Palette), Refusal>
+    requires sampled { IsSampled (sampled_view sampled.now) }
+    ensures exact { GivesStep (coloured (sampled_view sampled.now)) result }
+    ensures numbered { IfOk result (λ made. IsNumbered sampled.now.kind made.0 made.1) }
     ensures small { IfOk result (λ made. made.0.width * height_of made.0 ≤ MAX_PIXELS) }
 {
-    let width = grid.width;
-    let symbols = symbols(alloc, grid)?;
-    indexed(alloc, &symbols, width)
-}
-
-/// What the pixels of a grid show. The grid is let go.
-fn symbols(alloc: Global, grid: Grid) -> Result<Vec<Symbol>, NoMemory>
-    ensures value { IfOk result (λ symbols. symbols.items ≡ symbols_of grid) }
-{
-    let bytes = grid.cells();
-    let mut symbols = Vec::with_capacity(alloc, bytes.len())?;
-    for byte in bytes {
-        symbols.push(Symbol::Char(*byte))?;
-    }
-    Ok(symbols)
+    indexed(alloc, &sampled.symbols, sampled.width)
 }
 
 /// The picture of these symbols in numbers, and its palette.
@@ -133,12 +121,12 @@ pub(crate) fn learned(
     }
 }
 
-/// How the map is written.
-pub(crate) fn laid(request: &Request) -> Result<Layout, Refusal>
+/// How the map of a sample of this kind is written.
+pub(crate) fn laid(kind: Kind, request: &Request) -> Result<Layout, Refusal>
     requires output { IsOutputAsked request.now }
-    ensures exact { result ≡ laid request.now }
+    ensures exact { result ≡ laid kind request.now }
 {
-    match layout(Kind::Grid, request.form, request.width, request.height, 1) {
+    match layout(kind, request.form, request.width, request.height, 1) {
         Ok(layout) => Ok(layout),
         Err(fault) => Err(Refusal::Render { fault }),
     }

@@ -18,15 +18,16 @@ use std::alloc::Global;
 use wfc_choose::RuleKind;
 use wfc_outside::{Folder, MAX_FILE_BYTES};
 use wfc_pattern::Patterns;
-use wfc_picture::Palette;
+use wfc_picture::{Kind, Palette};
 use wfc_pins::StepLine;
 use wfc_problem::Problem;
 use wfc_render::Layout;
 use wfc_words::Request;
 
-/// What a sample teaches, and the palette of its numbers.
+/// What a sample teaches, the palette of its numbers, and how a map of it is written.
 #[derive(Drop)]
 pub struct Taught {
+    pub kind: Kind,
     pub palette: Palette,
     pub patterns: Patterns,
 }
@@ -85,7 +86,7 @@ pub fn fill_task<F: Folder>(
 {
     chosen(kinds, request.rule)?;
     let taught = sample(alloc, request, folder)?;
-    let layout = laid(request)?;
+    let layout = laid(taught.kind, request)?;
     let problem = problem(alloc, request, &taught, folder)?;
     Ok(Filling {
         palette: taught.palette,

@@ -1,21 +1,21 @@
 use Rattle.std.proofs.lemmas.Result.{err_from_is_err_and}
-use Rattle.wfc_task.specs.declared.fault.Source.TheVariants.{Sample}
+use Rattle.wfc_task.specs.Sampled.{sampled_view}
 use Rattle.wfc_task.specs.Steps.{coloured}
-use Rattle.wfc_task.specs.Plan.{step}
-use Rattle.wfc_task.specs.Task.{grid_plan}
-use Rattle.wfc_task.proofs.PlanLemmas.{goes_out}
-use Rattle.wfc_task.proofs.TaskLemmas.{then_step}
+use Rattle.wfc_task.specs.Task.{sampled_plan}
+use Rattle.wfc_task.proofs.PlanLemmas.{goes_done, goes_on, goes_out}
+use Rattle.wfc_task.proofs.TaskLemmas.{behind_sampled, step_on, step_out}
 use Rattle.wfc_task.proofs.files.picture.Goals as goal
 
-pub returns-in_err-grid-clause-goes : goal.returns-in_err-grid-clause-goes
-returns-in_err-grid-clause-goes g c =
+pub returns-in_err-sampled-clause-goes : goal.returns-in_err-sampled-clause-goes
+returns-in_err-sampled-clause-goes g c =
     let p = err_from_is_err_and c.from_residual.result c.from_residual.ensures.1 in
-    rw (p.1, p.2) (goes_out (grid_plan Sample c.args.request.now.file) (λ grid. step (coloured grid)) _ _ _ (rw c.file.ensures.value at c.in_err-grid.ensures.goes))
+    rw (p.1, p.2) (goes_out (sampled_plan c.args.request.now) behind_sampled _ _ _ c.in_err-sampled.ensures.goes)
 
-pub returns-in_err-made-clause-goes : goal.returns-in_err-made-clause-goes
-returns-in_err-made-clause-goes g c =
-    let p = err_from_is_err_and c.from_residual-in_err-made.result c.from_residual-in_err-made.ensures.1 in
-    rw (p.1, p.2) (then_step (grid_plan Sample c.args.request.now.file) coloured _ _ _ _ (rw c.file.ensures.value at c.in_ok-grid.ensures.goes) c.in_err-made.ensures.exact)
+pub returns-in_err-picture-clause-goes : goal.returns-in_err-picture-clause-goes
+returns-in_err-picture-clause-goes g c =
+    let p = err_from_is_err_and c.from_residual-in_err-picture.result c.from_residual-in_err-picture.ensures.1 in
+    rw (p.1, p.2) (goes_on (sampled_plan c.args.request.now) behind_sampled _ _ _ _ _ c.in_ok-sampled.ensures.goes (step_out (coloured (sampled_view c.in_ok-sampled.sampled)) _ _ _ c.in_err-picture.ensures.exact))
 
 pub returns-clause-goes : goal.returns-clause-goes
-returns-clause-goes g c = then_step (grid_plan Sample c.args.request.now.file) coloured _ _ _ _ (rw c.file.ensures.value at c.in_ok-grid.ensures.goes) c.in_ok-made.ensures.exact
+returns-clause-goes g c =
+    goes_on (sampled_plan c.args.request.now) behind_sampled _ _ _ _ _ c.in_ok-sampled.ensures.goes (step_on (coloured (sampled_view c.in_ok-sampled.sampled)) _ _ _ _ _ c.in_ok-picture.ensures.exact goes_done)

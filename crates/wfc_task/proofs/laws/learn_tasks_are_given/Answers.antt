@@ -1,7 +1,7 @@
 use Rattle.std.proofs.Common.{◌≡◌, List, subst}
 use Rattle.wfc_picture.specs.declared.symbol.Symbol.{Symbol}
 use Rattle.wfc_pattern.specs.Patterns.{PatternsView}
-use Rattle.wfc_task.specs.Given.{IsSample}
+use Rattle.wfc_task.specs.Given.{IsTaught}
 use Rattle.wfc_task.specs.Task.{learn}
 use Rattle.wfc_task.proofs.GivenLemmas.{given_learn, learn_given}
 use Rattle.wfc_task.proofs.laws.learn_tasks_are_given.Goals as goal
@@ -13,7 +13,7 @@ returns c = record {
         let given = learn_given asked files (learn patterns palette) is in
         let same : given.0 ≡ patterns = cc (given.2) in
         let other : given.1 ≡ palette = cc (given.2) in
-        subst (λ (p : PatternsView). IsSample asked files p palette) same (subst (λ (s : List Symbol). IsSample asked files given.0 s) other given.3),
+        subst (λ (p : PatternsView). IsTaught asked files p palette) same (subst (λ (s : List Symbol). IsTaught asked files given.0 s) other given.3),
     given_learn asked files patterns palette,
   );
 }

@@ -1,13 +1,12 @@
-use Rattle.std.proofs.Common.{◌∙◌, ap, sym}
-use Rattle.wfc_task.specs.Steps.{symbols_of}
-use Rattle.wfc_task.proofs.StepLemmas.{whole_rows}
-use Rattle.wfc_task.proofs.FillingLemmas.{numbered_result}
+use Rattle.wfc_task.specs.Sampled.{sampled_view}
+use Rattle.wfc_task.proofs.FillingLemmas.{numbered_result, sampled_rows, sampled_some}
 use Rattle.wfc_task.proofs.steps.coloured.Goals as goal
 
 pub indexed-requires-clause-rows : goal.indexed-requires-clause-rows
-indexed-requires-clause-rows c =
-    whole_rows (record { width = c.grid.inside.width; height = c.grid.inside.height; bytes = c.grid.inside.bytes.items }) c.deref.result.now (c.deref.ensures.value ∙ c.in_ok-symbols.ensures.value ∙ ap symbols_of (sym c.grid.view_is)) c.grid.invariant.filled
+indexed-requires-clause-rows c = rw c.deref.ensures.value (sampled_rows (sampled_view c.args.sampled.now) c.requires.sampled)
+
+pub indexed-requires-clause-some_pixel : goal.indexed-requires-clause-some_pixel
+indexed-requires-clause-some_pixel c = rw c.deref.ensures.value (sampled_some (sampled_view c.args.sampled.now) c.requires.sampled)
 
 pub returns-clause-numbered : goal.returns-clause-numbered
-returns-clause-numbered c =
-    numbered_result (record { width = c.grid.inside.width; height = c.grid.inside.height; bytes = c.grid.inside.bytes.items }) c.deref.result.now _ (c.deref.ensures.value ∙ c.in_ok-symbols.ensures.value ∙ ap symbols_of (sym c.grid.view_is)) c.grid.invariant c.indexed.ensures.exact
+returns-clause-numbered c = numbered_result (sampled_view c.args.sampled.now) _ c.requires.sampled (rw c.deref.ensures.value at c.indexed.ensures.exact)

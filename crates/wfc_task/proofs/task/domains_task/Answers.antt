@@ -1,7 +1,7 @@
-use Rattle.std.proofs.Common.{List, Option, Err, Ok, Result, subst, ℕ}
+use Rattle.std.proofs.Common.{List}
 use Rattle.std.proofs.lemmas.Result.{err_from_is_err_and}
 use Rattle.wfc_pins.specs.declared.steps.StepLine.{StepLine}
-use Rattle.wfc_task.specs.Plan.{Goes, Plan, done}
+use Rattle.wfc_task.specs.Plan.{Plan, done}
 use Rattle.wfc_task.specs.Task.{Task, domains, problem_plan, sample_plan, steps_plan}
 use Rattle.wfc_task.proofs.PlanLemmas.{goes_done, goes_on, goes_out}
 use Rattle.wfc_task.proofs.TaskLemmas.{behind_lesson, behind_problem}

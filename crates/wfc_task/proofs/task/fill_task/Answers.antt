@@ -21,7 +21,7 @@ returns-in_err-layout-clause-goes g c =
     let p = err_from_is_err_and c.from_residual-in_err-layout.result c.from_residual-in_err-layout.ensures.1 in
     let asked = c.args.request.now in
     rw (p.1, p.2) (behind_chooser c.args.kinds.now asked c.request.inside.rule _ _ _ _ c.in_ok-chosen.ensures.exact (ap (λ (r : RequestView). r.rule) c.request.view_is)
-    (goes_on (sample_plan asked) (behind_sample asked) _ _ _ _ _ c.in_ok-taught.ensures.goes (step_out (laid asked) (behind_layout asked c.in_ok-taught.taught) _ _ (inl c.in_err-layout.ensures.exact))))
+    (goes_on (sample_plan asked) (behind_sample asked) _ _ _ _ _ c.in_ok-taught.ensures.goes (step_out (laid c.in_ok-taught.taught.kind asked) (behind_layout asked c.in_ok-taught.taught) _ _ (inl c.in_err-layout.ensures.exact))))
 
 pub returns-in_err-problem-clause-goes : goal.returns-in_err-problem-clause-goes
 returns-in_err-problem-clause-goes g c =
@@ -29,7 +29,7 @@ returns-in_err-problem-clause-goes g c =
     let asked = c.args.request.now in
     let lesson = c.in_ok-taught.taught in
     rw (p.1, p.2) (behind_chooser c.args.kinds.now asked c.request.inside.rule _ _ _ _ c.in_ok-chosen.ensures.exact (ap (λ (r : RequestView). r.rule) c.request.view_is)
-    (goes_on (sample_plan asked) (behind_sample asked) _ _ _ _ _ c.in_ok-taught.ensures.goes (step_on (laid asked) (behind_layout asked lesson) _ _ _ _ (inl c.in_ok-layout.ensures.exact)
+    (goes_on (sample_plan asked) (behind_sample asked) _ _ _ _ _ c.in_ok-taught.ensures.goes (step_on (laid c.in_ok-taught.taught.kind asked) (behind_layout asked lesson) _ _ _ _ (inl c.in_ok-layout.ensures.exact)
     (goes_out (problem_plan asked lesson) (λ (P : Network). let end : Plan Task = done (fill lesson.patterns lesson.palette c.in_ok-layout.layout P) in end) _ _ _ c.in_err-problem.ensures.goes))))
 
 pub returns-clause-goes : goal.returns-clause-goes
@@ -37,5 +37,5 @@ returns-clause-goes g c =
     let asked = c.args.request.now in
     let lesson = c.in_ok-taught.taught in
     behind_chooser c.args.kinds.now asked c.request.inside.rule _ _ _ _ c.in_ok-chosen.ensures.exact (ap (λ (r : RequestView). r.rule) c.request.view_is)
-    (goes_on (sample_plan asked) (behind_sample asked) _ _ _ _ _ c.in_ok-taught.ensures.goes (step_on (laid asked) (behind_layout asked lesson) _ _ _ _ (inl c.in_ok-layout.ensures.exact)
+    (goes_on (sample_plan asked) (behind_sample asked) _ _ _ _ _ c.in_ok-taught.ensures.goes (step_on (laid c.in_ok-taught.taught.kind asked) (behind_layout asked lesson) _ _ _ _ (inl c.in_ok-layout.ensures.exact)
     (goes_on (problem_plan asked lesson) (λ (P : Network). let end : Plan Task = done (fill lesson.patterns lesson.palette c.in_ok-layout.layout P) in end) _ _ _ _ _ c.in_ok-problem.ensures.goes goes_done)))

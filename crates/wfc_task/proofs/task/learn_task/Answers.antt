@@ -1,4 +1,3 @@
-use Rattle.std.proofs.Common.{Ok}
 use Rattle.std.proofs.lemmas.Result.{err_from_is_err_and}
 use Rattle.wfc_task.specs.declared.task.Taught.{Taught}
 use Rattle.wfc_task.specs.Plan.{Plan, done}
