@@ -1,5 +1,6 @@
 pub mod PlaceLemmas
 pub mod Steps
+pub mod LinkLemmas
 pub mod Rolls
 pub mod Costs
 pub mod Closing

@@ -131,7 +131,7 @@ part-le P c v d n i k hd e =
 -- ---- working off
 
 -- while a removal is worked off, a counter that is still to be lowered is above 0
-still_counts : (P : Network) → IsProblem P → (E : Test) (lowered : List ℕ) (T : Table) (c v n w d : ℕ) → AreLowered P E lowered T → IsTrue (E c v) → n < P.cells → w < values P → d < P.dirs
+pub still_counts : (P : Network) → IsProblem P → (E : Test) (lowered : List ℕ) (T : Table) (c v n w d : ℕ) → AreLowered P E lowered T → IsTrue (E c v) → n < P.cells → w < values P → d < P.dirs
     → times (place P n w d) (lowered ++ place P n w d ∷ []) ≤ times (place P n w d) (places_of P c v) → 0 < count_of T n w d
 still_counts P p E lowered T c v n w d h t hn hw hd part =
     let now = h.each n w d hn hw hd in
@@ -238,7 +238,7 @@ next_lowered P c v d n k l =
     ∙ ap (λ x. places_upto P c v d ++ (take k side ++ x ∷ [])) (sym (get_or-map (λ w. place P n w (opposite d)) (supports_of P v d) k 0 0 l))
     ∙ ap (λ x. places_upto P c v d ++ x) (sym (take_more side k 0 l'))
 
--- what holds of the k-th support w at the neighbour n
+-- what holds of a value w that a removed one supports at the neighbour n
 pub record SideStep (P : Network) (lowered next : List ℕ) (c v n w back : ℕ) (T : Table) : Type 0 where
   pub cell_in : n < P.cells
   pub value_in : w < values P
@@ -248,43 +248,7 @@ pub record SideStep (P : Network) (lowered next : List ℕ) (c v n w back : ℕ)
   pub beside : neighbour P n back ≡ Some c
   pub next_is : lowered ++ place P n w back ∷ [] ≡ next
 
-pub side_step : (b : Board) (T : Table) (head c v d n k w back : ℕ) (xs : List ℕ)
-    → IsWorking b T head c v (places_upto b.problem.now c v d ++ take k (side_places b.problem.now v d (Some n))) → d < b.problem.now.dirs → neighbour b.problem.now c d ≡ Some n
-    → xs ≡ supports_of b.problem.now v d → k < length xs → w ≡ get_or xs k 0 → back ≡ opposite d
-    → SideStep b.problem.now (places_upto b.problem.now c v d ++ take k (side_places b.problem.now v d (Some n))) (places_upto b.problem.now c v d ++ take (k + 1) (side_places b.problem.now v d (Some n))) c v n w back T
-side_step b T head c v d n k w turned xs h hd e is_xs l is_w is_back =
-    let P = b.problem.now in
-    let p = h.board.traced.problem in
-    let l' : k < length (supports_of P v d) = omega (arith, ap length is_xs) in
-    let w_is : w ≡ get_or (supports_of P v d) k 0 = is_w ∙ ap (λ ys. get_or ys k 0) is_xs in
-    let hw = in_values P p v w d hd (k, l', get_or_default (supports_of P v d) k w 0 l' ∙ sym w_is) in
-    let hb : turned < P.dirs = omega (arith, is_back, opposite-in P p d hd) in
-    let hn = in_cells P p c d n e in
-    let lowered = places_upto P c v d ++ take k (side_places P v d (Some n)) in
-    let next : lowered ++ place P n w turned ∷ [] ≡ places_upto P c v d ++ take (k + 1) (side_places P v d (Some n)) =
-    ap (λ x. lowered ++ place P n x turned ∷ []) w_is ∙ ap (λ x. lowered ++ place P n (get_or (supports_of P v d) k 0) x ∷ []) is_back ∙ next_lowered P c v d n k l' in
-    let part : times (place P n w turned) (lowered ++ place P n w turned ∷ []) ≤ times (place P n w turned) (places_of P c v) =
-    omega (arith, ap (times (place P n w turned)) next, part-le P c v d n (place P n w turned) (k + 1) hd e) in
-    record {
-      cell_in = hn;
-      value_in = hw;
-      dir_in = hb;
-      above_zero = still_counts P p (counted b head) lowered T c v n w turned h.counters h.still_counted hn hw hb part;
-      part = part;
-      beside = ap (neighbour P n) is_back ∙ back P p c d n e;
-      next_is = next;
-    }
-
--- the same, where the facts are those of the board at entry
-pub side_at : (b a : Board) (T : Table) (head c v d n k w back : ℕ) (xs : List ℕ) → b.problem ≡ a.problem
-    → IsWorking b T head c v (places_upto b.problem.now c v d ++ take k (side_places b.problem.now v d (Some n))) → d < a.problem.now.dirs → neighbour a.problem.now c d ≡ Some n
-    → xs ≡ supports_of a.problem.now v d → k < length xs → w ≡ get_or xs k 0 → back ≡ opposite d
-    → SideStep b.problem.now (places_upto b.problem.now c v d ++ take k (side_places b.problem.now v d (Some n))) (places_upto b.problem.now c v d ++ take (k + 1) (side_places b.problem.now v d (Some n))) c v n w back T
-side_at b a T head c v d n k w turned xs same h hd e is_xs l is_w is_back =
-    let N = ap (λ p. p.now) same in
-    side_step b T head c v d n k w turned xs h (omega (arith, ap (λ P. P.dirs) N)) (ap (λ P. neighbour P c d) N ∙ e) (is_xs ∙ ap (λ P. supports_of P v d) (sym N)) l is_w is_back
-
--- the state after the k-th support, where it is removed
+-- the state after it, where it is removed
 pub step_removed : (b b' : Board) (T T' : Table) (head c v : ℕ) (lowered : List ℕ) (next : Network → List ℕ) (n w d : ℕ)
     → IsWorking b T head c v lowered → SideStep b.problem.now lowered (next b.problem.now) c v n w d T
     → T' ≡ with_count T n w d (count_of T n w d - 1) → b.verdict ≡ Alive → count_of T n w d ≡ 1 → Loses b b' n w (Arc d)
@@ -363,25 +327,13 @@ end_working b T head r h e = record {
   in_log = omega (arith, in_list-get b.trail.removals head r e);
 }
 
--- one neighbour further
-pub side_done : (b : Board) (T : Table) (head c v d : ℕ) (o : Option ℕ) → neighbour b.problem.now c d ≡ o → IsWorking b T head c v (places_upto b.problem.now c v d ++ side_places b.problem.now v d o)
-    → IsWorking b T head c v (places_upto b.problem.now c v (d + 1))
-side_done b T head c v d o e h =
-    let P = b.problem.now in
-    let same : places_upto P c v d ++ side_places P v d o ≡ places_upto P c v (d + 1) = ap (λ x. places_upto P c v d ++ side_places P v d x) (sym e) ∙ ap (places_upto P c v) (sym (add-one d)) in
-    subst (λ xs. IsWorking b T head c v xs) same h
-
-pub side_none : (b : Board) (T : Table) (head c v d : ℕ) → neighbour b.problem.now c d ≡ None → IsWorking b T head c v (places_upto b.problem.now c v d) → IsWorking b T head c v (places_upto b.problem.now c v (d + 1))
-side_none b T head c v d e h =
-    side_done b T head c v d None e (subst (λ xs. IsWorking b T head c v xs) (sym (append-nil (places_upto b.problem.now c v d))) h)
-
 -- what is worked off is a value of a cell
 pub working-range : {b : Board} {T : Table} {head c v : ℕ} {lowered : List ℕ} → IsWorking b T head c v lowered → (c < b.problem.now.cells) × (v < values b.problem.now)
 working-range {b} {T} {head} {c} {v} h = without-in b.problem.now h.board.traced.problem (take head b.trail.removals) c v h.still_counted
 
-pub all_sides : (b : Board) (T : Table) (head k d : ℕ) (r : Removal) → IsWorking b T head r.cell r.value (places_upto b.problem.now r.cell r.value d) → d ≡ b.problem.now.dirs → head ≡ k → slice_get b.trail.removals k ≡ Some r → IsBetween b T (head + 1)
-all_sides b T head k d r h e f at =
-    end_working b T head r (subst (λ x. IsWorking b T head r.cell r.value (places_upto b.problem.now r.cell r.value x)) e h) (ap (slice_get b.trail.removals) f ∙ at)
+-- its counters all lowered, the removal is worked off
+pub all_links_done : (b : Board) (T : Table) (head k : ℕ) (r : Removal) → IsWorking b T head r.cell r.value (places_of b.problem.now r.cell r.value) → head ≡ k → slice_get b.trail.removals k ≡ Some r → IsBetween b T (head + 1)
+all_links_done b T head k r h f at = end_working b T head r h (ap (slice_get b.trail.removals) f ∙ at)
 
 -- ---- taking back
 

@@ -3,6 +3,7 @@ use Rattle.std.specs.Prelude.{◌≡◌, ℕ, ◌≤◌, [], length}
 use Rattle.wfc_domains.specs.declared.Verdict.TheVariants.{Alive}
 use Rattle.wfc_domains.specs.Store.{StoreView, IsSound, mark_of}
 use Rattle.wfc_domains.specs.Board.{view_of, IsTraced, HasLevels}
+use Rattle.wfc_ac4.specs.Links.{AreLinks}
 use Rattle.wfc_ac4.specs.State.{AreLowered, counted}
 use Rattle.wfc_ac4.specs.declared.Ac4.TheInside.{Inside}
 
@@ -19,4 +20,5 @@ pub record HoldsTogether (a : Inside) : Type 0 where
   pub counters : AreLowered a.flight.board.problem.now (counted a.flight.board a.flight.head) [] a.flight.counters
   pub in_log : a.flight.head ≤ length a.flight.board.trail.removals
   pub settled : a.flight.board.verdict ≡ Alive → a.flight.head ≡ length a.flight.board.trail.removals
+  pub linked : AreLinks a.flight.board.problem.now a.links
   pub marked : mark_of a.flight.board.levels.marks ≤ a.flight.head

@@ -9,9 +9,11 @@ ghost use Rattle.wfc_domains.specs.Removals.{without};
 ghost use Rattle.wfc_domains.specs.Store.{IsOpening};
 ghost use Rattle.wfc_domains.specs.Board.{Grows, IsFresh};
 ghost use Rattle.wfc_ac4.specs.Places.{places_upto, side_places, places_of};
+ghost use Rattle.wfc_ac4.specs.Links.{AreLinks, links_of};
 ghost use Rattle.wfc_ac4.specs.State.{IsWorking, IsBetween, IsRolled, IsRaising, IsScanned, AreLowered, counted};
 ghost use Rattle.wfc_ac4.specs.Flight.{front_cost, GoesOn, Recounts, IsShorter, IsRolledTo, IsFirstBare};
 
+use crate::links::{Link, Links};
 use std::sync::ledger::Ledger;
 use wfc_domains::{Board, Cause, Counters, Steps, is_alive};
 use wfc_problem::opposite;
@@ -53,40 +55,35 @@ fn lower<L: Ledger>(
 }
 
 impl<'p> Flight<'p> {
-    /// Lowers the counters at one neighbour that count a removal, and removes what has no support
-    /// left.
-    fn work_side<L: Ledger>(
+    /// Lowers the counters that count a removal, and removes what has no support left.
+    fn work_links<L: Ledger>(
         &mut self,
         cell: u32,
         value: u16,
-        dir: u8,
-        next: u32,
+        links: &[Link],
         steps: &mut Steps<L>,
     )
-        requires value_in { value < values self.old.board.problem.now }
-        requires dir_in { dir < self.old.board.problem.now.dirs }
-        requires beside { neighbour self.old.board.problem.now cell dir ≡ Some next }
-        requires working { IsWorking self.old.board self.old.counters self.old.head cell value
-            (places_upto self.old.board.problem.now cell value dir) }
+        requires links { links.now ≡ links_of self.old.board.problem.now value }
+        requires working { IsWorking self.old.board self.old.counters self.old.head cell value [] }
         ensures working { IsWorking self.new.board self.new.counters self.new.head cell value
-            (places_upto self.new.board.problem.now cell value dir
-            ++ side_places self.new.board.problem.now value dir (Some next)) }
+            (places_of self.new.board.problem.now cell value) }
         ensures goes_on { GoesOn self.old self.new }
-        ensures steps { steps.new
-            ≡ steps.old + length (supports_of self.old.board.problem.now value dir) }
+        ensures steps { steps.new ≡ steps.old + cost_at self.old.board.problem.now cell value }
     {
-        let back = opposite(dir);
         let problem = self.board.problem;
-        for w in problem.supports(value, dir) {
-            if lower(&self.board, &mut self.counters, next, *w, back, steps) {
-                self.board.remove(next, *w, Cause::Arc(back));
+        for link in links {
+            if let Some(next) = problem.neighbour(cell, link.dir) {
+                if lower(&self.board, &mut self.counters, next, link.value, link.back, steps) {
+                    self.board.remove(next, link.value, Cause::Arc(link.back));
+                }
             }
         }
     }
 
     /// Works off the removal at the head.
-    fn work_off<L: Ledger>(&mut self, steps: &mut Steps<L>)
+    fn work_off<L: Ledger>(&mut self, links: &Links, steps: &mut Steps<L>)
         requires between { IsBetween self.old.board self.old.counters self.old.head }
+        requires linked { AreLinks self.old.board.problem.now links.now }
         requires pending { self.old.head < length self.old.board.trail.removals }
         ensures between { IsBetween self.new.board self.new.counters self.new.head }
         ensures grows { Grows self.old.board self.new.board }
@@ -95,20 +92,15 @@ impl<'p> Flight<'p> {
             ≡ steps.old + front_cost self.old self.old (self.old.head + 1) }
     {
         let removal = self.board.trail.at(self.head);
-        let cell = removal.cell;
-        let value = removal.value;
-        let problem = self.board.problem;
-        for dir in 0..problem.dirs() {
-            if let Some(next) = problem.neighbour(cell, dir) {
-                self.work_side(cell, value, dir, next, steps);
-            }
-        }
+        let list = links.of(self.board.problem, removal.value);
+        self.work_links(removal.cell, removal.value, list, steps);
         self.head += 1;
     }
 
     /// Works off what is pending, until nothing is or a cell is empty.
-    pub fn close<L: Ledger>(&mut self, steps: &mut Steps<L>)
+    pub fn close<L: Ledger>(&mut self, links: &Links, steps: &mut Steps<L>)
         requires between { IsBetween self.old.board self.old.counters self.old.head }
+        requires linked { AreLinks self.old.board.problem.now links.now }
         ensures between { IsBetween self.new.board self.new.counters self.new.head }
         ensures closed { self.new.board.verdict ≡ Alive → self.new.head
             ≡ length self.new.board.trail.removals }
@@ -119,7 +111,7 @@ impl<'p> Flight<'p> {
             ≡ steps.old + front_cost self.old self.new self.new.head }
     {
         while is_alive(self.board.verdict) && self.head < self.board.trail.len() {
-            self.work_off(steps);
+            self.work_off(links, steps);
         }
     }
 
@@ -241,8 +233,9 @@ impl<'p> Flight<'p> {
     }
 
     /// Closes the base domains, with the counters loaded.
-    pub fn settle<L: Ledger>(&mut self, steps: &mut Steps<L>)
+    pub fn settle<L: Ledger>(&mut self, links: &Links, steps: &mut Steps<L>)
         requires fresh { IsFresh self.old.board self.old.board.levels.spare }
+        requires linked { AreLinks self.old.board.problem.now links.now }
         requires loaded { self.old.counters
             ≡ counts_of self.old.board.problem.now (has self.old.board.domains) }
         requires head { self.old.head ≡ 0 }
@@ -256,7 +249,7 @@ impl<'p> Flight<'p> {
     {
         if is_alive(self.board.verdict) {
             self.scan();
-            self.close(steps);
+            self.close(links, steps);
         }
     }
 

@@ -12,10 +12,12 @@ ghost use Rattle.wfc_domains.specs.Counters.{FitsTable, counts_of, cost_of};
 ghost use Rattle.wfc_domains.specs.Store.{IsSound, IsAssumed, IsOpened, left_of, added_of, without_last};
 
 mod flight;
+mod links;
 #[cfg(test)]
 mod tests;
 
 use flight::Flight;
+use links::Links;
 use std::alloc::Global;
 use std::marker::{Brand, Model};
 use std::sync::ledger::{Blank, Ledger};
@@ -27,6 +29,7 @@ use wfc_problem::{Literal, Problem};
 #[derive(Drop)]
 pub struct Ac4<'p> {
     flight: Flight<'p>,
+    links: Links,
 }
 
 impl<'p> Model for Ac4<'p> {
@@ -76,7 +79,7 @@ impl<'p> Ac4<'p> {
         ensures cost { steps.new ≤ steps.old + cost_of self.old.problem (added_of self.new) }
     {
         self.flight.board.put(literal);
-        self.flight.close(steps);
+        self.flight.close(&self.links, steps);
         self.flight.board.verdict
     }
 
@@ -110,6 +113,7 @@ fn open_counted<'p, L: Ledger>(
 {
     let mut steps = Steps::<L>::new(blank);
     let board = Board::new(alloc, problem, levels)?;
+    let links = Links::new(alloc, problem)?;
     let mut counters = Counters::new(alloc, problem)?;
     counters.load(problem, &board.domains, &mut steps);
     let mut flight = Flight {
@@ -117,8 +121,8 @@ fn open_counted<'p, L: Ledger>(
         counters,
         head: 0,
     };
-    flight.settle(&mut steps);
-    Ok(Ac4 { flight })
+    flight.settle(&links, &mut steps);
+    Ok(Ac4 { flight, links })
 }
 
 impl<'p> Store for Ac4<'p> {

@@ -3,6 +3,7 @@ use Rattle.wfc_problem.specs.Network.{Network}
 use Rattle.wfc_domains.specs.Domains.{has}
 use Rattle.wfc_domains.specs.Counters.{counts_of}
 use Rattle.wfc_domains.specs.Store.{mark_of}
+use Rattle.wfc_ac4.specs.Links.{AreLinks}
 use Rattle.wfc_ac4.proofs.Engines.{between-sound}
 use Rattle.wfc_ac4.proofs.Opening.{fresh-own}
 use Rattle.wfc_ac4.proofs.open_counted.Goals as goal
@@ -13,6 +14,7 @@ settle-requires g c =
     record {
       fresh = fresh-own b _ c.in_ok-board.ensures.fresh;
       loaded = c.load.ensures.loaded ∙ ap (λ P. counts_of P (has b.domains)) (sym c.in_ok-board.ensures.problem);
+      linked = subst (λ P. AreLinks P c.in_ok-links.links) (sym c.in_ok-board.ensures.problem) c.in_ok-links.ensures.linked;
       head = refl;
     }
 
@@ -27,6 +29,7 @@ invariant_of-result g c =
       counters = e.between.counters;
       in_log = e.between.in_log;
       settled = e.closed;
+      linked = subst (λ P. AreLinks P c.in_ok-links.links) (sym (ap (λ p. p.now) e.problem ∙ c.in_ok-board.ensures.problem)) c.in_ok-links.ensures.linked;
       marked = omega (arith, ap (λ l. mark_of l.marks) levels);
     }
 

@@ -5,6 +5,7 @@ use Rattle.wfc_domains.specs.Store.{StoreView, mark_of, added_of}
 use Rattle.wfc_domains.specs.Board.{view_of}
 use Rattle.wfc_domains.proofs.Boards.{grown-within, mark-push}
 use Rattle.wfc_domains.proofs.Sound.{board-alive}
+use Rattle.wfc_ac4.specs.Links.{AreLinks}
 use Rattle.wfc_ac4.proofs.Costs.{cost-split}
 use Rattle.wfc_ac4.proofs.Engines.{put-between, between-sound}
 use Rattle.wfc_ac4.proofs.Ac4.assume.Goals as goal
@@ -24,6 +25,7 @@ close-requires g c =
     record {
       between = put-between f.board c.put.new.self f.counters f.head h.traced h.sound alive h.counters (h.settled alive) e.board e.cut e.put.problem e.put.more e.put.removals
           (grown-within f.board c.put.new.self h.traced e.board.traced e.put.problem e.put.more e.put.removals);
+      linked = subst (λ p. AreLinks p.now c.self.inside.links) (sym e.put.problem) h.linked;
     }
 
 pub invariant_of-self : goal.invariant_of-self
@@ -42,6 +44,7 @@ invariant_of-self g c =
       counters = e.between.counters;
       in_log = e.between.in_log;
       settled = e.closed;
+      linked = subst (λ p. AreLinks p.now c.self.inside.links) (sym (e.grows.problem ∙ p.problem)) h.linked;
       marked = omega (arith, ap mark_of marks, mark-push f.board.levels.marks (length f.board.trail.removals), h.settled alive, e.forward);
     }
 

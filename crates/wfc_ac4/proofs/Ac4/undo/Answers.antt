@@ -7,6 +7,7 @@ use Rattle.wfc_domains.specs.Store.{StoreView, IsSound, mark_of, added_of, all_b
 use Rattle.wfc_domains.specs.Board.{view_of, HasLevels}
 use Rattle.wfc_domains.proofs.Boards.{mark-in}
 use Rattle.wfc_domains.proofs.Sound.{sound-undone, levels-undone}
+use Rattle.wfc_ac4.specs.Links.{AreLinks}
 use Rattle.wfc_ac4.proofs.Costs.{cost-split}
 use Rattle.wfc_ac4.proofs.Engines.{undone-is}
 use Rattle.wfc_ac4.proofs.Ac4.undo.Goals as goal
@@ -28,6 +29,7 @@ invariant_of-self g c =
       levels = subst HasLevels (sym same) (levels-undone v h.levels some);
       counters = e.rolled.counters;
       in_log = e.rolled.in_log;
+      linked = subst (λ p. AreLinks p.now c.self.inside.links) (sym e.back.problem) h.linked;
       settled = λ _. omega (arith, left, e.back.head, h.marked, m);
       marked = omega (arith, left, e.back.head, h.marked, m, ap (λ (w : StoreView). mark_of w.marks) same, mark-in (without_last v) (levels-undone v h.levels some), length-take (mark_of v.marks) v.removals);
     }

@@ -2,6 +2,7 @@ use Rattle.std.proofs.Common.{◌≡◌, sym, ◌∙◌, subst, [], true, false}
 use Rattle.std.proofs.lemmas.Bool.{true≢false}
 use Rattle.wfc_domains.specs.declared.Verdict.TheVariants.{Alive}
 use Rattle.wfc_domains.specs.Store.{IsOpening}
+use Rattle.wfc_ac4.specs.Links.{AreLinks}
 use Rattle.wfc_ac4.proofs.Opening.{scanned-none, scanned-done, opening-closed, between-dead, between-at}
 use Rattle.wfc_ac4.proofs.flight.Flight.settle.Goals as goal
 
@@ -9,7 +10,10 @@ pub scan-requires : goal.scan-requires
 scan-requires g c = record { scanned = scanned-none _ _ _ c.requires.fresh c.requires.loaded }
 
 pub close-requires : goal.close-requires
-close-requires g c = record { between = between-at _ _ _ _ (scanned-done _ _ c.scan.ensures.scanned) (sym (c.scan.ensures.goes_on.head ∙ c.requires.head)) }
+close-requires g c = record {
+  between = between-at _ _ _ _ (scanned-done _ _ c.scan.ensures.scanned) (sym (c.scan.ensures.goes_on.head ∙ c.requires.head));
+  linked = subst (λ p. AreLinks p.now c.args.links.now) (sym c.scan.ensures.goes_on.grows.problem) c.requires.linked;
+}
 
 pub returns-then-is_alive-clause-opening : goal.returns-then-is_alive-clause-opening
 returns-then-is_alive-clause-opening g c =

@@ -1,0 +1,49 @@
+-- What may stand beside each value, of all directions in one list.
+use Rattle.std.specs.Prelude.{◌≡◌, ℕ, zero, suc, ◌+◌, ◌≤◌, List, [], ◌∷◌, ◌++◌, length, map, slice_index, Option, Some, None}
+use Rattle.wfc_model.specs.Direction.{opposite}
+use Rattle.wfc_problem.specs.Network.{Network, values, neighbour, supports_of}
+use Rattle.wfc_domains.specs.Counters.{place}
+use Rattle.wfc_ac4.specs.declared.links.Link.{Link}
+use Rattle.wfc_ac4.specs.declared.links.Links.{Links}
+
+-- what is read where there is no link
+abbrev pub no_link : Link
+no_link = record { dir = 0; back = 0; value = 0 }
+
+-- the link to w in direction d
+abbrev pub link_to : ℕ → ℕ → Link
+link_to d w = record { dir = d; back = opposite d; value = w }
+
+-- the links of v in direction d
+abbrev pub side_links : Network → ℕ → ℕ → List Link
+side_links P v d = map (link_to d) (supports_of P v d)
+
+-- those in the first directions
+abbrev pub links_upto : Network → ℕ → ℕ → List Link
+links_upto P v zero = []
+links_upto P v (suc d) = links_upto P v d ++ side_links P v d
+
+-- all of them
+abbrev pub links_of : Network → ℕ → List Link
+links_of P v = links_upto P v P.dirs
+
+-- those of the first values
+abbrev pub all_upto : Network → ℕ → List Link
+all_upto P zero = []
+all_upto P (suc v) = all_upto P v ++ links_of P v
+
+-- the lists of all values, one after the other, and where each begins
+pub record AreLinks (P : Network) (x : Links) : Type 0 where
+  pub starts : (v : ℕ) → v ≤ values P → slice_index x.starts.items v ≡ length (all_upto P v)
+  pub whole : length x.starts.items ≡ values P + 1
+  pub links : x.links.items ≡ all_upto P (values P)
+
+-- the counter that a link of a removed value lowers, if there is a cell in its direction
+abbrev pub link_place : Network → Link → Option ℕ → List ℕ
+link_place P l None = []
+link_place P l (Some n) = place P n l.value l.back ∷ []
+
+-- the counters that links of a value removed at c lower
+abbrev pub link_places : Network → ℕ → List Link → List ℕ
+link_places P c [] = []
+link_places P c (l ∷ ls) = link_place P l (neighbour P c l.dir) ++ link_places P c ls

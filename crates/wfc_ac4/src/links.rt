@@ -1,0 +1,87 @@
+//! What may stand beside each value, of all directions in one list: a removal is worked off in one loop.
+
+ghost use Rattle.std.specs.Prelude.{◌≡◌, ◌++◌, ◌<◌, IsOk, IfOk};
+ghost use Rattle.wfc_problem.specs.Network.{values};
+ghost use Rattle.wfc_ac4.specs.Links.{AreLinks, links_of, side_links};
+
+use std::alloc::{AllocError, Global};
+use wfc_outside::NoMemory;
+use wfc_problem::{Problem, opposite};
+
+/// A value that may stand beside another: the direction that leads there, the one that leads back, and the value.
+#[derive(Clone, Copy)]
+pub struct Link {
+    pub dir: u8,
+    pub back: u8,
+    pub value: u16,
+}
+
+/// The links of each value, one value after the other, and where those of each begin.
+#[derive(Drop)]
+pub struct Links {
+    starts: Vec<usize>,
+    links: Vec<Link>,
+}
+
+impl Links {
+    /// The links of a problem's values.
+    pub fn new(alloc: Global, problem: &Problem) -> Result<Links, NoMemory>
+        ensures linked { IfOk result (λ links. AreLinks problem.now links) }
+    {
+        let mut starts = Vec::with_capacity(alloc, problem.values() as usize + 1)?;
+        let mut links = Vec::new(alloc);
+        starts.push(0)?;
+        for value in 0..problem.values() {
+            push_value(problem, value, &mut links)?;
+            starts.push(links.len())?;
+        }
+        Ok(Links { starts, links })
+    }
+
+    /// The links of one value, the directions in rising order, and in each the values.
+    #[tactic(auto, using(crate::proofs::LinkLemmas::of_within, crate::proofs::LinkLemmas::of_is))]
+    #[inline]
+    pub fn of(&self, problem: &Problem, value: u16) -> &[Link]
+        requires linked { AreLinks problem.now self.now }
+        requires value_in { value < values problem.now }
+        ensures value { result.now ≡ links_of problem.now value }
+    {
+        let _ = problem;
+        &self.links[self.starts[value as usize]..self.starts[value as usize + 1]]
+    }
+}
+
+/// The links of a value, behind those that are there.
+fn push_value(problem: &Problem, value: u16, links: &mut Vec<Link>) -> Result<(), AllocError>
+    requires value_in { value < values problem.now }
+    ensures more { IsOk result → links.new.items ≡ links.old.items ++ links_of problem.now value }
+{
+    for dir in 0..problem.dirs() {
+        push_side(problem, value, dir, links)?;
+    }
+    Ok(())
+}
+
+/// The links of a value in one direction, behind those that are there.
+fn push_side(
+    problem: &Problem,
+    value: u16,
+    dir: u8,
+    links: &mut Vec<Link>,
+) -> Result<(), AllocError>
+    requires value_in { value < values problem.now }
+    requires dir_in { dir < problem.now.dirs }
+    ensures more { IsOk result → links.new.items
+        ≡ links.old.items ++ side_links problem.now value dir }
+{
+    let supports = problem.supports(value, dir);
+    let back = opposite(dir);
+    for other in supports {
+        links.push(Link {
+            dir,
+            back,
+            value: *other,
+        })?;
+    }
+    Ok(())
+}
