@@ -1,5 +1,5 @@
 -- Steps counted along a growing log.
-use Rattle.std.proofs.Common.{◌≡◌, ℕ, ◌+◌, ◌≤◌, List, ◌++◌, length, take, sym, ◌∙◌, ap, arith}
+use Rattle.std.proofs.Common.{◌≡◌, ℕ, ◌≤◌, List, ◌++◌, length, take, ◌∙◌, ap}
 use Rattle.std.proofs.lemmas.List.{take-append-le}
 use Rattle.wfc_problem.specs.Network.{Network}
 use Rattle.wfc_domains.specs.declared.Removal.{Removal}

@@ -1,26 +1,24 @@
 -- What an engine's state says of the store that it is.
-use Rattle.std.proofs.Common.{◌≡◌, ℕ, ◌+◌, ◌-◌, ◌<◌, ◌≤◌, List, [], ◌∷◌, ◌++◌, length, take, drop, min, refl, sym, ◌∙◌, ap, subst, arith, Some, inl, inr}
-use Rattle.std.specs.Prelude.{IsTrue, slice_get, slice_index}
+use Rattle.std.proofs.Common.{◌≡◌, ℕ, ◌+◌, List, [], ◌++◌, length, take, refl, sym, ◌∙◌, ap, subst, arith}
 use Rattle.std.proofs.lemmas.List.{take_all, take-append-le, length-append}
-use Rattle.wfc_problem.specs.Network.{Network, values, neighbour, in_base}
-use Rattle.wfc_problem.specs.Domains.{Test, Within, base_with, IsArcConsistent}
-use Rattle.wfc_problem.specs.declared.Literal.{Literal}
+use Rattle.wfc_problem.specs.Network.{neighbour, in_base}
+use Rattle.wfc_problem.specs.Domains.{Within, IsArcConsistent}
 use Rattle.wfc_domains.specs.declared.Removal.{Removal}
-use Rattle.wfc_domains.specs.declared.Verdict.TheVariants.{Alive, Dead}
+use Rattle.wfc_domains.specs.declared.Verdict.TheVariants.{Alive}
 use Rattle.wfc_domains.specs.declared.board.Board.{Board}
-use Rattle.wfc_domains.specs.Domains.{Flags, has, flags_of}
-use Rattle.wfc_domains.specs.Counters.{Table, count_of, counts_of, place}
+use Rattle.wfc_domains.specs.Domains.{has}
+use Rattle.wfc_domains.specs.Counters.{Table, counts_of, place}
 use Rattle.wfc_domains.specs.Removals.{without}
-use Rattle.wfc_domains.specs.Store.{StoreView, IsSound, IsOpening, IsVerdict, left_of, mark_of, all_but_last, without_last}
+use Rattle.wfc_domains.specs.Store.{IsSound, IsOpening, IsVerdict, left_of, mark_of, all_but_last, without_last}
 use Rattle.wfc_domains.specs.Log.{Heights}
-use Rattle.wfc_domains.specs.Board.{view_of, IsTraced, HasLevels, IsBoard, IsCut}
+use Rattle.wfc_domains.specs.Board.{view_of, IsTraced, IsBoard, IsCut}
 use Rattle.wfc_domains.proofs.Problems.{consistent-from_counts, counts-from_consistent, greatest-consistent, neighbour-dir}
 use Rattle.wfc_domains.proofs.Places.{counts_are}
 use Rattle.wfc_domains.proofs.Removals.{without-in}
 use Rattle.wfc_domains.proofs.Boards.{stands-in}
-use Rattle.wfc_domains.proofs.Sound.{sound-from, sound-cut, board-alive}
+use Rattle.wfc_domains.proofs.Sound.{sound-from}
 use Rattle.wfc_ac4.specs.Places.{times}
-use Rattle.wfc_ac4.specs.State.{AreLowered, HaveSupport, IsBetween, IsRolled, counted}
+use Rattle.wfc_ac4.specs.State.{AreLowered, HaveSupport, IsBetween, counted}
 use Rattle.wfc_ac4.proofs.Steps.{lowered-agree}
 
 -- with nothing pending the counters count what stands

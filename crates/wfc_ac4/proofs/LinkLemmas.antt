@@ -5,7 +5,7 @@ use Rattle.std.proofs.lemmas.Bool.{cases_eq, cases_lt}
 use Rattle.std.proofs.lemmas.List.{get_or_default, get_or_append_left, get_or-append_right, get_or-map, length-map, length-append, length-drop, length_push, take-append-le, drop-append-le, take-append-drop, take_more, take_all, append_assoc, append-nil}
 use Rattle.std.proofs.Math.Seq.{drop-append_seam}
 use Rattle.wfc_model.specs.Direction.{opposite}
-use Rattle.wfc_problem.specs.Network.{Network, values, neighbour, supports_of, IsProblem}
+use Rattle.wfc_problem.specs.Network.{Network, values, neighbour, supports_of}
 use Rattle.wfc_domains.specs.Counters.{Table, place, cost_at}
 use Rattle.wfc_domains.specs.declared.board.Board.{Board}
 use Rattle.wfc_domains.proofs.Problems.{in_values, in_cells, back, opposite-in}

@@ -1,29 +1,27 @@
 -- The opening: each pair is looked at once.
-use Rattle.std.proofs.Common.{◌≡◌, ◌≢◌, ℕ, ◌+◌, ◌-◌, ◌*◌, ◌/◌, ◌%◌, ◌<◌, ◌≤◌, Bool, true, false, List, [], ◌∷◌, ◌++◌, length, take, refl, sym, ◌∙◌, ap, subst, arith, Option, Some, None, inl, inr, ◌⊎◌}
-use Rattle.std.specs.Prelude.{IsTrue, slice_get, slice_index}
-use Rattle.std.specs.List.{range_with_len}
+use Rattle.std.proofs.Common.{◌≡◌, ℕ, ◌+◌, ◌*◌, ◌/◌, ◌%◌, ◌<◌, ◌≤◌, List, [], ◌∷◌, ◌++◌, refl, sym, ◌∙◌, ap, subst, arith, Option, Some, None, inl, inr, ◌⊎◌}
+use Rattle.std.specs.Prelude.{IsTrue, slice_get}
 use Rattle.std.proofs.Math.Nat.{mul-le-mul_right}
 use Rattle.std.proofs.lemmas.Bool.{cases_lt, cases_eq, and_from}
 use Rattle.std.proofs.lemmas.List.FromFn.{get_or-map-range_with_len, length-map-range_with_len}
 use Rattle.std.proofs.lemmas.Nat.{same_from_place, mul-add-lt, div-mul-add, mod-mul-add}
-use Rattle.wfc_problem.specs.Network.{Network, values, neighbour, in_base, IsProblem}
-use Rattle.wfc_problem.specs.Domains.{Test, Within, base_with, support_count, IsArcConsistent}
+use Rattle.wfc_problem.specs.Network.{Network, values, neighbour, in_base}
+use Rattle.wfc_problem.specs.Domains.{Test, Within, base_with, support_count}
 use Rattle.wfc_domains.specs.declared.Cause.TheVariants.{Arc}
 use Rattle.wfc_domains.specs.declared.Removal.{Removal}
 use Rattle.wfc_domains.specs.declared.Verdict.TheVariants.{Alive, Dead}
 use Rattle.wfc_domains.specs.declared.board.Board.{Board}
-use Rattle.wfc_domains.specs.Domains.{Flags, has, size_of, less, IsLess}
-use Rattle.wfc_domains.specs.Counters.{Table, FitsTable, count_of, counts_of, counters_of, place, place_in}
+use Rattle.wfc_domains.specs.Domains.{has, size_of, less}
+use Rattle.wfc_domains.specs.Counters.{Table, FitsTable, count_of, counts_of, counters_of, place}
 use Rattle.wfc_domains.specs.Removals.{without, IsUnsupported}
-use Rattle.wfc_domains.specs.Store.{left_of, IsSound, IsOpening, IsLeastUnsupported, IsLeastEmpty, IsBefore}
-use Rattle.wfc_domains.specs.Board.{view_of, IsTraced, IsBoard, IsCut, IsFresh, lost, Loses}
-use Rattle.wfc_domains.proofs.Problems.{neighbour-dir, support_count-le, consistent-from_counts}
+use Rattle.wfc_domains.specs.Store.{left_of, IsOpening, IsLeastUnsupported, IsLeastEmpty, IsBefore}
+use Rattle.wfc_domains.specs.Board.{view_of, IsTraced, IsFresh, Loses}
+use Rattle.wfc_domains.proofs.Problems.{neighbour-dir, support_count-le}
 use Rattle.wfc_domains.proofs.Places.{place_in-lt}
-use Rattle.wfc_domains.proofs.Removals.{less-within, without-in, without-within}
+use Rattle.wfc_domains.proofs.Removals.{less-within, without-within}
 use Rattle.wfc_domains.proofs.Boards.{board-lost, stands-in, not-alive}
-use Rattle.wfc_domains.proofs.Sound.{sound-from}
 use Rattle.wfc_ac4.specs.Places.{times}
-use Rattle.wfc_ac4.specs.State.{AreLowered, HaveSupport, IsBetween, IsScanned, counted}
+use Rattle.wfc_ac4.specs.State.{AreLowered, IsBetween, IsScanned}
 
 -- ---- counters as they are loaded
 

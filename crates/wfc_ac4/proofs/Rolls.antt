@@ -1,20 +1,17 @@
 -- Removals taken back.
-use Rattle.std.proofs.Common.{◌≡◌, ℕ, ◌+◌, ◌-◌, ◌<◌, ◌≤◌, List, [], ◌∷◌, ◌++◌, length, take, refl, sym, ◌∙◌, ap, subst, arith}
-use Rattle.std.specs.Prelude.{IsTrue}
+use Rattle.std.proofs.Common.{◌≡◌, ℕ, ◌-◌, ◌<◌, ◌≤◌, List, [], ◌∷◌, ◌++◌, length, take, refl, sym, ◌∙◌, ap, subst, arith}
 use Rattle.std.proofs.lemmas.List.{take-append-le, take_all, take_at, take-take, length_push}
-use Rattle.wfc_problem.specs.Network.{Network, values, in_base}
-use Rattle.wfc_problem.specs.Domains.{Test}
+use Rattle.wfc_problem.specs.Network.{in_base}
 use Rattle.wfc_domains.specs.declared.Removal.{Removal}
 use Rattle.wfc_domains.specs.declared.board.Board.{Board}
-use Rattle.wfc_domains.specs.Domains.{less}
 use Rattle.wfc_domains.specs.Counters.{Table, place}
 use Rattle.wfc_domains.specs.Removals.{without}
-use Rattle.wfc_domains.specs.Board.{AreStood, IsTraced, Regains}
+use Rattle.wfc_domains.specs.Board.{IsTraced, Regains}
 use Rattle.wfc_problem.specs.Rounds.{depth_of}
 use Rattle.wfc_domains.proofs.Problems.{base-in}
 use Rattle.wfc_domains.proofs.Removals.{without-push, stood-few}
 use Rattle.wfc_ac4.specs.Places.{times}
-use Rattle.wfc_ac4.specs.State.{AreLowered, AreRaised, IsRolled, IsRaising, counted}
+use Rattle.wfc_ac4.specs.State.{AreLowered, IsRolled, IsRaising}
 use Rattle.wfc_ac4.proofs.Steps.{lowered-agree}
 
 -- a front of a front

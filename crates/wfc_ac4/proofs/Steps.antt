@@ -1,27 +1,27 @@
 -- One step of the engine: a counter lowered, a value removed, a removal worked off.
-use Rattle.std.proofs.Common.{◌≡◌, ◌≢◌, ℕ, zero, suc, ◌+◌, ◌-◌, ◌*◌, ◌<◌, ◌≤◌, Bool, true, false, cond, List, [], ◌∷◌, ◌++◌, length, get_or, take, drop, set, refl, sym, ◌∙◌, ap, subst, add-one, add-zero, arith, Option, Some, None, inl, inr}
-use Rattle.std.specs.Prelude.{not, ◌&&◌, ◌==◌, IsTrue, slice_index, slice_get}
+use Rattle.std.proofs.Common.{◌≡◌, ◌≢◌, ℕ, zero, suc, ◌+◌, ◌-◌, ◌<◌, ◌≤◌, cond, List, [], ◌∷◌, ◌++◌, length, get_or, take, set, refl, sym, ◌∙◌, ap, subst, add-one, arith, Option, Some, None, inl, inr}
+use Rattle.std.specs.Prelude.{◌==◌, IsTrue, slice_index, slice_get}
 use Rattle.std.proofs.lemmas.Bool.{cases_eq, cases_lt, eq-eqb, ne_eqb}
-use Rattle.std.proofs.lemmas.List.{get_or_default, length_push, get_or-map, length-map, length-set, get_or_past, get_or-set_same, get_or-set_other, take-append-le, take_more, append_assoc, append-nil, take_all}
+use Rattle.std.proofs.lemmas.List.{get_or_default, length_push, get_or-map, length-map, length-set, get_or_past, get_or-set_same, get_or-set_other, take-append-le, take_more, append_assoc, append-nil}
 use Rattle.std.proofs.lemmas.List.Sums.{sum_by-take-le, sum_by_push}
 use Rattle.wfc_model.specs.Direction.{opposite}
 use Rattle.wfc_problem.specs.Network.{Network, values, neighbour, supports_of, in_base, IsProblem}
 use Rattle.wfc_problem.specs.Domains.{Test, Within, support_count, base_with}
 use Rattle.wfc_domains.specs.declared.Cause.TheVariants.{Arc}
 use Rattle.wfc_domains.specs.declared.Removal.{Removal}
-use Rattle.wfc_domains.specs.declared.Verdict.TheVariants.{Alive, Dead}
+use Rattle.wfc_domains.specs.declared.Verdict.TheVariants.{Alive}
 use Rattle.wfc_domains.specs.declared.board.Board.{Board}
 use Rattle.wfc_domains.specs.Domains.{Flags, has, size_of, less, IsLess}
 use Rattle.wfc_domains.specs.Counters.{Table, FitsTable, count_of, with_count, place, place_in}
 use Rattle.wfc_domains.specs.Removals.{without, IsUnsupported}
 use Rattle.wfc_domains.specs.Store.{left_of}
-use Rattle.wfc_domains.specs.Board.{view_of, AreStood, IsTraced, IsBoard, IsCut, lost, Loses, Grows}
-use Rattle.wfc_domains.proofs.Problems.{in_values, in_cells, back, opposite-in, neighbour-dir, support_count-few, support_count-le}
+use Rattle.wfc_domains.specs.Board.{view_of, AreStood, IsTraced, lost, Loses, Grows}
+use Rattle.wfc_domains.proofs.Problems.{in_values, in_cells, opposite-in, neighbour-dir, support_count-few, support_count-le}
 use Rattle.wfc_domains.proofs.Places.{place-same, place_in-lt, place-is}
-use Rattle.wfc_domains.proofs.Removals.{less-within, less-lacks, without-within, without-push, without-in, stood-front}
+use Rattle.wfc_domains.proofs.Removals.{less-within, less-lacks, without-within, without-push, without-in}
 use Rattle.wfc_domains.proofs.Boards.{board-lost, stands-in}
 use Rattle.wfc_ac4.specs.Places.{side_places, places_upto, places_of, times}
-use Rattle.wfc_ac4.specs.State.{AreLowered, AreRaised, HaveSupport, IsWorking, IsBetween, IsRolled, IsRaising, counted}
+use Rattle.wfc_ac4.specs.State.{AreLowered, AreRaised, IsWorking, IsBetween, IsRaising, counted}
 use Rattle.wfc_ac4.proofs.PlaceLemmas.{times-append, places-count}
 
 -- ---- counters

@@ -1,5 +1,5 @@
 -- What holds of an engine between two calls.
-use Rattle.std.specs.Prelude.{◌≡◌, ℕ, ◌≤◌, [], length}
+use Rattle.std.specs.Prelude.{◌≡◌, ◌≤◌, [], length}
 use Rattle.wfc_domains.specs.declared.Verdict.TheVariants.{Alive}
 use Rattle.wfc_domains.specs.Store.{StoreView, IsSound, mark_of}
 use Rattle.wfc_domains.specs.Board.{view_of, IsTraced, HasLevels}

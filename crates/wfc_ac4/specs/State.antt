@@ -1,5 +1,5 @@
 -- The state of an engine, between removals and in the midst of working one off.
-use Rattle.std.specs.Prelude.{◌≡◌, ℕ, ◌+◌, ◌*◌, ◌<◌, ◌≤◌, List, [], ◌∷◌, ◌++◌, length, take, slice_get, Some, IsTrue}
+use Rattle.std.specs.Prelude.{◌≡◌, ℕ, ◌+◌, ◌*◌, ◌<◌, ◌≤◌, List, [], length, take, slice_get, Some, IsTrue}
 use Rattle.wfc_problem.specs.Network.{Network, values, neighbour, in_base, IsProblem}
 use Rattle.wfc_problem.specs.Domains.{Test, Within, support_count}
 use Rattle.wfc_domains.specs.declared.Verdict.TheVariants.{Alive}

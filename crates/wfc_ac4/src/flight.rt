@@ -56,13 +56,7 @@ fn lower<L: Ledger>(
 
 impl<'p> Flight<'p> {
     /// Lowers the counters that count a removal, and removes what has no support left.
-    fn work_links<L: Ledger>(
-        &mut self,
-        cell: u32,
-        value: u16,
-        links: &[Link],
-        steps: &mut Steps<L>,
-    )
+    fn work_links<L: Ledger>(&mut self, cell: u32, value: u16, links: &[Link], steps: &mut Steps<L>)
         requires links { links.now ≡ links_of self.old.board.problem.now value }
         requires working { IsWorking self.old.board self.old.counters self.old.head cell value [] }
         ensures working { IsWorking self.new.board self.new.counters self.new.head cell value
@@ -73,7 +67,14 @@ impl<'p> Flight<'p> {
         let problem = self.board.problem;
         for link in links {
             if let Some(next) = problem.neighbour(cell, link.dir) {
-                if lower(&self.board, &mut self.counters, next, link.value, link.back, steps) {
+                if lower(
+                    &self.board,
+                    &mut self.counters,
+                    next,
+                    link.value,
+                    link.back,
+                    steps,
+                ) {
                     self.board.remove(next, link.value, Cause::Arc(link.back));
                 }
             }

@@ -1,5 +1,4 @@
-use Rattle.std.proofs.Common.{◌≡◌, ◌≤◌, [], ap, ◌∙◌, sym, subst, refl, arith}
-use Rattle.wfc_problem.specs.Network.{Network}
+use Rattle.std.proofs.Common.{ap, ◌∙◌, sym, subst, refl, arith}
 use Rattle.wfc_domains.specs.Domains.{has}
 use Rattle.wfc_domains.specs.Counters.{counts_of}
 use Rattle.wfc_domains.specs.Store.{mark_of}

@@ -1,4 +1,4 @@
-use Rattle.std.proofs.Common.{◌≡◌, ◌≤◌, ◌+◌, ◌++◌, ◌∷◌, [], ap, ◌∙◌, sym, subst, arith, length, take, drop}
+use Rattle.std.proofs.Common.{◌≡◌, ◌≤◌, ◌+◌, ap, ◌∙◌, sym, subst, arith, length, take, drop}
 use Rattle.std.proofs.lemmas.List.{length_push}
 use Rattle.wfc_domains.specs.Counters.{cost_of}
 use Rattle.wfc_domains.specs.Store.{StoreView, mark_of, added_of}

@@ -1,9 +1,7 @@
-use Rattle.std.proofs.Common.{◌≡◌, ◌≤◌, ◌+◌, ◌-◌, ap, ◌∙◌, sym, subst, refl, arith, length, take, drop, min}
+use Rattle.std.proofs.Common.{◌≡◌, ◌≤◌, ◌+◌, ap, sym, subst, arith, length, drop}
 use Rattle.std.proofs.lemmas.List.{length-take}
-use Rattle.wfc_domains.specs.declared.Verdict.TheVariants.{Alive}
 use Rattle.wfc_domains.specs.Counters.{cost_of}
-use Rattle.wfc_domains.specs.Log.{Heights}
-use Rattle.wfc_domains.specs.Store.{StoreView, IsSound, mark_of, added_of, all_but_last, without_last}
+use Rattle.wfc_domains.specs.Store.{StoreView, IsSound, mark_of, added_of, without_last}
 use Rattle.wfc_domains.specs.Board.{view_of, HasLevels}
 use Rattle.wfc_domains.proofs.Boards.{mark-in}
 use Rattle.wfc_domains.proofs.Sound.{sound-undone, levels-undone}

@@ -1,4 +1,4 @@
-use Rattle.std.proofs.Common.{◌≡◌, ◌<◌, ◌+◌, [], length, take, ap, sym, subst, ◌∙◌, arith}
+use Rattle.std.proofs.Common.{◌<◌, ◌+◌, length, take, ap, sym, subst, arith}
 use Rattle.wfc_problem.specs.Rounds.{depth_of}
 use Rattle.wfc_domains.specs.Counters.{cost_of}
 use Rattle.wfc_domains.proofs.Boards.{grows-more}

@@ -1,5 +1,5 @@
 use Rattle.std.proofs.Common.{sym, ◌∙◌, ap, arith, length, ◌≡◌}
-use Rattle.wfc_problem.specs.Network.{neighbour, supports_of}
+use Rattle.wfc_problem.specs.Network.{supports_of}
 use Rattle.wfc_ac4.specs.declared.flight.Flight.{Flight}
 use Rattle.wfc_ac4.specs.Places.{places_upto}
 use Rattle.wfc_ac4.proofs.Steps.{raised_side, raised_none, all_raised}

@@ -1,4 +1,4 @@
-use Rattle.std.proofs.Common.{refl, sym, ◌∙◌, ap, subst, arith}
+use Rattle.std.proofs.Common.{refl, ap, arith}
 use Rattle.wfc_ac4.specs.declared.flight.Flight.{Flight}
 use Rattle.wfc_ac4.proofs.Steps.{raise_step}
 use Rattle.wfc_ac4.proofs.flight.Flight.raise_side.Goals as goal

@@ -1,4 +1,4 @@
-use Rattle.std.proofs.Common.{◌+◌, ◌≡◌, ◌≤◌, length}
+use Rattle.std.proofs.Common.{◌+◌, ◌≤◌, length}
 use Rattle.wfc_domains.specs.Counters.{cost_of}
 use Rattle.wfc_ac4.specs.State.{IsRolled}
 use Rattle.wfc_ac4.specs.Flight.{IsRolledTo}

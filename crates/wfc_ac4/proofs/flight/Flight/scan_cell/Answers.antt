@@ -1,4 +1,4 @@
-use Rattle.std.proofs.Common.{◌≡◌, ◌+◌, ◌*◌, ◌∙◌, ap, arith, refl, sym}
+use Rattle.std.proofs.Common.{◌≡◌, ◌+◌, ◌*◌, ◌∙◌, ap, arith, refl}
 use Rattle.wfc_problem.specs.Network.{values}
 use Rattle.wfc_domains.proofs.Boards.{grows-none, grows-more}
 use Rattle.wfc_ac4.proofs.Opening.{scanned-at, scanned-row}

@@ -1,6 +1,5 @@
-use Rattle.std.proofs.Common.{◌≡◌, sym, ◌∙◌, subst, [], true, false}
+use Rattle.std.proofs.Common.{sym, ◌∙◌, subst}
 use Rattle.std.proofs.lemmas.Bool.{true≢false}
-use Rattle.wfc_domains.specs.declared.Verdict.TheVariants.{Alive}
 use Rattle.wfc_domains.specs.Store.{IsOpening}
 use Rattle.wfc_ac4.specs.Links.{AreLinks}
 use Rattle.wfc_ac4.proofs.Opening.{scanned-none, scanned-done, opening-closed, between-dead, between-at}

@@ -1,10 +1,5 @@
-use Rattle.std.proofs.Common.{◌≡◌, ◌<◌, ◌≤◌, length, ap, ◌∙◌, sym, arith}
-use Rattle.std.proofs.lemmas.List.{length_push}
-use Rattle.wfc_domains.specs.declared.board.Board.{Board}
-use Rattle.wfc_domains.specs.Counters.{cost_at, cost_of}
-use Rattle.wfc_ac4.specs.declared.flight.Flight.{Flight}
-use Rattle.wfc_ac4.proofs.Rolls.{start_raising, pending_back, worked_back}
-use Rattle.wfc_ac4.proofs.Costs.{cost-push}
+use Rattle.std.proofs.Common.{arith}
+use Rattle.wfc_ac4.proofs.Rolls.{start_raising}
 use Rattle.wfc_ac4.proofs.flight.Flight.take_back.Goals as goal
 
 pub raise-requires-clause-raising : goal.raise-requires-clause-raising

@@ -1,4 +1,4 @@
-use Rattle.std.proofs.Common.{◌≡◌, ◌+◌, ◌<◌, ◌≤◌, refl, sym, ◌∙◌, ap, subst, arith, length, take, true, false, Some}
+use Rattle.std.proofs.Common.{◌+◌, refl, sym, ◌∙◌, ap, subst, arith, length, take}
 use Rattle.std.proofs.lemmas.Bool.{true≢false}
 use Rattle.wfc_problem.specs.Network.{Network}
 use Rattle.wfc_domains.specs.Board.{Grows}

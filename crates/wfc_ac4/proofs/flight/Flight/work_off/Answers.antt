@@ -1,4 +1,4 @@
-use Rattle.std.proofs.Common.{◌≡◌, ◌+◌, ◌<◌, refl, sym, ◌∙◌, ap, arith}
+use Rattle.std.proofs.Common.{arith}
 use Rattle.wfc_domains.proofs.Boards.{log-few}
 use Rattle.wfc_ac4.proofs.Steps.{start_working, get-grown, working-range, all_links_done}
 use Rattle.wfc_ac4.proofs.Costs.{cost-next}
