@@ -31,6 +31,7 @@ refused_cut_off old new line one refused = record {
   handed = refused.handed ∙ ap (λ (lines : List Line). (after_lines old lines).lines) one;
   failed = refused.failed;
   counted = refused.counted;
+  target = refused.target;
 }
 
 -- what is cut off is cut off of more lines
@@ -42,6 +43,7 @@ cut_off_front old new lines more cut = record {
   handed = cut.handed ∙ ap (λ (xs : List Line). (after_lines old xs).lines) (sym (take-append-le cut.count lines more cut.within));
   failed = cut.failed;
   counted = cut.counted;
+  target = cut.target;
 }
 
 -- what is cut off behind lines that were told
@@ -56,6 +58,7 @@ cut_off_behind old mid new lines more told cut = record {
       ∙ ap (λ (xs : List Line). (after_lines old xs).lines) (sym (front lines));
   failed = cut.failed;
   counted = subst (λ (j : JournalView). HasRisen j.faults new.faults) told cut.counted;
+  target = cut.target ∙ ap (λ (j : JournalView). j.target) told;
 }
   where
     front : (xs : List Line) → take (length xs + cut.count) (xs ++ more) ≡ xs ++ take cut.count more

@@ -14,7 +14,7 @@ use Rattle.wfc_proof.specs.declared.text.LineFault.{LineFault}
 use Rattle.wfc_proof.specs.declared.text.LineFault.TheVariants.{BadLine}
 use Rattle.wfc_proof.specs.Words.{is_space, spaced_words, with_spaces, decimal_within}
 use Rattle.wfc_proof.specs.Heads.{format_text, format_of, numbers_words, numbers_text, AreNumbers, head_word, numbers_with, numbers_of_words, numbers_of, bit, bit_word, shape_words, shape_text, IsShape, shape_with, shape_of_words, shape_of}
-use Rattle.wfc_proof.specs.Text.{line_of, line_of_words}
+use Rattle.wfc_proof.specs.Text.{line_of, line_of_words, line_2_of, line_2_of_words}
 use Rattle.wfc_proof.proofs.WordLemmas.{AreSpaceless, spaced_back, decimal_spaceless, decimal_within-decimal, decimal_within-some}
 use Rattle.wfc_proof.proofs.LineLemmas.{with_spaces-back}
 
@@ -187,3 +187,13 @@ is-shape_of bytes shape text keeps =
     ∙ ap (λ words. ok_or (shape_of_words words) BadLine) (spaced_back (codes "for")
     (decimal shape.n ∷ decimal shape.width ∷ decimal shape.height ∷ decimal shape.depth ∷ decimal shape.symmetry ∷ decimal (bit shape.wrap_in) ∷ decimal (bit shape.wrap_out) ∷ []) spaceless)
     ∙ (λ i. ok_or (shape_with (n i) (head_back shape.width keeps.width i) (head_back shape.height keeps.height i) (head_back shape.depth keeps.depth i) (symmetry i) (bit_back shape.wrap_in i) (bit_back shape.wrap_out i)) BadLine)
+
+-- and it is no line of format 2
+pub no_shape : (shape : Shape) → IsShape shape → line_2_of (shape_text shape) ≡ Err BadLine
+no_shape shape keeps =
+    let images : AreSpaceless (decimal shape.symmetry ∷ decimal (bit shape.wrap_in) ∷ decimal (bit shape.wrap_out) ∷ []) =
+    (plain shape.symmetry (omega (arith, keeps.symmetry)), (bit_plain shape.wrap_in, (bit_plain shape.wrap_out, record {}))) in
+    let spaceless : AreSpaceless (shape_words shape) =
+    (searched (codes "for") refl, (plain shape.n (omega (arith, keeps.n)), (plain shape.width keeps.width, (plain shape.height keeps.height, (plain shape.depth keeps.depth, images))))) in
+    ap (λ words. ok_or (line_2_of_words words) BadLine) (spaced_back (codes "for")
+    (decimal shape.n ∷ decimal shape.width ∷ decimal shape.height ∷ decimal shape.depth ∷ decimal shape.symmetry ∷ decimal (bit shape.wrap_in) ∷ decimal (bit shape.wrap_out) ∷ []) spaceless)

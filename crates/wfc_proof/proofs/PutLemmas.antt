@@ -1,14 +1,16 @@
 -- The lines that a line counts as, put one after another.
-use Rattle.std.proofs.Common.{◌≡◌, ℕ, suc, ◌+◌, ◌-◌, ◌≤◌, ◌<◌, List, [], ◌∷◌, ◌++◌, map, Result, Ok, Err, refl, sym, ap, ◌∙◌, subst, arith, append-nil}
+use Rattle.std.proofs.Common.{◌≡◌, ℕ, zero, suc, ◌+◌, ◌-◌, ◌^◌, ◌≤◌, ◌<◌, List, [], ◌∷◌, ◌++◌, map, Result, Ok, Err, refl, sym, ap, ◌∙◌, subst, arith, append-nil}
 use Rattle.std.specs.List.{range_with_len}
 use Rattle.wfc_outside.specs.Sink.{SinkView, after_bytes}
 use Rattle.wfc_outside.proofs.CallerLemmas.{after_bytes-append, puts_none}
 use Rattle.wfc_proof.specs.Heads.{ended}
 use Rattle.wfc_proof.specs.Journal.{counted_as}
+use Rattle.wfc_proof.specs.ProofText.{AreOfFormat}
 use Rattle.wfc_proof.specs.Telling.{text_of, IsCut, IsCutAt, PutsCounted}
 use Rattle.wfc_proof.specs.Text.{line_text}
 use Rattle.wfc_proof.specs.declared.Line.{Line}
 use Rattle.wfc_proof.specs.declared.Line.TheVariants.{Remove, Span}
+use Rattle.wfc_proof.specs.declared.heads.Format.TheVariants.{One}
 
 -- the first removal of a span, and the others
 pub span_step : (c v last d : ℕ) → v ≤ last → counted_as (Span c v last d) ≡ Remove c v d ∷ counted_as (Span c (v + 1) last d)
@@ -66,3 +68,8 @@ alone_cut old new line alone cut = record {
   left = alone;
   cut = subst (λ s. IsCut s new (ended (line_text line))) (puts_none old) cut;
 }
+
+-- the removals of a span are of format 1
+pub removals_keep : (c d : ℕ) → c < 2 ^ 32 → d < 2 ^ 8 → (v n : ℕ) → v + n ≤ 2 ^ 16 → AreOfFormat One (map (λ w. Remove c w d) (range_with_len v n))
+removals_keep c d cell dir v zero low = record {}
+removals_keep c d cell dir v (suc n) low = ((cell, omega arith, dir), removals_keep c d cell dir (v + 1) n (omega arith))

@@ -1,264 +1,382 @@
 -- What a journal tells after more lines were put into its sink.
-use Rattle.std.proofs.Common.{◌≡◌, ℕ, ◌+◌, ◌-◌, ◌^◌, ◌<◌, ◌≤◌, Bool, true, false, cond, nat_eq, List, [], ◌∷◌, ◌++◌, length, take, drop, codes, decimal, position, Option, None, Some, Result, Ok, Err, refl, sym, ap, ◌∙◌, subst, arith, append_assoc, append-nil, length-append}
-use Rattle.std.specs.List.{All, flat_map}
+use Rattle.std.proofs.Common.{◌≡◌, ℕ, ◌+◌, ◌-◌, ◌^◌, ◌<◌, ◌≤◌, Bool, true, false, cond, nat_eq, List, [], ◌∷◌, ◌++◌, length, take, drop, Option, None, Some, is_some, Result, Ok, Err, refl, sym, ap, ◌∙◌, subst, arith, append_assoc, append-nil, length-append}
+use Rattle.std.specs.List.{All}
 use Rattle.std.specs.Option.{option_map}
-use Rattle.std.proofs.lemmas.Bool.{false≢true, ne_eqb}
-use Rattle.std.proofs.lemmas.Fmt.{decimal_is_IsNumeral}
-use Rattle.std.proofs.lemmas.List.{take-append-le, get_or_default}
-use Rattle.std.proofs.lemmas.List.Elements.{All-append, All-cons, All-drop, All-head, All-tail, All-take}
-use Rattle.std.proofs.Math.Seq.{drop-append_seam}
-use Rattle.std.specs.Str.{bytes_eq}
-use Rattle.wfc_lists.proofs.Positions.{position_fails}
-use Rattle.wfc_proof.specs.declared.text.LineFault.TheVariants.{BadLine}
-use Rattle.std.proofs.lemmas.Str.Parse.{digit_at}
-use Rattle.wfc_outside.specs.Count.{HasRisen}
+use Rattle.std.specs.Borrow.{GName}
+use Rattle.std.proofs.lemmas.Bool.{eqb-true, false≢true}
+use Rattle.std.proofs.Math.Seq.{take-nil}
+use Rattle.std.proofs.lemmas.List.{take-append-le, length-take-le}
+use Rattle.std.proofs.lemmas.List.Elements.{All-head, All-tail, All-take}
 use Rattle.wfc_outside.specs.Sink.{Taken, SinkView, with_bytes, after_bytes}
-use Rattle.wfc_outside.proofs.CallerLemmas.{after_bytes-append}
-use Rattle.wfc_proof.specs.Heads.{ended, head_text, numbers_text, numbers_words}
-use Rattle.wfc_proof.specs.Journal.{JournalView, counted_as, after_line, IsRefused}
-use Rattle.wfc_proof.specs.Telling.{Reading, begins_head, and_line, read_byte, read_on, read_text, text_of, refused_lines, journal_of, is_none_left, is_at_line, is_begun, IsCut, IsCutAt}
-use Rattle.wfc_proof.specs.Text.{line_of, line_text, line_words, IsOfFormat1}
-use Rattle.wfc_proof.specs.Words.{with_spaces}
-use Rattle.wfc_proof.specs.declared.Line.TheVariants.{Remove, Span, Try, Empty, End, Found, Out}
+use Rattle.wfc_proof.specs.Heads.{ended, format_text, numbers_text, shape_text, head_text, head_2_text, IsShape}
+use Rattle.wfc_proof.specs.Journal.{JournalView, Target, counted_as, after_line, IsRefused}
+use Rattle.wfc_proof.specs.ProofText.{IsOfFormat, AreOfFormat}
+use Rattle.wfc_proof.specs.Telling.{text_of, Reading, line_in, and_line, read_byte, read_on, read_text, lines_at_end, before_lines, part_at_end, target_of, refused_lines, journal_of, IsAt, IsBare, begun, IsCut, IsCutAt}
+use Rattle.wfc_proof.specs.Text.{line_text}
 use Rattle.wfc_proof.specs.declared.Line.{Line}
+use Rattle.wfc_proof.specs.declared.heads.Format.{Format}
+use Rattle.wfc_proof.specs.declared.heads.Format.TheVariants.{One, Two}
+use Rattle.wfc_proof.specs.declared.heads.Shape.{Shape}
 use Rattle.wfc_proof.specs.declared.text.LineFault.{LineFault}
-use Rattle.wfc_proof.proofs.LineLemmas.{is-line_of, line_of-is}
-use Rattle.wfc_proof.proofs.HeadLemmas.{no_numbers}
+use Rattle.wfc_proof.specs.declared.text.LineFault.TheVariants.{BadLine}
+use Rattle.wfc_proof.proofs.HeadLemmas.{no_numbers, no_shape}
+use Rattle.wfc_proof.proofs.ProofTextLemmas.{IsFeedless, line_feedless, format_feedless, numbers_feedless, shape_feedless}
+use Rattle.wfc_proof.proofs.LineLemmas.{is-line_of, line_of-is, is-line_2_of, line_2_of-is}
+
+-- ---- lines and their texts
+
+-- a line of the format is read from its text
+pub is-line_in : (format : Format) (line : Line) → IsOfFormat format line → line_in format (line_text line) ≡ Ok line
+is-line_in One line keeps = is-line_of (line_text line) line refl keeps
+is-line_in Two line keeps = is-line_2_of (line_text line) line refl keeps
+
+-- and what is read as a line is its text
+pub line_in-is : (format : Format) (text : List ℕ) (line : Line) → line_in format text ≡ Ok line → (text ≡ line_text line) × IsOfFormat format line
+line_in-is One text line is = line_of-is text line is
+line_in-is Two text line is = line_2_of-is text line is
+
+-- the text of lines behind others
+pub text_of-append : (xs ys : List Line) → text_of (xs ++ ys) ≡ text_of xs ++ text_of ys
+text_of-append [] ys = refl
+text_of-append (x ∷ xs) ys = ap (λ t. ended (line_text x) ++ t) (text_of-append xs ys) ∙ sym (append_assoc (ended (line_text x)) (text_of xs) (text_of ys))
+
+-- the text of a line alone
+pub text_of-one : (line : Line) → text_of (line ∷ []) ≡ ended (line_text line)
+text_of-one line = append-nil (ended (line_text line))
+
+-- lines of the format, before others and behind them
+pub of_format-append : (format : Format) (xs ys : List Line) → AreOfFormat format xs → AreOfFormat format ys → AreOfFormat format (xs ++ ys)
+of_format-append format [] ys first rest = rest
+of_format-append format (x ∷ xs) ys first rest = (first.0, of_format-append format xs ys first.1 rest)
+
+pub of_format-parts : (format : Format) (xs : List Line) (y : Line) (ys : List Line) → AreOfFormat format (xs ++ (y ∷ ys)) → AreOfFormat format xs × IsOfFormat format y
+of_format-parts format [] y ys all = (record {}, all.0)
+of_format-parts format (x ∷ xs) y ys all = let rest = of_format-parts format xs y ys all.1 in ((all.0, rest.0), rest.1)
+
+-- ---- what is read
+
+abbrev reading : List ℕ → List Line → List ℕ → Reading
+reading before lines part = record { before = before; lines = lines; part = part }
 
 -- more bytes behind others
-read_more : (read : Reading) (xs ys : List ℕ) → read_on read (xs ++ ys) ≡ read_on (read_on read xs) ys
-read_more read [] ys = refl
-read_more read (x ∷ xs) ys = read_more (read_byte read x) xs ys
-
--- bytes without a line feed
-abbrev IsFeedless : List ℕ → Type 0
-IsFeedless text = All (λ b. nat_eq b 10 ≡ false) text
+pub read_more : (format : Format) (read : Reading) (xs ys : List ℕ) → read_on format read (xs ++ ys) ≡ read_on format (read_on format read xs) ys
+read_more format read [] ys = refl
+read_more format read (x ∷ xs) ys = read_more format (read_byte format read x) xs ys
 
 -- bytes without a line feed end no line
-read_plain : (lines : List Line) (part text : List ℕ) → IsFeedless text → read_on (record { lines = lines; part = part }) text ≡ record { lines = lines; part = part ++ text }
-read_plain lines part [] plain = ap (λ p. let r : Reading = record { lines = lines; part = p } in r) (sym (append-nil part))
-read_plain lines part (b ∷ text) plain =
-    let next : Reading = record { lines = lines; part = part ++ b ∷ [] } in
-    let step : read_byte (record { lines = lines; part = part }) b ≡ next =
-    ap (λ t. cond t (let r : Reading = record { lines = and_line lines part (line_of part); part = [] } in r) next) (All-head (λ x. nat_eq x 10 ≡ false) b text plain) in
-    ap (λ r. read_on r text) step
-    ∙ read_plain lines (part ++ b ∷ []) text (All-tail (λ x. nat_eq x 10 ≡ false) b text plain)
-    ∙ ap (λ p. let r : Reading = record { lines = lines; part = p } in r) (append_assoc part (b ∷ []) text)
+pub read_plain : (format : Format) (before : List ℕ) (lines : List Line) (part text : List ℕ) → IsFeedless text
+    → read_on format (reading before lines part) text ≡ reading before lines (part ++ text)
+read_plain format before lines part [] plain = ap (reading before lines) (sym (append-nil part))
+read_plain format before lines part (b ∷ text) plain =
+    let next : Reading = reading before lines (part ++ b ∷ []) in
+    let step : read_byte format (reading before lines part) b ≡ next =
+    ap (λ t. cond t (and_line (reading before lines part) (line_in format part)) next) (All-head (λ x. nat_eq x 10 ≡ false) b text plain) in
+    ap (λ r. read_on format r text) step
+    ∙ read_plain format before lines (part ++ b ∷ []) text (All-tail (λ x. nat_eq x 10 ≡ false) b text plain)
+    ∙ ap (reading before lines) (append_assoc part (b ∷ []) text)
 
--- the text of a line, with its end, is one more line
-read_line : (lines : List Line) (line : Line) → IsFeedless (line_text line) → IsOfFormat1 line
-    → read_on (record { lines = lines; part = [] }) (ended (line_text line)) ≡ record { lines = lines ++ line ∷ []; part = [] }
-read_line lines line plain keeps =
-    read_more (record { lines = lines; part = [] }) (line_text line) (10 ∷ [])
-    ∙ ap (λ r. read_on r (10 ∷ [])) (read_plain lines [] (line_text line) plain)
-    ∙ ap (λ o. let r : Reading = record { lines = and_line lines (line_text line) o; part = [] } in r) (is-line_of (line_text line) line refl keeps)
-
--- words without a byte, joined by blanks, haven't it either
-abbrev AreFree : ℕ → List (List ℕ) → Type 0
-AreFree f [] = Unit {0}
-AreFree f (word ∷ words) = All (λ b. nat_eq b f ≡ false) word × AreFree f words
-
-joined_free : (f : ℕ) (words : List (List ℕ)) → nat_eq 32 f ≡ false → AreFree f words → All (λ b. nat_eq b f ≡ false) (with_spaces words)
-joined_free f [] space plain = λ k d inside. absurd (omega arith)
-joined_free f (word ∷ []) space plain = plain.0
-joined_free f (word ∷ next ∷ words) space plain =
-    All-append (λ b. nat_eq b f ≡ false) word (32 ∷ with_spaces (next ∷ words)) plain.0
-    (All-cons (λ b. nat_eq b f ≡ false) 32 (with_spaces (next ∷ words)) space (joined_free f (next ∷ words) space plain.1))
-
-decimal_free : (f n : ℕ) → f < 48 → n < 2 ^ 32 → All (λ b. nat_eq b f ≡ false) (decimal n)
-decimal_free f n low below k d inside =
-    let range = digit_at (decimal n) k (decimal_is_IsNumeral n (omega arith)).0.1 inside in
-    rw (get_or_default (decimal n) k d 0 inside) (ne_eqb _ f (λ same. omega (arith, range.0, low, same)))
-
-letter_free : (f b : ℕ) → f < b → All (λ x. nat_eq x f ≡ false) (b ∷ [])
-letter_free f b low = All-cons (λ x. nat_eq x f ≡ false) b [] (ne_eqb b f (λ same. omega arith)) (λ k d inside. absurd (omega arith))
-
--- the text of a line of format 1 has only letters, digits and blanks
-line_free : (f : ℕ) (line : Line) → f < 48 → nat_eq 32 f ≡ false → IsOfFormat1 line → All (λ b. nat_eq b f ≡ false) (line_text line)
-line_free f (Remove c v d) low space keeps =
-    let plain : AreFree f (line_words (Remove c v d)) =
-    (letter_free f 114 (omega arith), (decimal_free f c low keeps.0, (decimal_free f v low (omega (arith, keeps.1)), (decimal_free f d low (omega (arith, keeps.2)), record {})))) in
-    joined_free f (line_words (Remove c v d)) space plain
-line_free f (Span c first last d) low space keeps = absurd keeps
-line_free f (Try c v) low space keeps =
-    let plain : AreFree f (line_words (Try c v)) = (letter_free f 116 (omega arith), (decimal_free f c low keeps.0, (decimal_free f v low (omega (arith, keeps.1)), record {}))) in
-    joined_free f (line_words (Try c v)) space plain
-line_free f (Empty c) low space keeps =
-    let plain : AreFree f (line_words (Empty c)) = (letter_free f 120 (omega arith), (decimal_free f c low keeps, record {})) in
-    joined_free f (line_words (Empty c)) space plain
-line_free f End low space keeps = letter_free f 113 (omega arith)
-line_free f Found low space keeps = letter_free f 115 (omega arith)
-line_free f Out low space keeps = letter_free f 111 (omega arith)
-
-line_feedless : (line : Line) → IsOfFormat1 line → IsFeedless (line_text line)
-line_feedless line keeps = line_free 10 line (omega arith) refl keeps
-
--- lines of format 1
-abbrev pub AreOfFormat1 : List Line → Type 0
-AreOfFormat1 [] = Unit {0}
-AreOfFormat1 (line ∷ lines) = IsOfFormat1 line × AreOfFormat1 lines
+-- a text without a line feed and then one is a line that ended
+pub read_ended : (format : Format) (before : List ℕ) (lines : List Line) (part text : List ℕ) → IsFeedless text
+    → read_on format (reading before lines part) (ended text) ≡ and_line (reading before lines (part ++ text)) (line_in format (part ++ text))
+read_ended format before lines part text plain =
+    read_more format (reading before lines part) text (10 ∷ []) ∙ ap (λ r. read_on format r (10 ∷ [])) (read_plain format before lines part text plain)
 
 -- the text of lines is that many more lines
-read_lines : (told lines : List Line) → AreOfFormat1 lines → read_on (record { lines = told; part = [] }) (text_of lines) ≡ record { lines = told ++ lines; part = [] }
-read_lines told [] keep = ap (λ ls. let r : Reading = record { lines = ls; part = [] } in r) (sym (append-nil told))
-read_lines told (line ∷ lines) keep =
-    read_more (record { lines = told; part = [] }) (ended (line_text line)) (text_of lines)
-    ∙ ap (λ r. read_on r (text_of lines)) (read_line told line (line_feedless line keep.0) keep.0)
-    ∙ read_lines (told ++ line ∷ []) lines keep.1
-    ∙ ap (λ ls. let r : Reading = record { lines = ls; part = [] } in r) (append_assoc told (line ∷ []) lines)
+pub read_lines : (format : Format) (before : List ℕ) (told lines : List Line) → AreOfFormat format lines
+    → read_on format (reading before told []) (text_of lines) ≡ reading before (told ++ lines) []
+read_lines format before told [] keep = ap (λ ls. reading before ls []) (sym (append-nil told))
+read_lines format before told (line ∷ lines) keep =
+    read_more format (reading before told []) (ended (line_text line)) (text_of lines)
+    ∙ ap (λ r. read_on format r (text_of lines))
+    (read_ended format before told [] (line_text line) (line_feedless format line keep.0) ∙ ap (and_line (reading before told (line_text line))) (is-line_in format line keep.0))
+    ∙ read_lines format before (told ++ line ∷ []) lines keep.1
+    ∙ ap (λ ls. reading before ls []) (append_assoc told (line ∷ []) lines)
 
 -- a front of the text of a line that isn't the whole ends no line
-read_front : (told : List Line) (line : Line) (n : ℕ) → IsOfFormat1 line → n < length (ended (line_text line)) → (read_on (record { lines = told; part = [] }) (take n (ended (line_text line)))).lines ≡ told
-read_front told line n keeps less =
+read_front : (format : Format) (before : List ℕ) (told : List Line) (line : Line) (n : ℕ) → IsOfFormat format line → n < length (ended (line_text line))
+    → read_on format (reading before told []) (take n (ended (line_text line))) ≡ reading before told (take n (line_text line))
+read_front format before told line n keeps less =
     let text = line_text line in
     let within : n ≤ length text = omega (arith, less, length-append text (10 ∷ [])) in
-    ap (λ bytes. (read_on (record { lines = told; part = [] }) bytes).lines) (take-append-le n text (10 ∷ []) within)
-    ∙ ap (λ (r : Reading). r.lines) (read_plain told [] (take n text) (All-take (λ b. nat_eq b 10 ≡ false) n text (line_feedless line keeps)))
+    ap (read_on format (reading before told [])) (take-append-le n text (10 ∷ []) within)
+    ∙ read_plain format before told [] (take n text) (All-take (λ b. nat_eq b 10 ≡ false) n text (line_feedless format line keeps))
+
+-- the bytes of what was read
+abbrev all_of : Reading → List ℕ
+all_of read = read.before ++ (text_of read.lines ++ read.part)
+
+-- no byte is lost where a line ends
+all_line : (format : Format) (read : Reading) (o : Result Line LineFault) → line_in format read.part ≡ o → all_of (and_line read o) ≡ all_of read ++ 10 ∷ []
+all_line format read (Ok line) is =
+    ap (λ t. read.before ++ t)
+    (append-nil (text_of (read.lines ++ line ∷ [])) ∙ text_of-append read.lines (line ∷ []) ∙ ap (λ t. text_of read.lines ++ t) (text_of-one line)
+    ∙ ap (λ t. text_of read.lines ++ (t ++ 10 ∷ [])) (sym (line_in-is format read.part line is).0) ∙ sym (append_assoc (text_of read.lines) read.part (10 ∷ [])))
+    ∙ sym (append_assoc read.before (text_of read.lines ++ read.part) (10 ∷ []))
+all_line format read (Err fault) is =
+    append-nil (read.before ++ (text_of read.lines ++ ended read.part))
+    ∙ ap (λ t. read.before ++ t) (sym (append_assoc (text_of read.lines) read.part (10 ∷ [])))
+    ∙ sym (append_assoc read.before (text_of read.lines ++ read.part) (10 ∷ []))
+
+all_byte : (format : Format) (read : Reading) (byte : ℕ) (b : Bool) → nat_eq byte 10 ≡ b → all_of (read_byte format read byte) ≡ all_of read ++ byte ∷ []
+all_byte format read byte true is =
+    ap (λ t. all_of (cond t (and_line read (line_in format read.part)) (reading read.before read.lines (read.part ++ byte ∷ [])))) is
+    ∙ all_line format read (line_in format read.part) refl ∙ ap (λ n. all_of read ++ n ∷ []) (sym (eqb-true byte 10 is))
+all_byte format read byte false is =
+    ap (λ t. all_of (cond t (and_line read (line_in format read.part)) (reading read.before read.lines (read.part ++ byte ∷ [])))) is
+    ∙ ap (λ t. read.before ++ t) (sym (append_assoc (text_of read.lines) read.part (byte ∷ [])))
+    ∙ sym (append_assoc read.before (text_of read.lines ++ read.part) (byte ∷ []))
+
+all_on : (format : Format) (read : Reading) (bytes : List ℕ) → all_of (read_on format read bytes) ≡ all_of read ++ bytes
+all_on format read [] = sym (append-nil (all_of read))
+all_on format read (byte ∷ bytes) =
+    all_on format (read_byte format read byte) bytes ∙ ap (λ t. t ++ bytes) (all_byte format read byte (nat_eq byte 10) refl) ∙ append_assoc (all_of read) (byte ∷ []) bytes
+
+-- no byte of a text is lost where it is read
+pub nothing_lost : (format : Format) (bytes : List ℕ) → let read = read_text format bytes in read.before ++ (text_of read.lines ++ read.part) ≡ bytes
+nothing_lost format bytes = all_on format (reading [] [] []) bytes
+
+-- what is read as lines is of the format
+formed_line : (format : Format) (read : Reading) (o : Result Line LineFault) → line_in format read.part ≡ o → AreOfFormat format read.lines → AreOfFormat format (and_line read o).lines
+formed_line format read (Ok line) is keep = of_format-append format read.lines (line ∷ []) keep ((line_in-is format read.part line is).1, record {})
+formed_line format read (Err fault) is keep = record {}
+
+formed_byte : (format : Format) (read : Reading) (byte : ℕ) (b : Bool) → nat_eq byte 10 ≡ b → AreOfFormat format read.lines → AreOfFormat format (read_byte format read byte).lines
+formed_byte format read byte true is keep =
+    subst (λ t. AreOfFormat format (cond t (and_line read (line_in format read.part)) (reading read.before read.lines (read.part ++ byte ∷ []))).lines) (sym is)
+    (formed_line format read (line_in format read.part) refl keep)
+formed_byte format read byte false is keep =
+    subst (λ t. AreOfFormat format (cond t (and_line read (line_in format read.part)) (reading read.before read.lines (read.part ++ byte ∷ []))).lines) (sym is) keep
+
+formed_on : (format : Format) (read : Reading) (bytes : List ℕ) → AreOfFormat format read.lines → AreOfFormat format (read_on format read bytes).lines
+formed_on format read [] keep = keep
+formed_on format read (byte ∷ bytes) keep = formed_on format (read_byte format read byte) bytes (formed_byte format read byte (nat_eq byte 10) refl keep)
+
+pub read_formed : (format : Format) (bytes : List ℕ) → AreOfFormat format (read_text format bytes).lines
+read_formed format bytes = formed_on format (reading [] [] []) bytes (record {})
+
+-- ---- what a sink took
+
+-- where nothing waits, nothing stands behind the lines
+opened : (format : Format) (taken : Taken) → IsAt format (Some taken) []
+    → (read_text format taken.bytes ≡ reading (read_text format taken.bytes).before (lines_at_end format taken) []) × (taken.finished ≡ false)
+opened format taken at =
+    let part : part_at_end format taken ≡ take (length (part_at_end format taken)) [] = cc (at.0) in
+    let none : part_at_end format taken ≡ [] = part ∙ take-nil (length (part_at_end format taken)) in
+    let unfinished : taken.finished ≡ false = cc (at.1) in
+    (ap (reading (read_text format taken.bytes).before (lines_at_end format taken)) none, unfinished)
 
 -- the bytes that a sink took are those before and those that it took now
 took : (taken : Taken) (bytes : List ℕ) → (with_bytes taken bytes).bytes ≡ taken.bytes ++ bytes
 took taken [] = sym (append-nil taken.bytes)
 took taken (b ∷ bytes) = refl
 
--- where nothing is left behind the last line end, only the lines count
-settled : (read : Reading) → is_none_left read.part ≡ true → read ≡ record { lines = read.lines; part = [] }
-settled read none = ap (λ p. let r : Reading = record { lines = read.lines; part = p } in r) (empty read.part none)
+-- and they aren't finished
+unfinished : (taken : Taken) (bytes : List ℕ) → taken.finished ≡ false → (with_bytes taken bytes).finished ≡ false
+unfinished taken [] is = is
+unfinished taken (b ∷ bytes) is = refl
+
+-- what is read after more bytes, where nothing stands behind the lines
+read_behind : (format : Format) (taken : Taken) (bytes : List ℕ) → IsAt format (Some taken) []
+    → read_text format (with_bytes taken bytes).bytes ≡ read_on format (reading (read_text format taken.bytes).before (lines_at_end format taken) []) bytes
+read_behind format taken bytes at =
+    ap (read_text format) (took taken bytes) ∙ read_more format (reading [] [] []) taken.bytes bytes ∙ ap (λ r. read_on format r bytes) (opened format taken at).0
+
+-- what is said of a sink that took more, where these lines came to those at the end, and these wait
+pub record Grown (format : Format) (old new : Option Taken) (more waiting : List Line) : Type 0 where
+  pub at : IsAt format new waiting
+  pub lines : option_map (lines_at_end format) new ≡ option_map (λ (taken : Taken). lines_at_end format taken ++ more) old
+  pub before : option_map (before_lines format) new ≡ option_map (before_lines format) old
+
+-- one that took lines
+put_told : (format : Format) (old : Option Taken) (lines : List Line) → IsAt format old [] → AreOfFormat format lines
+    → Grown format old (option_map (λ (taken : Taken). with_bytes taken (text_of lines)) old) lines []
+put_told format None lines at keep = record { at = (refl, refl); lines = refl; before = refl }
+put_told format (Some taken) lines at keep =
+    let before = (read_text format taken.bytes).before in
+    let told = lines_at_end format taken in
+    let new = with_bytes taken (text_of lines) in
+    let read : read_text format new.bytes ≡ reading before (told ++ lines) [] = read_behind format taken (text_of lines) at ∙ read_lines format before told lines keep in
+    let ends : new.finished ≡ false = unfinished taken (text_of lines) (opened format taken at).1 in
+    let same : taken.finished ≡ false = (opened format taken at).1 in
+    record {
+      at = (
+        ap (λ (r : Reading). Some r.part) read ∙ ap (λ (r : Reading). Some (take (length r.part) [])) (sym read),
+        ap (λ (b : Bool). Some b) ends,
+      );
+      lines = ap (λ (r : Reading). Some r.lines) read;
+      before = λ i. let t : Taken = record { bytes = (read i).before; finished = (ends ∙ sym same) i } in Some t;
+    }
+
+-- one that took lines, and then a front of one more that isn't the whole
+cut_told : (format : Format) (old : Option Taken) (done : List Line) (first : Line) (rest : List Line) (n : ℕ) → IsAt format old [] → AreOfFormat format done
+    → IsOfFormat format first → n < length (ended (line_text first))
+    → Grown format old (option_map (λ (taken : Taken). with_bytes taken (take n (ended (line_text first)))) (option_map (λ (taken : Taken). with_bytes taken (text_of done)) old)) done (first ∷ rest)
+cut_told format None done first rest n at keep keeps less = record { at = (refl, refl); lines = refl; before = refl }
+cut_told format (Some taken) done first rest n at keep keeps less =
+    let before = (read_text format taken.bytes).before in
+    let told = lines_at_end format taken in
+    let middle = with_bytes taken (text_of done) in
+    let text = line_text first in
+    let new = with_bytes middle (take n (ended text)) in
+    let put = put_told format (Some taken) done at keep in
+    let halfway : read_text format middle.bytes ≡ reading before (told ++ done) [] = read_behind format taken (text_of done) at ∙ read_lines format before told done keep in
+    let read : read_text format new.bytes ≡ reading before (told ++ done) (take n text) =
+    read_behind format middle (take n (ended text)) put.at
+    ∙ ap (λ (r : Reading). read_on format (reading r.before r.lines []) (take n (ended text))) halfway
+    ∙ read_front format before (told ++ done) first n keeps less in
+    let same : taken.finished ≡ false = (opened format taken at).1 in
+    let ends : new.finished ≡ false = unfinished middle (take n (ended text)) (unfinished taken (text_of done) same) in
+    record {
+      at = (
+        ap (λ (r : Reading). Some r.part) read ∙ ap Some (front text (text_of rest) n (omega (arith, less, length-append text (10 ∷ []))))
+            ∙ ap (λ (r : Reading). Some (take (length r.part) (text_of (first ∷ rest)))) (sym read),
+        ap (λ (b : Bool). Some b) ends,
+      );
+      lines = ap (λ (r : Reading). Some r.lines) read;
+      before = λ i. let t : Taken = record { bytes = (read i).before; finished = (ends ∙ sym same) i } in Some t;
+    }
   where
-    empty : (p : List ℕ) → is_none_left p ≡ true → p ≡ []
-    empty [] is = refl
-    empty (b ∷ p) is = absurd (false≢true is)
+    front : (text more : List ℕ) (n : ℕ) → n ≤ length text → take n text ≡ take (length (take n text)) ((text ++ 10 ∷ []) ++ more)
+    front text more n within =
+        let whole : n ≤ length (text ++ 10 ∷ []) = omega (arith, within, length-append text (10 ∷ [])) in
+        sym (take-append-le n text (10 ∷ []) within) ∙ sym (take-append-le n (text ++ 10 ∷ []) more whole)
+        ∙ ap (λ k. take k ((text ++ 10 ∷ []) ++ more)) (sym (length-take-le n text within))
 
--- what is read after more bytes, where the bytes before end with a line
-read_behind : (taken : Taken) (bytes : List ℕ) → is_none_left (read_text taken.bytes).part ≡ true
-    → read_text (with_bytes taken bytes).bytes ≡ read_on (record { lines = (read_text taken.bytes).lines; part = [] }) bytes
-read_behind taken bytes none =
-    ap read_text (took taken bytes) ∙ read_more (record { lines = []; part = [] }) taken.bytes bytes ∙ ap (λ r. read_on r bytes) (settled (read_text taken.bytes) none)
+-- ---- heads
 
--- lines that were put are told, and the bytes end with a line again
-pub told_on : (old new : SinkView) (lines : List Line) → AreOfFormat1 lines → is_at_line old.told ≡ true → new ≡ after_bytes old (text_of lines)
-    → (new.faults ≡ old.faults) × (is_at_line new.told ≡ true)
-    × ((journal_of new None).lines ≡ option_map (λ (told : List Line). told ++ lines) (journal_of old None).lines)
-told_on old new lines keep at put = (
-  ap (λ (s : SinkView). s.faults) put,
-  ap (λ (s : SinkView). is_at_line s.told) put ∙ line old.told at,
-  ap (λ (s : SinkView). (journal_of s None).lines) put ∙ told old.told at,
-)
+-- a line that ended leaves no part
+line_part : (read : Reading) (o : Result Line LineFault) → (and_line read o).part ≡ []
+line_part read (Ok line) = refl
+line_part read (Err fault) = refl
+
+-- after a text whose last line is none of the format, no line is told, and no part of one
+none_behind : (format : Format) (read : Reading) (last : List ℕ) → IsFeedless last → line_in format last ≡ Err BadLine → read.part ≡ []
+    → ((read_on format read (ended last)).lines ≡ []) × ((read_on format read (ended last)).part ≡ [])
+none_behind format read last plain none part =
+    let e : read_on format read (ended last) ≡ and_line (reading read.before read.lines last) (Err BadLine) =
+    ap (λ p. read_on format (reading read.before read.lines p) (ended last)) part
+    ∙ read_ended format read.before read.lines [] last plain ∙ ap (and_line (reading read.before read.lines last)) none in
+    (ap (λ (r : Reading). r.lines) e, ap (λ (r : Reading). r.part) e)
+
+-- after a first line there is no part
+no_part : (format : Format) (read : Reading) (text : List ℕ) → IsFeedless text → (read_on format read (ended text)).part ≡ []
+no_part format read text plain =
+    ap (λ (r : Reading). r.part) (read_ended format read.before read.lines read.part text plain)
+    ∙ line_part (reading read.before read.lines (read.part ++ text)) (line_in format (read.part ++ text))
+
+-- so after both heads
+bare_1 : (read : Reading) (c v : ℕ) → c < 2 ^ 32 → v < 2 ^ 32 → ((read_on One read (head_text c v)).lines ≡ []) × ((read_on One read (head_text c v)).part ≡ [])
+bare_1 read c v cells values =
+    let first : Reading = read_on One read (ended (format_text One)) in
+    let more = read_more One read (ended (format_text One)) (ended (numbers_text c v)) in
+    let none = none_behind One first (numbers_text c v) (numbers_feedless c v cells values) (no_numbers c v cells values) (no_part One read (format_text One) (format_feedless One)) in
+    (ap (λ (r : Reading). r.lines) more ∙ none.0, ap (λ (r : Reading). r.part) more ∙ none.1)
+
+bare_2 : (read : Reading) (shape : Shape) (c v : ℕ) → IsShape shape → c < 2 ^ 32 → v < 2 ^ 32
+    → ((read_on Two read (head_2_text shape c v)).lines ≡ []) × ((read_on Two read (head_2_text shape c v)).part ≡ [])
+bare_2 read shape c v is cells values =
+    let first : Reading = read_on Two read (ended (format_text Two)) in
+    let second : Reading = read_on Two first (ended (numbers_text c v)) in
+    let more = read_more Two read (ended (format_text Two)) (ended (numbers_text c v) ++ ended (shape_text shape)) ∙ read_more Two first (ended (numbers_text c v)) (ended (shape_text shape)) in
+    let none = none_behind Two second (shape_text shape) (shape_feedless shape is) (no_shape shape is) (no_part Two first (numbers_text c v) (numbers_feedless c v cells values)) in
+    (ap (λ (r : Reading). r.lines) more ∙ none.0, ap (λ (r : Reading). r.part) more ∙ none.1)
+
+-- a sink that took a text after which nothing is told is bare
+bare_told : (format : Format) (b : ℕ) (bytes : List ℕ) (old : Option Taken)
+    → ((read : Reading) → ((read_on format read (b ∷ bytes)).lines ≡ []) × ((read_on format read (b ∷ bytes)).part ≡ []))
+    → IsBare format (option_map (λ (taken : Taken). with_bytes taken (b ∷ bytes)) old)
+bare_told format b bytes None none = (refl, (refl, refl))
+bare_told format b bytes (Some taken) none =
+    let read : Reading = read_text format taken.bytes in
+    let more : read_text format (taken.bytes ++ b ∷ bytes) ≡ read_on format read (b ∷ bytes) = read_more format (reading [] [] []) taken.bytes (b ∷ bytes) in
+    let part : part_at_end format (with_bytes taken (b ∷ bytes)) ≡ [] = ap (λ (r : Reading). r.part) more ∙ (none read).1 in
+    (ap (λ (r : Reading). Some r.lines) more ∙ ap Some (none read).0, (ap Some (part ∙ sym (ap (λ p. take (length p) []) part)), refl))
+
+-- the head of format 1
+pub head_bare : (old new : SinkView) (c v : ℕ) → c < 2 ^ 32 → v < 2 ^ 32 → new ≡ after_bytes old (head_text c v) → IsBare One new.told
+head_bare old new c v cells values put =
+    subst (λ (s : SinkView). IsBare One s.told) (sym put) (bare_told One 119 (drop 1 (head_text c v)) old.told (λ read. bare_1 read c v cells values))
+
+-- and of format 2
+pub head_2_bare : (old new : SinkView) (shape : Shape) (c v : ℕ) → IsShape shape → c < 2 ^ 32 → v < 2 ^ 32 → new ≡ after_bytes old (head_2_text shape c v) → IsBare Two new.told
+head_2_bare old new shape c v is cells values put =
+    subst (λ (s : SinkView). IsBare Two s.told) (sym put) (bare_told Two 119 (drop 1 (head_2_text shape c v)) old.told (λ read. bare_2 read shape c v is cells values))
+
+-- what a bare sink took stands before the lines
+bare_before : (format : Format) (told : Option Taken) → IsBare format told → option_map (before_lines format) told ≡ told
+bare_before format None bare = refl
+bare_before format (Some taken) bare =
+    let lines : lines_at_end format taken ≡ [] = cc (bare.0) in
+    let part : part_at_end format taken ≡ [] = ap (λ (r : Reading). r.part) (opened format taken bare.1).0 in
+    let before : (read_text format taken.bytes).before ≡ taken.bytes =
+    sym (append-nil (read_text format taken.bytes).before)
+    ∙ ap (λ t. (read_text format taken.bytes).before ++ t) (sym (ap (λ ls. text_of ls ++ part_at_end format taken) lines ∙ part))
+    ∙ nothing_lost format taken.bytes in
+    ap (λ b. let t : Taken = record { bytes = b; finished = taken.finished } in Some t) before
+
+-- ---- a journal of format 1
+
+-- with no more lines there are those before
+no_more : (format : Format) (o : Option Taken) → option_map (λ (taken : Taken). lines_at_end format taken ++ []) o ≡ option_map (lines_at_end format) o
+no_more format None = refl
+no_more format (Some taken) = ap Some (append-nil (lines_at_end format taken))
+
+-- lines behind lines that were told
+told_more : (f : Taken → List Line) (lines : List Line) (o : Option Taken) → option_map (λ (taken : Taken). f taken ++ lines) o ≡ option_map (λ (xs : List Line). xs ++ lines) (option_map (λ (taken : Taken). f taken ++ []) o)
+told_more f lines None = refl
+told_more f lines (Some taken) = ap (λ xs. Some (xs ++ lines)) (sym (append-nil (f taken)))
+
+told_all : (lines more : List Line) (old new : Option Taken) → option_map (lines_at_end One) new ≡ option_map (λ (taken : Taken). lines_at_end One taken ++ lines) old
+    → option_map (λ (taken : Taken). lines_at_end One taken ++ more) new ≡ option_map (λ (xs : List Line). xs ++ (lines ++ more)) (option_map (λ (taken : Taken). lines_at_end One taken ++ []) old)
+told_all lines more old new same =
+    split new ∙ ap (option_map (λ (xs : List Line). xs ++ more)) same ∙ both old
   where
-    line : (o : Option Taken) → is_at_line o ≡ true → is_at_line (option_map (λ (taken : Taken). with_bytes taken (text_of lines)) o) ≡ true
-    line None is = refl
-    line (Some taken) is = ap (λ (r : Reading). is_none_left r.part) (read_behind taken (text_of lines) is ∙ read_lines (read_text taken.bytes).lines lines keep)
+    split : (o : Option Taken) → option_map (λ (taken : Taken). lines_at_end One taken ++ more) o ≡ option_map (λ (xs : List Line). xs ++ more) (option_map (lines_at_end One) o)
+    split None = refl
+    split (Some taken) = refl
 
-    told : (o : Option Taken) → is_at_line o ≡ true
-        → option_map (λ (taken : Taken). (read_text taken.bytes).lines ++ []) (option_map (λ (taken : Taken). with_bytes taken (text_of lines)) o)
-        ≡ option_map (λ (ls : List Line). ls ++ lines) (option_map (λ (taken : Taken). (read_text taken.bytes).lines ++ []) o)
-    told None is = refl
-    told (Some taken) is =
-        let before = (read_text taken.bytes).lines in
-        ap (λ (ls : List Line). Some ls)
-        (append-nil (read_text (with_bytes taken (text_of lines)).bytes).lines
-        ∙ ap (λ (r : Reading). r.lines) (read_behind taken (text_of lines) is ∙ read_lines before lines keep)
-        ∙ ap (λ ls. ls ++ lines) (sym (append-nil before)))
+    both : (o : Option Taken) → option_map (λ (xs : List Line). xs ++ more) (option_map (λ (taken : Taken). lines_at_end One taken ++ lines) o)
+        ≡ option_map (λ (xs : List Line). xs ++ (lines ++ more)) (option_map (λ (taken : Taken). lines_at_end One taken ++ []) o)
+    both None = refl
+    both (Some taken) = ap Some (append_assoc (lines_at_end One taken) lines more ∙ ap (λ xs. xs ++ (lines ++ more)) (sym (append-nil (lines_at_end One taken))))
 
--- and where one was cut off, the lines before it are told, and those of the refused one
-pub told_cut : (old new : SinkView) (done : List Line) (first : Line) (refused : Line) → AreOfFormat1 done → IsOfFormat1 first → is_at_line old.told ≡ true
-    → IsCut (after_bytes old (text_of done)) new (ended (line_text first))
-    → (journal_of new (Some refused)).lines ≡ option_map (λ (told : List Line). told ++ (done ++ counted_as refused)) (journal_of old None).lines
-told_cut old new done first refused keep keeps at cut =
-    ap (option_map (λ (taken : Taken). (read_text taken.bytes).lines ++ counted_as refused)) cut.front ∙ told old.told at
-  where
-    after : Taken → Taken
-    after taken = with_bytes (with_bytes taken (text_of done)) (take cut.n (ended (line_text first)))
+-- a journal over a bare sink has begun
+pub bare_begun : (name : GName) (sink : SinkView) → IsBare One sink.told → journal_of name sink None ≡ begun name sink
+bare_begun name sink bare =
+    let lines : option_map (λ (taken : Taken). lines_at_end One taken ++ []) sink.told ≡ option_map (λ (taken : Taken). let none : List Line = [] in none) sink.told = no_more One sink.told ∙ bare.0 in
+    let before : option_map (before_lines One) sink.told ≡ sink.told = bare_before One sink.told bare in
+    λ i. let target : Target = record { name = name; before = before i } in let j : JournalView = record { lines = lines i; failed = false; faults = sink.faults; target = Some target } in j
 
-    told : (o : Option Taken) → is_at_line o ≡ true
-        → option_map (λ (taken : Taken). (read_text taken.bytes).lines ++ counted_as refused)
-        (option_map (λ (taken : Taken). with_bytes taken (take cut.n (ended (line_text first)))) (option_map (λ (taken : Taken). with_bytes taken (text_of done)) o))
-        ≡ option_map (λ (ls : List Line). ls ++ (done ++ counted_as refused)) (option_map (λ (taken : Taken). (read_text taken.bytes).lines ++ []) o)
-    told None is = refl
-    told (Some taken) is =
-        let before = (read_text taken.bytes).lines in
-        let middle : read_text (with_bytes taken (text_of done)).bytes ≡ record { lines = before ++ done; part = [] } =
-        read_behind taken (text_of done) is ∙ read_lines before done keep in
-        let line : is_none_left (read_text (with_bytes taken (text_of done)).bytes).part ≡ true = ap (λ (r : Reading). is_none_left r.part) middle in
-        let lines : (read_text (after taken).bytes).lines ≡ before ++ done =
-        ap (λ (r : Reading). r.lines) (read_behind (with_bytes taken (text_of done)) (take cut.n (ended (line_text first))) line)
-        ∙ read_front (read_text (with_bytes taken (text_of done)).bytes).lines first cut.n keeps cut.less
-        ∙ ap (λ (r : Reading). r.lines) middle in
-        ap (λ (ls : List Line). Some ls)
-        (ap (λ ls. ls ++ counted_as refused) lines ∙ append_assoc before done (counted_as refused) ∙ ap (λ ls. ls ++ (done ++ counted_as refused)) (sym (append-nil before)))
+-- a line that was put is told
+pub line_told : (name : GName) (old new : SinkView) (refused : Option Line) (line : Line) → IsAt One old.told (refused_lines refused) → is_some refused ≡ false
+    → AreOfFormat One (counted_as line) → new ≡ after_bytes old (text_of (counted_as line))
+    → IsAt One new.told (refused_lines refused) × (journal_of name new refused ≡ after_line (journal_of name old refused) line)
+line_told name old new (Some refused) line at going keep put = absurd (false≢true (sym going))
+line_told name old new None line at going keep put =
+    let grown = subst (λ (s : SinkView). Grown One old.told s.told (counted_as line) []) (sym put) (put_told One old.told (counted_as line) at keep) in
+    let lines = no_more One new.told ∙ grown.lines ∙ told_more (lines_at_end One) (counted_as line) old.told in
+    let faults : new.faults ≡ old.faults = ap (λ (s : SinkView). s.faults) put in (
+      grown.at,
+      λ i. let target : Target = record { name = name; before = grown.before i } in
+          let j : JournalView = record { lines = lines i; failed = false; faults = faults i; target = Some target } in j,
+    )
 
--- ---- a journal begins
-
--- the first line of a head
-abbrev head : List ℕ
-head = codes "wfc-refutation 1"
-
--- a line that ends with it is no line of format 1
-no_line : (part : List ℕ) (line : Line) → line_of (part ++ head) ≡ Ok line → ⊥
-no_line part line read =
-    let is = line_of-is (part ++ head) line read in
-    let free : All (λ b. nat_eq b 45 ≡ false) (part ++ head) = subst (All (λ b. nat_eq b 45 ≡ false)) (sym is.0) (line_free 45 line (omega arith) refl is.1) in
-    let end : All (λ b. nat_eq b 45 ≡ false) head = subst (All (λ b. nat_eq b 45 ≡ false)) (drop-append_seam part head) (All-drop (λ b. nat_eq b 45 ≡ false) (length part) (part ++ head) free) in
-    false≢true (sym (end 3 0 (omega arith)))
-
--- and with it the lines begin anew
-anew : (lines : List Line) (part : List ℕ) → and_line lines (part ++ head) (line_of (part ++ head)) ≡ []
-anew lines part = of (line_of (part ++ head)) refl
-  where
-    of : (o : Result Line LineFault) → line_of (part ++ head) ≡ o → and_line lines (part ++ head) o ≡ []
-    of (Ok line) is = absurd (no_line part line is)
-    of (Err fault) is =
-        let place : length (part ++ head) - 16 ≡ length part = omega (arith, length-append part head) in
-        let behind : drop (length (part ++ head) - 16) (part ++ head) ≡ head = ap (λ n. drop n (part ++ head)) place ∙ drop-append_seam part head in
-        ap (λ bytes. cond (bytes_eq bytes head) [] lines) behind
-
--- no lines are told after one that is none of them
-none_told : (text : List ℕ) → line_of text ≡ Err BadLine → and_line [] text (line_of text) ≡ []
-none_told text is = ap (and_line [] text) is ∙ either (begins_head text)
-  where
-    either : (b : Bool) → cond b [] [] ≡ (let none : List Line = [] in none)
-    either true = refl
-    either false = refl
-
--- the second line of a head
-numbers_free : (c v : ℕ) → c < 2 ^ 32 → v < 2 ^ 32 → IsFeedless (numbers_text c v)
-numbers_free c v cells values =
-    let plain : AreFree 10 (numbers_words c v) = (searched (codes "cells") refl, (decimal_free 10 c (omega arith) cells, (searched (codes "values") refl, (decimal_free 10 v (omega arith) values, record {})))) in
-    joined_free 10 (numbers_words c v) refl plain
-  where
-    searched : (word : List ℕ) → position (λ b. nat_eq b 10) word ≡ None → IsFeedless word
-    searched word none k d inside = position_fails (λ b. nat_eq b 10) word none k d inside
-
--- after a head no line is told, whatever was read before
-read_head : (read : Reading) (c v : ℕ) → c < 2 ^ 32 → v < 2 ^ 32 → read_on read (head_text c v) ≡ record { lines = []; part = [] }
-read_head read c v cells values =
-    let none : Reading = record { lines = []; part = [] } in
-    let first : read_on read (ended head) ≡ none =
-    read_more read head (10 ∷ []) ∙ ap (λ r. read_on r (10 ∷ [])) (read_plain read.lines read.part head (plain head refl))
-    ∙ ap (λ ls. let r : Reading = record { lines = ls; part = [] } in r) (anew read.lines read.part) in
-    let second : read_on none (ended (numbers_text c v)) ≡ none =
-    read_more none (numbers_text c v) (10 ∷ []) ∙ ap (λ r. read_on r (10 ∷ [])) (read_plain [] [] (numbers_text c v) (numbers_free c v cells values))
-    ∙ ap (λ ls. let r : Reading = record { lines = ls; part = [] } in r) (none_told (numbers_text c v) (no_numbers c v cells values)) in
-    read_more read (ended head) (ended (numbers_text c v)) ∙ ap (λ r. read_on r (ended (numbers_text c v))) first ∙ second
-  where
-    plain : (word : List ℕ) → position (λ b. nat_eq b 10) word ≡ None → IsFeedless word
-    plain word none k d inside = position_fails (λ b. nat_eq b 10) word none k d inside
-
--- a journal over a sink that took a head tells no line
-pub head_told : (old new : SinkView) (c v : ℕ) → c < 2 ^ 32 → v < 2 ^ 32 → new ≡ after_bytes old (head_text c v)
-    → (is_at_line new.told ≡ true) × ((journal_of new None).lines ≡ option_map (λ (taken : Taken). let none : List Line = [] in none) old.told)
-head_told old new c v cells values put = (
-  ap (λ (s : SinkView). is_at_line s.told) put ∙ line old.told,
-  ap (λ (s : SinkView). (journal_of s None).lines) put ∙ told old.told,
-)
-  where
-    behind : (taken : Taken) → read_text (with_bytes taken (head_text c v)).bytes ≡ record { lines = []; part = [] }
-    behind taken = ap read_text (took taken (head_text c v)) ∙ read_more (record { lines = []; part = [] }) taken.bytes (head_text c v) ∙ read_head (read_text taken.bytes) c v cells values
-
-    line : (o : Option Taken) → is_at_line (option_map (λ (taken : Taken). with_bytes taken (head_text c v)) o) ≡ true
-    line None = refl
-    line (Some taken) = ap (λ (r : Reading). is_none_left r.part) (behind taken)
-
-    told : (o : Option Taken) → option_map (λ (taken : Taken). (read_text taken.bytes).lines ++ []) (option_map (λ (taken : Taken). with_bytes taken (head_text c v)) o)
-        ≡ option_map (λ (taken : Taken). let none : List Line = [] in none) o
-    told None = refl
-    told (Some taken) = ap (λ (r : Reading). Some (r.lines ++ [])) (behind taken)
+-- a line that was cut off is refused
+pub line_refused : (name : GName) (old new : SinkView) (refused : Option Line) (line left : Line) → IsAt One old.told (refused_lines refused) → is_some refused ≡ false
+    → AreOfFormat One (counted_as line) → IsCutAt old new line left
+    → IsAt One new.told (counted_as left) × IsRefused (journal_of name old refused) (journal_of name new (Some left)) line
+line_refused name old new (Some refused) line left at going keep cut = absurd (false≢true (sym going))
+line_refused name old new None line left at going keep cut =
+    let parts = of_format-parts One cut.done cut.first cut.rest (subst (AreOfFormat One) cut.split keep) in
+    let grown = subst (λ (o : Option Taken). Grown One old.told o cut.done (cut.first ∷ cut.rest)) (sym cut.cut.front)
+    (cut_told One old.told cut.done cut.first cut.rest cut.cut.n at parts.0 parts.1 cut.cut.less) in
+    let whole : cut.done ++ counted_as left ≡ counted_as line = ap (λ ls. cut.done ++ ls) cut.left ∙ sym cut.split in (
+      subst (IsAt One new.told) (sym cut.left) grown.at,
+      record {
+        handed = told_all cut.done (counted_as left) old.told new.told grown.lines
+            ∙ ap (λ ls. option_map (λ (xs : List Line). xs ++ ls) (journal_of name old None).lines) whole;
+        failed = refl;
+        counted = cut.cut.counted;
+        target = ap (λ b. let t : Target = record { name = name; before = b } in Some t) grown.before;
+      },
+    )

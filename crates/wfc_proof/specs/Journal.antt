@@ -2,7 +2,9 @@
 use Rattle.std.specs.Prelude.{◌≡◌, ℕ, ◌+◌, ◌-◌, ◌<◌, ◌≤◌, Bool, true, false, List, [], ◌∷◌, ◌++◌, length, map, take, Option, None, ⊤}
 use Rattle.std.specs.List.{range_with_len}
 use Rattle.std.specs.Option.{option_map}
+use Rattle.std.specs.Borrow.{GName}
 use Rattle.wfc_outside.specs.Count.{HasRisen}
+use Rattle.wfc_outside.specs.Sink.{Taken}
 use Rattle.wfc_proof.specs.declared.Line.{Line}
 use Rattle.wfc_proof.specs.declared.Line.TheVariants.{Remove, Span, Try, Empty, End, Found, Out}
 
@@ -26,15 +28,21 @@ counted_as End = End ∷ []
 counted_as Found = Found ∷ []
 counted_as Out = Out ∷ []
 
--- a journal: the lines handed to it, where they are told, whether it refused one, and the count of its faults
+-- the sink that a journal writes into: the name of the reference to it, and what it took before the first line, where that is told
+pub record Target : Type 0 where
+  pub name : GName
+  pub before : Option Taken
+
+-- a journal: the lines handed to it, where they are told, whether it refused one, the count of its faults, and its sink, if it has one
 pub record JournalView : Type 0 where
   pub lines : Option (List Line)
   pub failed : Bool
   pub faults : ℕ
+  pub target : Option Target
 
 -- a journal that tells nothing and never fails
 abbrev pub quiet : JournalView
-quiet = record { lines = None; failed = false; faults = 0 }
+quiet = record { lines = None; failed = false; faults = 0; target = None }
 
 -- the journal after it took these lines
 abbrev pub after_lines : JournalView → List Line → JournalView
@@ -49,6 +57,7 @@ pub record IsRefused (old new : JournalView) (line : Line) : Type 0 where
   pub handed : new.lines ≡ (after_line old line).lines
   pub failed : new.failed ≡ true
   pub counted : HasRisen old.faults new.faults
+  pub target : new.target ≡ old.target
 
 -- some of these lines were handed over from the first on, the last of them was refused, and a fault was counted
 pub record IsCutOff (old new : JournalView) (lines : List Line) : Type 0 where
@@ -58,3 +67,4 @@ pub record IsCutOff (old new : JournalView) (lines : List Line) : Type 0 where
   pub handed : new.lines ≡ (after_lines old (take count lines)).lines
   pub failed : new.failed ≡ true
   pub counted : HasRisen old.faults new.faults
+  pub target : new.target ≡ old.target

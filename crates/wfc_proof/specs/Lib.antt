@@ -9,5 +9,6 @@ pub mod Text
 pub mod Heads
 pub mod Telling
 pub mod ProofText
+pub mod Over
 -- passed on from the crate below
 pub use Rattle.wfc_outside.specs.Count

@@ -21,7 +21,7 @@ ghost use Rattle.wfc_proof.specs.declared.heads.Numbers.{Numbers};
 ghost use Rattle.wfc_proof.specs.declared.heads.Shape.{Shape};
 ghost use Rattle.wfc_proof.specs.declared.text.LineFault.TheVariants.{BadLine};
 ghost use Rattle.wfc_proof.specs.declared.Reject.TheVariants.{NotStanding, HasSupport, NoNeighbour, NotEmpty, AfterEnd, IndexRange, NotClosed, OnlyValue};
-ghost use Rattle.wfc_proof.specs.Journal.{JournalView, quiet, IsWhole, counted_as, after_line, after_lines, IsRefused, IsCutOff};
+ghost use Rattle.wfc_proof.specs.Journal.{JournalView, Target, quiet, IsWhole, counted_as, after_line, after_lines, IsRefused, IsCutOff};
 ghost use Rattle.wfc_proof.specs.declared.Line.{Line};
 ghost use Rattle.wfc_proof.specs.declared.Line.TheVariants.{Remove, Span, Try, Empty, End, Found, Out};
 
@@ -41,33 +41,35 @@ pub fn spans_are_removals()
 
 /// A line comes behind those that were told before, and nothing else changes. A quiet journal stays as it is.
 pub fn lines_come_behind()
-    ensures told { after_line (record { lines = Some (Try 1 2 ∷ []); failed = false; faults = 3 }) (Span 4 5 6 0)
-        ≡ record { lines = Some (Try 1 2 ∷ Remove 4 5 0 ∷ Remove 4 6 0 ∷ []); failed = false; faults = 3 } }
+    ensures told { after_line (record { lines = Some (Try 1 2 ∷ []); failed = false; faults = 3; target = None }) (Span 4 5 6 0)
+        ≡ record { lines = Some (Try 1 2 ∷ Remove 4 5 0 ∷ Remove 4 6 0 ∷ []); failed = false; faults = 3; target = None } }
     ensures quiet { (lines : List Line) → after_lines quiet lines ≡ quiet }
 {}
 
 /// A refused line counts among those that were handed over, and a fault was counted. A quiet journal refuses none.
 pub fn refusals_are_counted()
-    ensures refused { IsRefused (record { lines = Some (Try 1 2 ∷ []); failed = false; faults = 3 })
-        (record { lines = Some (Try 1 2 ∷ Empty 5 ∷ []); failed = true; faults = 4 }) (Empty 5) }
-    ensures not_handed_over { IsRefused (record { lines = Some (Try 1 2 ∷ []); failed = false; faults = 3 })
-        (record { lines = Some (Try 1 2 ∷ []); failed = true; faults = 4 }) (Empty 5) → ⊥ }
-    ensures not_failed { IsRefused (record { lines = None; failed = false; faults = 3 })
-        (record { lines = None; failed = false; faults = 4 }) (Empty 5) → ⊥ }
-    ensures not_counted { IsRefused (record { lines = None; failed = false; faults = 3 })
-        (record { lines = None; failed = true; faults = 3 }) (Empty 5) → ⊥ }
+    ensures refused { IsRefused (record { lines = Some (Try 1 2 ∷ []); failed = false; faults = 3; target = None })
+        (record { lines = Some (Try 1 2 ∷ Empty 5 ∷ []); failed = true; faults = 4; target = None }) (Empty 5) }
+    ensures not_handed_over { IsRefused (record { lines = Some (Try 1 2 ∷ []); failed = false; faults = 3; target = None })
+        (record { lines = Some (Try 1 2 ∷ []); failed = true; faults = 4; target = None }) (Empty 5) → ⊥ }
+    ensures not_failed { IsRefused (record { lines = None; failed = false; faults = 3; target = None })
+        (record { lines = None; failed = false; faults = 4; target = None }) (Empty 5) → ⊥ }
+    ensures not_counted { IsRefused (record { lines = None; failed = false; faults = 3; target = None })
+        (record { lines = None; failed = true; faults = 3; target = None }) (Empty 5) → ⊥ }
+    ensures elsewhere { (there : Target) → IsRefused (record { lines = None; failed = false; faults = 3; target = Some there })
+        (record { lines = None; failed = true; faults = 4; target = None }) (Empty 5) → ⊥ }
     ensures quiet { (line : Line) → IsRefused quiet quiet line → ⊥ }
 {}
 
 /// Where lines are cut off, a front of them was handed over, with at least one line.
 pub fn fronts_are_handed_over()
-    ensures front { IsCutOff (record { lines = Some (Try 1 2 ∷ []); failed = false; faults = 3 })
-        (record { lines = Some (Try 1 2 ∷ Remove 4 5 0 ∷ Empty 5 ∷ []); failed = true; faults = 4 })
+    ensures front { IsCutOff (record { lines = Some (Try 1 2 ∷ []); failed = false; faults = 3; target = None })
+        (record { lines = Some (Try 1 2 ∷ Remove 4 5 0 ∷ Empty 5 ∷ []); failed = true; faults = 4; target = None })
         (Remove 4 5 0 ∷ Empty 5 ∷ End ∷ []) }
-    ensures none { IsCutOff (record { lines = Some (Try 1 2 ∷ []); failed = false; faults = 3 })
-        (record { lines = Some (Try 1 2 ∷ []); failed = true; faults = 4 }) (Remove 4 5 0 ∷ Empty 5 ∷ []) → ⊥ }
-    ensures a_later_line { IsCutOff (record { lines = Some (Try 1 2 ∷ []); failed = false; faults = 3 })
-        (record { lines = Some (Try 1 2 ∷ Empty 5 ∷ []); failed = true; faults = 4 }) (Remove 4 5 0 ∷ Empty 5 ∷ []) → ⊥ }
+    ensures none { IsCutOff (record { lines = Some (Try 1 2 ∷ []); failed = false; faults = 3; target = None })
+        (record { lines = Some (Try 1 2 ∷ []); failed = true; faults = 4; target = None }) (Remove 4 5 0 ∷ Empty 5 ∷ []) → ⊥ }
+    ensures a_later_line { IsCutOff (record { lines = Some (Try 1 2 ∷ []); failed = false; faults = 3; target = None })
+        (record { lines = Some (Try 1 2 ∷ Empty 5 ∷ []); failed = true; faults = 4; target = None }) (Remove 4 5 0 ∷ Empty 5 ∷ []) → ⊥ }
     ensures quiet { (lines : List Line) → IsCutOff quiet quiet lines → ⊥ }
 {}
 

@@ -10,6 +10,7 @@ ghost use Rattle.wfc_proof.specs.Journal.{JournalView, IsWhole, after_line, IsRe
 
 mod gathered;
 mod heads;
+mod journals;
 pub mod laws;
 #[cfg(test)]
 mod tests;
@@ -20,6 +21,7 @@ mod writing;
 pub use heads::{
     Format, Numbers, Shape, read_format, read_numbers, read_shape, write_header, write_header_2,
 };
+pub use journals::ProofJournal;
 pub use text::{LineFault, read_line, read_line_2};
 use thiserror::Error;
 pub use writing::write_line;

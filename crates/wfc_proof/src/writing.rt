@@ -2,10 +2,12 @@
 
 ghost use Rattle.std.specs.Prelude.{◌≡◌, ◌≤◌, ◌+◌, ◌∷◌, ◌++◌, [], length};
 ghost use Rattle.wfc_proof.specs.Journal.{IsWhole, counted_as};
+ghost use Rattle.wfc_proof.specs.ProofText.{AreOfFormat};
 ghost use Rattle.wfc_proof.specs.Text.{line_text};
 ghost use Rattle.wfc_proof.specs.Heads.{ended};
 ghost use Rattle.wfc_proof.specs.Telling.{PutsOrCuts, PutsCounted};
 ghost use Rattle.wfc_proof.specs.declared.Line.TheVariants.{Span};
+ghost use Rattle.wfc_proof.specs.declared.heads.Format.TheVariants.{One};
 
 use crate::Line;
 use crate::gathered::Gathered;
@@ -79,15 +81,21 @@ fn gather_line(text: &mut Gathered, line: Line)
 pub(crate) fn put_counted<S: Sink>(sink: &mut S, line: Line) -> Result<(), Line>
     requires whole { IsWhole line }
     ensures put { PutsCounted (S.seen sink.old) (S.seen sink.new) line result }
+    ensures format { AreOfFormat One (counted_as line) }
 {
     match line {
+        Line::Remove { cell, value, dir } => put_alone(sink, Line::Remove { cell, value, dir }),
         Line::Span {
             cell,
             first,
             last,
             dir,
         } => put_span(sink, cell, first, last, dir),
-        _ => put_alone(sink, line),
+        Line::Try { cell, value } => put_alone(sink, Line::Try { cell, value }),
+        Line::Empty { cell } => put_alone(sink, Line::Empty { cell }),
+        Line::End => put_alone(sink, Line::End),
+        Line::Found => put_alone(sink, Line::Found),
+        Line::Out => put_alone(sink, Line::Out),
     }
 }
 
@@ -107,6 +115,7 @@ fn put_alone<S: Sink>(sink: &mut S, line: Line) -> Result<(), Line>
 fn put_span<S: Sink>(sink: &mut S, cell: u32, first: u16, last: u16, dir: u8) -> Result<(), Line>
     requires whole { first ≤ last }
     ensures put { PutsCounted (S.seen sink.old) (S.seen sink.new) (Span cell first last dir) result }
+    ensures format { AreOfFormat One (counted_as (Span cell first last dir)) }
 {
     let mut next = u32::from(first);
     while next <= u32::from(last) {

@@ -1,0 +1,77 @@
+//! Journals that write the lines they are told into a sink.
+
+ghost use Rattle.std.specs.Prelude.{◌≡◌, None, IfOk, OnOk};
+ghost use Rattle.wfc_outside.specs.Sink.{Puts, after_bytes};
+ghost use Rattle.wfc_problem.specs.Network.{values};
+ghost use Rattle.wfc_proof.specs.Heads.{head_text};
+ghost use Rattle.wfc_proof.specs.Telling.{IsAt, IsBare, begun, refused_lines};
+ghost use Rattle.wfc_proof.specs.declared.heads.Format.TheVariants.{One};
+
+use crate::heads::write_header;
+use crate::writing::put_counted;
+use crate::{Journal, JournalFault, Line};
+use wfc_outside::{Sink, SinkFault};
+use wfc_problem::Problem;
+
+/// A journal that writes a refutation of format 1 into a sink. It keeps the line that was refused and no other, and takes
+/// no memory.
+#[derive(Drop)]
+pub struct ProofJournal<'s, S: Sink> {
+    sink: &'s mut S,
+    refused: Option<Line>,
+    ghost at: { IsAt One (S.seen sink.now).told (refused_lines refused) },
+}
+
+impl<'s, S: Sink> ProofJournal<'s, S> {
+    ghost use Rattle.wfc_proof.specs.Over.{told_by};
+
+    /// Writes the head, and tells no line yet. After `Failed` the sink has taken a front of the head, and has counted a
+    /// fault: no clause can say it, since the sink is lent to what is answered. `write_header` and `behind_head` say all.
+    pub fn begin(sink: &'s mut S, problem: &Problem) -> Result<ProofJournal<'s, S>, JournalFault>
+        ensures begun { IfOk result (λ journal. told_by S.Sink journal ≡ begun sink.entry.ghost_name
+            (after_bytes (S.seen sink.old) (head_text problem.now.cells (values problem.now)))) }
+    {
+        match put_head(sink, problem.cells(), problem.values()) {
+            Ok(()) => Ok(ProofJournal::behind_head(sink)),
+            Err(SinkFault::Failed) => Err(JournalFault::Failed),
+        }
+    }
+
+    /// A journal over a sink that has taken a head. It writes nothing yet.
+    pub fn behind_head(sink: &'s mut S) -> ProofJournal<'s, S>
+        requires bare { IsBare One (S.seen sink.old).told }
+        ensures begun { told_by S.Sink result ≡ begun sink.entry.ghost_name (S.seen sink.old) }
+    {
+        ProofJournal {
+            sink,
+            refused: None,
+        }
+    }
+}
+
+/// Puts the head of format 1, behind which a journal begins.
+fn put_head<S: Sink>(sink: &mut S, cells: u32, values: u16) -> Result<(), SinkFault>
+    ensures put { Puts (S.seen sink.old) (S.seen sink.new) (head_text cells values) result }
+    ensures bare { OnOk result (IsBare One (S.seen sink.new).told) }
+{
+    match write_header(sink, cells, values) {
+        Ok(()) => Ok(()),
+        Err(fault) => Err(fault),
+    }
+}
+
+impl<'s, S: Sink> Journal for ProofJournal<'s, S> {
+    ghost use Rattle.wfc_proof.specs.Telling.{journal_of};
+
+    ghost seen = { λ j. journal_of j.sink.ghost_name (S.seen j.sink.now) j.refused };
+
+    fn line(&mut self, line: Line) -> Result<(), JournalFault> {
+        match put_counted(self.sink, line) {
+            Ok(()) => Ok(()),
+            Err(left) => {
+                self.refused = Some(left);
+                Err(JournalFault::Failed)
+            }
+        }
+    }
+}
