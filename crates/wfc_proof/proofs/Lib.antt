@@ -9,6 +9,9 @@ pub mod Waiting
 mod WordLemmas
 mod LineLemmas
 mod HeadLemmas
-mod TellingLemmas
+pub mod TellingLemmas
 mod PutLemmas
+mod SpanLemmas
+mod UpgradeLemmas
+pub mod WrittenLemmas
 pub mod ProofTextLemmas

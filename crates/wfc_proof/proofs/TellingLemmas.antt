@@ -188,7 +188,7 @@ pub record Grown (format : Format) (old new : Option Taken) (more waiting : List
   pub before : option_map (before_lines format) new ≡ option_map (before_lines format) old
 
 -- one that took lines
-put_told : (format : Format) (old : Option Taken) (lines : List Line) → IsAt format old [] → AreOfFormat format lines
+pub put_told : (format : Format) (old : Option Taken) (lines : List Line) → IsAt format old [] → AreOfFormat format lines
     → Grown format old (option_map (λ (taken : Taken). with_bytes taken (text_of lines)) old) lines []
 put_told format None lines at keep = record { at = (refl, refl); lines = refl; before = refl }
 put_told format (Some taken) lines at keep =
@@ -208,7 +208,7 @@ put_told format (Some taken) lines at keep =
     }
 
 -- one that took lines, and then a front of one more that isn't the whole
-cut_told : (format : Format) (old : Option Taken) (done : List Line) (first : Line) (rest : List Line) (n : ℕ) → IsAt format old [] → AreOfFormat format done
+pub cut_told : (format : Format) (old : Option Taken) (done : List Line) (first : Line) (rest : List Line) (n : ℕ) → IsAt format old [] → AreOfFormat format done
     → IsOfFormat format first → n < length (ended (line_text first))
     → Grown format old (option_map (λ (taken : Taken). with_bytes taken (take n (ended (line_text first)))) (option_map (λ (taken : Taken). with_bytes taken (text_of done)) old)) done (first ∷ rest)
 cut_told format None done first rest n at keep keeps less = record { at = (refl, refl); lines = refl; before = refl }
@@ -265,14 +265,14 @@ no_part format read text plain =
     ∙ line_part (reading read.before read.lines (read.part ++ text)) (line_in format (read.part ++ text))
 
 -- so after both heads
-bare_1 : (read : Reading) (c v : ℕ) → c < 2 ^ 32 → v < 2 ^ 32 → ((read_on One read (head_text c v)).lines ≡ []) × ((read_on One read (head_text c v)).part ≡ [])
+pub bare_1 : (read : Reading) (c v : ℕ) → c < 2 ^ 32 → v < 2 ^ 32 → ((read_on One read (head_text c v)).lines ≡ []) × ((read_on One read (head_text c v)).part ≡ [])
 bare_1 read c v cells values =
     let first : Reading = read_on One read (ended (format_text One)) in
     let more = read_more One read (ended (format_text One)) (ended (numbers_text c v)) in
     let none = none_behind One first (numbers_text c v) (numbers_feedless c v cells values) (no_numbers c v cells values) (no_part One read (format_text One) (format_feedless One)) in
     (ap (λ (r : Reading). r.lines) more ∙ none.0, ap (λ (r : Reading). r.part) more ∙ none.1)
 
-bare_2 : (read : Reading) (shape : Shape) (c v : ℕ) → IsShape shape → c < 2 ^ 32 → v < 2 ^ 32
+pub bare_2 : (read : Reading) (shape : Shape) (c v : ℕ) → IsShape shape → c < 2 ^ 32 → v < 2 ^ 32
     → ((read_on Two read (head_2_text shape c v)).lines ≡ []) × ((read_on Two read (head_2_text shape c v)).part ≡ [])
 bare_2 read shape c v is cells values =
     let first : Reading = read_on Two read (ended (format_text Two)) in
@@ -303,7 +303,7 @@ head_2_bare old new shape c v is cells values put =
     subst (λ (s : SinkView). IsBare Two s.told) (sym put) (bare_told Two 119 (drop 1 (head_2_text shape c v)) old.told (λ read. bare_2 read shape c v is cells values))
 
 -- what a bare sink took stands before the lines
-bare_before : (format : Format) (told : Option Taken) → IsBare format told → option_map (before_lines format) told ≡ told
+pub bare_before : (format : Format) (told : Option Taken) → IsBare format told → option_map (before_lines format) told ≡ told
 bare_before format None bare = refl
 bare_before format (Some taken) bare =
     let lines : lines_at_end format taken ≡ [] = cc (bare.0) in

@@ -10,5 +10,7 @@ pub mod Heads
 pub mod Telling
 pub mod ProofText
 pub mod Over
+pub mod Spans
+pub mod Upgrade
 -- passed on from the crate below
 pub use Rattle.wfc_outside.specs.Count

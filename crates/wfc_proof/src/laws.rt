@@ -1,6 +1,7 @@
 //! Laws of the definitions, each a function with no body whose contract is the law. They run nothing.
 
-ghost use Rattle.std.specs.Prelude.{◌≡◌, ℕ, ◌↔◌, ◌+◌, ◌<◌, ◌≤◌, [], ◌∷◌, ◌++◌, List, codes, length, map, None, Some, Ok, Err, false, true, IsTrue, IsFalse};
+ghost use Rattle.std.specs.Prelude.{◌≡◌, ℕ, ◌↔◌, ◌+◌, ◌<◌, ◌≤◌, [], ◌∷◌, ◌++◌, List, codes, length, map, None, Some, Ok, Err};
+ghost use Rattle.std.specs.Prelude.{false, true, IsTrue, IsFalse, Option, take};
 ghost use Rattle.wfc_problem.specs.Assignment.{IsLegalAssignment, LiesIn};
 ghost use Rattle.wfc_problem.specs.Domains.{Test, Within, IsEmptyAt, cut};
 ghost use Rattle.wfc_problem.specs.Network.{Network, IsProblem, in_base, neighbour, ok};
@@ -12,15 +13,22 @@ ghost use Rattle.wfc_proof.specs.Lines.{Spells, behind, joined, push, spelled};
 ghost use Rattle.wfc_proof.specs.Proof.{Proof, Closes, FollowsFrom, StopsThere, is_left_off, Node, nodes, IsRemoval, IsSplit};
 ghost use Rattle.wfc_proof.specs.Proof.Node.{removes, splits, empties};
 ghost use Rattle.wfc_proof.specs.Proof.Proof.{empty, remove, split, left_off};
-ghost use Rattle.wfc_proof.specs.Small.{wide, from_base};
+ghost use Rattle.wfc_proof.specs.Small.{wide, dead, from_base};
+ghost use Rattle.wfc_proof.specs.Spans.{IsSpanning, in_spans, join_on, nothing_joined, spans_of};
+ghost use Rattle.wfc_proof.specs.Telling.{IsAt, begun, journal_of, read_text, refused_lines, text_of};
+ghost use Rattle.std.specs.Borrow.{GName};
+ghost use Rattle.wfc_outside.specs.Sink.{IsFaultAfterFront, SinkView, after_bytes};
 ghost use Rattle.wfc_proof.specs.Text.{line_text, line_of, line_2_of, IsOfFormat1, IsOfFormat2};
-ghost use Rattle.wfc_proof.specs.Heads.{AreNumbers, IsShape, format_of, format_text, head_text, head_2_text, numbers_of, numbers_text, shape_of, shape_text};
+ghost use Rattle.wfc_proof.specs.Upgrade.{upgraded_text};
+ghost use Rattle.wfc_proof.specs.Heads.{AreNumbers, IsShape, format_of, format_text, head_text, head_2_text, numbers_of};
+ghost use Rattle.wfc_proof.specs.Heads.{numbers_text, shape_of, shape_text};
 ghost use Rattle.wfc_proof.specs.declared.heads.Format.{Format};
 ghost use Rattle.wfc_proof.specs.declared.heads.Format.TheVariants.{One, Two};
 ghost use Rattle.wfc_proof.specs.declared.heads.Numbers.{Numbers};
 ghost use Rattle.wfc_proof.specs.declared.heads.Shape.{Shape};
 ghost use Rattle.wfc_proof.specs.declared.text.LineFault.TheVariants.{BadLine};
-ghost use Rattle.wfc_proof.specs.declared.Reject.TheVariants.{NotStanding, HasSupport, NoNeighbour, NotEmpty, AfterEnd, IndexRange, NotClosed, OnlyValue};
+ghost use Rattle.wfc_proof.specs.declared.Reject.TheVariants.{NotStanding, HasSupport, NoNeighbour, NotEmpty, AfterEnd};
+ghost use Rattle.wfc_proof.specs.declared.Reject.TheVariants.{IndexRange, NotClosed, OnlyValue};
 ghost use Rattle.wfc_proof.specs.Journal.{JournalView, Target, quiet, IsWhole, counted_as, after_line, after_lines, IsRefused, IsCutOff};
 ghost use Rattle.wfc_proof.specs.declared.Line.{Line};
 ghost use Rattle.wfc_proof.specs.declared.Line.TheVariants.{Remove, Span, Try, Empty, End, Found, Out};
@@ -174,7 +182,8 @@ pub fn removals_by_example()
 /// Why splits and empty cells are refused: another value has to stand beside the one that is tried, and the least value
 /// that stands is named.
 pub fn splits_by_example()
-    ensures splits { map (node_fault wide (cut (in_base wide) (Is 0 2))) (splits 0 2 ∷ splits 0 1 ∷ splits 1 2 ∷ splits 2 2 ∷ splits 0 3 ∷ [])
+    ensures splits { map (node_fault wide (cut (in_base wide) (Is 0 2)))
+        (splits 0 2 ∷ splits 0 1 ∷ splits 1 2 ∷ splits 2 2 ∷ splits 0 3 ∷ [])
         ≡ Some OnlyValue ∷ Some NotStanding ∷ None ∷ Some IndexRange ∷ Some IndexRange ∷ [] }
     ensures empties { map (node_fault wide (cut (in_base wide) (Is 0 2))) (empties 0 ∷ empties 1 ∷ empties 2 ∷ [])
         ≡ Some (NotEmpty 2) ∷ Some (NotEmpty 0) ∷ Some IndexRange ∷ [] }
@@ -227,20 +236,81 @@ pub fn readings_by_example()
     ensures one { line_2_of (codes "r 10 4 4 3") ≡ Ok (Span 10 4 4 3) }
     ensures other_format { (line_of (codes "r 10 2 4 3") ≡ Err BadLine) × (line_2_of (codes "r 10 2 3") ≡ Err BadLine) }
     ensures most { (line_of (codes "t 4294967295 65535") ≡ Ok (Try 4294967295 65535)) × (line_2_of (codes "x 0") ≡ Ok (Empty 0)) }
-    ensures too_large { map line_of (codes "x 4294967296" ∷ codes "t 0 65536" ∷ codes "r 0 0 256" ∷ []) ≡ Err BadLine ∷ Err BadLine ∷ Err BadLine ∷ [] }
-    ensures blanks { map line_of (codes "x  0" ∷ codes " x 0" ∷ codes "x 0 " ∷ codes "q " ∷ []) ≡ Err BadLine ∷ Err BadLine ∷ Err BadLine ∷ Err BadLine ∷ [] }
-    ensures digits { map line_of (codes "x 00" ∷ codes "x 07" ∷ codes "x +7" ∷ codes "x" ∷ []) ≡ Err BadLine ∷ Err BadLine ∷ Err BadLine ∷ Err BadLine ∷ [] }
+    ensures too_large { map line_of (codes "x 4294967296" ∷ codes "t 0 65536" ∷ codes "r 0 0 256" ∷ [])
+        ≡ Err BadLine ∷ Err BadLine ∷ Err BadLine ∷ [] }
+    ensures blanks { map line_of (codes "x  0" ∷ codes " x 0" ∷ codes "x 0 " ∷ codes "q " ∷ [])
+        ≡ Err BadLine ∷ Err BadLine ∷ Err BadLine ∷ Err BadLine ∷ [] }
+    ensures digits { map line_of (codes "x 00" ∷ codes "x 07" ∷ codes "x +7" ∷ codes "x" ∷ [])
+        ≡ Err BadLine ∷ Err BadLine ∷ Err BadLine ∷ Err BadLine ∷ [] }
     ensures backwards { line_2_of (codes "r 10 4 3 3") ≡ Err BadLine }
     ensures letters { map line_2_of (codes "q" ∷ codes "s" ∷ codes "o" ∷ codes "Q" ∷ []) ≡ Ok End ∷ Ok Found ∷ Ok Out ∷ Err BadLine ∷ [] }
 {}
 
 /// Lines of heads, and lines that are none.
 pub fn heads_by_example()
-    ensures format { map format_of (codes "wfc-refutation 1" ∷ codes "wfc-refutation 2" ∷ codes "wfc-refutation 3" ∷ []) ≡ Ok One ∷ Ok Two ∷ Err BadLine ∷ [] }
+    ensures format { map format_of (codes "wfc-refutation 1" ∷ codes "wfc-refutation 2" ∷ codes "wfc-refutation 3" ∷ [])
+        ≡ Ok One ∷ Ok Two ∷ Err BadLine ∷ [] }
     ensures numbers { numbers_of (codes "cells 12 values 4294967295") ≡ Ok (record { cells = 12; values = 4294967295 }) }
     ensures zero_first { numbers_of (codes "cells 02 values 1") ≡ Err BadLine }
     ensures exchanged { numbers_of (codes "values 2 cells 1") ≡ Err BadLine }
-    ensures shape { shape_of (codes "for 2 3 4 1 8 1 0") ≡ Ok (record { n = 2; width = 3; height = 4; depth = 1; symmetry = 8; wrap_in = true; wrap_out = false }) }
-    ensures too_large { map shape_of (codes "for 7 3 4 1 8 1 0" ∷ codes "for 2 3 4 1 256 1 0" ∷ codes "for 2 3 4 1 8 2 0" ∷ []) ≡ Err BadLine ∷ Err BadLine ∷ Err BadLine ∷ [] }
+    ensures shape { shape_of (codes "for 2 3 4 1 8 1 0")
+        ≡ Ok (record { n = 2; width = 3; height = 4; depth = 1; symmetry = 8; wrap_in = true; wrap_out = false }) }
+    ensures too_large { map shape_of (codes "for 7 3 4 1 8 1 0" ∷ codes "for 2 3 4 1 256 1 0" ∷ codes "for 2 3 4 1 8 2 0" ∷ [])
+        ≡ Err BadLine ∷ Err BadLine ∷ Err BadLine ∷ [] }
     ensures too_few { shape_of (codes "for 2 3 4 1 8 1") ≡ Err BadLine }
+{}
+
+/// What is read of a text, in each format: behind its last line that is none of the format.
+pub fn texts_are_read()
+    ensures told { read_text One (codes "r 1\nr 0 2 3\nx 7\nr 1")
+        ≡ record { before = codes "r 1\n"; lines = Remove 0 2 3 ∷ Empty 7 ∷ []; part = codes "r 1" } }
+    ensures other_format { read_text Two (codes "r 0 2 3\nr 0 2 4 3\n")
+        ≡ record { before = codes "r 0 2 3\n"; lines = Span 0 2 4 3 ∷ []; part = [] } }
+    ensures anew { read_text One (codes "t 4 5\ncells 12 values 3\n")
+        ≡ record { before = codes "t 4 5\ncells 12 values 3\n"; lines = []; part = [] } }
+    ensures whole { (format : Format) (bytes : List ℕ) → let read = read_text format bytes in
+        read.before ++ (text_of read.lines ++ read.part) ≡ bytes }
+{}
+
+/// Removals are joined into spans as they are told: of another cell, another direction or a value that doesn't follow, or
+/// with another line between, they are apart, and a span that is told is joined as its removals are.
+pub fn spans_by_example()
+    ensures joined { in_spans (Remove 1 4 2 ∷ Remove 1 5 2 ∷ Span 1 6 7 2 ∷ []) ≡ Span 1 4 7 2 ∷ [] }
+    ensures another_cell { in_spans (Remove 1 4 2 ∷ Remove 2 5 2 ∷ []) ≡ Span 1 4 4 2 ∷ Span 2 5 5 2 ∷ [] }
+    ensures another_direction { in_spans (Remove 1 4 2 ∷ Remove 1 5 3 ∷ []) ≡ Span 1 4 4 2 ∷ Span 1 5 5 3 ∷ [] }
+    ensures a_gap { in_spans (Remove 1 4 2 ∷ Remove 1 6 2 ∷ []) ≡ Span 1 4 4 2 ∷ Span 1 6 6 2 ∷ [] }
+    ensures backwards { in_spans (Remove 1 5 2 ∷ Remove 1 4 2 ∷ []) ≡ Span 1 5 5 2 ∷ Span 1 4 4 2 ∷ [] }
+    ensures between { in_spans (Remove 1 4 2 ∷ Try 1 5 ∷ Remove 1 5 2 ∷ Empty 1 ∷ Found ∷ [])
+        ≡ Span 1 4 4 2 ∷ Try 1 5 ∷ Span 1 5 5 2 ∷ Empty 1 ∷ Found ∷ [] }
+{}
+
+/// Where a journal over a sink was told lines, the sink has taken their text behind what it took before, with removals
+/// joined into spans in format 2; there the last line is one behind which nothing is kept. Where a line was refused, the
+/// sink has taken a front of the text of a front of them, and has counted a fault.
+pub fn sinks_take_what_is_told()
+    ensures lines { (name : GName) (started sink : SinkView) (refused : Option Line) (lines : List Line)
+        → IsAt One sink.told (refused_lines refused)
+        → journal_of name sink refused ≡ after_lines (begun name started) lines → sink ≡ after_bytes started (text_of lines) }
+    ensures lines_cut_off { (name : GName) (started sink : SinkView) (refused : Option Line) (lines : List Line)
+        → IsAt One sink.told (refused_lines refused)
+        → IsCutOff (begun name started) (journal_of name sink refused) lines
+        → (count : ℕ) × (count ≤ length lines) × IsFaultAfterFront started sink (text_of (take count lines)) }
+    ensures spans { (name : GName) (started sink : SinkView) (kept refused : Option Line) (lines : List Line)
+        → IsSpanning sink kept refused
+        → (join_on nothing_joined lines).kept ≡ None → spans_of name sink kept refused ≡ after_lines (begun name started) lines
+        → sink ≡ after_bytes started (text_of (in_spans lines)) }
+    ensures spans_cut_off { (name : GName) (started sink : SinkView) (kept refused : Option Line) (lines : List Line)
+        → IsSpanning sink kept refused
+        → IsCutOff (begun name started) (spans_of name sink kept refused) lines
+        → (count : ℕ) × (count ≤ length lines) × IsFaultAfterFront started sink (text_of (in_spans (take count lines))) }
+{}
+
+/// A text of either format, brought to format 2.
+pub fn upgrades_by_example()
+    ensures one { upgraded_text dead (record { n = 2; width = 3; height = 4; depth = 1; symmetry = 8; wrap_in = true; wrap_out = false })
+        (codes "wfc-refutation 1\ncells 2 values 3\nr 0 0 2\nr 0 1 2\nx 0\nq\n")
+        ≡ codes "wfc-refutation 2\ncells 2 values 3\nfor 2 3 4 1 8 1 0\nr 0 0 1 2\nx 0\nq\n" }
+    ensures two { upgraded_text dead (record { n = 2; width = 3; height = 4; depth = 1; symmetry = 8; wrap_in = true; wrap_out = false })
+        (codes "wfc-refutation 2\ncells 2 values 3\nfor 2 3 4 1 8 1 0\nr 0 0 0 2\nr 0 1 1 2\nx 0\nq\n")
+        ≡ codes "wfc-refutation 2\ncells 2 values 3\nfor 2 3 4 1 8 1 0\nr 0 0 1 2\nx 0\nq\n" }
 {}

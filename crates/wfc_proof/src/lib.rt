@@ -12,18 +12,21 @@ mod gathered;
 mod heads;
 mod journals;
 pub mod laws;
+mod spans;
 #[cfg(test)]
 mod tests;
 mod text;
+mod upgrading;
 mod words;
 mod writing;
 
 pub use heads::{
     Format, Numbers, Shape, read_format, read_numbers, read_shape, write_header, write_header_2,
 };
-pub use journals::ProofJournal;
+pub use journals::{ProofJournal, SpanJournal};
 pub use text::{LineFault, read_line, read_line_2};
 use thiserror::Error;
+pub use upgrading::upgrade;
 pub use writing::write_line;
 
 /// A line of a journal or of a refutation. Cells, values and directions count from 0.

@@ -2,11 +2,14 @@ ghost use Rattle.std.specs.Prelude.{◌≡◌, false};
 ghost use Rattle.wfc_proof.specs.Journal.{IsWhole};
 
 use crate::{
-    Format, Journal, JournalFault, Line, LineFault, Numbers, Quiet, Shape, read_format, read_line,
-    read_line_2, read_numbers, read_shape, write_header, write_header_2, write_line,
+    Format, Journal, JournalFault, Line, LineFault, Numbers, ProofJournal, Quiet, Shape,
+    SpanJournal, read_format, read_line, read_line_2, read_numbers, read_shape, write_header,
+    write_header_2, write_line,
 };
+use std::alloc::{AllocError, Global};
 use std::test::Fail;
 use wfc_outside::{MemorySink, SinkFault};
+use wfc_problem::{NO_CELL, Parts, Problem};
 
 /// What a journal answers to a line that is no span.
 fn tell<J: Journal>(journal: &mut J, line: Line) -> Result<(), JournalFault>
@@ -157,5 +160,119 @@ fn a_full_sink_has_a_front_of_the_line(rt: HostRuntime) -> Result<(), Fail> {
     let mut sink = MemorySink::new(rt.alloc(), 3, 5)?;
     assert_eq!(rt; write_line(&mut sink, REMOVE), Err(SinkFault::Failed));
     assert_eq!(rt; sink.bytes(), b"r 10 ".as_slice());
+    Ok(())
+}
+
+/// What a journal answers to removals of two cells and two directions, some of whose values follow, to the ends of
+/// branches, and to this line.
+fn tell_turn<J: Journal>(journal: &mut J, last: Line) -> Result<(), JournalFault>
+    requires whole { IsWhole last }
+    requires going { (J.seen journal.old).failed ≡ false }
+{
+    journal.line(Line::Remove {
+        cell: 1,
+        value: 4,
+        dir: 2,
+    })?;
+    journal.line(Line::Span {
+        cell: 1,
+        first: 5,
+        last: 7,
+        dir: 2,
+    })?;
+    journal.line(Line::Remove {
+        cell: 1,
+        value: 8,
+        dir: 0,
+    })?;
+    journal.line(Line::Remove {
+        cell: 1,
+        value: 9,
+        dir: 0,
+    })?;
+    journal.line(Line::Remove {
+        cell: 2,
+        value: 10,
+        dir: 0,
+    })?;
+    journal.line(Line::Remove {
+        cell: 2,
+        value: 12,
+        dir: 0,
+    })?;
+    journal.line(Line::Try { cell: 2, value: 11 })?;
+    journal.line(Line::Empty { cell: 1 })?;
+    journal.line(last)
+}
+
+/// Two cells side by side, with one value that may stand beside itself.
+fn pair(alloc: Global) -> Result<Parts, AllocError> {
+    let mut supports = Vec::new(alloc);
+    for _ in 0..4 {
+        supports.push(vec![in alloc; 0]?)?;
+    }
+    Ok(Parts {
+        cells: 2,
+        dirs: 4,
+        neighbours: vec![in alloc; NO_CELL, NO_CELL, 1, NO_CELL, 0, NO_CELL, NO_CELL, NO_CELL]?,
+        weights: vec![in alloc; 1]?,
+        supports,
+        base: vec![in alloc; true, true]?,
+    })
+}
+
+const SHAPE: Shape = Shape {
+    n: 0,
+    width: 2,
+    height: 1,
+    depth: 1,
+    symmetry: 1,
+    wrap_in: false,
+    wrap_out: false,
+};
+
+#[test]
+fn a_journal_writes_what_it_is_told(rt: HostRuntime) -> Result<(), Fail> {
+    let problem = Problem::new(pair(rt.alloc())?)?;
+    let mut sink = MemorySink::new(rt.alloc(), 7, 400)?;
+    let mut journal = ProofJournal::begin(&mut sink, &problem)?;
+    assert_eq!(rt; tell_turn(&mut journal, Line::End), Ok(()));
+    let wanted: &[u8] =
+        b"wfc-refutation 1\ncells 2 values 1\nr 1 4 2\nr 1 5 2\nr 1 6 2\nr 1 7 2\nr 1 8 0\nr 1 9 0\nr 2 10 0\nr 2 12 0\nt 2 11\nx 1\nq\n";
+    assert_eq!(rt; sink.bytes(), wanted);
+    Ok(())
+}
+
+#[test]
+fn a_journal_joins_what_it_is_told(rt: HostRuntime) -> Result<(), Fail> {
+    let problem = Problem::new(pair(rt.alloc())?)?;
+    let mut sink = MemorySink::new(rt.alloc(), 7, 400)?;
+    let mut journal = SpanJournal::begin(&mut sink, &problem, &SHAPE)?;
+    assert_eq!(rt; tell_turn(&mut journal, Line::Found), Ok(()));
+    let wanted: &[u8] =
+        b"wfc-refutation 2\ncells 2 values 1\nfor 0 2 1 1 1 0 0\nr 1 4 7 2\nr 1 8 9 0\nr 2 10 10 0\nr 2 12 12 0\nt 2 11\nx 1\ns\n";
+    assert_eq!(rt; sink.bytes(), wanted);
+    Ok(())
+}
+
+#[test]
+fn a_journal_over_a_full_sink_fails(rt: HostRuntime) -> Result<(), Fail> {
+    let problem = Problem::new(pair(rt.alloc())?)?;
+    let mut short = MemorySink::new(rt.alloc(), 7, 30)?;
+    assert!(rt; ProofJournal::begin(&mut short, &problem).is_err());
+    assert_eq!(rt;
+        short.bytes(),
+        b"wfc-refutation 1\ncells 2 value".as_slice()
+    );
+    let mut sink = MemorySink::new(rt.alloc(), 7, 60)?;
+    let mut journal = SpanJournal::begin(&mut sink, &problem, &SHAPE)?;
+    assert_eq!(rt;
+        tell_turn(&mut journal, Line::Out),
+        Err(JournalFault::Failed)
+    );
+    assert_eq!(rt;
+        sink.bytes(),
+        b"wfc-refutation 2\ncells 2 values 1\nfor 0 2 1 1 1 0 0\nr 1 4 7 ".as_slice()
+    );
     Ok(())
 }

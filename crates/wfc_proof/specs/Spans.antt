@@ -1,0 +1,182 @@
+-- Removals joined into spans, as they are told.
+use Rattle.std.specs.Prelude.{◌≡◌, ℕ, ◌+◌, ◌==◌, ◌&&◌, ◌<◌, nat_le, Bool, true, false, List, [], ◌∷◌, ◌++◌, length, take, Option, None, Some, Result, Ok, Err, is_some, if◌then◌else◌}
+use Rattle.std.specs.List.{flat_map}
+use Rattle.std.specs.Option.{option_map}
+use Rattle.std.specs.Borrow.{GName}
+use Rattle.wfc_outside.specs.Sink.{Taken, SinkView, after_bytes}
+use Rattle.wfc_proof.specs.Heads.{ended}
+use Rattle.wfc_proof.specs.Journal.{JournalView, counted_as}
+use Rattle.wfc_proof.specs.ProofText.{IsOfFormat, AreOfFormat}
+use Rattle.wfc_proof.specs.Telling.{text_of, lines_at_end, target_of, IsAt, IsCut}
+use Rattle.wfc_proof.specs.Text.{line_text}
+use Rattle.wfc_proof.specs.declared.Line.{Line}
+use Rattle.wfc_proof.specs.declared.Line.TheVariants.{Remove, Span, Try, Empty, End, Found, Out}
+use Rattle.wfc_proof.specs.declared.heads.Format.TheVariants.{Two}
+
+-- the lines that lines count as
+abbrev pub counted : List Line → List Line
+counted lines = flat_map counted_as lines
+
+-- a removal as a span of one value, and any other line as itself
+abbrev pub as_span : Line → Line
+as_span (Remove c v d) = Span c v v d
+as_span (Span c first last d) = Span c first last d
+as_span (Try c v) = Try c v
+as_span (Empty c) = Empty c
+as_span End = End
+as_span Found = Found
+as_span Out = Out
+
+-- two spans as one, if they are of one cell and direction and the values of the second follow
+abbrev pub span_behind : ℕ → ℕ → ℕ → ℕ → Line → Option Line
+span_behind c first last d (Remove x v z) = None
+span_behind c first last d (Span x from to z) = if x == c && (z == d && from == last + 1) then Some (Span c first to d) else None
+span_behind c first last d (Try x v) = None
+span_behind c first last d (Empty x) = None
+span_behind c first last d End = None
+span_behind c first last d Found = None
+span_behind c first last d Out = None
+
+abbrev pub one_span : Line → Line → Option Line
+one_span (Remove c v d) line = None
+one_span (Span c first last d) line = span_behind c first last d line
+one_span (Try c v) line = None
+one_span (Empty c) line = None
+one_span End line = None
+one_span Found line = None
+one_span Out line = None
+
+-- the span that a line that may still grow and the one behind it are, if they are one
+abbrev pub join_with : Option Line → Line → Option Line
+join_with None line = None
+join_with (Some kept) line = one_span kept line
+
+-- the line, if it may still grow: a span
+abbrev pub growing : Line → Option Line
+growing (Remove c v d) = None
+growing (Span c first last d) = Some (Span c first last d)
+growing (Try c v) = None
+growing (Empty c) = None
+growing End = None
+growing Found = None
+growing Out = None
+
+-- and else the line
+abbrev pub settled : Line → List Line
+settled (Remove c v d) = Remove c v d ∷ []
+settled (Span c first last d) = []
+settled (Try c v) = Try c v ∷ []
+settled (Empty c) = Empty c ∷ []
+settled End = End ∷ []
+settled Found = Found ∷ []
+settled Out = Out ∷ []
+
+-- the line, if there is one
+abbrev pub lines_of : Option Line → List Line
+lines_of None = []
+lines_of (Some line) = line ∷ []
+
+-- lines that were joined: those that can't grow, and the span behind them that may
+pub record Joined : Type 0 where
+  pub done : List Line
+  pub kept : Option Line
+
+abbrev pub nothing_joined : Joined
+nothing_joined = record { done = []; kept = None }
+
+-- with a line behind them that is no part of the last span
+abbrev pub apart : Joined → Line → Joined
+apart joined line = record { done = joined.done ++ (lines_of joined.kept ++ settled line); kept = growing line }
+
+abbrev pub grown_or_apart : Joined → Line → Option Line → Joined
+grown_or_apart joined line None = apart joined line
+grown_or_apart joined line (Some span) = record { done = joined.done; kept = Some span }
+
+-- with one more line behind them
+abbrev pub join_line : Joined → Line → Joined
+join_line joined line = grown_or_apart joined (as_span line) (join_with joined.kept (as_span line))
+
+-- with more lines behind them
+abbrev pub join_on : Joined → List Line → Joined
+join_on joined [] = joined
+join_on joined (line ∷ lines) = join_on (join_line joined line) lines
+
+-- all of them
+abbrev pub all_joined : Joined → List Line
+all_joined joined = joined.done ++ lines_of joined.kept
+
+-- lines, their removals joined into spans as they are told: a removal goes into the span before it if it is of the same
+-- cell and direction and its value is the next one
+abbrev pub in_spans : List Line → List Line
+in_spans lines = all_joined (join_on nothing_joined lines)
+
+-- the lines at the end of what was taken, where that is told
+abbrev pub ending : Option Taken → Option (List Line)
+ending told = option_map (lines_at_end Two) told
+
+-- a journal of format 2 over a sink: what the lines at the end of what the sink took count as, then the span that isn't
+-- written yet, and then the refused line
+abbrev pub spans_of : GName → SinkView → Option Line → Option Line → JournalView
+spans_of name sink kept refused = record {
+  lines = option_map (λ (lines : List Line). counted (lines ++ (lines_of kept ++ lines_of refused))) (ending sink.told);
+  failed = is_some refused;
+  faults = sink.faults;
+  target = Some (target_of Two name sink);
+}
+
+-- what waits to be put: nothing before a line was refused, and then the span that isn't written and the refused line
+abbrev pub waiting : Option Line → Option Line → List Line
+waiting kept None = []
+waiting kept (Some refused) = lines_of kept ++ refused ∷ []
+
+-- how the lines at the end of what was taken are joined, with those that aren't there
+abbrev pub joined_as : Option Line → Option Line → List Line → Joined
+joined_as kept None lines = record { done = lines; kept = kept }
+joined_as kept (Some refused) lines = apart (record { done = lines; kept = kept }) refused
+
+-- all that was told is joined so
+abbrev pub AreJoined : Option (List Line) → Option Line → Option Line → Type 0
+AreJoined told kept refused =
+    option_map (λ (lines : List Line). join_on nothing_joined (counted (lines ++ (lines_of kept ++ lines_of refused)))) told ≡ option_map (joined_as kept refused) told
+
+-- whether there is none, or it is a span that doesn't end before it begins
+abbrev pub is_span : Line → Bool
+is_span (Remove c v d) = false
+is_span (Span c first last d) = nat_le first last
+is_span (Try c v) = false
+is_span (Empty c) = false
+is_span End = false
+is_span Found = false
+is_span Out = false
+
+abbrev pub is_kept : Option Line → Bool
+is_kept None = true
+is_kept (Some line) = is_span line
+
+-- what holds of a journal of format 2 between its lines: behind the lines that it put stands a front of what waits, all that it
+-- was told is joined so, and what it keeps is a span
+pub record IsSpanning (sink : SinkView) (kept refused : Option Line) : Type 0 where
+  pub at : IsAt Two sink.told (waiting kept refused)
+  pub joined : AreJoined (ending sink.told) kept refused
+  pub spans : is_kept kept ≡ true
+
+-- the kept span and a line behind it that is no part of it were cut off: some of them were put, and a front of the next one;
+-- what is left is kept
+pub record IsCutApart (old new : SinkView) (before : Option Line) (line : Line) (after : Option Line) : Type 0 where
+  pub done : List Line
+  pub first : Line
+  pub rest : List Line
+  pub split : lines_of before ≡ done ++ lines_of after
+  pub left : lines_of after ++ line ∷ [] ≡ first ∷ rest
+  pub most : List Line
+  pub firm : lines_of before ++ settled line ≡ done ++ first ∷ most
+  pub spans : is_kept after ≡ true
+  pub formed : AreOfFormat Two done
+  pub format : IsOfFormat Two first
+  pub cut : IsCut (after_bytes old (text_of done)) new (ended (line_text first))
+
+-- the kept span and a line behind it that is no part of it were put, as far as they can't grow, and what may is kept
+pub record PutsApart (old new : SinkView) (before : Option Line) (line : Line) (after : Option Line) : Type 0 where
+  pub kept : after ≡ growing line
+  pub formed : AreOfFormat Two (lines_of before ++ settled line)
+  pub put : new ≡ after_bytes old (text_of (lines_of before ++ settled line))
