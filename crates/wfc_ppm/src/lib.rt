@@ -1,0 +1,32 @@
+//! Pictures of colours in the Netpbm format PPM, raw (P6) and plain (P3): read and written.
+#![tactic(auto)]
+
+ghost use Rattle.std.specs.Prelude.{◌≡◌};
+ghost use Rattle.wfc_ppm.specs.Ppm.{IsPpm};
+
+pub mod laws;
+mod reading;
+
+pub use reading::PpmFault;
+use std::marker::Model;
+use wfc_picture::Colour;
+
+/// A picture: `width` times `height` pixels, row by row. Both sides are at least 1, and each sample is at most `maxval`,
+/// which is at least 1.
+#[derive(Debug, Drop)]
+pub struct Ppm {
+    pub width: u32,
+    pub height: u32,
+    pub maxval: u16,
+    pub pixels: Vec<Colour>,
+}
+
+impl Model for Ppm {
+    ghost use Rattle.wfc_ppm.specs.Ppm.{PpmView, IsPpm};
+
+    ghost Value = { PpmView };
+
+    ghost view = { λ p. record { width = p.width; height = p.height; maxval = p.maxval; pixels = p.pixels.items } };
+
+    ghost invariant = { λ p. IsPpm record { width = p.width; height = p.height; maxval = p.maxval; pixels = p.pixels.items } };
+}
