@@ -1,15 +1,16 @@
 -- Fields: a separator and a number, and what is read where one stands.
-use Rattle.std.proofs.Common.{◌≡◌, ◌⊎◌, ℕ, ◌+◌, ◌-◌, ◌<◌, ◌≤◌, ◌==◌, List, [], ◌∷◌, ◌++◌, length, take, drop, get_or, inl, inr, refl, sym, ap, ◌∙◌, append_assoc, arith, true, false, Bool, Option, None, Some, min, not, nat_lt, if◌then◌else◌, length-append, length-take, length-drop, eqb-true, subst}
+use Rattle.std.proofs.Common.{◌≡◌, ◌⊎◌, ℕ, ◌+◌, ◌-◌, ◌<◌, ◌≤◌, ◌==◌, List, [], ◌∷◌, ◌++◌, length, take, drop, get_or, inl, inr, refl, sym, ap, ◌∙◌, append_assoc, arith, true, false, Bool, Option, None, Some, min, not, nat_lt, if◌then◌else◌, length-append, length-take, length-drop, eqb-true, eq-eqb, subst, ◌*◌, ◌≢◌}
 use Rattle.std.proofs.lemmas.Bool.Decides.{nat_tests}
-use Rattle.std.proofs.lemmas.List.{get_or_append_left, get_or-append-add, take_at, drop_at, take-append-drop, get_or-take}
+use Rattle.std.proofs.lemmas.List.{get_or_append_left, get_or-append-add, take_at, drop_at, take-append-drop, get_or-take, drop_all}
 use Rattle.std.proofs.lemmas.List.Sums.{position_or_len_is, fails_before_first, passes_at_first, prefix_len-le-length}
-use Rattle.std.specs.Char.{is_ascii_digit}
+use Rattle.std.specs.Char.{is_ascii_digit, digit_value}
+use Rattle.std.proofs.lemmas.Int.Digits.{digits_value_more}
 use Rattle.std.specs.List.{AllPass, AllByRecursion, concat, position_or_len}
 use Rattle.std.specs.Option.{option_or}
 use Rattle.std.specs.Str.Parse.{digits_value}
 use Rattle.wfc_text.specs.Number.{is_other}
 use Rattle.wfc_ppm.specs.Fault.{ends_token, field_fault, side_fault}
-use Rattle.wfc_ppm.specs.Field.{is_space, comment_behind, Stop, stop_of, start_of, digits_of, behind_digits, field_value, behind_field, place_of}
+use Rattle.wfc_ppm.specs.Field.{is_space, comment_behind, Stop, stop_of, start_of, digits_of, behind_digits, value_of, field_value, behind_field, place_of}
 use Rattle.wfc_ppm.specs.Spelling.{IsGap, IsSeparator, IsNumeral, IsField}
 use Rattle.wfc_ppm.specs.declared.reading.PpmFault.{PpmFault}
 use Rattle.wfc_ppm.specs.declared.reading.PpmFault.TheVariants.{Header}
@@ -191,3 +192,47 @@ no_fault-stands total text none = by (length (start_of text) == length text) ref
     by true same empty digits is = absurd (cc)
     by false same true digits is = absurd (cc)
     by false same false digits is = stands text (some (length (digits_of (start_of text))) digits) (less (length (start_of text)) (length text) same (start_shorter text))
+
+-- ---- one digit after another
+
+-- the value with a digit more
+pub value-more : (text : List ℕ) (at n made : ℕ) → at < length text → n ≡ value_of (take at text) → made ≡ min (n * 10 + digit_value (get_or text at 0)) 4294967295 → made ≡ value_of (take (at + 1) text)
+value-more text at n made inside so_far is = omega (arith, digits_value_more 10 text at inside, so_far, is)
+
+-- so many digits are all
+pub digits-here : (text : List ℕ) (at n : ℕ) → at < length text → ((k : ℕ) → k < at → is_other (get_or text k 0) ≡ false) → is_other (get_or text at 0) ≡ true → n ≡ value_of (take at text) → (n ≡ value_of (digits_of text)) × (drop at text ≡ behind_digits text)
+digits-here text at n inside before here is =
+    let count : position_or_len is_other text ≡ at = position_or_len_is is_other text at 0 (omega arith) before (λ more. here) in
+    (is ∙ ap (λ k. value_of (take k text)) (sym count), ap (λ k. drop k text) (sym count))
+
+-- the text is digits to its end
+pub digits-end : (text : List ℕ) (at n : ℕ) → at ≤ length text → length text ≤ at → ((k : ℕ) → k < at → is_other (get_or text k 0) ≡ false) → n ≡ value_of (take at text) → (n ≡ value_of (digits_of text)) × ([] ≡ behind_digits text)
+digits-end text at n inside past before is =
+    let count : position_or_len is_other text ≡ at = position_or_len_is is_other text at 0 inside before (λ more. absurd (omega arith)) in
+    (is ∙ ap (λ k. value_of (take k text)) (sym count), sym (drop_all at text past) ∙ ap (λ k. drop k text) (sym count))
+
+-- how long the digits and what is behind them are
+pub length-digits : (text : List ℕ) → length (digits_of text) + length (behind_digits text) ≡ length text
+length-digits text = sym (length-append (digits_of text) (behind_digits text)) ∙ ap length (digits-parts text)
+
+-- a field has no fault where its number does not begin at its front and has a digit
+pub right_field : (total : ℕ) (text : List ℕ) → length (start_of text) ≢ length text → length (behind_field text) ≢ length (start_of text) → field_fault total text ≡ None
+right_field total text longer some =
+    let same : (length (start_of text) == length text) ≡ false = unlike (length (start_of text)) (length text) longer in
+    let none : (length (digits_of (start_of text)) == 0) ≡ false = unlike (length (digits_of (start_of text))) 0 (λ e. some (omega (arith, e, length-digits (start_of text)))) in
+    rw (same, none) refl
+  where
+    unlike : (a b : ℕ) → a ≢ b → (a == b) ≡ false
+    unlike a b other = grind (arith, nat_tests)
+
+pub no_gap_fault : (total : ℕ) (text : List ℕ) → length (start_of text) ≡ length text → field_fault total text ≡ Some (Header (place_of total text))
+no_gap_fault total text same = let test : (length (start_of text) == length text) ≡ true = eq-eqb (length (start_of text)) (length text) same in rw test refl
+
+pub no_digit_fault : (total : ℕ) (text : List ℕ) → length (start_of text) ≢ length text → length (behind_field text) ≡ length (start_of text) → field_fault total text ≡ Some (Header (place_of total (start_of text)))
+no_digit_fault total text longer none =
+    let same : (length (start_of text) == length text) ≡ false = unlike (length (start_of text)) (length text) longer in
+    let empty : (length (digits_of (start_of text)) == 0) ≡ true = eq-eqb (length (digits_of (start_of text))) 0 (omega (arith, none, length-digits (start_of text))) in
+    rw (same, empty) refl
+  where
+    unlike : (a b : ℕ) → a ≢ b → (a == b) ≡ false
+    unlike a b other = grind (arith, nat_tests)

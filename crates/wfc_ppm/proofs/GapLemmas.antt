@@ -1,5 +1,6 @@
 -- Whitespace and comments: where they end, and the gaps that they are.
-use Rattle.std.proofs.Common.{◌≡◌, ◌⊎◌, ℕ, ◌<◌, ◌≢◌, ◌==◌, ◌||◌, List, [], ◌∷◌, ◌++◌, length, inl, inr, refl, sym, ap, ◌∙◌, append_assoc, append-nil, arith, true, false, Bool, Option, None, Some, eqb-true, eq-eqb, not, length-append}
+use Rattle.std.proofs.Common.{◌≡◌, ◌⊎◌, ℕ, ◌<◌, ◌≢◌, ◌==◌, ◌||◌, List, [], ◌∷◌, ◌++◌, length, inl, inr, refl, sym, ap, ◌∙◌, append_assoc, append-nil, arith, true, false, Bool, Option, None, Some, eqb-true, eq-eqb, not, length-append, ◌+◌, ◌≤◌, drop, get_or}
+use Rattle.std.proofs.lemmas.List.{at_drop_more, at_drop_all, drop_more}
 use Rattle.std.proofs.lemmas.Bool.Decides.{nat_tests}
 use Rattle.std.specs.List.{AllByRecursion, concat}
 use Rattle.wfc_ppm.specs.Fault.{ends_token}
@@ -245,3 +246,20 @@ longer-ends (byte ∷ text) longer = by (outside byte)
     by (blank space behind ends) = ends
     by (mark is behind ends) = ends
     by (other behind ends) = let start : length (start_of (byte ∷ text)) ≡ length (byte ∷ text) = ap (λ (s : Stop). length s.rest) (stop-step false byte text None behind) in let same : (length (start_of (byte ∷ text)) == length (byte ∷ text)) ≡ true = eq-eqb (length (start_of (byte ∷ text))) (length (byte ∷ text)) start in absurd (cc)
+
+-- ---- one byte after another
+
+-- a byte of a gap is passed over
+pub stop-more : (opened next : Bool) (text : List ℕ) (at : ℕ) → at < length text → stop_of opened (drop at text) ≡ stop_of false text → comment_behind opened (get_or text at 0) ≡ Some next → stop_of next (drop (at + 1) text) ≡ stop_of false text
+stop-more opened next text at inside so_far found =
+    sym (at_drop_more (stop_of opened) text at 0 inside ∙ stop-step opened (get_or text at 0) (drop (at + 1) text) (Some next) found) ∙ so_far
+
+-- another byte is where they end
+pub stop-here : (opened : Bool) (text : List ℕ) (at : ℕ) → at < length text → stop_of opened (drop at text) ≡ stop_of false text → comment_behind opened (get_or text at 0) ≡ None → stop_of false text ≡ record { rest = drop at text; cut = false }
+stop-here opened text at inside so_far found =
+    sym so_far ∙ at_drop_more (stop_of opened) text at 0 inside ∙ stop-step opened (get_or text at 0) (drop (at + 1) text) None found
+    ∙ ap (λ rest. record { rest = rest; cut = false }) (sym (drop_more text at 0 inside))
+
+-- so is the text's end
+pub stop-end : (opened : Bool) (text : List ℕ) (at : ℕ) → length text ≤ at → stop_of opened (drop at text) ≡ stop_of false text → stop_of false text ≡ record { rest = []; cut = opened }
+stop-end opened text at past so_far = sym so_far ∙ at_drop_all (stop_of opened) text at past

@@ -1,6 +1,10 @@
+pub mod FaultLemmas
 pub mod FieldLemmas
 pub mod GapLemmas
 pub mod HeadLemmas
+pub mod HeaderLemmas
+pub mod PixelLemmas
 pub mod PlainLemmas
+pub mod PlainPixelLemmas
 pub mod PpmLemmas
 pub mod RawLemmas

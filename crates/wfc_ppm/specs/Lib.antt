@@ -4,5 +4,6 @@ pub mod Ppm
 pub mod Reading
 pub mod Small
 pub mod Spelling
+pub mod View
 pub use Rattle.wfc_model.specs.Raster
 pub use Rattle.wfc_outside.specs.Gives

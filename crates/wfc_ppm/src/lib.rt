@@ -4,10 +4,13 @@
 ghost use Rattle.std.specs.Prelude.{◌≡◌};
 ghost use Rattle.wfc_ppm.specs.Ppm.{IsPpm};
 
+mod field;
 pub mod laws;
+mod plain;
+mod raw;
 mod reading;
 
-pub use reading::PpmFault;
+pub use reading::{PpmFault, read};
 use std::marker::Model;
 use wfc_picture::Colour;
 
@@ -30,3 +33,6 @@ impl Model for Ppm {
 
     ghost invariant = { λ p. IsPpm record { width = p.width; height = p.height; maxval = p.maxval; pixels = p.pixels.items } };
 }
+
+#[cfg(test)]
+mod tests;
