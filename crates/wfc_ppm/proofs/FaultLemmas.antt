@@ -31,7 +31,6 @@ second o p fault none is = ap (λ q. option_or q p) none ∙ is
 
 -- ---- a side
 
-
 pub right_side : (total : ℕ) (text : List ℕ) → field_fault total text ≡ None → field_value text ≢ 0 → side_fault total text ≡ None
 right_side total text none some = let test = unlike (field_value text) 0 some in or_none (field_fault total text) (if field_value text == 0 then Some (Header (place_of total (start_of text))) else None) none (rw test refl)
 
@@ -96,8 +95,10 @@ bad_maxval maxval bad = by (maxval == 0) refl (nat_lt 65535 maxval) refl
   where
     some : (n : ℕ) → (n == 0) ≡ false → n ≢ 0
     some n test = grind (arith, nat_tests)
+
     small : (n : ℕ) → nat_lt 65535 n ≡ false → n ≤ 65535
     small n test = grind (arith, nat_tests)
+
     by : (zero : Bool) → (maxval == 0) ≡ zero → (large : Bool) → nat_lt 65535 maxval ≡ large → maxval_fault maxval ≡ Some (Maxval maxval)
     by true zero large is = rw zero refl
     by false zero true is = rw (zero, is) refl

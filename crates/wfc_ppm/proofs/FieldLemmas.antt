@@ -125,6 +125,7 @@ reads-no_fault total text digits rest n stops each reads =
   where
     unlike : (a b : ℕ) → a < b → (a == b) ≡ false
     unlike a b less = grind (arith, nat_tests)
+
     nonzero : (a : ℕ) → 0 < a → (a == 0) ≡ false
     nonzero a some = grind (arith, nat_tests)
 
@@ -186,8 +187,10 @@ no_fault-stands total text none = by (length (start_of text) == length text) ref
   where
     less : (a b : ℕ) → (a == b) ≡ false → a ≤ b → a < b
     less a b unlike small = grind (arith, nat_tests)
+
     some : (a : ℕ) → (a == 0) ≡ false → 0 < a
     some a unlike = grind (arith, nat_tests)
+
     by : (same : Bool) → (length (start_of text) == length text) ≡ same → (empty : Bool) → (length (digits_of (start_of text)) == 0) ≡ empty → (if same then Some (Header (place_of total text)) else if empty then Some (Header (place_of total (start_of text))) else None) ≡ None → StandsField text
     by true same empty digits is = absurd (cc)
     by false same true digits is = absurd (cc)

@@ -46,6 +46,7 @@ test-no_end byte is = ((λ e. absurd (feed e)), (λ e. absurd (ret e)))
   where
     feed : byte ≡ 10 → ⊥
     feed e = let on : ends_comment byte ≡ true = rw e refl in cc
+
     ret : byte ≡ 13 → ⊥
     ret e = let on : ends_comment byte ≡ true = rw e refl in cc
 
@@ -126,6 +127,7 @@ tail-ends tail ends = ap ends_token ends.is ∙ by ends.gaps ends.each
     last : (cut : List ℕ) → (cut ≡ []) ⊎ IsCommentFront cut → ends_token cut ≡ true
     last cut (inl none) = rw none refl
     last cut (inr front) = ap ends_token front.is
+
     by : (gaps : List (List ℕ)) → AllByRecursion IsGap gaps → ends_token (concat gaps ++ ends.cut) ≡ true
     by [] each = last ends.cut ends.last
     by (gap ∷ gaps) each = gaps-end (gap ∷ gaps) ends.cut each (omega arith)

@@ -112,10 +112,10 @@ pub head-reads : (form : Form) (magic head rest text : List ℕ) (ppm : PpmView)
 head-reads form magic head rest text ppm heads two is stops wide wide_small high high_small most =
     let t : List ℕ = heads.wide ++ (heads.high ++ (heads.most ++ rest)) in
     let behind_magic : drop 2 text ≡ heads.wide ++ (heads.high ++ (heads.most ++ rest)) =
-      ap (drop 2) (is ∙ ap (λ h. h ++ rest) heads.is ∙ append_assoc magic (heads.wide ++ (heads.high ++ heads.most)) rest)
-      ∙ two ((heads.wide ++ (heads.high ++ heads.most)) ++ rest)
-      ∙ append_assoc heads.wide (heads.high ++ heads.most) rest
-      ∙ ap (λ t. heads.wide ++ t) (append_assoc heads.high heads.most rest) in
+    ap (drop 2) (is ∙ ap (λ h. h ++ rest) heads.is ∙ append_assoc magic (heads.wide ++ (heads.high ++ heads.most)) rest)
+    ∙ two ((heads.wide ++ (heads.high ++ heads.most)) ++ rest)
+    ∙ append_assoc heads.wide (heads.high ++ heads.most) rest
+    ∙ ap (λ t. heads.wide ++ t) (append_assoc heads.high heads.most rest) in
     let most_stops = field-stops heads.most rest ppm.maxval heads.maxval in
     let high_stops = field-stops heads.high (heads.most ++ rest) ppm.height heads.height in
     let width = field-reads heads.wide (heads.high ++ (heads.most ++ rest)) ppm.width heads.width high_stops in
@@ -130,10 +130,10 @@ head-reads form magic head rest text ppm heads two is stops wide wide_small high
       maxval = ap field_value two_on ∙ maxval.value ∙ capped ppm.maxval (omega arith);
       behind = three_on;
       no_fault = λ total.
-        ap (λ f. option_or f (option_or (side_fault total (behind_field (drop 2 text))) (option_or (field_fault total (behind_field (behind_field (drop 2 text)))) (end_fault form total (behind_field (behind_field (behind_field (drop 2 text)))))))) (ap (side_fault total) behind_magic ∙ side-no_fault total heads.wide (heads.high ++ (heads.most ++ rest)) ppm.width heads.width high_stops wide wide_small)
-        ∙ ap (λ f. option_or f (option_or (field_fault total (behind_field (behind_field (drop 2 text)))) (end_fault form total (behind_field (behind_field (behind_field (drop 2 text))))))) (ap (side_fault total) one ∙ side-no_fault total heads.high (heads.most ++ rest) ppm.height heads.height most_stops high high_small)
-        ∙ ap (λ f. option_or f (end_fault form total (behind_field (behind_field (behind_field (drop 2 text)))))) (ap (field_fault total) two_on ∙ field-no_fault total heads.most rest ppm.maxval heads.maxval stops)
-        ∙ ap (end_fault form total) three_on;
+          ap (λ f. option_or f (option_or (side_fault total (behind_field (drop 2 text))) (option_or (field_fault total (behind_field (behind_field (drop 2 text)))) (end_fault form total (behind_field (behind_field (behind_field (drop 2 text)))))))) (ap (side_fault total) behind_magic ∙ side-no_fault total heads.wide (heads.high ++ (heads.most ++ rest)) ppm.width heads.width high_stops wide wide_small)
+          ∙ ap (λ f. option_or f (option_or (field_fault total (behind_field (behind_field (drop 2 text)))) (end_fault form total (behind_field (behind_field (behind_field (drop 2 text))))))) (ap (side_fault total) one ∙ side-no_fault total heads.high (heads.most ++ rest) ppm.height heads.height most_stops high high_small)
+          ∙ ap (λ f. option_or f (end_fault form total (behind_field (behind_field (behind_field (drop 2 text)))))) (ap (field_fault total) two_on ∙ field-no_fault total heads.most rest ppm.maxval heads.maxval stops)
+          ∙ ap (end_fault form total) three_on;
     }
 
 -- ---- the header that stands where no fault is
@@ -168,22 +168,23 @@ pub stands-head : (form : Form) (total : ℕ) (text magic : List ℕ) (ppm : Ppm
 stands-head form total text magic ppm stands width height maxval wide high most magics =
     let one = field-read stands.wide.bytes (drop 2 text) stands.wide.field (omega (arith, width, wide)) in
     let two = field-read stands.high.bytes (behind_field (drop 2 text)) stands.high.field (omega (arith, height, high)) in
-    let three = field-read stands.most.bytes (behind_field (behind_field (drop 2 text))) stands.most.field (omega (arith, maxval, most)) in
-    (magic ++ (stands.wide.bytes ++ (stands.high.bytes ++ stands.most.bytes)),
-    record {
-      wide = stands.wide.bytes;
-      high = stands.high.bytes;
-      most = stands.most.bytes;
-      is = refl;
-      width = subst (IsField stands.wide.bytes) width one;
-      height = subst (IsField stands.high.bytes) height two;
-      maxval = subst (IsField stands.most.bytes) maxval three;
-    },
-    magics
-    ∙ ap (λ t. magic ++ t) (stands.wide.is ∙ ap (λ t. stands.wide.bytes ++ t) (stands.high.is ∙ ap (λ t. stands.high.bytes ++ t) stands.most.is))
-    ∙ sym (append_assoc magic (stands.wide.bytes ++ (stands.high.bytes ++ stands.most.bytes)) (head_of text).rest
-    ∙ ap (λ t. magic ++ t) (append_assoc stands.wide.bytes (stands.high.bytes ++ stands.most.bytes) (head_of text).rest
-    ∙ ap (λ t. stands.wide.bytes ++ t) (append_assoc stands.high.bytes stands.most.bytes (head_of text).rest))))
+    let three = field-read stands.most.bytes (behind_field (behind_field (drop 2 text))) stands.most.field (omega (arith, maxval, most)) in (
+      magic ++ (stands.wide.bytes ++ (stands.high.bytes ++ stands.most.bytes)),
+      record {
+        wide = stands.wide.bytes;
+        high = stands.high.bytes;
+        most = stands.most.bytes;
+        is = refl;
+        width = subst (IsField stands.wide.bytes) width one;
+        height = subst (IsField stands.high.bytes) height two;
+        maxval = subst (IsField stands.most.bytes) maxval three;
+      },
+      magics
+          ∙ ap (λ t. magic ++ t) (stands.wide.is ∙ ap (λ t. stands.wide.bytes ++ t) (stands.high.is ∙ ap (λ t. stands.high.bytes ++ t) stands.most.is))
+          ∙ sym (append_assoc magic (stands.wide.bytes ++ (stands.high.bytes ++ stands.most.bytes)) (head_of text).rest
+          ∙ ap (λ t. magic ++ t) (append_assoc stands.wide.bytes (stands.high.bytes ++ stands.most.bytes) (head_of text).rest
+          ∙ ap (λ t. stands.wide.bytes ++ t) (append_assoc stands.high.bytes stands.most.bytes (head_of text).rest))),
+    )
 
 -- ---- what stands between maxval and the samples
 

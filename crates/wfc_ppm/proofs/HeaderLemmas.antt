@@ -11,6 +11,9 @@ use Rattle.wfc_ppm.specs.Reading.{pixels_of, made_of, unless_fault, ppm_in, ppm_
 use Rattle.wfc_ppm.specs.Spelling.{SpellsPpm, SpellsP6, SpellsP3}
 use Rattle.wfc_ppm.specs.declared.reading.Form.{Form}
 use Rattle.wfc_ppm.specs.declared.reading.PpmFault.{PpmFault}
+use Rattle.wfc_ppm.specs.declared.reading.PpmFault.TheVariants.{NoMemory}
+use Rattle.wfc_outside.specs.Gives.{Gives}
+use Rattle.std.specs.Result.{IfOk, IfErr}
 use Rattle.wfc_ppm.proofs.FaultLemmas.{samples_last, maxval_second, size_third}
 use Rattle.wfc_ppm.proofs.PpmLemmas.{none-spells, spelled-read, read-spelled}
 
@@ -92,3 +95,20 @@ answered-spelled form bytes ppm each formed answered = read-spelled bytes ppm (s
 -- where a fault is answered, no picture is spelled within the limit
 pub refused-all : (bytes : List ℕ) (fault : PpmFault) → Err fault ≡ ppm_of bytes → (ppm : PpmView) → SpellsPpm bytes ppm → ppm.width * ppm.height ≤ 1048576 → ⊥
 refused-all bytes fault is ppm spelled within = let read = spelled-read bytes ppm spelled within in cc
+
+-- the picture that is made where nothing has a fault
+pub made-picture : (form : Form) (bytes : List ℕ) (head : Head) (pixels : List Colour) → ((i : ℕ) → get_or bytes i 0 < 256) → form_of bytes ≡ Some form → head ≡ head_of bytes → header_fault form (length bytes) (drop 2 bytes) ≡ None → maxval_fault head.maxval ≡ None → size_fault head.width head.height ≡ None → samples_fault form (length bytes) head ≡ None → pixels ≡ pixels_of form head → IsPpm (record { width = head.width; height = head.height; maxval = head.maxval; pixels = pixels })
+made-picture form bytes head pixels each formed is one two three four made =
+    spelled-picture bytes (record { width = head.width; height = head.height; maxval = head.maxval; pixels = pixels })
+    (answered-spelled form bytes (record { width = head.width; height = head.height; maxval = head.maxval; pixels = pixels }) each formed (picture-answered form bytes head pixels is one two three four made)).0
+
+-- what is answered with a picture, and with a fault
+pub gives-spelled : (form : Form) (bytes : List ℕ) (result : Result PpmView PpmFault) → ((i : ℕ) → get_or bytes i 0 < 256) → form_of bytes ≡ Some form → Gives NoMemory (λ (p : PpmView). p) result (ppm_in (Some form) bytes) → IfOk result (λ ppm. SpellsPpm bytes ppm)
+gives-spelled form bytes (Ok ppm) each formed (inl is) = (answered-spelled form bytes ppm each formed is).0
+gives-spelled form bytes (Ok ppm) each formed (inr short) = absurd (cc)
+gives-spelled form bytes (Err fault) each formed gives = tt
+
+pub gives-refused : (form : Form) (bytes : List ℕ) (result : Result PpmView PpmFault) → form_of bytes ≡ Some form → Gives NoMemory (λ (p : PpmView). p) result (ppm_in (Some form) bytes) → IfErr result (λ fault. fault ≢ NoMemory → (ppm : PpmView) → SpellsPpm bytes ppm → ppm.width * ppm.height ≤ 1048576 → ⊥)
+gives-refused form bytes (Ok ppm) formed gives = tt
+gives-refused form bytes (Err fault) formed (inl is) = λ other. refused-all bytes fault (is ∙ sym (ap (λ f. ppm_in f bytes) formed))
+gives-refused form bytes (Err fault) formed (inr short) = λ other. absurd (other (cc))

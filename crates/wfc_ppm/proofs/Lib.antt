@@ -8,3 +8,4 @@ pub mod PlainLemmas
 pub mod PlainPixelLemmas
 pub mod PpmLemmas
 pub mod RawLemmas
+pub mod WritingLemmas

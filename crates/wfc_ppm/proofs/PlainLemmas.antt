@@ -80,7 +80,7 @@ pixels-read total maxval wanted (p ∷ pixels) (r ∷ g ∷ b ∷ fields) tail a
     let green = one_sample total maxval wanted g (b ++ (concat fields ++ tail)) p.g are.1.0 (field-ends b (concat fields ++ tail) p.b are.1.1.0) within.1.0 most in
     let red = one_sample total maxval wanted r (g ++ (b ++ (concat fields ++ tail))) p.r are.0 (field-ends g (b ++ (concat fields ++ tail)) p.g are.1.0) within.0 most in
     let whole : concat (r ∷ g ∷ b ∷ fields) ++ tail ≡ r ++ (g ++ (b ++ (concat fields ++ tail))) =
-      append_assoc r (g ++ (b ++ concat fields)) tail ∙ ap (λ t. r ++ t) (append_assoc g (b ++ concat fields) tail ∙ ap (λ t. g ++ t) (append_assoc b (concat fields) tail)) in
+    append_assoc r (g ++ (b ++ concat fields)) tail ∙ ap (λ t. r ++ t) (append_assoc g (b ++ concat fields) tail ∙ ap (λ t. g ++ t) (append_assoc b (concat fields) tail)) in
     subst (ReadsPixels total maxval wanted (p ∷ pixels)) (sym whole)
     (three total maxval wanted p pixels (r ++ (g ++ (b ++ (concat fields ++ tail)))) (g ++ (b ++ (concat fields ++ tail))) (b ++ (concat fields ++ tail)) (concat fields ++ tail) red green blue later)
   where
@@ -91,17 +91,17 @@ pixels-read total maxval wanted (p ∷ pixels) (r ∷ g ∷ b ∷ fields) tail a
         let fourth : behind_pixel one ≡ rest = ap behind_field third ∙ blue.behind in
         record {
           none = λ found.
-            or_none (pixel_fault total maxval wanted found one) (plain_fault total maxval wanted (found + 3) (length pixels) (behind_pixel one))
-            (or_none (sample_fault total maxval wanted found one) (option_or (sample_fault total maxval wanted (found + 1) (behind_field one)) (sample_fault total maxval wanted (found + 2) (behind_field (behind_field one))))
+              or_none (pixel_fault total maxval wanted found one) (plain_fault total maxval wanted (found + 3) (length pixels) (behind_pixel one))
+              (or_none (sample_fault total maxval wanted found one) (option_or (sample_fault total maxval wanted (found + 1) (behind_field one)) (sample_fault total maxval wanted (found + 2) (behind_field (behind_field one))))
               (red.none found)
               (or_none (sample_fault total maxval wanted (found + 1) (behind_field one)) (sample_fault total maxval wanted (found + 2) (behind_field (behind_field one)))
-                (ap (sample_fault total maxval wanted (found + 1)) second ∙ green.none (found + 1))
-                (ap (sample_fault total maxval wanted (found + 2)) third ∙ blue.none (found + 2))))
-            (ap (plain_fault total maxval wanted (found + 3) (length pixels)) fourth ∙ later.none (found + 3));
+              (ap (sample_fault total maxval wanted (found + 1)) second ∙ green.none (found + 1))
+              (ap (sample_fault total maxval wanted (found + 2)) third ∙ blue.none (found + 2))))
+              (ap (plain_fault total maxval wanted (found + 3) (length pixels)) fourth ∙ later.none (found + 3));
           made =
-            ap (λ t. plain_pixel one ∷ plain_pixels (length pixels) t) fourth
-            ∙ ap (λ ps. plain_pixel one ∷ ps) later.made
-            ∙ (λ i. record { r = red.value i; g = (ap field_value second ∙ green.value) i; b = (ap field_value third ∙ blue.value) i } ∷ pixels);
+              ap (λ t. plain_pixel one ∷ plain_pixels (length pixels) t) fourth
+              ∙ ap (λ ps. plain_pixel one ∷ ps) later.made
+              ∙ (λ i. record { r = red.value i; g = (ap field_value second ∙ green.value) i; b = (ap field_value third ∙ blue.value) i } ∷ pixels);
         }
 
 -- ---- what stands
@@ -116,12 +116,15 @@ none-tail total text none =
     empty : (n : ℕ) → (if n == 0 then None else Some (Trailing (place_of total (start_of text)))) ≡ None → n ≡ 0
     empty zero is = refl
     empty (suc n) is = absurd (let test : (suc n == 0) ≡ false = nonzero (suc n) (omega arith) in let made = (rw test at is) in cc)
+
     last : (cut : List ℕ) (stop : Stop) → Last cut stop → (cut ≡ []) ⊎ IsCommentFront cut
     last cut stop (whole none rest) = inl none
     last cut stop (broken front none rest) = inr front
+
     nothing : (start : List ℕ) → length start ≡ 0 → start ≡ []
     nothing [] is = refl
     nothing (b ∷ start) is = absurd (omega arith)
+
     by : Parts text → length (start_of text) ≡ 0 → IsTail text
     by parts start = record {
       gaps = parts.gaps;
@@ -167,6 +170,7 @@ none-sample total maxval wanted found text before none = by (length (start_of te
   where
     some_start : (n : ℕ) → (n == 0) ≡ false → 0 < n
     some_start n test = grind (arith, nat_tests)
+
     digits : 0 < length (start_of text) → ends_token (behind_field text) ≡ true → 0 < length (digits_of (start_of text))
     digits some ends = cases (length (digits_of (start_of text))) refl
       where
@@ -176,6 +180,7 @@ none-sample total maxval wanted found text before none = by (length (start_of te
             let same : behind_field text ≡ start_of text = no-digits (start_of text) is in
             let token : ends_token (start_of text) ≡ true = sym (ap ends_token same) ∙ ends in
             absurd (omega (arith, some, start-first text token))
+
     by : (none_left : Bool) → (length (start_of text) == 0) ≡ none_left → (token : Bool) → ends_token (behind_field text) ≡ token → (above : Bool) → nat_lt maxval (field_value text) ≡ above → (if none_left then Some (Truncated wanted found) else if not token then Some (BadSample (place_of total (start_of text))) else if above then Some (SampleAboveMaxval (place_of total (start_of text))) else None) ≡ None → StandsSample maxval text
     by true start token ends above is made = absurd (cc)
     by false start false ends above is made = absurd (cc)
@@ -217,10 +222,10 @@ none-pixels total maxval wanted found (suc count) text most before none =
       fields = red.field.bytes ∷ green.field.bytes ∷ blue.field.bytes ∷ later.fields;
       tail = later.tail;
       is =
-        red.field.is ∙ ap (λ t. red.field.bytes ++ t) (green.field.is ∙ ap (λ t. green.field.bytes ++ t) (blue.field.is ∙ ap (λ t. blue.field.bytes ++ t) later.is))
-        ∙ sym (append_assoc red.field.bytes (green.field.bytes ++ (blue.field.bytes ++ concat later.fields)) later.tail
-        ∙ ap (λ t. red.field.bytes ++ t) (append_assoc green.field.bytes (blue.field.bytes ++ concat later.fields) later.tail
-        ∙ ap (λ t. green.field.bytes ++ t) (append_assoc blue.field.bytes (concat later.fields) later.tail)));
+          red.field.is ∙ ap (λ t. red.field.bytes ++ t) (green.field.is ∙ ap (λ t. green.field.bytes ++ t) (blue.field.is ∙ ap (λ t. blue.field.bytes ++ t) later.is))
+          ∙ sym (append_assoc red.field.bytes (green.field.bytes ++ (blue.field.bytes ++ concat later.fields)) later.tail
+          ∙ ap (λ t. red.field.bytes ++ t) (append_assoc green.field.bytes (blue.field.bytes ++ concat later.fields) later.tail
+          ∙ ap (λ t. green.field.bytes ++ t) (append_assoc blue.field.bytes (concat later.fields) later.tail)));
       are = (sample_field maxval text red most, (sample_field maxval (behind_field text) green most, (sample_field maxval (behind_field (behind_field text)) blue most, later.are)));
       ends = later.ends;
       within = (red.within, (green.within, (blue.within, later.within)));

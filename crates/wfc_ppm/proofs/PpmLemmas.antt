@@ -34,13 +34,13 @@ reads_parts : (form : Form) (text rest : List ℕ) (ppm : PpmView) → ReadsHead
 reads_parts form text rest ppm head is within formed end_none samples_none pixels = record {
   formed = formed;
   none =
-    or_none (header_fault form (length text) (drop 2 text)) (option_or (maxval_fault (head_of text).maxval) (option_or (size_fault (head_of text).width (head_of text).height) (samples_fault form (length text) (head_of text))))
-    (head.no_fault (length text) ∙ end_none)
-    (or_none (maxval_fault (head_of text).maxval) (option_or (size_fault (head_of text).width (head_of text).height) (samples_fault form (length text) (head_of text)))
+      or_none (header_fault form (length text) (drop 2 text)) (option_or (maxval_fault (head_of text).maxval) (option_or (size_fault (head_of text).width (head_of text).height) (samples_fault form (length text) (head_of text))))
+      (head.no_fault (length text) ∙ end_none)
+      (or_none (maxval_fault (head_of text).maxval) (option_or (size_fault (head_of text).width (head_of text).height) (samples_fault form (length text) (head_of text)))
       (ap maxval_fault head.maxval ∙ maxval-none ppm.maxval is.some_maxval is.small_maxval)
       (or_none (size_fault (head_of text).width (head_of text).height) (samples_fault form (length text) (head_of text))
-        ((λ i. size_fault (head.width i) (head.height i)) ∙ size-none ppm.width ppm.height within)
-        samples_none));
+      ((λ i. size_fault (head.width i) (head.height i)) ∙ size-none ppm.width ppm.height within)
+      samples_none));
   made = λ i. record { width = head.width i; height = head.height i; maxval = head.maxval i; pixels = pixels i };
 }
 
@@ -220,6 +220,7 @@ read-spelled text ppm bytes read = by (form_of text) refl read
         let same : made_of form text ≡ ppm = cc in
         subst (λ (p : PpmView). SpellsPpm text p × (p.width * p.height ≤ 1048576)) same (none-spells form text bytes formed none)
     in_form form formed (Some fault) some made = absurd (cc)
+
     by : (form : Option Form) → form_of text ≡ form → ppm_in form text ≡ Ok ppm → SpellsPpm text ppm × (ppm.width * ppm.height ≤ 1048576)
     by None formed made = absurd (cc)
     by (Some form) formed made = in_form form formed (fault_of form text) refl made

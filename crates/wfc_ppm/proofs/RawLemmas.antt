@@ -102,7 +102,6 @@ length_two : (samples : List ℕ) → length (flat_map two_bytes samples) ≡ 2 
 length_two [] = refl
 length_two (s ∷ samples) = omega (arith, length_two samples)
 
-
 -- raw bytes, by whether a sample has one or two
 raw_by : (maxval : ℕ) (pixels : List Colour) (narrow : Bool) → nat_lt maxval 256 ≡ narrow → raw_bytes maxval pixels ≡ flat_map (λ s. if narrow then s ∷ [] else two_bytes s) (samples_of pixels)
 raw_by maxval pixels narrow test = ap (λ one. flat_map (λ s. if one then s ∷ [] else two_bytes s) (samples_of pixels)) test

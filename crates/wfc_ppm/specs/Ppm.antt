@@ -34,6 +34,10 @@ samples_of pixels = flat_map channels pixels
 abbrev pub sample_bytes : ℕ → ℕ → List ℕ
 sample_bytes maxval sample = if nat_lt maxval 256 then sample ∷ [] else sample / 256 ∷ sample % 256 ∷ []
 
+-- the bytes of a pixel
+abbrev pub pixel_bytes : ℕ → Colour → List ℕ
+pixel_bytes maxval colour = flat_map (sample_bytes maxval) (channels colour)
+
 -- the bytes of all samples
 abbrev pub raw_bytes : ℕ → List Colour → List ℕ
 raw_bytes maxval pixels = flat_map (sample_bytes maxval) (samples_of pixels)
@@ -43,13 +47,13 @@ abbrev pub pixel_line : Colour → List ℕ
 pixel_line colour = decimal colour.r ++ 32 ∷ (decimal colour.g ++ 32 ∷ (decimal colour.b ++ 10 ∷ []))
 
 -- the line of the sides and the line of maxval
-abbrev pub head_lines : PpmView → List ℕ
-head_lines ppm = decimal ppm.width ++ 32 ∷ (decimal ppm.height ++ 10 ∷ (decimal ppm.maxval ++ 10 ∷ []))
+abbrev pub head_lines : ℕ → ℕ → ℕ → List ℕ
+head_lines width height maxval = decimal width ++ 32 ∷ (decimal height ++ 10 ∷ (decimal maxval ++ 10 ∷ []))
 
 -- the text that is written for a picture as raw bytes
 abbrev pub p6_text : PpmView → List ℕ
-p6_text ppm = codes "P6\n" ++ (head_lines ppm ++ raw_bytes ppm.maxval ppm.pixels)
+p6_text ppm = codes "P6\n" ++ (head_lines ppm.width ppm.height ppm.maxval ++ raw_bytes ppm.maxval ppm.pixels)
 
 -- the text that is written for a picture in decimal
 abbrev pub p3_text : PpmView → List ℕ
-p3_text ppm = codes "P3\n" ++ (head_lines ppm ++ flat_map pixel_line ppm.pixels)
+p3_text ppm = codes "P3\n" ++ (head_lines ppm.width ppm.height ppm.maxval ++ flat_map pixel_line ppm.pixels)

@@ -9,10 +9,14 @@ pub mod laws;
 mod plain;
 mod raw;
 mod reading;
+mod writing;
 
 pub use reading::{PpmFault, read};
 use std::marker::Model;
 use wfc_picture::Colour;
+pub use writing::{
+    line_room, push_p3_head, push_p3_pixel, push_p6_head, push_p6_pixel, write_p3, write_p6,
+};
 
 /// A picture: `width` times `height` pixels, row by row. Both sides are at least 1, and each sample is at most `maxval`,
 /// which is at least 1.

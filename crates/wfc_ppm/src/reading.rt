@@ -229,7 +229,12 @@ fn check_size(width: u32, height: u32) -> Result<(), PpmFault>
 }
 
 /// The pixels behind the header.
-fn pixels(alloc: Global, form: Form, total: u32, header: &Header<'_>) -> Result<Vec<Colour>, PpmFault>
+fn pixels(
+    alloc: Global,
+    form: Form,
+    total: u32,
+    header: &Header<'_>,
+) -> Result<Vec<Colour>, PpmFault>
     requires part { length header.now.rest.now ≤ total }
     requires maxval { header.now.maxval ≤ 65535 }
     requires size { header.now.width * header.now.height ≤ 1048576 }
