@@ -1,10 +1,10 @@
 -- The first fault by cases: which of several tests finds it.
-use Rattle.std.proofs.Common.{◌≡◌, ◌≢◌, ℕ, ◌+◌, ◌*◌, ◌<◌, ◌≤◌, ◌==◌, ◌||◌, List, [], ◌∷◌, length, drop, take, refl, ap, ◌∙◌, arith, true, false, Bool, Option, None, Some, not, nat_lt, if◌then◌else◌, eq-eqb}
+use Rattle.std.proofs.Common.{◌≡◌, ◌≢◌, ℕ, ◌+◌, ◌*◌, ◌<◌, ◌≤◌, ◌==◌, List, length, drop, take, refl, ap, ◌∙◌, arith, true, false, Bool, Option, None, Some, nat_lt, if◌then◌else◌, eq-eqb}
 use Rattle.std.proofs.lemmas.Bool.Decides.{nat_tests}
 use Rattle.std.specs.List.{position}
 use Rattle.std.specs.Option.{option_or}
 use Rattle.wfc_lists.proofs.Options.{or_none}
-use Rattle.wfc_ppm.specs.Fault.{Head, head_of, ends_token, field_fault, side_fault, gap_fault, end_fault, header_fault, maxval_fault, size_fault, sample_size, raw_samples, above_fault, raw_fault, sample_fault, pixel_fault, behind_pixel, tail_fault, plain_fault, samples_fault, fault_of}
+use Rattle.wfc_ppm.specs.Fault.{head_of, ends_token, field_fault, side_fault, gap_fault, end_fault, header_fault, maxval_fault, size_fault, sample_size, raw_samples, raw_fault, sample_fault, pixel_fault, tail_fault, samples_fault, fault_of}
 use Rattle.wfc_ppm.specs.Field.{stop_of, start_of, behind_field, field_value, place_of}
 use Rattle.wfc_ppm.specs.declared.reading.Form.{Form}
 use Rattle.wfc_ppm.specs.declared.reading.PpmFault.{PpmFault}

@@ -1,20 +1,18 @@
 -- Fields: a separator and a number, and what is read where one stands.
-use Rattle.std.proofs.Common.{◌≡◌, ◌⊎◌, ℕ, ◌+◌, ◌-◌, ◌<◌, ◌≤◌, ◌==◌, List, [], ◌∷◌, ◌++◌, length, take, drop, get_or, inl, inr, refl, sym, ap, ◌∙◌, append_assoc, arith, true, false, Bool, Option, None, Some, min, not, nat_lt, if◌then◌else◌, length-append, length-take, length-drop, eqb-true, eq-eqb, subst, ◌*◌, ◌≢◌}
+use Rattle.std.proofs.Common.{◌≡◌, ℕ, ◌+◌, ◌<◌, ◌≤◌, ◌==◌, List, [], ◌∷◌, ◌++◌, length, take, drop, get_or, inl, inr, refl, sym, ap, ◌∙◌, append_assoc, arith, true, false, Bool, None, Some, min, not, if◌then◌else◌, length-append, length-take, eq-eqb, ◌*◌, ◌≢◌}
 use Rattle.std.proofs.lemmas.Bool.Decides.{nat_tests}
 use Rattle.std.proofs.lemmas.List.{get_or_append_left, get_or-append-add, take_at, drop_at, take-append-drop, get_or-take, drop_all}
-use Rattle.std.proofs.lemmas.List.Sums.{position_or_len_is, fails_before_first, passes_at_first, prefix_len-le-length}
+use Rattle.std.proofs.lemmas.List.Sums.{position_or_len_is, fails_before_first}
 use Rattle.std.specs.Char.{is_ascii_digit, digit_value}
 use Rattle.std.proofs.lemmas.Int.Digits.{digits_value_more}
 use Rattle.std.specs.List.{AllPass, AllByRecursion, concat, position_or_len}
-use Rattle.std.specs.Option.{option_or}
 use Rattle.std.specs.Str.Parse.{digits_value}
 use Rattle.wfc_text.specs.Number.{is_other}
-use Rattle.wfc_ppm.specs.Fault.{ends_token, field_fault, side_fault}
+use Rattle.wfc_ppm.specs.Fault.{ends_token, field_fault}
 use Rattle.wfc_ppm.specs.Field.{is_space, comment_behind, Stop, stop_of, start_of, digits_of, behind_digits, value_of, field_value, behind_field, place_of}
-use Rattle.wfc_ppm.specs.Spelling.{IsGap, IsSeparator, IsNumeral, IsField}
-use Rattle.wfc_ppm.specs.declared.reading.PpmFault.{PpmFault}
+use Rattle.wfc_ppm.specs.Spelling.{IsGap, IsField}
 use Rattle.wfc_ppm.specs.declared.reading.PpmFault.TheVariants.{Header}
-use Rattle.wfc_ppm.proofs.GapLemmas.{stop-gaps, stop-other, gaps-end, parts-whole, start-first}
+use Rattle.wfc_ppm.proofs.GapLemmas.{stop-gaps, stop-other, gaps-end, parts-whole}
 
 -- ---- digits
 

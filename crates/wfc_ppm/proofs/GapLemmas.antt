@@ -1,11 +1,11 @@
 -- Whitespace and comments: where they end, and the gaps that they are.
-use Rattle.std.proofs.Common.{◌≡◌, ◌⊎◌, ℕ, ◌<◌, ◌≢◌, ◌==◌, ◌||◌, List, [], ◌∷◌, ◌++◌, length, inl, inr, refl, sym, ap, ◌∙◌, append_assoc, append-nil, arith, true, false, Bool, Option, None, Some, eqb-true, eq-eqb, not, length-append, ◌+◌, ◌≤◌, drop, get_or}
+use Rattle.std.proofs.Common.{◌≡◌, ◌⊎◌, ℕ, ◌<◌, ◌≢◌, ◌==◌, ◌||◌, List, [], ◌∷◌, ◌++◌, length, inl, inr, refl, sym, ap, ◌∙◌, append_assoc, append-nil, arith, true, false, Bool, Option, None, Some, eqb-true, eq-eqb, not, ◌+◌, ◌≤◌, drop, get_or}
 use Rattle.std.proofs.lemmas.List.{at_drop_more, at_drop_all, drop_more}
 use Rattle.std.proofs.lemmas.Bool.Decides.{nat_tests}
 use Rattle.std.specs.List.{AllByRecursion, concat}
 use Rattle.wfc_ppm.specs.Fault.{ends_token}
 use Rattle.wfc_ppm.specs.Field.{is_space, ends_comment, comment_behind, Stop, stop_at, stop_of, start_of}
-use Rattle.wfc_ppm.specs.Spelling.{IsSpace, IsCommentFront, IsComment, IsGap, IsTail}
+use Rattle.wfc_ppm.specs.Spelling.{IsSpace, IsCommentFront, IsGap, IsTail}
 
 -- ---- bytes
 

@@ -1,16 +1,15 @@
 -- Headers: what is read where one stands, and the header that stands where no fault is.
-use Rattle.std.proofs.Common.{◌≡◌, ◌⊎◌, ℕ, ◌+◌, ◌*◌, ◌<◌, ◌≤◌, ◌==◌, ◌||◌, List, [], ◌∷◌, ◌++◌, length, take, drop, inl, inr, refl, sym, ap, ◌∙◌, append_assoc, arith, true, false, Bool, Option, None, Some, min, not, nat_lt, if◌then◌else◌, codes, subst, zero, suc}
+use Rattle.std.proofs.Common.{◌≡◌, ℕ, ◌*◌, ◌<◌, ◌≤◌, ◌==◌, ◌||◌, List, [], ◌∷◌, ◌++◌, length, take, drop, refl, sym, ap, ◌∙◌, append_assoc, arith, true, false, Bool, None, Some, min, nat_lt, if◌then◌else◌, codes, subst}
 use Rattle.std.proofs.lemmas.Bool.Decides.{nat_tests}
 use Rattle.std.proofs.lemmas.Slice.Eq.{bytes_eq-Decides}
 use Rattle.std.proofs.lemmas.Bool.{ltb-false}
 use Rattle.std.proofs.Math.Nat.{mul-le-mul_left}
 use Rattle.std.proofs.lemmas.List.{take-append-drop}
-use Rattle.std.specs.List.{AllByRecursion, concat}
 use Rattle.std.specs.Option.{option_or}
 use Rattle.std.specs.Str.{bytes_eq}
 use Rattle.wfc_lists.proofs.Options.{both_none, or_none}
-use Rattle.wfc_ppm.specs.Fault.{form_of, Head, head_of, ends_token, field_fault, side_fault, space_fault, gap_fault, end_fault, header_fault, maxval_fault, size_fault}
-use Rattle.wfc_ppm.specs.Field.{is_space, Stop, stop_of, start_of, digits_of, field_value, behind_field, place_of}
+use Rattle.wfc_ppm.specs.Fault.{form_of, head_of, ends_token, field_fault, side_fault, space_fault, gap_fault, end_fault, header_fault, maxval_fault, size_fault}
+use Rattle.wfc_ppm.specs.Field.{is_space, Stop, stop_of, start_of, field_value, behind_field, place_of}
 use Rattle.wfc_ppm.specs.Ppm.{PpmView}
 use Rattle.wfc_ppm.specs.Spelling.{IsField, IsHead, IsSpace}
 use Rattle.wfc_ppm.specs.declared.reading.Form.{Form}

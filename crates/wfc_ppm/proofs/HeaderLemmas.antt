@@ -1,5 +1,5 @@
 -- Headers as they are read step by step, and what is read behind them.
-use Rattle.std.proofs.Common.{◌≡◌, ◌⊎◌, ◌≢◌, ℕ, ◌<◌, ◌*◌, ◌≤◌, List, [], ◌∷◌, length, drop, get_or, refl, sym, ap, ◌∙◌, Option, None, Some, Result, Ok, Err, inl, inr, subst, arith}
+use Rattle.std.proofs.Common.{◌≡◌, ◌≢◌, ℕ, ◌<◌, ◌*◌, ◌≤◌, List, length, drop, get_or, sym, ap, ◌∙◌, Option, None, Some, Result, Ok, Err, inl, inr}
 use Rattle.std.proofs.lemmas.List.{get_or_default}
 use Rattle.std.specs.List.{All}
 use Rattle.std.specs.Option.{option_or}
@@ -8,14 +8,14 @@ use Rattle.wfc_ppm.specs.Fault.{Head, head_of, form_of, side_fault, field_fault,
 use Rattle.wfc_ppm.specs.Field.{behind_field, field_value}
 use Rattle.wfc_ppm.specs.Ppm.{PpmView, IsPpm}
 use Rattle.wfc_ppm.specs.Reading.{pixels_of, made_of, unless_fault, ppm_in, ppm_of}
-use Rattle.wfc_ppm.specs.Spelling.{SpellsPpm, SpellsP6, SpellsP3}
+use Rattle.wfc_ppm.specs.Spelling.{SpellsPpm}
 use Rattle.wfc_ppm.specs.declared.reading.Form.{Form}
 use Rattle.wfc_ppm.specs.declared.reading.PpmFault.{PpmFault}
 use Rattle.wfc_ppm.specs.declared.reading.PpmFault.TheVariants.{NoMemory}
 use Rattle.wfc_outside.specs.Gives.{Gives}
 use Rattle.std.specs.Result.{IfOk, IfErr}
 use Rattle.wfc_ppm.proofs.FaultLemmas.{samples_last, maxval_second, size_third}
-use Rattle.wfc_ppm.proofs.PpmLemmas.{none-spells, spelled-read, read-spelled}
+use Rattle.wfc_ppm.proofs.PpmLemmas.{spelled-read, read-spelled}
 
 -- the rests behind the magic, the width, the height and maxval
 pub record Rests (bytes one two three four : List ℕ) : Type 0 where

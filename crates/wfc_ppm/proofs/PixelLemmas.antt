@@ -1,5 +1,5 @@
 -- Pixels and samples of bytes, one by one.
-use Rattle.std.proofs.Common.{◌≡◌, ℕ, ◌+◌, ◌*◌, ◌/◌, ◌<◌, ◌≤◌, List, [], ◌∷◌, ◌++◌, length, drop, get_or, refl, ap, ◌∙◌, append-nil, append_assoc, arith, zero, suc, sym, length-drop, true, false, nat_lt, Some, None, Option, below_more}
+use Rattle.std.proofs.Common.{◌≡◌, ℕ, ◌+◌, ◌*◌, ◌/◌, ◌<◌, ◌≤◌, List, [], ◌∷◌, ◌++◌, length, drop, get_or, refl, ap, ◌∙◌, append-nil, append_assoc, arith, zero, suc, sym, length-drop, true, false, nat_lt, Some, None, below_more}
 use Rattle.std.proofs.lemmas.Bool.Decides.{nat_tests}
 use Rattle.wfc_lists.proofs.Positions.{position_at, position_none}
 use Rattle.std.proofs.lemmas.List.{drop_more}

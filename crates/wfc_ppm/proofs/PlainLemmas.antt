@@ -1,8 +1,8 @@
 -- Samples in decimal: what is read where fields stand, and the fields that stand where no fault is.
-use Rattle.std.proofs.Common.{◌≡◌, ◌⊎◌, ℕ, ◌+◌, ◌*◌, ◌<◌, ◌≤◌, ◌==◌, List, [], ◌∷◌, ◌++◌, length, inl, inr, refl, sym, ap, ◌∙◌, append_assoc, append-nil, arith, true, false, Bool, Option, None, Some, min, not, nat_lt, if◌then◌else◌, zero, suc, subst, length-append}
+use Rattle.std.proofs.Common.{◌≡◌, ◌⊎◌, ℕ, ◌+◌, ◌<◌, ◌≤◌, ◌==◌, List, [], ◌∷◌, ◌++◌, length, inl, inr, refl, sym, ap, ◌∙◌, append_assoc, append-nil, arith, true, false, Bool, None, Some, min, not, nat_lt, if◌then◌else◌, zero, suc, subst, length-append}
 use Rattle.std.proofs.lemmas.Bool.Decides.{nat_tests}
 use Rattle.std.proofs.lemmas.Bool.{ltb-false}
-use Rattle.std.specs.List.{AllByRecursion, concat}
+use Rattle.std.specs.List.{concat}
 use Rattle.std.specs.Option.{option_or}
 use Rattle.wfc_picture.specs.declared.symbol.Colour.{Colour}
 use Rattle.wfc_lists.proofs.Options.{both_none, or_none}
@@ -11,10 +11,9 @@ use Rattle.wfc_ppm.specs.Field.{Stop, stop_of, start_of, digits_of, field_value,
 use Rattle.wfc_ppm.specs.Ppm.{samples_of}
 use Rattle.wfc_ppm.specs.Reading.{plain_pixel, plain_pixels}
 use Rattle.wfc_ppm.specs.Spelling.{IsCommentFront, IsField, AreFields, IsTail}
-use Rattle.wfc_ppm.specs.declared.reading.PpmFault.{PpmFault}
 use Rattle.wfc_ppm.specs.declared.reading.PpmFault.TheVariants.{Truncated, BadSample, SampleAboveMaxval, Trailing}
 use Rattle.wfc_ppm.proofs.GapLemmas.{start-tail, tail-ends, start-first, parts_of, Parts, Last, whole, broken}
-use Rattle.wfc_ppm.proofs.FieldLemmas.{Stops, token-stops, ReadsField, field-reads, field-ends, StandsField, stands, written_value, digits-parts, no-digits}
+use Rattle.wfc_ppm.proofs.FieldLemmas.{token-stops, field-reads, field-ends, StandsField, stands, written_value, no-digits}
 use Rattle.wfc_ppm.proofs.RawLemmas.{AreWithin}
 
 nonzero : (n : ℕ) → 0 < n → (n == 0) ≡ false

@@ -1,5 +1,5 @@
 -- Pixels in decimal, one after another.
-use Rattle.std.proofs.Common.{◌≡◌, ℕ, ◌+◌, ◌*◌, ◌-◌, ◌<◌, ◌≤◌, List, [], ◌∷◌, ◌++◌, refl, sym, ap, ◌∙◌, append_assoc, append-nil, arith, zero, suc, Option, None, Some}
+use Rattle.std.proofs.Common.{◌≡◌, ℕ, ◌+◌, ◌*◌, ◌-◌, ◌<◌, ◌≤◌, List, [], ◌∷◌, ◌++◌, sym, ap, ◌∙◌, append_assoc, append-nil, arith, suc, Option, None, Some}
 use Rattle.std.specs.Option.{option_or}
 use Rattle.wfc_picture.specs.declared.symbol.Colour.{Colour}
 use Rattle.wfc_ppm.specs.Fault.{pixel_fault, behind_pixel, tail_fault, plain_fault}

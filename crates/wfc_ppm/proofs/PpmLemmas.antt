@@ -1,25 +1,23 @@
 -- Texts that spell pictures, and how they are read.
-use Rattle.std.proofs.Common.{◌≡◌, ◌≢◌, ◌⊎◌, ℕ, ◌+◌, ◌*◌, ◌<◌, ◌≤◌, List, [], ◌∷◌, ◌++◌, length, drop, take, inl, inr, refl, sym, ap, ◌∙◌, arith, true, Bool, Option, None, Some, Result, Ok, Err, codes, subst, zero, suc, length-drop, length-take, get_or, append_assoc}
-use Rattle.std.proofs.lemmas.List.{take_all, get_or-drop, take-append-drop}
+use Rattle.std.proofs.Common.{◌≡◌, ℕ, ◌*◌, ◌<◌, ◌≤◌, List, [], ◌∷◌, ◌++◌, length, drop, take, inl, inr, refl, sym, ap, ◌∙◌, arith, true, Option, None, Some, Ok, codes, subst, zero, suc, append_assoc}
+use Rattle.std.proofs.lemmas.List.{take_all}
 use Rattle.std.proofs.lemmas.List.Elements.{All-from_recursion, recursion_from_All}
-use Rattle.std.specs.List.{All, AllPass, AllByRecursion, concat}
+use Rattle.std.specs.List.{All, AllByRecursion, concat}
 use Rattle.std.specs.Option.{option_or}
 use Rattle.wfc_picture.specs.declared.symbol.Colour.{Colour}
 use Rattle.wfc_lists.proofs.Options.{both_none, or_none}
-use Rattle.wfc_ppm.specs.Fault.{Head, head_of, form_of, fault_of, header_fault, end_fault, maxval_fault, size_fault, samples_fault, sample_size, raw_samples, raw_fault, plain_fault, ends_token}
-use Rattle.wfc_ppm.specs.Field.{field_value, behind_field}
+use Rattle.wfc_ppm.specs.Fault.{head_of, form_of, fault_of, header_fault, end_fault, maxval_fault, size_fault, samples_fault, sample_size, raw_samples, plain_fault, ends_token}
 use Rattle.wfc_ppm.specs.Ppm.{PpmView, IsPpm, is_within, samples_of, raw_bytes}
 use Rattle.wfc_ppm.specs.Reading.{colours_of, plain_pixels, pixels_of, made_of, unless_fault, ppm_in, ppm_of}
-use Rattle.wfc_ppm.specs.Spelling.{IsHead, AreFields, SpellsP6, SpellsP3, SpellsPpm}
+use Rattle.wfc_ppm.specs.Spelling.{AreFields, SpellsP6, SpellsP3, SpellsPpm}
 use Rattle.wfc_ppm.specs.declared.reading.Form.{Form}
 use Rattle.wfc_ppm.specs.declared.reading.Form.TheVariants.{Raw, Plain}
 use Rattle.wfc_ppm.specs.declared.reading.PpmFault.{PpmFault}
-use Rattle.wfc_ppm.specs.declared.reading.PpmFault.TheVariants.{Magic}
 use Rattle.wfc_ppm.proofs.GapLemmas.{space-test, tail-ends}
-use Rattle.wfc_ppm.proofs.FieldLemmas.{Stops, token-stops, ReadsField, field-reads}
-use Rattle.wfc_ppm.proofs.HeadLemmas.{sides-small, maxval-none, none-maxval, size-none, none-size, magic_of, magic-stands, ReadsHead, head-reads, StandsHead, head-stands, stands-head, space-none, none-space, gap-none, none-gap}
-use Rattle.wfc_ppm.proofs.RawLemmas.{AreWithin, AreRaw, raw-bytes, MakeRaw, bytes-raw, raw-none, none-raw, colours_of-samples, pixels-within, within-pixels}
-use Rattle.wfc_ppm.proofs.PlainLemmas.{ReadsPixels, pixels-read, StandPixels, none-pixels, fields-end}
+use Rattle.wfc_ppm.proofs.FieldLemmas.{Stops, token-stops, field-reads}
+use Rattle.wfc_ppm.proofs.HeadLemmas.{sides-small, maxval-none, none-maxval, size-none, none-size, magic-stands, ReadsHead, head-reads, StandsHead, head-stands, stands-head, space-none, none-space, gap-none, none-gap}
+use Rattle.wfc_ppm.proofs.RawLemmas.{AreWithin, raw-bytes, bytes-raw, raw-none, none-raw, colours_of-samples, pixels-within, within-pixels}
+use Rattle.wfc_ppm.proofs.PlainLemmas.{pixels-read, none-pixels, fields-end}
 
 -- ---- a text that spells a picture is read as it
 

@@ -1,21 +1,19 @@
 -- Raw samples: the bytes of samples, and the samples of bytes.
-use Rattle.std.proofs.Common.{◌≡◌, ℕ, ◌+◌, ◌*◌, ◌/◌, ◌%◌, ◌<◌, ◌≤◌, ◌==◌, List, [], ◌∷◌, ◌++◌, length, take, drop, get_or, refl, sym, ap, ◌∙◌, append-nil, append_assoc, arith, true, false, Bool, Option, None, Some, nat_lt, nat_le, ◌&&◌, if◌then◌else◌, flat_map, length-append, zero, suc, subst}
+use Rattle.std.proofs.Common.{◌≡◌, ℕ, ◌+◌, ◌*◌, ◌/◌, ◌%◌, ◌<◌, ◌≤◌, List, [], ◌∷◌, length, take, get_or, refl, sym, ap, ◌∙◌, arith, true, false, Bool, Option, None, Some, nat_lt, nat_le, ◌&&◌, if◌then◌else◌, flat_map, zero, suc}
 use Rattle.std.proofs.Math.Nat.{div-add-mod}
 use Rattle.std.proofs.lemmas.Bool.Decides.{nat_tests}
 use Rattle.std.proofs.lemmas.Bool.{ltb-false}
-use Rattle.std.proofs.lemmas.List.{take_all, length-take-le}
-use Rattle.std.specs.List.{All, AllPass, AllByRecursion, position}
+use Rattle.std.proofs.lemmas.List.{take_all}
+use Rattle.std.specs.List.{AllByRecursion, position}
 use Rattle.std.specs.Option.{option_or}
 use Rattle.std.proofs.lemmas.List.Elements.{All-from_recursion, recursion_from_All}
 use Rattle.wfc_picture.specs.declared.symbol.Colour.{Colour}
-use Rattle.wfc_lists.proofs.Options.{both_none, or_none}
 use Rattle.wfc_lists.proofs.Positions.{position_none, position_fails}
 use Rattle.wfc_ppm.specs.Fault.{sample_size, pairs_of, raw_samples, above_fault, raw_fault}
 use Rattle.wfc_ppm.specs.Field.{place_of}
-use Rattle.wfc_ppm.specs.Ppm.{PpmView, IsPpm, is_within, channels, samples_of, sample_bytes, raw_bytes}
+use Rattle.wfc_ppm.specs.Ppm.{is_within, samples_of, raw_bytes}
 use Rattle.wfc_ppm.specs.Reading.{colours_of}
-use Rattle.wfc_ppm.specs.declared.reading.PpmFault.{PpmFault}
-use Rattle.wfc_ppm.specs.declared.reading.PpmFault.TheVariants.{Truncated, SampleAboveMaxval, Trailing}
+use Rattle.wfc_ppm.specs.declared.reading.PpmFault.TheVariants.{Truncated, Trailing}
 
 -- ---- pixels and samples
 

@@ -1,5 +1,5 @@
 -- The texts that are written for pictures spell them.
-use Rattle.std.proofs.Common.{◌≡◌, ◌⊎◌, ℕ, ◌+◌, ◌*◌, ◌^◌, ◌<◌, ◌≤◌, List, [], ◌∷◌, ◌++◌, length, drop, get_or, inl, inr, refl, sym, ap, ◌∙◌, append_assoc, append-nil, arith, true, Bool, codes, decimal, flat_map, nat_le, ◌&&◌, Ok}
+use Rattle.std.proofs.Common.{◌≡◌, ℕ, ◌+◌, ◌*◌, ◌^◌, ◌<◌, ◌≤◌, List, [], ◌∷◌, ◌++◌, length, drop, get_or, inl, inr, refl, sym, ap, ◌∙◌, append_assoc, append-nil, arith, true, codes, decimal, flat_map, Ok}
 use Rattle.std.proofs.lemmas.Bool.Decides.{nat_tests}
 use Rattle.std.proofs.lemmas.Fmt.{decimal_is_IsNumeral}
 use Rattle.std.proofs.lemmas.List.{get_or_default, drop_more, drop_all}
@@ -7,12 +7,12 @@ use Rattle.std.proofs.lemmas.List.Elements.{recursion_from_All}
 use Rattle.std.proofs.lemmas.Str.Parse.{digit_at}
 use Rattle.std.specs.Char.{is_ascii_digit}
 use Rattle.std.specs.Int.{IsInRange}
-use Rattle.std.specs.List.{AllPass, AllByRecursion, concat}
+use Rattle.std.specs.List.{AllPass, concat}
 use Rattle.std.specs.Str.Parse.{AllDigits}
 use Rattle.wfc_picture.specs.declared.symbol.Colour.{Colour}
 use Rattle.wfc_ppm.specs.Ppm.{PpmView, IsPpm, is_within, samples_of, sample_bytes, raw_bytes, pixel_bytes, pixel_line, head_lines, p6_text, p3_text}
 use Rattle.wfc_ppm.specs.Reading.{ppm_of}
-use Rattle.wfc_ppm.specs.Spelling.{IsSpace, IsGap, IsSeparator, IsNumeral, IsField, AreFields, IsHead, IsTail, SpellsP6, SpellsP3}
+use Rattle.wfc_ppm.specs.Spelling.{IsSpace, IsNumeral, IsField, AreFields, IsHead, IsTail, SpellsP6, SpellsP3}
 use Rattle.wfc_ppm.proofs.PpmLemmas.{spelled-read}
 use Rattle.wfc_ppm.proofs.RawLemmas.{AreWithin, pixels-within}
 

@@ -1,10 +1,9 @@
 -- The first fault of a text that is read as a picture.
-use Rattle.std.specs.Prelude.{ℕ, ◌+◌, ◌*◌, ◌-◌, ◌==◌, Bool, true, false, not, ◌||◌, nat_lt, List, [], ◌∷◌, codes, length, take, drop, position, Option, None, Some, if◌then◌else◌, suc, zero}
+use Rattle.std.specs.Prelude.{ℕ, ◌+◌, ◌*◌, ◌==◌, Bool, true, false, not, ◌||◌, nat_lt, List, [], ◌∷◌, codes, length, take, drop, position, Option, None, Some, if◌then◌else◌, suc, zero}
 use Rattle.std.specs.Option.{option_or}
 use Rattle.std.specs.Str.{bytes_eq}
 use Rattle.wfc_picture.specs.declared.palette.TheConstants.{MAX_PIXELS}
-use Rattle.wfc_picture.specs.declared.symbol.Colour.{Colour}
-use Rattle.wfc_ppm.specs.Field.{is_space, start_of, stop_of, digits_of, behind_digits, field_value, behind_field, place_of}
+use Rattle.wfc_ppm.specs.Field.{is_space, start_of, stop_of, digits_of, field_value, behind_field, place_of}
 use Rattle.wfc_ppm.specs.declared.reading.Form.{Form}
 use Rattle.wfc_ppm.specs.declared.reading.Form.TheVariants.{Raw, Plain}
 use Rattle.wfc_ppm.specs.declared.reading.PpmFault.{PpmFault}

@@ -1,5 +1,5 @@
 -- What reading a text as a picture answers.
-use Rattle.std.specs.Prelude.{ℕ, ◌*◌, List, [], ◌∷◌, length, take, drop, Option, None, Some, Result, Ok, Err, suc, zero}
+use Rattle.std.specs.Prelude.{ℕ, ◌*◌, List, [], ◌∷◌, take, drop, Option, None, Some, Result, Ok, Err, suc, zero}
 use Rattle.wfc_picture.specs.declared.symbol.Colour.{Colour}
 use Rattle.wfc_ppm.specs.Fault.{Head, head_of, form_of, fault_of, raw_samples, sample_size, behind_pixel}
 use Rattle.wfc_ppm.specs.Field.{field_value, behind_field}

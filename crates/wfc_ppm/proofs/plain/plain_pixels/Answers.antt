@@ -1,7 +1,7 @@
-use Rattle.std.proofs.Common.{◌≡◌, ◌*◌, arith, rules, inl}
+use Rattle.std.proofs.Common.{◌*◌, arith, rules, inl}
 use Rattle.std.proofs.lemmas.Result.{err_from_is_err_and}
 use Rattle.wfc_ppm.specs.Fault.{plain_fault}
-use Rattle.wfc_ppm.specs.Reading.{plain_pixels, plain_pixel}
+use Rattle.wfc_ppm.specs.Reading.{plain_pixels}
 use Rattle.wfc_ppm.proofs.PlainPixelLemmas.{plain-more, fault-next, fault-here}
 use Rattle.wfc_ppm.proofs.plain.plain_pixels.Goals as goal
 

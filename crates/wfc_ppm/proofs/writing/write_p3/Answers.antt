@@ -1,6 +1,5 @@
-use Rattle.std.proofs.Common.{◌≡◌, ◌<◌, ◌^◌, rules, arith, subst, sym}
+use Rattle.std.proofs.Common.{◌≡◌, ◌<◌, ◌^◌, rules, subst}
 use Rattle.wfc_ppm.specs.Ppm.{p3_text, IsPpm}
-use Rattle.wfc_ppm.specs.Spelling.{SpellsP3}
 use Rattle.wfc_ppm.proofs.WritingLemmas.{written-p3, p3-again}
 use Rattle.wfc_ppm.proofs.writing.write_p3.Goals as goal
 

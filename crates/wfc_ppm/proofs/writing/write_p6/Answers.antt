@@ -1,6 +1,5 @@
-use Rattle.std.proofs.Common.{◌≡◌, ◌<◌, ◌^◌, rules, arith, subst, sym}
+use Rattle.std.proofs.Common.{◌≡◌, ◌<◌, ◌^◌, rules, subst}
 use Rattle.wfc_ppm.specs.Ppm.{p6_text, IsPpm}
-use Rattle.wfc_ppm.specs.Spelling.{SpellsP6}
 use Rattle.wfc_ppm.proofs.WritingLemmas.{written-p6, p6-again}
 use Rattle.wfc_ppm.proofs.writing.write_p6.Goals as goal
 
