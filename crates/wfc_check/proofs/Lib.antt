@@ -5,3 +5,10 @@ pub mod Branches
 pub mod Scans
 pub mod Taken
 pub mod Proved
+pub mod TextLemmas
+pub mod ExactLemmas
+pub mod PlainLemmas
+pub mod BytesLemmas
+pub mod StreamLemmas
+pub mod FaultLemmas
+pub mod FileLemmas

@@ -1,3 +1,10 @@
 pub mod Entries
 pub mod Flags
 pub mod Checker
+pub mod Fault
+pub mod Lines
+pub mod Text
+pub mod Reading
+pub mod Stream
+pub mod Answered
+pub mod Cases

@@ -5,7 +5,7 @@ ghost use Rattle.wfc_problem.specs.Network.{IsProblem};
 ghost use Rattle.wfc_problem.specs.Rounds.{depth_of, pairs};
 ghost use Rattle.wfc_proof.specs.Checker.{line_step, closed_step};
 ghost use Rattle.wfc_check.specs.Entries.{standing, waits_of};
-ghost use Rattle.wfc_check.specs.Checker.{point_at, point_of, problem_of, told, led_to, IsTaken, IsOpened, AreEnded, SpellClosing, HasNone};
+ghost use Rattle.wfc_check.specs.Checker.{point_at, point_of, problem_of, progress_of, told, led_to, IsTaken, IsOpened, AreEnded, SpellClosing, HasNone};
 ghost use Rattle.wfc_check.specs.declared.progress.Progress.TheVariants.{Going};
 
 use crate::nodes;
@@ -48,6 +48,23 @@ impl<'p> Checker<'p> {
             trail,
             progress: Progress::Going,
         })
+    }
+
+    /// The problem.
+    #[inline]
+    pub fn problem(&self) -> &'p Problem
+        ensures value { result.now ≡ problem_of self.now }
+        ensures problem { IsProblem (problem_of self.now) }
+    {
+        self.trail.problem()
+    }
+
+    /// How far the proof has come.
+    #[inline]
+    pub fn progress(&self) -> Progress
+        ensures value { result ≡ progress_of (point_of self.now) }
+    {
+        self.progress
     }
 
     /// Takes a line, or refuses it and stays as it was. It takes no memory.

@@ -1,202 +1,86 @@
-//! The checker on three cells in a ring with two values, of which neighbours must differ: there is no map.
+//! The checker on two small problems without a map.
+//!
+//! Two cells side by side have one value, which doesn't stand beside itself; three cells in a ring have two values, of which
+//! neighbours must differ.
 
-use crate::{Checker, Progress, Reject, is_proof};
+mod files;
+mod lines;
+mod texts;
+
 use std::alloc::{AllocError, Global};
 use std::test::Fail;
 use wfc_problem::{NO_CELL, Parts, Problem};
-use wfc_proof::Line;
+use wfc_proof::Shape;
 
-/// Three cells in a ring, with two values that differ from their neighbours' left and right.
-fn ring(alloc: Global) -> Result<Parts, AllocError> {
-    let mut neighbours = Vec::new(alloc);
-    for cell in 0..3u32 {
-        neighbours.push((cell + 2) % 3)?;
-        neighbours.push(NO_CELL)?;
-        neighbours.push((cell + 1) % 3)?;
-        neighbours.push(NO_CELL)?;
-    }
+/// Cells whose values have at most one support to the left and right, and none above and below.
+fn parts(
+    alloc: Global,
+    cells: u32,
+    neighbours: Vec<u32>,
+    others: &[Option<u16>],
+) -> Result<Parts, AllocError> {
     let mut supports = Vec::new(alloc);
-    for other in [1u16, 0] {
+    for other in others {
         for along in [true, false, true, false] {
             let mut list = Vec::new(alloc);
-            if along {
-                list.push(other)?;
+            if let Some(value) = *other
+                && along
+            {
+                list.push(value)?;
             }
             supports.push(list)?;
         }
     }
+    let mut base = Vec::new(alloc);
+    for _ in 0..cells {
+        for _ in others {
+            base.push(true)?;
+        }
+    }
     Ok(Parts {
-        cells: 3,
+        cells,
         dirs: 4,
         neighbours,
-        weights: vec![in alloc; 1, 1]?,
+        weights: others.iter().map(|_| 1).collect(alloc)?,
         supports,
-        base: vec![in alloc; true; 6]?,
+        base,
     })
 }
 
-#[test]
-fn lines_are_answered(rt: HostRuntime) -> Result<(), Fail> {
-    let problem = Problem::new(ring(rt.alloc())?)?;
-    let mut checker = Checker::open(rt.alloc(), &problem)?;
-    let table = [
-        (Line::End, Err(Reject::NotClosed)),
-        (
-            Line::Remove {
-                cell: 0,
-                value: 0,
-                dir: 4,
-            },
-            Err(Reject::IndexRange),
-        ),
-        (
-            Line::Remove {
-                cell: 0,
-                value: 0,
-                dir: 1,
-            },
-            Err(Reject::NoNeighbour),
-        ),
-        (
-            Line::Remove {
-                cell: 0,
-                value: 0,
-                dir: 2,
-            },
-            Err(Reject::HasSupport { value: 1 }),
-        ),
-        (Line::Empty { cell: 0 }, Err(Reject::NotEmpty { value: 0 })),
-        (Line::Try { cell: 0, value: 0 }, Ok(Progress::Going)),
-        (Line::Try { cell: 0, value: 0 }, Err(Reject::OnlyValue)),
-        (
-            Line::Span {
-                cell: 1,
-                first: 0,
-                last: 1,
-                dir: 0,
-            },
-            Err(Reject::HasSupport { value: 0 }),
-        ),
-        (
-            Line::Span {
-                cell: 1,
-                first: 0,
-                last: 0,
-                dir: 0,
-            },
-            Ok(Progress::Going),
-        ),
-        (
-            Line::Remove {
-                cell: 1,
-                value: 0,
-                dir: 0,
-            },
-            Err(Reject::NotStanding),
-        ),
-        (
-            Line::Remove {
-                cell: 2,
-                value: 0,
-                dir: 2,
-            },
-            Ok(Progress::Going),
-        ),
-        (
-            Line::Remove {
-                cell: 2,
-                value: 1,
-                dir: 0,
-            },
-            Ok(Progress::Going),
-        ),
-        (Line::Empty { cell: 2 }, Ok(Progress::Going)),
-        (Line::End, Err(Reject::NotClosed)),
-        (
-            Line::Remove {
-                cell: 0,
-                value: 0,
-                dir: 0,
-            },
-            Err(Reject::NotStanding),
-        ),
-        (
-            Line::Remove {
-                cell: 1,
-                value: 1,
-                dir: 0,
-            },
-            Ok(Progress::Going),
-        ),
-        (
-            Line::Remove {
-                cell: 2,
-                value: 1,
-                dir: 2,
-            },
-            Ok(Progress::Going),
-        ),
-        (
-            Line::Remove {
-                cell: 2,
-                value: 0,
-                dir: 0,
-            },
-            Ok(Progress::Going),
-        ),
-        (Line::Empty { cell: 2 }, Ok(Progress::Closed)),
-        (Line::Empty { cell: 2 }, Err(Reject::AfterEnd)),
-        (Line::End, Ok(Progress::Ended)),
-        (Line::End, Err(Reject::AfterEnd)),
-    ];
-    for (line, answer) in table {
-        assert_eq!(rt; checker.line(line), answer, "{line:?}");
-    }
-    Ok(())
+/// Two cells side by side with one value.
+fn side_by_side(alloc: Global) -> Result<Problem, Fail> {
+    let neighbours = [NO_CELL, NO_CELL, 1, NO_CELL, 0, NO_CELL, NO_CELL, NO_CELL];
+    let parts = parts(alloc, 2, neighbours.to_vec(alloc)?, &[None])?;
+    Ok(Problem::new(parts)?)
 }
 
-#[test]
-fn a_proof_has_both_branches_and_an_end(rt: HostRuntime) -> Result<(), Fail> {
-    let problem = Problem::new(ring(rt.alloc())?)?;
-    let lines = [
-        Line::Try { cell: 0, value: 0 },
-        Line::Remove {
-            cell: 1,
-            value: 0,
-            dir: 0,
-        },
-        Line::Remove {
-            cell: 2,
-            value: 0,
-            dir: 2,
-        },
-        Line::Remove {
-            cell: 2,
-            value: 1,
-            dir: 0,
-        },
-        Line::Empty { cell: 2 },
-        Line::Remove {
-            cell: 1,
-            value: 1,
-            dir: 0,
-        },
-        Line::Remove {
-            cell: 2,
-            value: 1,
-            dir: 2,
-        },
-        Line::Remove {
-            cell: 2,
-            value: 0,
-            dir: 0,
-        },
-        Line::Empty { cell: 2 },
-        Line::End,
+/// Three cells in a ring with two values.
+fn ring(alloc: Global) -> Result<Problem, Fail> {
+    let neighbours = [
+        2, NO_CELL, 1, NO_CELL, 0, NO_CELL, 2, NO_CELL, 1, NO_CELL, 0, NO_CELL,
     ];
-    assert!(rt; is_proof(rt.alloc(), &problem, &lines)?);
-    assert!(rt; !is_proof(rt.alloc(), &problem, &lines[..9])?, "no end");
-    assert!(rt; !is_proof(rt.alloc(), &problem, &lines[..5])?, "one branch");
-    assert!(rt; !is_proof(rt.alloc(), &problem, &lines[1..])?, "no split");
-    Ok(())
+    let parts = parts(alloc, 3, neighbours.to_vec(alloc)?, &[Some(1), Some(0)])?;
+    Ok(Problem::new(parts)?)
+}
+
+/// Windows of side 2 in a map of 3 by 2.
+fn shape() -> Shape {
+    Shape {
+        n: 2,
+        width: 3,
+        height: 2,
+        depth: 1,
+        symmetry: 1,
+        wrap_in: false,
+        wrap_out: false,
+    }
+}
+
+/// A text whose lines are ended by strokes.
+fn text(alloc: Global, strokes: &str) -> Result<Vec<u8>, AllocError> {
+    let mut bytes = Vec::new(alloc);
+    for byte in strokes.as_bytes() {
+        bytes.push(if *byte == b'/' { b'\n' } else { *byte })?;
+    }
+    Ok(bytes)
 }

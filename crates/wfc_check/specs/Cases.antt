@@ -1,0 +1,25 @@
+-- Texts on a small problem, for the laws: two cells of which neither value of the first has support.
+use Rattle.std.specs.Prelude.{ℕ, true, false, List, codes, Result}
+use Rattle.wfc_proof.specs.Small.{dead}
+use Rattle.wfc_proof.specs.declared.heads.Shape.{Shape}
+use Rattle.wfc_check.specs.Text.{at_start, answer_from}
+use Rattle.wfc_check.specs.declared.fault.CheckFault.{CheckFault}
+
+-- windows of side 2 of a wrapped sample, with all images, in a map of 3 by 4
+abbrev pub shape : Shape
+shape = record { n = 2; width = 3; height = 4; depth = 1; symmetry = 8; wrap_in = true; wrap_out = false }
+
+-- the answer to a text of which so many bytes may be read
+abbrev pub answer_within : ℕ → List ℕ → Result (Unit {0}) CheckFault
+answer_within most text = answer_from dead shape most 1 (at_start dead) text
+
+-- the answer to a short text
+abbrev pub answer_to : List ℕ → Result (Unit {0}) CheckFault
+answer_to text = answer_within 200 text
+
+-- the heads of both formats
+abbrev pub head : List ℕ
+head = codes "wfc-refutation 1\ncells 2 values 3\n"
+
+abbrev pub head_2 : List ℕ
+head_2 = codes "wfc-refutation 2\ncells 2 values 3\nfor 2 3 4 1 8 1 0\n"

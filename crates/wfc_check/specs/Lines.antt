@@ -1,0 +1,7 @@
+-- Lines without their ends.
+use Rattle.std.specs.Prelude.{◌≡◌, ℕ, false, List, All}
+use Rattle.wfc_text.specs.Line.{is_line_feed}
+
+-- no line feed is among the bytes
+abbrev pub IsPlain : List ℕ → Type 0
+IsPlain line = All (λ b. is_line_feed b ≡ false) line

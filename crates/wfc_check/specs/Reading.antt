@@ -1,0 +1,26 @@
+-- Where the reading of a text is, as the definitions see it.
+use Rattle.std.specs.Prelude.{◌≡◌, Result, Ok, Err, MatchResult}
+use Rattle.wfc_problem.specs.Network.{Network}
+use Rattle.wfc_proof.specs.declared.heads.Shape.{Shape}
+use Rattle.wfc_check.specs.Checker.{problem_of, point_of}
+use Rattle.wfc_check.specs.Text.{Place, place, at_start}
+use Rattle.wfc_check.specs.declared.fault.CheckFault.{CheckFault}
+use Rattle.wfc_check.specs.declared.reading.Reading.{Reading}
+
+-- its place
+abbrev pub place_of : Reading → Place
+place_of reading = place reading.stage (point_of reading.checker)
+
+-- what a text is held to
+abbrev pub reads_for : Reading → Network × Shape
+reads_for reading = (problem_of reading.checker, reading.shape.now)
+
+-- the reading is at the start of a text
+pub record IsOpenedFor (P : Network) (shape : Shape) (reading : Reading) : Type 0 where
+  pub holds : reads_for reading ≡ (P, shape)
+  pub start : place_of reading ≡ at_start P
+  pub first : reading.number ≡ 1
+
+-- the answer is the one wanted: the place where a line leads, or its fault
+abbrev pub Leads : {T : Type 0} → Result Place CheckFault → Place → Result T CheckFault → Type 0
+Leads wanted new result = MatchResult result (λ _. wanted ≡ Ok new) (λ fault. wanted ≡ Err fault)

@@ -1,0 +1,156 @@
+-- What is answered to the text of a refutation, line by line.
+use Rattle.std.specs.Prelude.{ℕ, ◌+◌, ◌≤◌, ◌==◌, ◌&&◌, nat_lt, Bool, true, false, List, [], ◌∷◌, length, take, Result, Ok, Err, if◌then◌else◌}
+use Rattle.std.specs.Bool.{beq}
+use Rattle.std.specs.List.{slice_split}
+use Rattle.wfc_text.specs.Line.{is_line_feed}
+use Rattle.wfc_problem.specs.Network.{Network, values, in_base}
+use Rattle.wfc_proof.specs.Checker.{Point, line_step}
+use Rattle.wfc_proof.specs.Checker.Point.{going}
+use Rattle.wfc_proof.specs.Heads.{format_of, numbers_of, shape_of}
+use Rattle.wfc_proof.specs.ProofText.{IsProofText}
+use Rattle.wfc_proof.specs.Text.{line_of, line_2_of}
+use Rattle.wfc_proof.specs.declared.Line.{Line}
+use Rattle.wfc_proof.specs.declared.Reject.{Reject}
+use Rattle.wfc_proof.specs.declared.heads.Format.{Format}
+use Rattle.wfc_proof.specs.declared.heads.Format.TheVariants.{One, Two}
+use Rattle.wfc_proof.specs.declared.heads.Numbers.{Numbers}
+use Rattle.wfc_proof.specs.declared.heads.Shape.{Shape}
+use Rattle.wfc_proof.specs.declared.text.LineFault.{LineFault}
+use Rattle.wfc_check.specs.Checker.{progress_of}
+use Rattle.wfc_check.specs.declared.fault.CheckFault.{CheckFault}
+use Rattle.wfc_check.specs.declared.fault.CheckFault.TheVariants.{Rejected, BadLine, HeaderDiffers, NotEnded, TooLong, OptionsDiffer}
+use Rattle.wfc_check.specs.declared.progress.Progress.{Progress}
+use Rattle.wfc_check.specs.declared.progress.Progress.TheVariants.{Going, Closed, Ended}
+use Rattle.wfc_check.specs.declared.reading.Stage.{Stage}
+use Rattle.wfc_check.specs.declared.reading.Stage.TheVariants.{First, Numbering, Shaping, Proving}
+use Rattle.wfc_check.specs.declared.reading.TheConstants.{MAX_LINE_BYTES, MAX_REFUTATION_BYTES}
+
+-- where the reading of a text is: which kind of line comes next, and where the proof is
+pub record Place : Type 0 where
+  pub stage : Stage
+  pub point : Point
+
+abbrev pub place : Stage → Point → Place
+place stage point = record { stage = stage; point = point }
+
+-- before the first line, with the proof at the base domains
+abbrev pub at_start : Network → Place
+at_start P = place First (going (in_base P) [])
+
+-- ---- the lines of a head
+
+-- behind a first line come the numbers
+abbrev pub after_first : ℕ → Result Format LineFault → Result Stage CheckFault
+after_first number (Ok format) = Ok (Numbering format)
+after_first number (Err fault) = Err (BadLine number)
+
+-- whether the numbers of a head are the problem's
+abbrev pub are_of_problem : Network → Numbers → Bool
+are_of_problem P numbers = numbers.cells == P.cells && numbers.values == values P
+
+-- behind the numbers comes the proof, in format 2 the shape before it
+abbrev pub behind_numbers : Format → Stage
+behind_numbers One = Proving One
+behind_numbers Two = Shaping
+
+abbrev pub after_numbers : Network → Format → ℕ → Result Numbers LineFault → Result Stage CheckFault
+after_numbers P format number (Ok numbers) = if are_of_problem P numbers then Ok (behind_numbers format) else Err (HeaderDiffers numbers.cells numbers.values)
+after_numbers P format number (Err fault) = Err (BadLine number)
+
+-- whether two shapes are one
+abbrev pub are_one : Shape → Shape → Bool
+are_one a b =
+    a.n == b.n && (a.width == b.width && (a.height == b.height && (a.depth == b.depth && (a.symmetry == b.symmetry && (beq a.wrap_in b.wrap_in && beq a.wrap_out b.wrap_out)))))
+
+-- behind the shape comes the proof
+abbrev pub after_shape : Shape → ℕ → Result Shape LineFault → Result Stage CheckFault
+after_shape shape number (Ok found) = if are_one found shape then Ok (Proving Two) else Err (OptionsDiffer found)
+after_shape shape number (Err fault) = Err (BadLine number)
+
+-- ---- the lines of a proof
+
+-- the line that bytes spell in the format
+abbrev pub line_in : Format → List ℕ → Result Line LineFault
+line_in One bytes = line_of bytes
+line_in Two bytes = line_2_of bytes
+
+-- where a line of the proof leads, if it is right there
+abbrev pub after_step : ℕ → Format → Result Point Reject → Result Place CheckFault
+after_step number format (Ok point) = Ok (place (Proving format) point)
+after_step number format (Err reject) = Err (Rejected number reject)
+
+abbrev pub after_line : Network → ℕ → Format → Point → Result Line LineFault → Result Place CheckFault
+after_line P number format point (Ok line) = after_step number format (line_step P point line)
+after_line P number format point (Err fault) = Err (BadLine number)
+
+-- ---- any line
+
+-- a line of a head leaves the proof where it is
+abbrev pub at_point : Point → Result Stage CheckFault → Result Place CheckFault
+at_point point (Ok stage) = Ok (place stage point)
+at_point point (Err fault) = Err fault
+
+-- where a line of this number leads from each stage
+abbrev pub staged : Network → Shape → ℕ → Stage → Point → List ℕ → Result Place CheckFault
+staged P shape number First point line = at_point point (after_first number (format_of line))
+staged P shape number (Numbering format) point line = at_point point (after_numbers P format number (numbers_of line))
+staged P shape number Shaping point line = at_point point (after_shape shape number (shape_of line))
+staged P shape number (Proving format) point line = after_line P number format point (line_in format line)
+
+-- where a line leads, unless it is too long
+abbrev pub line_led : Network → Shape → ℕ → Place → List ℕ → Result Place CheckFault
+line_led P shape number at line = if nat_lt MAX_LINE_BYTES (length line) then Err (BadLine number) else staged P shape number at.stage at.point line
+
+-- ---- the end of a text
+
+-- the text ends where the proof has come so far
+abbrev pub ended_at : Progress → Result (Unit {0}) CheckFault
+ended_at Going = Err NotEnded
+ended_at Closed = Err NotEnded
+ended_at Ended = Ok tt
+
+-- the text ends before a line of this number
+abbrev pub ended_before : ℕ → Stage → Point → Result (Unit {0}) CheckFault
+ended_before number First point = Err (BadLine number)
+ended_before number (Numbering format) point = Err NotEnded
+ended_before number Shaping point = Err NotEnded
+ended_before number (Proving format) point = ended_at (progress_of point)
+
+-- the text ends behind these bytes, which have no line's end
+abbrev pub answer_at_end : ℕ → Place → List ℕ → Result (Unit {0}) CheckFault
+answer_at_end number at [] = ended_before number at.stage at.point
+answer_at_end number at (byte ∷ line) = Err (BadLine number)
+
+-- no more may be read behind these bytes, which may still become a line if they aren't too many
+abbrev pub answer_at_limit : ℕ → List ℕ → Result (Unit {0}) CheckFault
+answer_at_limit number line = if nat_lt MAX_LINE_BYTES (length line) then Err (BadLine number) else Err TooLong
+
+abbrev pub answer_behind : Bool → ℕ → Place → List ℕ → Result (Unit {0}) CheckFault
+answer_behind true number at line = answer_at_limit number line
+answer_behind false number at line = answer_at_end number at line
+
+-- ---- the whole text
+
+-- and so on from where a line led, unless it is at fault
+abbrev pub and_read : Result Place CheckFault → (Place → Result (Unit {0}) CheckFault) → Result (Unit {0}) CheckFault
+and_read (Ok at) go_on = go_on at
+and_read (Err fault) go_on = Err fault
+
+-- the answer to the parts between line feeds, of which the first has this number, where the text goes on behind them or ends
+abbrev pub answer_to_parts : Network → Shape → Bool → ℕ → Place → List (List ℕ) → Result (Unit {0}) CheckFault
+answer_to_parts P shape over number at [] = Err (BadLine number)
+answer_to_parts P shape over number at (last ∷ []) = answer_behind over number at last
+answer_to_parts P shape over number at (line ∷ next ∷ parts) = and_read (line_led P shape number at line) (λ after. answer_to_parts P shape over (number + 1) after (next ∷ parts))
+
+-- the answer to what is left of a text, of which so many bytes may be read
+abbrev pub answer_from : Network → Shape → ℕ → ℕ → Place → List ℕ → Result (Unit {0}) CheckFault
+answer_from P shape most number at text = answer_to_parts P shape (nat_lt most (length text)) number at (slice_split is_line_feed (take most text))
+
+-- the answer to a whole text: it is accepted, or its first line at fault is named, or it is too long
+unfoldable pub checked : Network → Shape → List ℕ → Result (Unit {0}) CheckFault
+checked P shape text = answer_from P shape MAX_REFUTATION_BYTES 1 (at_start P) text
+
+-- the text of a proof, which isn't too long
+pub record IsRefutation (P : Network) (shape : Shape) (text : List ℕ) : Type 0 where
+  pub within : length text ≤ MAX_REFUTATION_BYTES
+  pub is : IsProofText P shape text
