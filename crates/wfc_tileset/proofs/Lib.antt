@@ -4,3 +4,4 @@ pub mod MarkLemmas
 pub mod TileSetLemmas
 pub mod SpellingLemmas
 pub mod DocumentLemmas
+pub mod CallerLemmas

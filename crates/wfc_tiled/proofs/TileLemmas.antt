@@ -1,0 +1,310 @@
+-- The problem of a tile set, entry by entry; and that it is a problem.
+use Rattle.std.proofs.Common.{◌≡◌, ◌≢◌, ℕ, zero, suc, ◌+◌, ◌*◌, ◌/◌, ◌%◌, ◌<◌, ◌≤◌, Bool, true, false, ◌&&◌, inl, inr, List, [], length, get_or, map, Option, None, Some, Result, Err, ltb, refl, sym, subst, ap, ◌∙◌, arith, zero-add}
+use Rattle.std.specs.Prelude.{Contains, All, IsTrue, ◌==◌, ◌↔◌, unwrap_or, if◌then◌else◌}
+use Rattle.std.specs.List.{range_with_len, list_any}
+use Rattle.std.specs.List.Sorted.{IsStrictlyIncreasing}
+use Rattle.std.proofs.lemmas.Bool.{cases_lt, and_parts, and_from, cond-true, cond-false, lt-ltb, eqb-true, eq-eqb}
+use Rattle.std.proofs.lemmas.List.{get_or_past}
+use Rattle.std.proofs.lemmas.List.Kept.{IsStrictlyIncreasing-filter}
+use Rattle.std.proofs.lemmas.List.Elements.{All-filter, All-contains, filter_passes}
+use Rattle.std.proofs.lemmas.List.FromFn.{length-map-range_with_len, get_or-map-range_with_len, length-range_with_len, get_or-range_with_len}
+use Rattle.std.proofs.lemmas.Nat.{mul-add-lt, mod-mul-add, div-mul-add}
+use Rattle.std.proofs.Math.Nat.{mul-le-mul_right, mul_comm}
+use Rattle.wfc_lists.proofs.Lists.{Contains-filter, Contains_any, any_Contains}
+use Rattle.wfc_lists.proofs.Ranges.{range_Contains}
+use Rattle.wfc_lists.proofs.Tables.{length-table, table-at, row_below}
+use Rattle.wfc_model.specs.Direction.{opposite, left_by, down_by, right_by, up_by}
+use Rattle.wfc_model.specs.Legal.{Pin}
+use Rattle.wfc_model.proofs.CallerLemmas.{opposite_below, IsCell, cell_is}
+use Rattle.wfc_problem.specs.Network.{Network, IsProblem, neighbour, supports_of, in_base, has_flag}
+use Rattle.wfc_problem.specs.declared.TheConstants.{NO_CELL, MAX_PAIRS}
+use Rattle.wfc_problem.proofs.CallerLemmas.{neighbour_read, neighbour_not_none, neighbour_is, supports_at, supports_past, supports_inside, flag_at}
+use Rattle.wfc_overlap.specs.Sample.{stepped, is_there, cell_of}
+use Rattle.wfc_overlap.proofs.StepLemmas.{stepped-is, stepped-stepped, there_again}
+use Rattle.wfc_overlap.proofs.SampleLemmas.{one_across, one_down}
+use Rattle.wfc_tileset.specs.Tiles.{TileView, TileSetView, Variant, IsWeighed, variant_total, variant_at, tile_at}
+use Rattle.wfc_tileset.specs.TileSets.{IsTileSet}
+use Rattle.wfc_tileset.proofs.CallerLemmas.{few_tiles, variant_there}
+use Rattle.wfc_outside.specs.Gives.{result_map}
+use Rattle.wfc_pins.specs.PinView.{PinView}
+use Rattle.wfc_pins.specs.declared.fault.BuildFault.TheVariants.{TooLarge}
+use Rattle.wfc_tiled.specs.Built.{built, pairs, pins_in}
+use Rattle.wfc_tiled.specs.Mask.{MaskView, IsMask, cell_number, plain_mask}
+use Rattle.wfc_tiled.specs.Tiles.{is_step, step_from, beside, all_beside, same_variant, has_pair, may_be_left, may_be_above, fits, fitting, all_fitting, meets, base_row, problem_of_tiles}
+use Rattle.wfc_tiled.proofs.MaskLemmas.{found, stands, below, range_rises, few}
+
+-- ---- allowed pairs, as a test
+
+variant_is : (v w : Variant) → same_variant v w ≡ true → v ≡ w
+variant_is v w t =
+    let parts = and_parts (v.0 == w.0) (v.1 == w.1) t in
+    let first : v.0 ≡ w.0 = eqb-true v.0 w.0 parts.0 in
+    let second : v.1 ≡ w.1 = eqb-true v.1 w.1 parts.1 in
+    λ i. (first i, second i)
+
+variant_same : (v : Variant) → same_variant v v ≡ true
+variant_same v = and_from _ _ (eq-eqb v.0 v.0 refl) (eq-eqb v.1 v.1 refl)
+
+pub pair_has : (ps : List (Variant × Variant)) (v w : Variant) → has_pair ps v w ≡ true → Contains ps (v, w)
+pair_has ps v w t =
+    let m = any_Contains (λ (p : Variant × Variant). same_variant p.0 v && same_variant p.1 w) ps t in
+    let parts = and_parts (same_variant m.0.0 v) (same_variant m.0.1 w) m.2 in
+    let first : m.0.0 ≡ v = variant_is m.0.0 v parts.0 in
+    let second : m.0.1 ≡ w = variant_is m.0.1 w parts.1 in
+    subst (Contains ps) (let same : m.0 ≡ (v, w) = λ i. (first i, second i) in same) m.1
+
+pub has_the_pair : (ps : List (Variant × Variant)) (v w : Variant) → Contains ps (v, w) → has_pair ps v w ≡ true
+has_the_pair ps v w c =
+    Contains_any (λ (p : Variant × Variant). same_variant p.0 v && same_variant p.1 w) ps (v, w) c (and_from _ _ (variant_same v) (variant_same w))
+
+-- a flag that says whether a pair is there is the test
+pub says : (ps : List (Variant × Variant)) (v w : Variant) (r : Bool) → (IsTrue r ↔ Contains ps (v, w)) → r ≡ has_pair ps v w
+says ps v w true iff = sym (has_the_pair ps v w (iff.0 refl))
+says ps v w false iff = by (has_pair ps v w) refl
+  where
+    by : (b : Bool) → has_pair ps v w ≡ b → false ≡ has_pair ps v w
+    by true t = iff.1 (pair_has ps v w t) ∙ sym t
+    by false f = sym f
+
+-- what fits in a direction fits the other way round in the opposite one
+pub opposite_fits : (set : TileSetView) (d v w : ℕ) → d < 4 → fits set d v w ≡ true → fits set (opposite d) w v ≡ true
+opposite_fits set zero v w dir t = t
+opposite_fits set (suc zero) v w dir t = t
+opposite_fits set (suc (suc zero)) v w dir t = t
+opposite_fits set (suc (suc (suc zero))) v w dir t = t
+opposite_fits set (suc (suc (suc (suc d)))) v w dir t = absurd (omega arith)
+
+-- too many pairs of a place and a variant, on a map without holes
+pub too_large : (set : TileSetView) (w h : ℕ) (wrap : Bool) (lines : List PinView) (product : ℕ) → product ≡ w * h * variant_total set.tiles → MAX_PAIRS < product
+    → built set (plain_mask w h) wrap lines ≡ Err (TooLarge product)
+too_large set w h wrap lines product is more =
+    let same : pairs set (plain_mask w h) ≡ product = ap (λ k. k * variant_total set.tiles) (length-range_with_len 0 (w * h)) ∙ sym is in
+    cond-true (ltb MAX_PAIRS (pairs set (plain_mask w h))) (Err (TooLarge (pairs set (plain_mask w h)))) (result_map (problem_of_tiles set (plain_mask w h) wrap) (pins_in set.tiles (plain_mask w h) lines))
+    (lt-ltb MAX_PAIRS (pairs set (plain_mask w h)) (omega (arith, same)))
+    ∙ ap (λ k. Err (TooLarge k)) same
+
+module _ (set : TileSetView) (mask : MaskView) (wrap : Bool) (pins : List Pin) where
+  abbrev P : Network
+  P = problem_of_tiles set mask wrap pins
+
+  abbrev count : ℕ
+  count = variant_total set.tiles
+
+  -- the place of a cell
+  abbrev place : ℕ → ℕ
+  place c = get_or mask.places c 0
+
+  abbrev across : ℕ → ℕ → ℕ
+  across x d = stepped mask.width (right_by d) (left_by d) x
+
+  abbrev down : ℕ → ℕ → ℕ
+  down y d = stepped mask.height (down_by d) (up_by d) y
+
+  pub place_is : IsMask mask → (c : ℕ) → c < P.cells → IsCell mask.width mask.height (place c) (place c % mask.width) (place c / mask.width)
+  place_is is c inside = cell_is mask.width mask.height (place c) (omega (arith, is.inside c 0 inside))
+
+  -- ---- what lies beside a cell
+
+  pub entry : (c d : ℕ) → c < P.cells → d < 4 → get_or P.neighbours (c * 4 + d) NO_CELL ≡ beside mask wrap (place c % mask.width) (place c / mask.width) d
+  entry c d inside dir =
+      table-at (λ n. all_beside mask wrap n) 4 (λ n. length-map-range_with_len (λ d. beside mask wrap (n % mask.width) (n / mask.width) d) 0 4) mask.places c d 0 NO_CELL inside dir
+      ∙ get_or-map-range_with_len (λ d. beside mask wrap (place c % mask.width) (place c / mask.width) d) 0 4 d d NO_CELL dir (zero-add d)
+
+  -- a step leads from the place of a cell to that of another
+  pub record IsBeside (c d m : ℕ) : Type 0 where
+    pub dir : d < 4
+    pub there : is_step mask wrap (place c % mask.width) (place c / mask.width) d ≡ true
+    pub cell : cell_number mask (step_from mask (place c % mask.width) (place c / mask.width) d) ≡ Some m
+
+  by_cell : (c d m : ℕ) → neighbour P c d ≡ Some m → (o : Option ℕ) → unwrap_or o NO_CELL ≡ m → o ≡ Some m
+  by_cell c d m at None is = absurd (neighbour_not_none P c d m at (sym is))
+  by_cell c d m at (Some k) is = ap Some is
+
+  by_step : (c d m : ℕ) → neighbour P c d ≡ Some m → d < 4 → (b : Bool) → is_step mask wrap (place c % mask.width) (place c / mask.width) d ≡ b
+      → (if b then unwrap_or (cell_number mask (step_from mask (place c % mask.width) (place c / mask.width) d)) NO_CELL else NO_CELL) ≡ m → IsBeside c d m
+  by_step c d m at dir true e is = record { dir = dir; there = e; cell = by_cell c d m at _ is }
+  by_step c d m at dir false e is = absurd (neighbour_not_none P c d m at (sym is))
+
+  pub neighbour-cell : (c d m : ℕ) → neighbour P c d ≡ Some m → c < P.cells
+  neighbour-cell c d m at =
+      let read = neighbour_read P c d m at in
+      row_below c d 4 P.cells
+      (omega (arith, read.inside, length-table (λ n. all_beside mask wrap n) 4 (λ n. length-map-range_with_len (λ d. beside mask wrap (n % mask.width) (n / mask.width) d) 0 4) mask.places))
+
+  pub neighbour-beside : (c d m : ℕ) → neighbour P c d ≡ Some m → IsBeside c d m
+  neighbour-beside c d m at =
+      let read = neighbour_read P c d m at in
+      let inside = neighbour-cell c d m at in
+      by_step c d m at read.dir_in (is_step mask wrap (place c % mask.width) (place c / mask.width) d) refl (sym (entry c d inside read.dir_in) ∙ read.entry)
+
+  pub beside-neighbour : IsMask mask → (c d m : ℕ) → c < P.cells → IsBeside c d m → neighbour P c d ≡ Some m
+  beside-neighbour is c d m inside near =
+      let is_m : get_or P.neighbours (c * 4 + d) NO_CELL ≡ m =
+      entry c d inside near.dir
+      ∙ cond-true (is_step mask wrap (place c % mask.width) (place c / mask.width) d) (unwrap_or (cell_number mask (step_from mask (place c % mask.width) (place c / mask.width) d)) NO_CELL) NO_CELL near.there
+      ∙ ap (λ o. unwrap_or o NO_CELL) near.cell in
+      let at = stands mask.places (step_from mask (place c % mask.width) (place c / mask.width) d) m near.cell in
+      neighbour_is P c d near.dir (λ none. absurd (omega (arith, is_m, none, at.0, few mask is))) ∙ ap Some is_m
+
+  in_cells : (c d m : ℕ) → neighbour P c d ≡ Some m → m < P.cells
+  in_cells c d m at = (stands mask.places _ m (neighbour-beside c d m at).cell).0
+
+  -- ---- the step back
+
+  back_by : IsMask mask → (c d e m : ℕ) → c < P.cells → e < 4
+      → right_by e ≡ left_by d → left_by e ≡ right_by d → down_by e ≡ up_by d → up_by e ≡ down_by d
+      → IsBeside c d m → neighbour P m e ≡ Some c
+  back_by is c d e m inside dir right left low up near =
+      let w = mask.width in
+      let h = mask.height in
+      let at = place_is is c inside in
+      let x = place c % w in
+      let y = place c / w in
+      let parts = and_parts (is_there w wrap (right_by d) (left_by d) x) (is_there h wrap (down_by d) (up_by d) y) near.there in
+      let u = stepped-is w (right_by d) (left_by d) x at.column (one_across d) in
+      let v = stepped-is h (down_by d) (up_by d) y at.row (one_down d) in
+      let other = stands mask.places (step_from mask x y d) m near.cell in
+      let column : place m % w ≡ across x d = ap (λ k. k % w) other.1 ∙ mod-mul-add (down y d) w (across x d) u.below in
+      let row : place m / w ≡ down y d = ap (λ k. k / w) other.1 ∙ div-mul-add (down y d) w (across x d) u.below in
+      let across_there : is_there w wrap (right_by e) (left_by e) (across x d) ≡ true =
+      ap (λ k. is_there w wrap k (left_by e) (across x d)) right ∙ ap (λ k. is_there w wrap (left_by d) k (across x d)) left
+      ∙ there_again w wrap (right_by d) (left_by d) x at.column (one_across d) parts.0 in
+      let down_there : is_there h wrap (down_by e) (up_by e) (down y d) ≡ true =
+      ap (λ k. is_there h wrap k (up_by e) (down y d)) low ∙ ap (λ k. is_there h wrap (up_by d) k (down y d)) up
+      ∙ there_again h wrap (down_by d) (up_by d) y at.row (one_down d) parts.1 in
+      let back_x : across (across x d) e ≡ x =
+      ap (λ k. stepped w k (left_by e) (across x d)) right ∙ ap (λ k. stepped w (left_by d) k (across x d)) left ∙ stepped-stepped w (right_by d) (left_by d) x at.column (one_across d) in
+      let back_y : down (down y d) e ≡ y =
+      ap (λ k. stepped h k (up_by e) (down y d)) low ∙ ap (λ k. stepped h (up_by d) k (down y d)) up ∙ stepped-stepped h (down_by d) (up_by d) y at.row (one_down d) in
+      let there : is_step mask wrap (place m % w) (place m / w) e ≡ true =
+      ap (λ k. is_step mask wrap k (place m / w) e) column ∙ ap (λ k. is_step mask wrap (across x d) k e) row ∙ and_from _ _ across_there down_there in
+      let step : step_from mask (place m % w) (place m / w) e ≡ place c =
+      ap (λ k. step_from mask k (place m / w) e) column ∙ ap (λ k. step_from mask (across x d) k e) row
+      ∙ ap (λ k. cell_of w k (down (down y d) e)) back_x ∙ ap (λ k. cell_of w x k) back_y ∙ at.cell in
+      beside-neighbour is m e c other.0 (record {
+        dir = dir;
+        there = there;
+        cell = ap (cell_number mask) step ∙ found mask.places (place c) c is.rising inside refl;
+      })
+
+  back_at : IsMask mask → (c d m : ℕ) → c < P.cells → d < 4 → IsBeside c d m → neighbour P m (opposite d) ≡ Some c
+  back_at is c zero m inside dir near = back_by is c 0 2 m inside (omega arith) refl refl refl refl near
+  back_at is c (suc zero) m inside dir near = back_by is c 1 3 m inside (omega arith) refl refl refl refl near
+  back_at is c (suc (suc zero)) m inside dir near = back_by is c 2 0 m inside (omega arith) refl refl refl refl near
+  back_at is c (suc (suc (suc zero))) m inside dir near = back_by is c 3 1 m inside (omega arith) refl refl refl refl near
+  back_at is c (suc (suc (suc (suc d)))) m inside dir near = absurd (omega arith)
+
+  back : IsMask mask → (c d m : ℕ) → neighbour P c d ≡ Some m → neighbour P m (opposite d) ≡ Some c
+  back is c d m at = let near = neighbour-beside c d m at in back_at is c d m (neighbour-cell c d m at) near.dir near
+
+  -- ---- which variants may stand side by side
+
+  length-supports : length P.supports ≡ count * 4
+  length-supports =
+      length-table (λ v. all_fitting set v) 4 (λ v. length-map-range_with_len (λ d. fitting set v d) 0 4) (range_with_len 0 count)
+      ∙ ap (λ k. k * 4) (length-range_with_len 0 count)
+
+  pub supports-at : (v d : ℕ) → v < count → d < 4 → supports_of P v d ≡ fitting set v d
+  supports-at v d inside dir =
+      supports_at P v d dir
+      ∙ table-at (λ v. all_fitting set v) 4 (λ v. length-map-range_with_len (λ d. fitting set v d) 0 4) (range_with_len 0 count) v d 0 []
+      (omega (arith, length-range_with_len 0 count)) dir
+      ∙ ap (λ k. get_or (all_fitting set k) d []) (get_or-range_with_len 0 count v 0 inside ∙ zero-add v)
+      ∙ get_or-map-range_with_len (λ d. fitting set v d) 0 4 d d [] dir (zero-add d)
+
+  pub record IsFitting (v w d : ℕ) : Type 0 where
+    pub first : v < count
+    pub second : w < count
+    pub fit : fits set d v w ≡ true
+
+  pub support-fits : (v w d : ℕ) → d < 4 → Contains (supports_of P v d) w → IsFitting v w d
+  support-fits v w d dir has =
+      let first : v < count = row_below v d 4 count (omega (arith, (supports_inside P v d w has).1, length-supports)) in
+      let kept : Contains (fitting set v d) w = subst (λ ws. Contains ws w) (supports-at v d first dir) has in
+      record {
+        first = first;
+        second = All-contains (λ k. k < count) (fitting set v d) w (All-filter (λ w. fits set d v w) (λ k. k < count) (range_with_len 0 count) (below count)) kept;
+        fit = All-contains (λ k. fits set d v k ≡ true) (fitting set v d) w (filter_passes (λ w. fits set d v w) (range_with_len 0 count)) kept;
+      }
+
+  pub fits-support : (v w d : ℕ) → d < 4 → IsFitting v w d → Contains (supports_of P v d) w
+  fits-support v w d dir is =
+      subst (λ ws. Contains ws w) (sym (supports-at v d is.first dir)) (Contains-filter (λ w. fits set d v w) (range_with_len 0 count) w (range_Contains count w is.second) is.fit)
+
+  rising_in : (v d : ℕ) → d < 4 → IsStrictlyIncreasing (supports_of P v d)
+  rising_in v d dir = elim (cases_lt v count) [
+    | inl l ↦ subst IsStrictlyIncreasing (sym (supports-at v d l dir)) (IsStrictlyIncreasing-filter (λ w. fits set d v w) (range_with_len 0 count) (range_rises count))
+    | inr ge ↦ subst IsStrictlyIncreasing (sym (supports_at P v d dir ∙ get_or_past P.supports (v * 4 + d) [] (omega (arith, length-supports)))) (λ k l. absurd (omega arith))
+  ]
+
+  rising : (v d : ℕ) → IsStrictlyIncreasing (supports_of P v d)
+  rising v d = elim (cases_lt d 4) [
+    | inl dir ↦ rising_in v d dir
+    | inr past ↦ subst IsStrictlyIncreasing (sym (supports_past P v d past)) (λ k l. absurd (omega arith))
+  ]
+
+  symmetric : (v w d : ℕ) → Contains (supports_of P v d) w → Contains (supports_of P w (opposite d)) v
+  symmetric v w d has =
+      let dir = (supports_inside P v d w has).0 in
+      let is = support-fits v w d dir has in
+      fits-support w v (opposite d) (opposite_below 4 d (inl refl) dir) (record { first = is.second; second = is.first; fit = opposite_fits set d v w dir is.fit })
+
+  -- ---- weights and the base
+
+  length-weights : length P.weights ≡ count
+  length-weights = length-map-range_with_len (λ v. (tile_at set.tiles (variant_at set.tiles v).0).weight) 0 count
+
+  length-base : length P.base ≡ P.cells * length P.weights
+  length-base =
+      length-table (λ n. base_row set mask.width pins n) count (λ n. length-map-range_with_len (λ v. meets mask.width pins n v) 0 count) mask.places
+      ∙ ap (λ k. P.cells * k) (sym length-weights)
+
+  pub base-at : (c v : ℕ) → c < P.cells → v < count → in_base P c v ≡ meets mask.width pins (place c) v
+  base-at c v inside value =
+      ap (λ k. has_flag k P.base c v) length-weights
+      ∙ flag_at count P.base c v value
+      ∙ table-at (λ n. base_row set mask.width pins n) count (λ n. length-map-range_with_len (λ v. meets mask.width pins n v) 0 count) mask.places c v 0 false inside value
+      ∙ get_or-map-range_with_len (λ v. meets mask.width pins (place c) v) 0 count v v false value (zero-add v)
+
+  some_variant : IsTileSet set → 0 < count
+  some_variant is = omega (arith, few_tiles set.tiles, is.some_tile)
+
+  weight_at : (v : ℕ) → v < count → get_or P.weights v 0 ≡ (tile_at set.tiles (variant_at set.tiles v).0).weight
+  weight_at v inside = get_or-map-range_with_len (λ v. (tile_at set.tiles (variant_at set.tiles v).0).weight) 0 count v v 0 inside (zero-add v)
+
+  weighed : IsTileSet set → (v : ℕ) → v < count → IsWeighed (tile_at set.tiles (variant_at set.tiles v).0)
+  weighed is v inside = is.weighed _ _ (variant_there set.tiles v inside).tile_in
+
+  pub tiles_problem : IsTileSet set → IsMask mask → pairs set mask ≤ MAX_PAIRS → IsProblem P
+  tiles_problem tiles is few_pairs = record {
+    sized = record {
+      some_cell = is.some_place;
+      few_cells =
+          let some : 1 * P.cells ≤ count * P.cells = mul-le-mul_right P.cells (omega (arith, some_variant tiles)) in
+          omega (arith, some, few_pairs, mul_comm count P.cells);
+      four_or_six = inl refl;
+      some_value = omega (arith, some_variant tiles, length-weights);
+      few_values = omega (arith, tiles.limit, length-weights);
+      few_pairs = subst (λ k. P.cells * k ≤ MAX_PAIRS) (sym length-weights) few_pairs;
+      neighbours_table = length-table (λ n. all_beside mask wrap n) 4 (λ n. length-map-range_with_len (λ d. beside mask wrap (n % mask.width) (n / mask.width) d) 0 4) mask.places;
+      supports_table = length-supports ∙ ap (λ k. k * 4) (sym length-weights);
+      base_table = length-base;
+    };
+    indexed = record {
+      in_cells = in_cells;
+      rising = rising;
+      in_values = λ v w d has. let fit = support-fits v w d (supports_inside P v d w has).0 has in omega (arith, length-weights, fit.second);
+    };
+    weighed = record {
+      some_weight = λ v inside.
+          let below : v < count = omega (arith, length-weights) in
+          let heavy = weighed tiles v below in
+          omega (arith, weight_at v below, heavy.some_weight);
+      small_weight = λ v inside.
+          let below : v < count = omega (arith, length-weights) in
+          let heavy = weighed tiles v below in
+          omega (arith, weight_at v below, heavy.small_weight);
+    };
+    back = back is;
+    symmetric = symmetric;
+  }

@@ -1,0 +1,19 @@
+use Rattle.std.proofs.Common.{ℕ, ◌*◌, length, sym, ap, ◌∙◌, arith}
+use Rattle.std.proofs.lemmas.List.FromFn.{length-map-range_with_len}
+use Rattle.wfc_tiled.specs.Mask.{cell_number}
+use Rattle.wfc_tiled.specs.Maps.{number_of_cell}
+use Rattle.wfc_tiled.proofs.painting.tiles_of_masked.Goals as goal
+
+pub filled-requires : goal.filled-requires
+filled-requires c =
+    let m = c.args.mask.now in
+    let is = c.width.ensures.mask in
+    let f : ℕ → ℕ = λ n. number_of_cell c.args.assignment.now (cell_number m n) in
+    record {
+      filled = record {
+        some_column = omega (arith, c.width.ensures.value, is.some_column);
+        some_row = omega (arith, c.height.ensures.value, is.some_row);
+        as_many = ap length c.in_ok-numbers.ensures.value ∙ length-map-range_with_len f 0 (m.width * m.height)
+            ∙ ap (λ k. k * m.height) (sym c.width.ensures.value) ∙ ap (λ k. c.width.result * k) (sym c.height.ensures.value);
+      };
+    }

@@ -1,0 +1,39 @@
+-- What is built of a tile set, a mask and the lines of a pins file: a problem, or the first fault.
+use Rattle.std.specs.Prelude.{ℕ, ◌*◌, ◌&&◌, nat_lt, Bool, List, length, map, is_some, Result, Ok, Err, if◌then◌else◌}
+use Rattle.std.specs.Option.{ok_or, option_map}
+use Rattle.wfc_outside.specs.Gives.{result_map}
+use Rattle.wfc_model.specs.Legal.{Pin}
+use Rattle.wfc_pins.specs.InOrder.{all_in_order}
+use Rattle.wfc_pins.specs.PinView.{PinView}
+use Rattle.wfc_pins.specs.declared.fault.BuildFault.{BuildFault}
+use Rattle.wfc_pins.specs.declared.fault.BuildFault.TheVariants.{PinOutside, PinInHole, UnknownSymbol, TooLarge}
+use Rattle.wfc_problem.specs.Network.{Network}
+use Rattle.wfc_problem.specs.declared.TheConstants.{MAX_PAIRS}
+use Rattle.wfc_overlap.specs.Sample.{cell_of}
+use Rattle.wfc_overlap.specs.Built.{pin_with}
+use Rattle.wfc_tileset.specs.Tiles.{TileView, TileSetView, variant_of, variant_total}
+use Rattle.wfc_tiled.specs.Mask.{MaskView, cell_number}
+use Rattle.wfc_tiled.specs.Tiles.{problem_of_tiles}
+
+-- the pin that a line means: its place has to be inside and no hole, and its symbol the spelling of a variant
+abbrev pub pin_in : List TileView → MaskView → PinView → Result Pin BuildFault
+pin_in tiles mask line =
+    if nat_lt line.x mask.width && nat_lt line.y mask.height
+    then (if is_some (cell_number mask (cell_of mask.width line.x line.y))
+    then ok_or (option_map (pin_with line) (variant_of tiles line.symbol)) (UnknownSymbol line.line)
+    else Err (PinInHole line.line))
+    else Err (PinOutside line.line)
+
+-- the pins that the lines mean, or the fault of the first line that has one
+abbrev pub pins_in : List TileView → MaskView → List PinView → Result (List Pin) BuildFault
+pins_in tiles mask lines = all_in_order (map (pin_in tiles mask) lines)
+
+-- how many pairs of a place and a variant there are
+abbrev pub pairs : TileSetView → MaskView → ℕ
+pairs set mask = length mask.places * variant_total set.tiles
+
+-- the problem, but for too many pairs, and for a line at fault
+abbrev pub built : TileSetView → MaskView → Bool → List PinView → Result Network BuildFault
+built set mask wrap lines =
+    if nat_lt MAX_PAIRS (pairs set mask) then Err (TooLarge (pairs set mask))
+    else result_map (problem_of_tiles set mask wrap) (pins_in set.tiles mask lines)

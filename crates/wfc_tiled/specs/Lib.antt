@@ -1,0 +1,6 @@
+pub mod Mask
+pub mod Tiles
+pub mod Maps
+pub mod Built
+pub mod Cut
+pub mod Small

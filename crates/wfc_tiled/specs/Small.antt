@@ -1,0 +1,26 @@
+-- Small tile sets and masks without symmetry, on which laws try the definitions.
+use Rattle.std.specs.Prelude.{ℕ, Bool, List, [], ◌∷◌, codes, None}
+use Rattle.wfc_grid.specs.Grid.{GridView}
+use Rattle.wfc_pins.specs.PinView.{PinView}
+use Rattle.wfc_symmetry.specs.declared.class.Class.TheVariants.{I, X}
+use Rattle.wfc_tileset.specs.Tiles.{TileSetView}
+use Rattle.wfc_tiled.specs.Mask.{MaskView}
+
+-- three by two places, of which the second of the upper row and the third of the lower are holes
+abbrev pub two_holes : MaskView
+two_holes = record { width = 3; height = 2; places = 0 ∷ 2 ∷ 3 ∷ 4 ∷ [] }
+
+-- a grid of three by two
+abbrev pub grid_of : List ℕ → GridView
+grid_of bytes = record { width = 3; height = 2; bytes = bytes }
+
+-- a straight line of weight 3 and a cross of weight 5 that nothing may touch
+abbrev pub line_and_cross : TileSetView
+line_and_cross = record {
+  tiles = record { name = codes "line"; class = I; weight = 3; picture = None } ∷ record { name = codes "x"; class = X; weight = 5; picture = None } ∷ [];
+  pairs = [];
+}
+
+-- a line of a pins file
+abbrev pub line_of : ℕ → Bool → ℕ → ℕ → List ℕ → PinView
+line_of number keep x y symbol = record { line = number; keep = keep; x = x; y = y; symbol = symbol }

@@ -1,0 +1,99 @@
+-- The constraint problem of a tile set: a cell for each place that is no hole, and the variants as values.
+use Rattle.std.specs.Prelude.{ℕ, ◌/◌, ◌%◌, ◌==◌, Bool, not, ◌&&◌, ◌||◌, List, length, map, filter, unwrap_or, if◌then◌else◌}
+use Rattle.std.specs.List.{flat_map, list_all, list_any, range_with_len}
+use Rattle.wfc_model.specs.Direction.{left_by, down_by, right_by, up_by}
+use Rattle.wfc_model.specs.Legal.{Pin}
+use Rattle.wfc_overlap.specs.Sample.{cell_of, is_there, stepped, suits}
+use Rattle.wfc_problem.specs.Network.{Network}
+use Rattle.wfc_problem.specs.declared.TheConstants.{NO_CELL}
+use Rattle.wfc_tileset.specs.Tiles.{TileView, TileSetView, Variant, variant_total, variant_at, tile_at}
+use Rattle.wfc_tileset.specs.Allowed.{across_pairs, down_pairs}
+use Rattle.wfc_tiled.specs.Mask.{MaskView, cell_number}
+
+-- whether a step in a direction from the place in a column and a row leads to a place of the map
+abbrev pub is_step : MaskView → Bool → ℕ → ℕ → ℕ → Bool
+is_step mask wrap x y d =
+    is_there mask.width wrap (right_by d) (left_by d) x && is_there mask.height wrap (down_by d) (up_by d) y
+
+-- the number of the place that it leads to, modulo the sides
+abbrev pub step_from : MaskView → ℕ → ℕ → ℕ → ℕ
+step_from mask x y d =
+    cell_of mask.width (stepped mask.width (right_by d) (left_by d) x) (stepped mask.height (down_by d) (up_by d) y)
+
+-- the cell beside a place in a direction, where there is one that is no hole
+abbrev pub beside : MaskView → Bool → ℕ → ℕ → ℕ → ℕ
+beside mask wrap x y d =
+    if is_step mask wrap x y d then unwrap_or (cell_number mask (step_from mask x y d)) NO_CELL else NO_CELL
+
+-- the cells beside a place by its number, direction by direction
+abbrev pub all_beside : MaskView → Bool → ℕ → List ℕ
+all_beside mask wrap n = map (λ d. beside mask wrap (n % mask.width) (n / mask.width) d) (range_with_len 0 4)
+
+-- the cells beside each place
+abbrev pub neighbour_table : MaskView → Bool → List ℕ
+neighbour_table mask wrap = flat_map (λ n. all_beside mask wrap n) mask.places
+
+-- whether two variants are one
+abbrev pub same_variant : Variant → Variant → Bool
+same_variant v w = v.0 == w.0 && v.1 == w.1
+
+-- whether a list of pairs has this one
+abbrev pub has_pair : List (Variant × Variant) → Variant → Variant → Bool
+has_pair pairs v w = list_any (λ p. same_variant p.0 v && same_variant p.1 w) pairs
+
+-- whether the first of two variants may stand to the left of the second, or above it
+abbrev pub may_be_left : TileSetView → ℕ → ℕ → Bool
+may_be_left set v w = has_pair (across_pairs set) (variant_at set.tiles v) (variant_at set.tiles w)
+
+abbrev pub may_be_above : TileSetView → ℕ → ℕ → Bool
+may_be_above set v w = has_pair (down_pairs set) (variant_at set.tiles v) (variant_at set.tiles w)
+
+-- whether the variant w may stand beside v in a direction
+abbrev pub fits : TileSetView → ℕ → ℕ → ℕ → Bool
+fits set d v w =
+    if d == 0 then may_be_left set w v else if d == 1 then may_be_above set v w else if d == 2 then may_be_left set v w else may_be_above set w v
+
+-- the variants that may stand beside v in a direction, rising
+abbrev pub fitting : TileSetView → ℕ → ℕ → List ℕ
+fitting set v d = filter (λ w. fits set d v w) (range_with_len 0 (variant_total set.tiles))
+
+-- direction by direction
+abbrev pub all_fitting : TileSetView → ℕ → List (List ℕ)
+all_fitting set v = map (λ d. fitting set v d) (range_with_len 0 4)
+
+-- for each variant
+abbrev pub support_table : TileSetView → List (List ℕ)
+support_table set = flat_map (λ v. all_fitting set v) (range_with_len 0 (variant_total set.tiles))
+
+-- the weight of each variant: that of its tile
+abbrev pub weights_of : List TileView → List ℕ
+weights_of tiles = map (λ v. (tile_at tiles (variant_at tiles v).0).weight) (range_with_len 0 (variant_total tiles))
+
+-- whether a variant at a place suits a pin, where it is the pin's place
+abbrev pub suits_at : ℕ → ℕ → ℕ → Pin → Bool
+suits_at width n v pin = not (cell_of width pin.column pin.row == n) || suits pin v
+
+-- whether it suits all of them
+abbrev pub meets : ℕ → List Pin → ℕ → ℕ → Bool
+meets width pins n v = list_all (λ pin. suits_at width n v pin) pins
+
+-- for each variant whether it meets the pins and bans at a place
+abbrev pub base_row : TileSetView → ℕ → List Pin → ℕ → List Bool
+base_row set width pins n = map (λ v. meets width pins n v) (range_with_len 0 (variant_total set.tiles))
+
+-- for each place
+abbrev pub base_table : TileSetView → MaskView → List Pin → List Bool
+base_table set mask pins = flat_map (λ n. base_row set mask.width pins n) mask.places
+
+-- a cell for each place that is no hole, row by row, beside it the places one step away that are no holes, the
+-- variants with their weights, beside each those that may stand there, and at each cell those that meet the pins
+-- and bans
+abbrev pub problem_of_tiles : TileSetView → MaskView → Bool → List Pin → Network
+problem_of_tiles set mask wrap pins = record {
+  cells = length mask.places;
+  dirs = 4;
+  neighbours = neighbour_table mask wrap;
+  weights = weights_of set.tiles;
+  supports = support_table set;
+  base = base_table set mask pins;
+}

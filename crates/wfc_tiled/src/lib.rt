@@ -1,0 +1,24 @@
+//! The constraint problem of a tile set, and why its legal assignments are the legal tile maps.
+//!
+//! A cell stands for a place of the map that is no hole, and its value for the variant that stands
+//! there.
+#![tactic(auto)]
+
+mod base;
+pub mod examples;
+mod holes;
+mod mark;
+mod neighbours;
+mod painting;
+mod pins;
+mod problem;
+mod reading;
+mod supports;
+
+pub use holes::Mask;
+pub use painting::{tiles_of, tiles_of_masked};
+pub use problem::{build, build_masked};
+pub use reading::{MAX_MASK_BYTES, MaskFault, mask};
+
+/// What a map of tiles shows at a hole.
+pub const HOLE: u32 = 65_535;

@@ -1,0 +1,102 @@
+//! What lies beside each place.
+
+ghost use Rattle.std.specs.Prelude.{◌≡◌, ◌+◌, ◌<◌, ◌≤◌, ◌++◌, ◌*◌, OnOk, IfOk, IfSome};
+ghost use Rattle.wfc_model.specs.Direction.{left_by, down_by, right_by, up_by};
+ghost use Rattle.wfc_overlap.specs.Layout.{along};
+ghost use Rattle.wfc_tiled.specs.Tiles.{all_beside, beside, neighbour_table};
+
+use crate::holes::Mask;
+use std::alloc::Global;
+use wfc_outside::NoMemory;
+use wfc_problem::NO_CELL;
+
+/// For each place and direction the cell that lies there, or `NO_CELL`.
+pub(crate) fn neighbours(alloc: Global, mask: &Mask, wrap: bool) -> Result<Vec<u32>, NoMemory>
+    ensures value { IfOk result (λ table. table.items ≡ neighbour_table mask.now wrap) }
+{
+    let mut table = Vec::with_capacity(alloc, mask.cells() as usize * 4)?;
+    for place in mask.places() {
+        push_place(&mut table, mask, wrap, *place)?;
+    }
+    Ok(table)
+}
+
+/// Writes what lies beside a place behind the table.
+fn push_place(table: &mut Vec<u32>, mask: &Mask, wrap: bool, place: u32) -> Result<(), NoMemory>
+    requires place_in { place < mask.now.width * mask.now.height }
+    ensures place { OnOk result (table.new.items
+        ≡ table.old.items ++ all_beside mask.now wrap place) }
+{
+    let x = place % mask.width();
+    let y = place / mask.width();
+    for dir in 0..4 {
+        table.push(beside(mask, wrap, x, y, dir))?;
+    }
+    Ok(())
+}
+
+/// The cell beside a place in a direction, or `NO_CELL`.
+fn beside(mask: &Mask, wrap: bool, x: u32, y: u32, dir: u8) -> u32
+    requires x_in { x < mask.now.width }
+    requires y_in { y < mask.now.height }
+    ensures value { result ≡ beside mask.now wrap x y dir }
+{
+    let Some(u) = along(x, right_by(dir), left_by(dir), mask.width(), wrap) else {
+        return NO_CELL;
+    };
+    let Some(v) = along(y, down_by(dir), up_by(dir), mask.height(), wrap) else {
+        return NO_CELL;
+    };
+    match mask.cell(u, v) {
+        Some(cell) => cell,
+        None => NO_CELL,
+    }
+}
+
+/// The column or row that a step leads to, if there is one.
+#[inline]
+fn along(at: u32, forth: u32, back: u32, count: u32, wrap: bool) -> Option<u32>
+    requires at_in { at < count }
+    requires one { forth + back ≤ 1 }
+    requires limit { count ≤ 4096 }
+    ensures value { result ≡ along count wrap forth back at }
+    ensures within { IfSome result (λ s. s < count) }
+{
+    if wrap || (back <= at + forth && at + forth < count + back) {
+        Some((at + forth + count - back) % count)
+    } else {
+        None
+    }
+}
+
+/// How far a direction leads to the left.
+#[inline]
+fn left_by(dir: u8) -> u32
+    ensures value { result ≡ left_by dir }
+{
+    if dir == 0 { 1 } else { 0 }
+}
+
+/// How far it leads down.
+#[inline]
+fn down_by(dir: u8) -> u32
+    ensures value { result ≡ down_by dir }
+{
+    if dir == 1 { 1 } else { 0 }
+}
+
+/// How far it leads to the right.
+#[inline]
+fn right_by(dir: u8) -> u32
+    ensures value { result ≡ right_by dir }
+{
+    if dir == 2 { 1 } else { 0 }
+}
+
+/// How far it leads up.
+#[inline]
+fn up_by(dir: u8) -> u32
+    ensures value { result ≡ up_by dir }
+{
+    if dir == 3 { 1 } else { 0 }
+}

@@ -1,0 +1,104 @@
+//! The problem of a tile set.
+
+ghost use Rattle.std.specs.Prelude.{◌≡◌, ◌<◌, ◌≤◌, IfOk};
+ghost use Rattle.wfc_outside.specs.Gives.{Gives};
+ghost use Rattle.wfc_problem.specs.Network.{IsProblem};
+ghost use Rattle.wfc_tiled.specs.Built.{built};
+ghost use Rattle.wfc_tiled.specs.Mask.{plain_mask};
+ghost use Rattle.wfc_tiled.specs.Maps.{ArePlaced};
+ghost use Rattle.wfc_tiled.specs.Tiles.{problem_of_tiles};
+
+use crate::base::base;
+use crate::holes::Mask;
+use crate::mark::Mark;
+use crate::neighbours::neighbours;
+use crate::pins::marks;
+use crate::supports::{supports, weights};
+use std::alloc::Global;
+use wfc_outside::NoMemory;
+use wfc_pins::{BuildFault, PinLine};
+use wfc_problem::{MAX_PAIRS, Parts, Problem};
+use wfc_tileset::TileSet;
+
+/// The problem of a tile set for a map of `width` by `height` tiles without holes: a cell for each
+/// place, row by row, and the variants as values.
+///
+/// The first of these faults is answered: too many pairs of a cell and a variant, and then the first
+/// line at fault, where a place outside comes before an unknown symbol. A ban is looked at as a pin
+/// is.
+pub fn build(
+    alloc: Global,
+    tiles: &TileSet,
+    width: u32,
+    height: u32,
+    wrap: bool,
+    pins: &[PinLine],
+) -> Result<Problem, BuildFault>
+    requires some_width { 0 < width }
+    requires some_height { 0 < height }
+    requires width_limit { width ≤ 4096 }
+    requires height_limit { height ≤ 4096 }
+    ensures exact { Gives BuildFault.NoMemory (λ problem. problem) result
+        (built tiles.now (plain_mask width height) wrap pins.now) }
+{
+    let product = u64::from(width) * u64::from(height) * u64::from(tiles.variants());
+    if product > MAX_PAIRS {
+        return Err(BuildFault::TooLarge { product });
+    }
+    let mask = Mask::plain(alloc, width, height)?;
+    build_masked(alloc, tiles, &mask, wrap, pins)
+}
+
+/// The problem of a tile set for a map with holes: a cell for each place that is no hole, row by
+/// row, and the variants as values.
+///
+/// The faults are those of `build`; of one line, a place outside comes before a hole, and this
+/// before an unknown symbol.
+pub fn build_masked(
+    alloc: Global,
+    tiles: &TileSet,
+    mask: &Mask,
+    wrap: bool,
+    pins: &[PinLine],
+) -> Result<Problem, BuildFault>
+    ensures exact { Gives BuildFault.NoMemory (λ problem. problem) result
+        (built tiles.now mask.now wrap pins.now) }
+{
+    let product = u64::from(mask.cells()) * u64::from(tiles.variants());
+    if product > MAX_PAIRS {
+        return Err(BuildFault::TooLarge { product });
+    }
+    let marks = marks(alloc, tiles, mask, pins)?;
+    let parts = parts(alloc, tiles, mask, wrap, &marks)?;
+    Ok(sound(parts))
+}
+
+/// The problem with these parts, which are one.
+fn sound(parts: Parts) -> Problem
+    requires problem { IsProblem parts }
+    ensures value { result ≡ parts }
+{
+    Problem::new(parts).unwrap()
+}
+
+/// What the problem is made of.
+fn parts(
+    alloc: Global,
+    tiles: &TileSet,
+    mask: &Mask,
+    wrap: bool,
+    marks: &[Mark],
+) -> Result<Parts, NoMemory>
+    requires placed { ArePlaced mask.now marks.now }
+    ensures value { IfOk result (λ parts. parts
+        ≡ problem_of_tiles tiles.now mask.now wrap marks.now) }
+{
+    Ok(Parts {
+        cells: mask.cells(),
+        dirs: 4,
+        neighbours: neighbours(alloc, mask, wrap)?,
+        weights: weights(alloc, tiles)?,
+        supports: supports(alloc, tiles)?,
+        base: base(alloc, tiles, mask, marks)?,
+    })
+}
