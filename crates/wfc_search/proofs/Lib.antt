@@ -17,4 +17,5 @@ pub mod RunTurns
 pub mod Values
 pub mod Capped
 pub mod Ended
+pub mod Proved
 pub mod CallerLemmas

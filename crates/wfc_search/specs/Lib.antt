@@ -5,6 +5,7 @@ pub mod Last
 pub mod Follow
 pub mod Search
 pub mod Telling
+pub mod Proved
 pub mod Shown
 pub mod Ends
 pub mod Small

@@ -14,6 +14,10 @@ ghost use Rattle.wfc_choose.specs.Pick.{Rule, picked, urge};
 ghost use Rattle.wfc_search.specs.Run.{State, start, turn_of, LeadsTo, IsRun, last_of, most_turns, end_from, outcome_of};
 ghost use Rattle.wfc_problem.specs.Sizes.{is_dead, sizes_of, values_at, first_values};
 ghost use Rattle.wfc_search.specs.Volume.{volume_of};
+ghost use Rattle.wfc_domains.specs.Store.{StoreView};
+ghost use Rattle.wfc_proof.specs.declared.Line.{Line};
+ghost use Rattle.wfc_search.specs.Proved.{AreProof};
+ghost use Rattle.wfc_search.specs.Telling.{IsStoreAt, TellsRun};
 ghost use Rattle.wfc_search.specs.declared.Outcome.{Outcome};
 ghost use Rattle.wfc_search.specs.declared.Outcome.TheVariants.{Map, NoMap, Spent};
 ghost use Rattle.wfc_search.specs.declared.Turn.TheVariants.{Ended};
@@ -106,4 +110,11 @@ pub fn outcomes_agree()
     ensures agree { (P : Network) → IsProblem P → (rule other : Rule) (budget most : ℕ) (words more : Stream)
         (s t : State) → outcome_of P rule budget words ≡ Some (Map, s) →
         outcome_of P other most more ≢ Some (NoMap, t) }
+{}
+
+/// What the lines of a whole run are, from the opening of a store on: without a map, a proof that closes the base domains,
+/// and its end; at another end a proof that follows from them, of which a branch is left open, and the line of that end.
+pub fn runs_tell_proofs()
+    ensures told { (P : Network) (rule : Rule) (budget : ℕ) (s : State) (first : StoreView) (outcome : Outcome) (lines : List Line) →
+        s.standing ≡ [] → IsStoreAt P s first → TellsRun P rule budget s first outcome lines → AreProof P outcome lines }
 {}
