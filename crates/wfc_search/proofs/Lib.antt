@@ -18,4 +18,5 @@ pub mod Values
 pub mod Capped
 pub mod Ended
 pub mod Proved
+pub mod Counts
 pub mod CallerLemmas

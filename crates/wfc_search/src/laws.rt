@@ -16,7 +16,9 @@ ghost use Rattle.wfc_problem.specs.Sizes.{is_dead, sizes_of, values_at, first_va
 ghost use Rattle.wfc_search.specs.Volume.{volume_of};
 ghost use Rattle.wfc_domains.specs.Store.{StoreView};
 ghost use Rattle.wfc_proof.specs.declared.Line.{Line};
-ghost use Rattle.wfc_search.specs.Proved.{AreProof};
+ghost use Rattle.wfc_proof.specs.declared.Line.TheVariants.{Remove, Try, Empty, End, Found};
+ghost use Rattle.std.specs.Prelude.{◌∷◌};
+ghost use Rattle.wfc_search.specs.Proved.{AreProof, HasCounts, empties_in, tries_in};
 ghost use Rattle.wfc_search.specs.Telling.{IsStoreAt, TellsRun};
 ghost use Rattle.wfc_search.specs.declared.Outcome.{Outcome};
 ghost use Rattle.wfc_search.specs.declared.Outcome.TheVariants.{Map, NoMap, Spent};
@@ -114,7 +116,16 @@ pub fn outcomes_agree()
 
 /// What the lines of a whole run are, from the opening of a store on: without a map, a proof that closes the base domains,
 /// and its end; at another end a proof that follows from them, of which a branch is left open, and the line of that end.
+/// Its trials are the run's choices in order, and it names an empty cell for each dead state.
 pub fn runs_tell_proofs()
     ensures told { (P : Network) (rule : Rule) (budget : ℕ) (s : State) (first : StoreView) (outcome : Outcome) (lines : List Line) →
         s.standing ≡ [] → IsStoreAt P s first → TellsRun P rule budget s first outcome lines → AreProof P outcome lines }
+    ensures counts { (P : Network) (rule : Rule) (budget : ℕ) (s : State) (first : StoreView) (outcome : Outcome) (lines : List Line) →
+        s.standing ≡ [] → IsStoreAt P s first → TellsRun P rule budget s first outcome lines → HasCounts P rule budget s outcome lines }
+{}
+
+/// The trials of lines are in their order, the cell before the value, and each empty cell counts once.
+pub fn tellings_by_example()
+    ensures tries { tries_in (Remove 9 8 1 ∷ Try 1 2 ∷ Empty 5 ∷ Try 4 3 ∷ Found ∷ []) ≡ (1, 2) ∷ (4, 3) ∷ [] }
+    ensures empties { empties_in (Empty 5 ∷ Try 1 2 ∷ Remove 9 8 1 ∷ Empty 5 ∷ Empty 6 ∷ End ∷ []) ≡ 3 }
 {}
