@@ -251,7 +251,7 @@ module _ (set : TileSetView) (mask : MaskView) (wrap : Bool) (pins : List Pin) w
 
   -- ---- weights and the base
 
-  length-weights : length P.weights ≡ count
+  pub length-weights : length P.weights ≡ count
   length-weights = length-map-range_with_len (λ v. (tile_at set.tiles (variant_at set.tiles v).0).weight) 0 count
 
   length-base : length P.base ≡ P.cells * length P.weights

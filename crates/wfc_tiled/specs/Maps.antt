@@ -5,8 +5,11 @@ use Rattle.wfc_model.specs.Raster.{Raster, number_at, raster_of, IsSized}
 use Rattle.wfc_model.specs.Legal.{Pin, IsHeld}
 use Rattle.wfc_tileset.specs.Tiles.{TileSetView, variant_total, variant_at}
 use Rattle.wfc_tileset.specs.Allowed.{IsAcross, IsDown}
+use Rattle.wfc_problem.specs.Network.{IsProblem}
+use Rattle.wfc_problem.specs.Assignment.{IsLegalAssignment}
 use Rattle.wfc_tiled.specs.declared.TheConstants.{HOLE}
 use Rattle.wfc_tiled.specs.Mask.{MaskView, IsPlace, cell_number}
+use Rattle.wfc_tiled.specs.Tiles.{problem_of_tiles}
 
 -- the column or row behind one: the next, or the first behind the last where the map wraps, which may be that one itself
 abbrev pub IsNext : ℕ → Bool → ℕ → ℕ → Type 0
@@ -49,3 +52,9 @@ tile_map mask a = raster_of mask.width mask.height (numbers_of_cells mask a)
 -- the assignment that a map is: its number at each place that is no hole
 abbrev pub numbers_of_places : MaskView → Raster → List ℕ
 numbers_of_places mask m = map (λ n. number_at m (n % mask.width) (n / mask.width)) mask.places
+
+-- the map is legal for each tile set and all pins for whose problem the assignment is
+abbrev pub IsLegalWith : MaskView → List ℕ → Raster → Type 0
+IsLegalWith mask a m =
+    (set : TileSetView) (wrap : Bool) (pins : List Pin) → IsProblem (problem_of_tiles set mask wrap pins) → ArePlaced mask pins
+    → IsLegalAssignment (problem_of_tiles set mask wrap pins) a → IsLegalTileMap set mask wrap pins m

@@ -7,6 +7,7 @@
 mod base;
 pub mod examples;
 mod holes;
+pub mod laws;
 mod mark;
 mod neighbours;
 mod painting;

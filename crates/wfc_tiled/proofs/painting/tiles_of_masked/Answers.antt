@@ -1,7 +1,9 @@
-use Rattle.std.proofs.Common.{ℕ, ◌*◌, length, sym, ap, ◌∙◌, arith}
+use Rattle.std.proofs.Common.{◌≡◌, ℕ, ◌*◌, length, sym, subst, ap, ◌∙◌, arith}
 use Rattle.std.proofs.lemmas.List.FromFn.{length-map-range_with_len}
+use Rattle.wfc_model.specs.Raster.{raster_of}
 use Rattle.wfc_tiled.specs.Mask.{cell_number}
-use Rattle.wfc_tiled.specs.Maps.{number_of_cell}
+use Rattle.wfc_tiled.specs.Maps.{IsLegalTileMap, number_of_cell, tile_map}
+use Rattle.wfc_tiled.proofs.BridgeLemmas.{assignment_is_map}
 use Rattle.wfc_tiled.proofs.painting.tiles_of_masked.Goals as goal
 
 pub filled-requires : goal.filled-requires
@@ -17,3 +19,12 @@ filled-requires c =
             ∙ ap (λ k. k * m.height) (sym c.width.ensures.value) ∙ ap (λ k. c.width.result * k) (sym c.height.ensures.value);
       };
     }
+
+pub returns-clause-legal : goal.returns-clause-legal
+returns-clause-legal c = λ set wrap pins problem placed legal.
+    let m = c.args.mask.now in
+    let a = c.args.assignment.now in
+    let value : c.filled.result ≡ tile_map m a =
+    c.filled.ensures.value ∙ ap (λ k. raster_of k c.height.result c.in_ok-numbers.numbers.items) c.width.ensures.value
+    ∙ ap (λ k. raster_of m.width k c.in_ok-numbers.numbers.items) c.height.ensures.value ∙ ap (raster_of m.width m.height) c.in_ok-numbers.ensures.value in
+    subst (IsLegalTileMap set m wrap pins) (sym value) (assignment_is_map set m wrap pins a c.width.ensures.mask problem placed legal)

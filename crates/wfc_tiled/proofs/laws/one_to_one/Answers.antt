@@ -1,0 +1,5 @@
+use Rattle.wfc_tiled.proofs.BridgeLemmas.{map_again, assignment_again}
+use Rattle.wfc_tiled.proofs.laws.one_to_one.Goals as goal
+
+pub returns : goal.returns
+returns c = record { maps = map_again; assignments = assignment_again }
