@@ -1,4 +1,5 @@
 pub mod Build
+pub mod Check
 pub mod Command
 pub mod Grid
 pub mod Learn

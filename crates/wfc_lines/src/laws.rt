@@ -1,9 +1,12 @@
 //! Laws of the definitions, each a function with no body whose contract is the law. They run nothing.
 
-ghost use Rattle.std.specs.Prelude.{◌≡◌, codes};
+ghost use Rattle.std.specs.Prelude.{◌≡◌, true, false, codes};
 ghost use Rattle.wfc_choose.specs.declared.RuleKind.TheVariants as rules;
 ghost use Rattle.wfc_grid.specs.declared.reading.GridFault.TheVariants as grids;
+ghost use Rattle.wfc_check.specs.declared.fault.CheckFault.TheVariants as checks;
 ghost use Rattle.wfc_lines.specs.Build.{text_of_build};
+ghost use Rattle.wfc_lines.specs.Check.{text_of_check};
+ghost use Rattle.wfc_proof.specs.declared.Reject.TheVariants as rejects;
 ghost use Rattle.wfc_lines.specs.Command.{text_of_chooser, text_of_command};
 ghost use Rattle.wfc_lines.specs.Grid.{text_of_grid};
 ghost use Rattle.wfc_lines.specs.Learn.{text_of_learn};
@@ -63,4 +66,15 @@ pub fn texts_of_inputs_by_example()
     ensures symbol { text_of_build (builds.UnknownSymbol 2) (codes "p") ≡ codes "build UnknownSymbol line=2 file=p" }
     ensures form { text_of_render renders.FormDiffers ≡ codes "render FormDiffers" }
     ensures pixels { text_of_render (renders.TooLarge 16777217) ≡ codes "render TooLarge pixels=16777217" }
+{}
+
+/// The texts of files that are no refutations, by example.
+pub fn texts_of_checks_by_example()
+    ensures value { text_of_check (checks.Rejected 3 (rejects.NotEmpty 7)) (codes "r") ≡ codes "check Rejected line=3 reject=NotEmpty value=7 file=r" }
+    ensures name { text_of_check (checks.Rejected 3 rejects.NotClosed) (codes "r") ≡ codes "check Rejected line=3 reject=NotClosed file=r" }
+    ensures bad_line { text_of_check (checks.BadLine 41) (codes "r") ≡ codes "check BadLine line=41 file=r" }
+    ensures header { text_of_check (checks.HeaderDiffers 3 2) (codes "r") ≡ codes "check HeaderDiffers cells=3 values=2 file=r" }
+    ensures options { text_of_check (checks.OptionsDiffer (record { n = 2; width = 3; height = 4; depth = 1; symmetry = 8; wrap_in = true; wrap_out = false })) (codes "r")
+        ≡ codes "check OptionsDiffer n=2 width=3 height=4 depth=1 symmetry=8 wrap_in=1 wrap_out=0 file=r" }
+    ensures too_long { text_of_check checks.TooLong (codes "r") ≡ codes "file TooLong file=r" }
 {}

@@ -5,6 +5,7 @@
 #![tactic(auto)]
 
 mod building;
+mod checks;
 mod commands;
 mod grids;
 pub mod laws;
@@ -18,6 +19,7 @@ mod reads;
 mod step_files;
 
 pub use building::build;
+pub use checks::check;
 pub use commands::{chooser, command};
 pub use grids::grid;
 pub use layouts::render;

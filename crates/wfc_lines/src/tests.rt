@@ -1,8 +1,8 @@
 //! The lines of every kind, by a table, and a front of a line where the sink is full.
 
 use crate::{
-    budget_spent, build, chooser, command, grid, learn, map_exists, no_domains, no_map, no_memory, out_failed,
-    palette, pins, range, reading, render, steps,
+    budget_spent, build, chooser, command, grid, learn, map_exists, no_domains, no_map, no_memory,
+    out_failed, palette, pins, range, reading, render, steps,
 };
 use std::test::Fail;
 use wfc_choose::RuleKind;
