@@ -14,7 +14,8 @@ use Rattle.wfc_words.specs.InRange.{IsInRange, IsModel}
 use Rattle.wfc_words.specs.declared.kinds.SourceModel.{SourceModel}
 use Rattle.wfc_words.specs.declared.kinds.SourceModel.TheVariants.{Overlap, Tiles}
 use Rattle.wfc_task.specs.Asked.{IsOutputAsked, IsSampleAsked}
-use Rattle.wfc_task.specs.Built.{is_built, is_built_by, is_of_grid, is_of_windows, is_picture_name, side_of}
+use Rattle.wfc_task.specs.Built.{is_built, is_built_by, is_of_windows}
+use Rattle.wfc_task.proofs.RequestLemmas.{sample_asked as sample_in_range, output_asked as output_in_range}
 use Rattle.wfc_task.specs.Fault.{status_of}
 use Rattle.wfc_task.specs.Plan.{Goes, Plan, refuse}
 use Rattle.wfc_task.specs.Task.{Task, plan_by, plan_of}
@@ -117,26 +118,14 @@ put_cut rules asked command before after old new task verdict text built is goes
 -- ---- what a command needs of its values
 
 -- a command that has a model has a side of a window and images
-pub sample_asked : (asked : RequestView) (command : CommandKind) → IsInRange asked → is_built asked ≡ true → asked.command ≡ command → takes_word command (codes "MODEL") ≡ true → is_built_by command asked ≡ is_of_grid asked → IsSampleAsked asked
-sample_asked asked command within built is takes by_grid =
-    let sides = side asked.source (within.model (ap (λ c. takes_word c (codes "MODEL")) is ∙ takes)) of_windows in
-    record { some_side = sides.0; small_side = sides.1; some_image = within.some_image; eight_images = within.eight_images }
-  where
-    of_windows : is_of_windows asked.source ≡ true
-    of_windows = (and_parts (is_of_windows asked.source) (not (is_picture_name asked.file)) (sym (ap (λ c. is_built_by c asked) is ∙ by_grid) ∙ built)).0
-
-    side : (source : SourceModel) → IsModel source → is_of_windows source ≡ true → (0 < side_of source) × (side_of source ≤ 6)
-    side (Overlap n) model windows = model
-    side Tiles model windows = absurd (false≢true windows)
+pub sample_asked : (asked : RequestView) (command : CommandKind) → IsInRange asked → is_built asked ≡ true → asked.command ≡ command → takes_word command (codes "MODEL") ≡ true
+    → is_built_by command asked ≡ is_of_windows asked.source → IsSampleAsked asked
+sample_asked asked command within built is takes by_windows =
+    sample_in_range asked within (ap (λ c. takes_word c (codes "MODEL")) is ∙ takes) (sym (ap (λ c. is_built_by c asked) is ∙ by_windows) ∙ built)
 
 -- a command that has sides has them in range
 pub output_asked : (asked : RequestView) (command : CommandKind) → IsInRange asked → asked.command ≡ command → takes_word command (codes "WIDTH") ≡ true → takes_word command (codes "HEIGHT") ≡ true → IsOutputAsked asked
-output_asked asked command within is wide high = record {
-  some_width = within.some_width (ap (λ c. takes_word c (codes "WIDTH")) is ∙ wide);
-  some_height = within.some_height (ap (λ c. takes_word c (codes "HEIGHT")) is ∙ high);
-  width_limit = within.width_limit;
-  height_limit = within.height_limit;
-}
+output_asked asked command within is wide high = output_in_range asked within (ap (λ c. takes_word c (codes "WIDTH")) is ∙ wide) (ap (λ c. takes_word c (codes "HEIGHT")) is ∙ high)
 
 -- ---- the call
 

@@ -7,6 +7,7 @@ use Rattle.wfc_lines.specs.Learn.{text_of_learn}
 use Rattle.wfc_lines.specs.Outcome.{no_memory_text}
 use Rattle.wfc_lines.specs.Palette.{text_of_palette}
 use Rattle.wfc_lines.specs.Pins.{text_of_pins}
+use Rattle.wfc_lines.specs.Ppm.{text_of_ppm}
 use Rattle.wfc_lines.specs.Reading.{text_of_reading}
 use Rattle.wfc_lines.specs.Render.{text_of_render}
 use Rattle.wfc_lines.specs.Steps.{text_of_range, text_of_steps}
@@ -37,6 +38,7 @@ abbrev pub refusal_text : RequestView → Refusal → List ℕ
 refusal_text asked refused.NotBuilt = text_of_command words.Refused
 refusal_text asked (refused.Chooser rule) = text_of_chooser rule
 refusal_text asked (refused.Grid which fault) = text_of_grid fault (name_of asked which)
+refusal_text asked (refused.Ppm which fault) = text_of_ppm fault (name_of asked which)
 refusal_text asked (refused.Colours fault) = text_of_palette fault (name_of asked source.Sample)
 refusal_text asked (refused.Learn fault) = text_of_learn fault (name_of asked source.Sample)
 refusal_text asked (refused.Render fault) = text_of_render fault

@@ -6,7 +6,8 @@ ghost use Rattle.wfc_outside.specs.Sink.{Puts};
 ghost use Rattle.wfc_cli.specs.ErrorLine.{fault_text, name_of, refusal_text};
 
 use wfc_lines::{
-    build, chooser, command, grid, learn, no_memory, palette, pins, range, reading, render, steps,
+    build, chooser, command, grid, learn, no_memory, palette, pins, ppm, range, reading, render,
+    steps,
 };
 use wfc_outside::{Sink, SinkFault};
 use wfc_task::{Fault, Refusal, Source};
@@ -45,6 +46,7 @@ fn tell_refusal<E: Sink>(err: &mut E, request: &Request, refusal: Refusal) -> Re
         Refusal::NotBuilt => command(err, CommandFault::Refused),
         Refusal::Chooser { rule } => chooser(err, rule),
         Refusal::Grid { source, fault } => grid(err, fault, name(request, source)),
+        Refusal::Ppm { source, fault } => ppm(err, fault, name(request, source)),
         Refusal::Colours { fault } => palette(err, fault, name(request, Source::Sample)),
         Refusal::Learn { fault } => learn(err, fault, name(request, Source::Sample)),
         Refusal::Render { fault } => render(err, fault),

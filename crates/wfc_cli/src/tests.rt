@@ -13,18 +13,22 @@ use wfc_choose::{Buckets, Chooser, Scanning};
 use wfc_outside::{Folder, MemoryFolder, MemorySink};
 
 /// The files of the tests.
-const FILES: [(&str, &str); 21] = [
+const FILES: [(&str, &str); 25] = [
     ("chk.txt", "ab\nba\n"),
     ("a.txt", "a\n"),
     ("e.txt", ""),
     ("r.txt", "ab\nb\n"),
     ("tab.txt", "ab\r\nb\t"),
     ("one.ppm", "P3\n1 1\n255\n1 2 3\n"),
+    ("two.PPM", "P3 2 1 9 9 0 0 0 0 9"),
+    ("e.ppm", ""),
+    ("cut.ppm", "P3 1 1 255 1 2"),
     (
         "town.txt",
         "################\n#...#...#...#...\n#...#...#...#...\n#...#...#...#...\n",
     ),
     ("a.pins", "pin 0 0 a\n"),
+    ("blue.pins", "pin 0 0 0,0,9\nban 1 0 0,0,9\n"),
     ("ab.pins", "pin 0 0 a\npin 0 0 b\n"),
     ("not_a.pins", "# none\n\nban 0 0 a\n"),
     ("last.pins", "ban 2 1 a\nban 2 0 a\n"),

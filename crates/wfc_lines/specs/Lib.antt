@@ -7,6 +7,7 @@ pub mod Line
 pub mod Outcome
 pub mod Palette
 pub mod Pins
+pub mod Ppm
 pub mod Reading
 pub mod Render
 pub mod Steps

@@ -14,6 +14,7 @@ ghost use Rattle.wfc_lines.specs.Line.{line};
 ghost use Rattle.wfc_lines.specs.Outcome.{map_exists_text, no_domains_text, no_map_text, no_memory_text, out_failed_text, text_of_budget};
 ghost use Rattle.wfc_lines.specs.Palette.{text_of_palette};
 ghost use Rattle.wfc_lines.specs.Pins.{text_of_pins};
+ghost use Rattle.wfc_lines.specs.Ppm.{text_of_ppm};
 ghost use Rattle.wfc_lines.specs.Reading.{text_of_reading};
 ghost use Rattle.wfc_lines.specs.Render.{text_of_render};
 ghost use Rattle.wfc_lines.specs.Steps.{text_of_range, text_of_steps};
@@ -24,6 +25,7 @@ ghost use Rattle.wfc_pins.specs.declared.fault.BuildFault.TheVariants as builds;
 ghost use Rattle.wfc_pins.specs.declared.pins.PinFault.TheVariants as pins;
 ghost use Rattle.wfc_pins.specs.declared.steps.RangeFault.TheVariants as ranges;
 ghost use Rattle.wfc_pins.specs.declared.steps.StepFault.TheVariants as steps;
+ghost use Rattle.wfc_ppm.specs.declared.reading.PpmFault.TheVariants as ppms;
 ghost use Rattle.wfc_render.specs.declared.form.RenderFault.TheVariants as renders;
 ghost use Rattle.wfc_words.specs.declared.fault.CommandFault.TheVariants as commands;
 ghost use Rattle.wfc_words.specs.declared.fault.ValueName.TheVariants as names;
@@ -48,6 +50,18 @@ pub fn texts_of_commands_by_example()
     ensures failed { text_of_reading reads.Failed (codes "a") ≡ codes "device Failed file=a" }
     ensures long { text_of_reading reads.TooLong (codes "a") ≡ codes "file TooLong file=a" }
     ensures out { out_failed_text ≡ codes "device Failed out" }
+{}
+
+/// The texts of pictures of colours, by example.
+pub fn texts_of_pictures_by_example()
+    ensures magic { text_of_ppm ppms.Magic (codes "a") ≡ codes "ppm Magic file=a" }
+    ensures header { text_of_ppm (ppms.Header 7) (codes "a") ≡ codes "ppm Header at=7 file=a" }
+    ensures maxval { text_of_ppm (ppms.Maxval 70000) (codes "a") ≡ codes "ppm Maxval value=70000 file=a" }
+    ensures large { text_of_ppm ppms.TooLarge (codes "a") ≡ codes "ppm TooLarge file=a" }
+    ensures truncated { text_of_ppm (ppms.Truncated 12 9) (codes "a") ≡ codes "ppm Truncated wanted=12 found=9 file=a" }
+    ensures above { text_of_ppm (ppms.SampleAboveMaxval 15) (codes "a") ≡ codes "ppm SampleAboveMaxval at=15 file=a" }
+    ensures sample { text_of_ppm (ppms.BadSample 16) (codes "a") ≡ codes "ppm BadSample at=16 file=a" }
+    ensures trailing { text_of_ppm (ppms.Trailing 17) (codes "a") ≡ codes "ppm Trailing at=17 file=a" }
 {}
 
 /// The texts of inputs, by example.

@@ -15,6 +15,7 @@ mod line;
 mod outcome;
 mod palettes;
 mod pin_files;
+mod ppms;
 mod reads;
 mod step_files;
 
@@ -28,6 +29,7 @@ pub use line::{count, named, numbered, plain};
 pub use outcome::{budget_spent, map_exists, no_domains, no_map, no_memory, out_failed};
 pub use palettes::palette;
 pub use pin_files::pins;
+pub use ppms::ppm;
 pub use reads::reading;
 pub use step_files::{range, steps};
 

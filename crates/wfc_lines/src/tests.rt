@@ -2,7 +2,7 @@
 
 use crate::{
     budget_spent, build, chooser, command, grid, learn, map_exists, no_domains, no_map, no_memory,
-    out_failed, palette, pins, range, reading, render, steps,
+    out_failed, palette, pins, ppm, range, reading, render, steps,
 };
 use std::test::Fail;
 use wfc_choose::RuleKind;
@@ -11,6 +11,7 @@ use wfc_outside::{MemorySink, ReadFault, SinkFault};
 use wfc_pattern::LearnFault;
 use wfc_picture::PaletteFault;
 use wfc_pins::{BuildFault, PinFault, RangeFault, StepFault};
+use wfc_ppm::PpmFault;
 use wfc_render::RenderFault;
 use wfc_words::{CommandFault, ValueName};
 
@@ -27,6 +28,7 @@ enum Kind {
     Chooser(RuleKind),
     Reading(ReadFault),
     Grid(GridFault),
+    Ppm(PpmFault),
     Palette(PaletteFault),
     Learn(LearnFault),
     Render(RenderFault),
@@ -48,6 +50,7 @@ fn put(sink: &mut MemorySink, kind: Kind, file: &str) -> Result<(), SinkFault> {
         Kind::Chooser(rule) => chooser(sink, rule),
         Kind::Reading(fault) => reading(sink, fault, file),
         Kind::Grid(fault) => grid(sink, fault, file),
+        Kind::Ppm(fault) => ppm(sink, fault, file),
         Kind::Palette(fault) => palette(sink, fault, file),
         Kind::Learn(fault) => learn(sink, fault, file),
         Kind::Render(fault) => render(sink, fault),
@@ -60,7 +63,7 @@ fn put(sink: &mut MemorySink, kind: Kind, file: &str) -> Result<(), SinkFault> {
 
 #[test]
 fn puts_lines(rt: HostRuntime) -> Result<(), Fail> {
-    let cases: [(Kind, &str); 30] = [
+    let cases: [(Kind, &str); 38] = [
         (Kind::NoMap, "no map"),
         (Kind::MapExists, "map exists"),
         (Kind::NoDomains, "no consistent domains"),
@@ -104,6 +107,35 @@ fn puts_lines(rt: HostRuntime) -> Result<(), Fail> {
             "grid BadByte line=3 column=14 file=a.txt",
         ),
         (Kind::Grid(GridFault::TooLarge), "grid TooLarge file=a.txt"),
+        (Kind::Ppm(PpmFault::Magic), "ppm Magic file=a.txt"),
+        (
+            Kind::Ppm(PpmFault::Header { at: 7 }),
+            "ppm Header at=7 file=a.txt",
+        ),
+        (
+            Kind::Ppm(PpmFault::Maxval { value: 65536 }),
+            "ppm Maxval value=65536 file=a.txt",
+        ),
+        (Kind::Ppm(PpmFault::TooLarge), "ppm TooLarge file=a.txt"),
+        (
+            Kind::Ppm(PpmFault::Truncated {
+                wanted: 12,
+                found: 9,
+            }),
+            "ppm Truncated wanted=12 found=9 file=a.txt",
+        ),
+        (
+            Kind::Ppm(PpmFault::SampleAboveMaxval { at: 15 }),
+            "ppm SampleAboveMaxval at=15 file=a.txt",
+        ),
+        (
+            Kind::Ppm(PpmFault::BadSample { at: 16 }),
+            "ppm BadSample at=16 file=a.txt",
+        ),
+        (
+            Kind::Ppm(PpmFault::Trailing { at: 17 }),
+            "ppm Trailing at=17 file=a.txt",
+        ),
         (
             Kind::Palette(PaletteFault::TooManyColours { at: 70 }),
             "palette TooManyColours at=70 file=a.txt",

@@ -1,3 +1,4 @@
+pub mod CallerLemmas
 pub mod FaultLemmas
 pub mod FieldLemmas
 pub mod GapLemmas

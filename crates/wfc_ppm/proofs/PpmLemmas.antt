@@ -16,7 +16,7 @@ use Rattle.wfc_ppm.specs.declared.reading.PpmFault.{PpmFault}
 use Rattle.wfc_ppm.proofs.GapLemmas.{space-test, tail-ends}
 use Rattle.wfc_ppm.proofs.FieldLemmas.{Stops, token-stops, field-reads}
 use Rattle.wfc_ppm.proofs.HeadLemmas.{sides-small, maxval-none, none-maxval, size-none, none-size, magic-stands, ReadsHead, head-reads, StandsHead, head-stands, stands-head, space-none, none-space, gap-none, none-gap}
-use Rattle.wfc_ppm.proofs.RawLemmas.{AreWithin, raw-bytes, bytes-raw, raw-none, none-raw, colours_of-samples, pixels-within, within-pixels}
+use Rattle.wfc_ppm.proofs.RawLemmas.{AreWithin, raw-bytes, bytes-raw, made-raw, raw-none, none-raw, colours_of-samples, pixels-within, within-pixels}
 use Rattle.wfc_ppm.proofs.PlainLemmas.{pixels-read, none-pixels, fields-end}
 
 -- ---- a text that spells a picture is read as it
@@ -222,6 +222,34 @@ read-spelled text ppm bytes read = by (form_of text) refl read
     by : (form : Option Form) → form_of text ≡ form → ppm_in form text ≡ Ok ppm → SpellsPpm text ppm × (ppm.width * ppm.height ≤ 1048576)
     by None formed made = absurd (cc)
     by (Some form) formed made = in_form form formed (fault_of form text) refl made
+
+-- a picture that is read is one, and within the limit, whatever the numbers of the text are
+pub read-picture : (text : List ℕ) (ppm : PpmView) → ppm_of text ≡ Ok ppm → IsPpm ppm × (ppm.width * ppm.height ≤ 1048576)
+read-picture text ppm read = by (form_of text) refl read
+  where
+    made : (form : Form) → NoFault form text → IsPpm (made_of form text)
+    made Raw is =
+        let wanted = (head_of text).width * (head_of text).height * 3 * sample_size (head_of text).maxval in
+        let raw = none-raw (length text) (head_of text).maxval wanted (drop 1 (head_of text).rest) is.samples in
+        let all : take wanted (drop 1 (head_of text).rest) ≡ drop 1 (head_of text).rest = take_all wanted (drop 1 (head_of text).rest) (omega (arith, raw.0)) in
+        let make = made-raw (head_of text).maxval ((head_of text).width * (head_of text).height) (drop 1 (head_of text).rest) raw.0 in
+        let pixels : (made_of Raw text).pixels ≡ colours_of (raw_samples (head_of text).maxval (drop 1 (head_of text).rest)) = ap (λ b. colours_of (raw_samples (head_of text).maxval b)) all in
+        made_picture Raw text is (made_of Raw text).pixels (ap length pixels ∙ make.1) (subst (AreWithin (head_of text).maxval) (sym (ap samples_of pixels ∙ make.0)) raw.1)
+    made Plain is =
+        let before : ends_token (head_of text).rest ≡ true = none-gap (length text) (head_of text).rest is.head.end_none in
+        let pixels = none-pixels (length text) (head_of text).maxval ((head_of text).width * (head_of text).height * 3) 0 ((head_of text).width * (head_of text).height) (head_of text).rest is.maxval.1 before is.samples in
+        made_picture Plain text is (made_of Plain text).pixels pixels.as_many pixels.within
+
+    in_form : (form : Form) → (fault : Option PpmFault) → fault_of form text ≡ fault → unless_fault fault (made_of form text) ≡ Ok ppm → IsPpm ppm × (ppm.width * ppm.height ≤ 1048576)
+    in_form form None none same =
+        let is = no_fault form text none in
+        let one : made_of form text ≡ ppm = cc in
+        subst (λ (p : PpmView). IsPpm p × (p.width * p.height ≤ 1048576)) one (made form is, is.size)
+    in_form form (Some fault) some same = absurd (cc)
+
+    by : (form : Option Form) → form_of text ≡ form → ppm_in form text ≡ Ok ppm → IsPpm ppm × (ppm.width * ppm.height ≤ 1048576)
+    by None formed same = absurd (cc)
+    by (Some form) formed same = in_form form (fault_of form text) refl same
 
 -- within the limit a text spells at most one picture
 pub one_picture : (text : List ℕ) (a b : PpmView) → SpellsPpm text a → SpellsPpm text b → a.width * a.height ≤ 1048576 → b.width * b.height ≤ 1048576 → a ≡ b

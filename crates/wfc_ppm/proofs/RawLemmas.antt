@@ -152,6 +152,25 @@ bytes-raw maxval count bytes long small = by (nat_lt maxval 256) refl long
           as_many = rw test again.1;
         }
 
+-- half as many pairs as bytes
+length-pairs_of : (k : ℕ) (bytes : List ℕ) → length bytes ≡ k + k → length (pairs_of bytes) ≡ k
+length-pairs_of zero [] is = refl
+length-pairs_of zero (a ∷ bytes) is = absurd (omega (arith, is))
+length-pairs_of (suc k) [] is = absurd (omega (arith, is))
+length-pairs_of (suc k) (a ∷ []) is = absurd (omega (arith, is))
+length-pairs_of (suc k) (a ∷ b ∷ bytes) is = ap suc (length-pairs_of k bytes (omega (arith, is)))
+
+-- so many numbers are the samples of as many pixels
+pub made-raw : (maxval count : ℕ) (bytes : List ℕ) → length bytes ≡ count * 3 * sample_size maxval
+    → (samples_of (colours_of (raw_samples maxval bytes)) ≡ raw_samples maxval bytes) × (length (colours_of (raw_samples maxval bytes)) ≡ count)
+made-raw maxval count bytes long = by (nat_lt maxval 256) refl long
+  where
+    by : (narrow : Bool) → nat_lt maxval 256 ≡ narrow → length bytes ≡ count * 3 * (if narrow then 1 else 2)
+        → (samples_of (colours_of (raw_samples maxval bytes)) ≡ raw_samples maxval bytes) × (length (colours_of (raw_samples maxval bytes)) ≡ count)
+    by true test many = let again = samples-colours_of count bytes (omega arith) in (rw test again.0, rw test again.1)
+    by false test many =
+        let again = samples-colours_of count (pairs_of bytes) (omega (arith, length-pairs_of (count * 3) bytes (omega arith))) in (rw test again.0, rw test again.1)
+
 -- ---- faults
 
 pub raw-none : (total maxval wanted : ℕ) (bytes : List ℕ) → length bytes ≡ wanted → AreWithin maxval (raw_samples maxval bytes) → raw_fault total maxval wanted bytes ≡ None

@@ -1,4 +1,5 @@
 pub mod CallerLemmas
+pub mod ColourLemmas
 pub mod GatheringLemmas
 pub mod MapLemmas
 pub mod RangeLemmas

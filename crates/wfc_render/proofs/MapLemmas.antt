@@ -1,19 +1,10 @@
 -- Maps that are written row by row.
-use Rattle.std.proofs.Common.{◌≡◌, ℕ, ◌+◌, ◌*◌, ◌<◌, List, [], ◌∷◌, ◌++◌, length, take, map, get_or, true, Some, Ok, refl, ap, sym, ◌∙◌, subst, append_assoc, arith}
+use Rattle.std.proofs.Common.{◌≡◌, ℕ, ◌+◌, ◌*◌, ◌<◌, List, [], ◌∷◌, ◌++◌, length, take, map, get_or, refl, ap, sym, ◌∙◌, subst, append_assoc, arith}
 use Rattle.std.proofs.lemmas.List.{take_more, map-append}
 use Rattle.std.proofs.lemmas.List.Elements.{All-get_or}
 use Rattle.std.proofs.lemmas.Nat.{mul-add-lt}
 use Rattle.std.specs.List.{All}
 use Rattle.wfc_grid.specs.Spelling.{grid_text}
-use Rattle.wfc_picture.specs.declared.symbol.Kind.{Kind}
-use Rattle.wfc_picture.specs.declared.symbol.Kind.TheVariants as kinds
-use Rattle.wfc_picture.specs.declared.symbol.Symbol.{Symbol}
-use Rattle.wfc_picture.specs.declared.symbol.Symbol.TheVariants.{Char}
-use Rattle.wfc_render.specs.Layout.{layout_of}
-use Rattle.wfc_render.specs.Map.{IsWritten, is_of_kind}
-use Rattle.wfc_render.specs.declared.form.Form.{Form}
-use Rattle.wfc_render.specs.declared.form.Form.TheVariants.{P6, P3, Grid, Cells}
-use Rattle.wfc_render.specs.declared.form.Layout.{Layout}
 use Rattle.wfc_model.specs.Raster.{Raster, IsRaster, IsSized, height_of, number_at, numbers_of}
 use Rattle.wfc_model.proofs.CallerLemmas.{length-numbers_of, number_at-numbers_of}
 
@@ -46,25 +37,3 @@ number_in P m x y raster all column row =
     let sized : IsSized m m.width (height_of m) = record { raster = raster; same_width = refl; same_height = refl } in
     let inside : y * m.width + x < length (numbers_of m) = omega (arith, length-numbers_of m m.width (height_of m) sized, mul-add-lt y m.width x (height_of m) row column) in
     subst P (sym (number_at-numbers_of m m.width (height_of m) sized x y column row)) (All-get_or P (numbers_of m) (y * m.width + x) 0 inside all)
-
--- only a grid has symbols of its kind
-kind_is : (kind : Kind) (symbol : Symbol) → is_of_kind kind symbol ≡ true → kind ≡ kinds.Grid
-kind_is kinds.Grid symbol is = refl
-kind_is (kinds.Ppm maxval) symbol is = cc
-kind_is kinds.Plain symbol is = cc
-
--- a grid's layout that isn't of a grid is of plain numbers
-form_is : (kind : Kind) (form : Form) (width height side : ℕ) (l : Layout) → kind ≡ kinds.Grid → layout_of kind (Some form) width height side ≡ Ok l → (form ≡ Grid → ⊥) → form ≡ Cells
-form_is kinds.Grid Grid width height side l kind answered other = absurd (other refl)
-form_is kinds.Grid Cells width height side l kind answered other = refl
-form_is kinds.Grid P6 width height side l kind answered other = cc
-form_is kinds.Grid P3 width height side l kind answered other = cc
-form_is (kinds.Ppm maxval) form width height side l kind answered other = cc
-form_is kinds.Plain form width height side l kind answered other = cc
-
--- a map that isn't written as a grid is written as plain numbers
-pub numbers_form : (layout : Layout) (palette : List Symbol) (m : Raster) → IsWritten layout palette m → (layout.form ≡ Grid → ⊥) → layout.form ≡ Cells
-numbers_form layout palette m written other =
-    form_is layout.kind layout.form layout.width layout.height layout.side layout
-    (kind_is layout.kind (get_or palette 0 (Char 32)) (written.kind 0 (Char 32) written.some_symbol))
-    written.answered other

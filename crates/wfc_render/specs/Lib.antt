@@ -1,4 +1,5 @@
 pub mod Block
+pub mod Colours
 pub mod Gathering
 pub mod Layout
 pub mod Learned

@@ -3,11 +3,13 @@ use Rattle.std.specs.Prelude.{◌≡◌, ℕ, ◌<◌, Bool, false, List, [], le
 use Rattle.std.specs.List.{AllPass}
 use Rattle.wfc_grid.specs.Grid.{is_cell}
 use Rattle.wfc_grid.specs.Spelling.{grid_text}
-use Rattle.wfc_model.specs.Raster.{Raster, IsSized, numbers_of}
+use Rattle.wfc_model.specs.Raster.{Raster, IsSized, height_of, numbers_of}
+use Rattle.wfc_picture.specs.declared.symbol.Colour.{Colour}
 use Rattle.wfc_picture.specs.declared.symbol.Kind.{Kind}
 use Rattle.wfc_picture.specs.declared.symbol.Kind.TheVariants as kinds
 use Rattle.wfc_picture.specs.declared.symbol.Symbol.{Symbol}
 use Rattle.wfc_picture.specs.declared.symbol.Symbol.TheVariants.{Char, Rgb}
+use Rattle.wfc_ppm.specs.Ppm.{PpmView, is_within, p3_text, p6_text}
 use Rattle.wfc_render.specs.Layout.{IsLayout}
 use Rattle.wfc_render.specs.Numbers.{spaced_numbers}
 use Rattle.wfc_render.specs.declared.form.Form.{Form}
@@ -17,6 +19,7 @@ use Rattle.wfc_render.specs.declared.form.Layout.{Layout}
 -- whether a sample of this kind can show the symbol
 abbrev pub is_of_kind : Kind → Symbol → Bool
 is_of_kind kinds.Grid (Char byte) = is_cell byte
+is_of_kind (kinds.Ppm maxval) (Rgb colour) = is_within maxval colour
 is_of_kind _ _ = false
 
 -- the symbol with a number, and a blank where there is none
@@ -32,16 +35,35 @@ byte_of (Rgb colour) = 0x20
 abbrev pub bytes_of : List Symbol → List ℕ → List ℕ
 bytes_of palette numbers = map (λ number. byte_of (symbol_at palette number)) numbers
 
--- the text of a map in a form: row by row the bytes of its symbols, or its numbers with one blank between each two
-abbrev pub text_in : Form → List Symbol → Raster → List ℕ
-text_in Grid palette m = grid_text (map (bytes_of palette) m.rows)
-text_in Cells palette m = grid_text (map spaced_numbers m.rows)
-text_in P6 palette m = []
-text_in P3 palette m = []
+-- the colour of a symbol, and black for a character
+abbrev pub colour_of : Symbol → Colour
+colour_of (Char byte) = record { r = 0; g = 0; b = 0 }
+colour_of (Rgb colour) = colour
+
+-- the colours of the symbols with these numbers
+abbrev pub colours_of : List Symbol → List ℕ → List Colour
+colours_of palette numbers = map (λ number. colour_of (symbol_at palette number)) numbers
+
+-- the greatest sample of a kind; 0 for the kinds that have no colours
+abbrev pub maxval_of : Kind → ℕ
+maxval_of kinds.Grid = 0
+maxval_of (kinds.Ppm maxval) = maxval
+maxval_of kinds.Plain = 0
+
+-- a map as a picture of colours
+abbrev pub coloured_map : ℕ → List Symbol → Raster → PpmView
+coloured_map maxval palette m = record { width = m.width; height = height_of m; maxval = maxval; pixels = colours_of palette (numbers_of m) }
+
+-- the text of a map in a form: a picture of colours, row by row the bytes of its symbols, or its numbers with one blank between each two
+abbrev pub text_in : Kind → Form → List Symbol → Raster → List ℕ
+text_in kind P6 palette m = p6_text (coloured_map (maxval_of kind) palette m)
+text_in kind P3 palette m = p3_text (coloured_map (maxval_of kind) palette m)
+text_in kind Grid palette m = grid_text (map (bytes_of palette) m.rows)
+text_in kind Cells palette m = grid_text (map spaced_numbers m.rows)
 
 -- the text of a map of palette numbers
 abbrev pub map_text : Layout → List Symbol → Raster → List ℕ
-map_text layout palette m = text_in layout.form palette m
+map_text layout palette m = text_in layout.kind layout.form palette m
 
 -- a map of pixels, whose numbers are of a palette of symbols of its layout's kind
 pub record IsWritten (layout : Layout) (palette : List Symbol) (m : Raster) : Type 0 where

@@ -66,17 +66,28 @@ pub fn kinds_by_example()
     ensures printable { map (is_of_kind kinds.Grid) (Char 32 ∷ Char 126 ∷ []) ≡ true ∷ true ∷ [] }
     ensures others { map (is_of_kind kinds.Grid) (Char 31 ∷ Char 127 ∷ rgb 1 2 3 ∷ []) ≡ false ∷ false ∷ false ∷ [] }
     ensures plain { is_of_kind kinds.Plain (Char 97) ≡ false }
+    ensures colours { map (is_of_kind (kinds.Ppm 9)) (rgb 9 0 9 ∷ rgb 0 10 0 ∷ Char 97 ∷ []) ≡ true ∷ false ∷ false ∷ [] }
     ensures symbol { map (symbol_at (Char 98 ∷ rgb 1 2 3 ∷ [])) (1 ∷ 0 ∷ 2 ∷ []) ≡ rgb 1 2 3 ∷ Char 98 ∷ Char 32 ∷ [] }
 {}
 
 /// A map of three by two in both forms: row by row the bytes of the symbols, or the numbers with one blank between each two.
 pub fn maps_by_example()
-    ensures grid { text_in Grid (Char 98 ∷ Char 97 ∷ Char 32 ∷ [])
+    ensures grid { text_in kinds.Grid Grid (Char 98 ∷ Char 97 ∷ Char 32 ∷ [])
         (record { width = 3; rows = (0 ∷ 1 ∷ 2 ∷ []) ∷ (1 ∷ 1 ∷ 0 ∷ []) ∷ [] }) ≡ codes "ba \naab\n" }
-    ensures cells { text_in Cells (Char 98 ∷ Char 97 ∷ Char 32 ∷ [])
+    ensures cells { text_in kinds.Grid Cells (Char 98 ∷ Char 97 ∷ Char 32 ∷ [])
         (record { width = 3; rows = (0 ∷ 1 ∷ 2 ∷ []) ∷ (1 ∷ 1 ∷ 0 ∷ []) ∷ [] }) ≡ codes "0 1 2\n1 1 0\n" }
     ensures numbers { spaced_numbers (10 ∷ 0 ∷ 4095 ∷ []) ≡ codes "10 0 4095" }
     ensures one { spaced_numbers (7 ∷ []) ≡ codes "7" }
+{}
+
+/// A map of two by one of colours, raw and in decimal; samples of two bytes have the most significant first.
+pub fn maps_of_colours_by_example()
+    ensures raw { text_in (kinds.Ppm 255) P6 (rgb 1 2 3 ∷ rgb 70 80 90 ∷ []) (record { width = 2; rows = (1 ∷ 0 ∷ []) ∷ [] })
+        ≡ codes "P6\n2 1\n255\n" ++ 70 ∷ 80 ∷ 90 ∷ 1 ∷ 2 ∷ 3 ∷ [] }
+    ensures wide { text_in (kinds.Ppm 256) P6 (rgb 1 2 256 ∷ []) (record { width = 1; rows = (0 ∷ []) ∷ [] })
+        ≡ codes "P6\n1 1\n256\n" ++ 0 ∷ 1 ∷ 0 ∷ 2 ∷ 1 ∷ 0 ∷ [] }
+    ensures plain { text_in (kinds.Ppm 99) P3 (rgb 1 2 3 ∷ rgb 70 80 90 ∷ []) (record { width = 1; rows = (1 ∷ []) ∷ (0 ∷ []) ∷ [] })
+        ≡ codes "P3\n1 2\n99\n70 80 90\n1 2 3\n" }
 {}
 
 /// Two patterns of side 2 over a blank and a colour.

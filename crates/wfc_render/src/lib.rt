@@ -2,6 +2,7 @@
 #![tactic(auto)]
 
 mod blocks;
+mod colours;
 mod form;
 mod gathering;
 pub mod laws;

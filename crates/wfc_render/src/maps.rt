@@ -6,6 +6,7 @@ ghost use Rattle.wfc_model.specs.Raster.{height_of, number_at, numbers_of};
 ghost use Rattle.wfc_render.specs.Map.{IsWritten, byte_of, bytes_of, map_text, symbol_at};
 ghost use Rattle.wfc_render.specs.Numbers.{spaced_numbers};
 
+use crate::colours::{colour_rows, maxval_of};
 use crate::form::{Form, Layout};
 use std::alloc::Global;
 use wfc_outside::NoMemory;
@@ -24,7 +25,8 @@ pub fn picture_bytes(
 {
     match layout.form {
         Form::Grid => symbol_rows(alloc, palette, picture),
-        _ => number_rows(alloc, picture),
+        Form::Cells => number_rows(alloc, picture),
+        form => colour_rows(alloc, form, maxval_of(layout.kind), palette, picture),
     }
 }
 

@@ -1,7 +1,7 @@
 -- What callers cite: how calls go by plans, what plans come to where the files are told, and which requests are answered.
 pub use Rattle.wfc_task.proofs.PlanLemmas.{refused, goes_step, goes_same, goes_on, goes_out, goes_done, goes_quiet, goes_device, goes_told, goes_read, outcome_parts, outcome_on}
 pub use Rattle.wfc_task.proofs.WordLemmas.{NotWords, NeverWords, never_then, never_3, unbuilt_plan, words_unbuilt}
-pub use Rattle.wfc_task.proofs.RequestLemmas.{sample_asked, output_asked, of_grid_windows}
+pub use Rattle.wfc_task.proofs.RequestLemmas.{sample_asked, output_asked}
 pub use Rattle.wfc_task.proofs.FillingLemmas.{step_is, unrefused, indexed_is, learned_is, built_is}
 pub use Rattle.wfc_task.proofs.GivenLemmas.{learn_given, given_learn, fill_given, given_fill, domains_given, given_domains, given_demo, chooser_given, given_chooser, sample_lesson}
 pub use Rattle.wfc_task.proofs.DemoLemmas.{demo_are_patterns, demo_problem_is}

@@ -14,11 +14,12 @@ use Rattle.wfc_model.specs.Learned.{learned}
 use Rattle.wfc_model.proofs.CallerLemmas.{IsSized-raster_of, learned_known, numbers_of-raster_of}
 use Rattle.wfc_grid.specs.Grid.{GridView, IsGrid}
 use Rattle.wfc_grid.specs.declared.reading.TheConstants.{MAX_CELLS}
+use Rattle.wfc_ppm.specs.Ppm.{IsPpm, PpmView}
 use Rattle.wfc_picture.specs.Palette.{first_past, indexed, numbered, palette_of, unless_past}
 use Rattle.wfc_picture.specs.Symbol.{same_symbol}
 use Rattle.wfc_picture.specs.declared.palette.TheConstants.{MAX_COLOURS, MAX_PIXELS}
 use Rattle.wfc_picture.specs.declared.symbol.Symbol.{Symbol}
-use Rattle.wfc_picture.specs.declared.symbol.Symbol.TheVariants.{Char}
+use Rattle.wfc_picture.specs.declared.symbol.Symbol.TheVariants.{Char, Rgb}
 use Rattle.wfc_picture.specs.declared.symbol.Kind.{Kind}
 use Rattle.wfc_picture.specs.declared.symbol.Kind.TheVariants as kinds
 use Rattle.wfc_picture.proofs.CallerLemmas.{numbered_below}
@@ -43,7 +44,7 @@ use Rattle.wfc_task.specs.Asked.{IsSampleAsked}
 use Rattle.wfc_task.specs.Built.{side_of}
 use Rattle.wfc_task.specs.Filling.{IsNumbered, IsLesson, IsPosed, IsSampled}
 use Rattle.wfc_task.specs.Plan.{GivesStep}
-use Rattle.wfc_task.specs.Sampled.{SampledView, of_grid, symbols_of}
+use Rattle.wfc_task.specs.Sampled.{SampledView, colours_of, of_grid, of_ppm, symbols_of}
 use Rattle.wfc_task.specs.Steps.{coloured, or_refuse, posed, taught}
 
 -- a step that came to a value is that value
@@ -101,6 +102,17 @@ grid_sampled grid is_grid small =
       filled = record { some_column = is_grid.filled.some_column; some_row = is_grid.filled.some_row; as_many = many };
       small = omega (arith, many, small);
       symbols = All-map (λ symbol. IsTrue (is_of_kind kinds.Grid symbol)) (λ byte. Char byte) grid.bytes is_grid.printable;
+    }
+
+-- what a picture of colours shows
+pub ppm_sampled : (ppm : PpmView) → IsPpm ppm → ppm.width * ppm.height ≤ MAX_PIXELS → IsSampled (of_ppm ppm)
+ppm_sampled ppm is_ppm small =
+    let many : length (colours_of ppm) ≡ ppm.width * ppm.height = length-map ppm.pixels (λ colour. Rgb colour) ∙ is_ppm.filled.as_many in
+    record {
+      height = ppm.height;
+      filled = record { some_column = is_ppm.filled.some_column; some_row = is_ppm.filled.some_row; as_many = many };
+      small = omega (arith, many, small);
+      symbols = All-map (λ symbol. IsTrue (is_of_kind (kinds.Ppm ppm.maxval) symbol)) (λ colour. Rgb colour) ppm.pixels is_ppm.samples;
     }
 
 -- whose pixels are whole rows, and some

@@ -19,6 +19,10 @@ use Rattle.wfc_picture.specs.declared.symbol.Kind.{Kind}
 use Rattle.wfc_picture.specs.declared.palette.PaletteFault.{PaletteFault}
 use Rattle.wfc_pattern.specs.Learning.{patterns_of}
 use Rattle.wfc_pattern.specs.Patterns.{PatternsView}
+use Rattle.wfc_ppm.specs.Ppm.{PpmView}
+use Rattle.wfc_ppm.specs.Reading.{ppm_of}
+use Rattle.wfc_ppm.specs.declared.reading.PpmFault.{PpmFault}
+use Rattle.wfc_ppm.proofs.CallerLemmas.{read-picture}
 use Rattle.wfc_problem.specs.Network.{Network}
 use Rattle.wfc_problem.specs.declared.TheConstants.{MAX_PAIRS}
 use Rattle.wfc_pins.specs.PinView.{PinView}
@@ -41,17 +45,17 @@ use Rattle.wfc_task.specs.declared.fault.Fault.{Fault}
 use Rattle.wfc_task.specs.declared.fault.Refusal.{Refusal}
 use Rattle.wfc_task.specs.declared.fault.Refusal.TheVariants as refusals
 use Rattle.wfc_task.specs.declared.task.Taught.{Taught}
-use Rattle.wfc_task.specs.Built.{side_of}
+use Rattle.wfc_task.specs.Built.{is_picture_name, side_of}
 use Rattle.wfc_task.specs.Demo.{demo_patterns, demo_problem}
-use Rattle.wfc_task.specs.Given.{IsFile, IsSample, IsSampleFile, IsTaught, ShowsGrid, HoldsPins, HoldsSteps, IsProblemOf, IsFillTask, IsDomainsTask}
+use Rattle.wfc_task.specs.Given.{IsFile, IsSample, IsSampleFile, IsTaught, Shows, ShowsGrid, ShowsPpm, HoldsPins, HoldsSteps, IsProblemOf, IsFillTask, IsDomainsTask}
 use Rattle.wfc_task.specs.Plan.{Plan, done, step, and_then, most_bytes, reading_of, after_reading, outcome}
-use Rattle.wfc_task.specs.Sampled.{SampledView, of_grid}
-use Rattle.wfc_task.specs.Steps.{chosen, coloured, fitting, grid_in, laid, or_refuse, posed, same_rule, sampled_in, steps_in, taught, unless_out}
+use Rattle.wfc_task.specs.Sampled.{SampledView, of_grid, of_ppm}
+use Rattle.wfc_task.specs.Steps.{chosen, coloured, fitting, grid_in, laid, or_refuse, posed, same_rule, sampled_in, shown_in, steps_in, taught, unless_out}
 use Rattle.wfc_task.specs.Steps.{pins_in as lines_in}
 use Rattle.wfc_task.specs.Task.{Task, learn, fill, domains, demo, file_plan, picture_plan, sample_plan, sampled_plan, pins_plan, problem_plan, steps_plan, learn_plan, fill_plan, domains_plan, demo_plan}
 use Rattle.wfc_task.specs.Asked.{IsSampleAsked}
 use Rattle.wfc_task.specs.Filling.{IsLesson, IsNumbered, IsSampled}
-use Rattle.wfc_task.proofs.FillingLemmas.{built_is, grid_sampled, lesson_of, numbered_sample, unrefused}
+use Rattle.wfc_task.proofs.FillingLemmas.{built_is, grid_sampled, ppm_sampled, lesson_of, numbered_sample, unrefused}
 use Rattle.wfc_task.proofs.StepLemmas.{made_small}
 use Rattle.wfc_task.proofs.PlanLemmas.{outcome_on, outcome_parts}
 use Rattle.wfc_task.proofs.TaskLemmas.{behind_lesson, behind_layout, behind_picture, behind_problem, behind_sample, behind_sampled}
@@ -92,27 +96,41 @@ given_file source name files bytes file =
     ap (after_reading source (λ bytes. let end : Result (List ℕ) Fault = Ok bytes in end)) reading
 
 -- samples
-shown_given : (bytes : List ℕ) (sampled : SampledView) → result_map of_grid (grid_in Sample bytes) ≡ Ok sampled → ShowsGrid bytes sampled
-shown_given bytes sampled is = by_grid (grid_of bytes) refl is
+grid_shown : (bytes : List ℕ) (sampled : SampledView) → shown_in false bytes ≡ Ok sampled → ShowsGrid bytes sampled
+grid_shown bytes sampled is = by_grid (grid_of bytes) refl is
   where
     by_grid : (read : Result GridView GridFault) → grid_of bytes ≡ read → result_map of_grid (or_refuse (refusals.Grid Sample) read) ≡ Ok sampled → ShowsGrid bytes sampled
     by_grid (Ok grid) was is = let spelled = read_grid bytes grid was in record { grid = grid; spelled = spelled.0; small = spelled.1; shows = let same : of_grid grid ≡ sampled = cc (is) in sym same }
     by_grid (Err fault) was is = absurd (cc (is))
 
-given_shown : (bytes : List ℕ) (sampled : SampledView) → ShowsGrid bytes sampled → result_map of_grid (grid_in Sample bytes) ≡ Ok sampled
-given_shown bytes sampled shown =
+ppm_shown : (bytes : List ℕ) (sampled : SampledView) → shown_in true bytes ≡ Ok sampled → ShowsPpm bytes sampled
+ppm_shown bytes sampled is = by_ppm (ppm_of bytes) refl is
+  where
+    by_ppm : (read : Result PpmView PpmFault) → ppm_of bytes ≡ read → result_map of_ppm (or_refuse (refusals.Ppm Sample) read) ≡ Ok sampled → ShowsPpm bytes sampled
+    by_ppm (Ok ppm) was is = record { ppm = ppm; read = was; shows = let same : of_ppm ppm ≡ sampled = cc (is) in sym same }
+    by_ppm (Err fault) was is = absurd (cc (is))
+
+shown_given : (picture : Bool) (bytes : List ℕ) (sampled : SampledView) → shown_in picture bytes ≡ Ok sampled → Shows picture bytes sampled
+shown_given true bytes sampled is = ppm_shown bytes sampled is
+shown_given false bytes sampled is = grid_shown bytes sampled is
+
+given_shown : (picture : Bool) (bytes : List ℕ) (sampled : SampledView) → Shows picture bytes sampled → shown_in picture bytes ≡ Ok sampled
+given_shown true bytes sampled shown =
+    ap (λ read. result_map of_ppm (or_refuse (refusals.Ppm Sample) read)) shown.read
+    ∙ ap (λ sampled. let end : Result SampledView Refusal = Ok sampled in end) (sym shown.shows)
+given_shown false bytes sampled shown =
     ap (λ read. result_map of_grid (or_refuse (refusals.Grid Sample) read)) (grid_read bytes shown.grid shown.spelled shown.small)
     ∙ ap (λ sampled. let end : Result SampledView Refusal = Ok sampled in end) (sym shown.shows)
 
 sampled_given : (asked : RequestView) (files : List File) (sampled : SampledView) → outcome (sampled_plan asked) files ≡ Ok sampled → IsSampleFile files asked.file sampled
 sampled_given asked files sampled is =
     let parts = outcome_parts (file_plan Sample asked.file) (λ bytes. step (sampled_in asked bytes)) files sampled is in
-    record { bytes = parts.0; file = file_given Sample asked.file files parts.0 parts.1; shows = shown_given parts.0 sampled (step_ok (sampled_in asked parts.0) files sampled parts.2) }
+    record { bytes = parts.0; file = file_given Sample asked.file files parts.0 parts.1; shows = shown_given (is_picture_name asked.file) parts.0 sampled (step_ok (sampled_in asked parts.0) files sampled parts.2) }
 
 given_sampled : (asked : RequestView) (files : List File) (sampled : SampledView) → IsSampleFile files asked.file sampled → outcome (sampled_plan asked) files ≡ Ok sampled
 given_sampled asked files sampled file =
     outcome_on (file_plan Sample asked.file) (λ bytes. step (sampled_in asked bytes)) files file.bytes (given_file Sample asked.file files file.bytes file.file)
-    ∙ ok_step (sampled_in asked file.bytes) files sampled (given_shown file.bytes sampled file.shows)
+    ∙ ok_step (sampled_in asked file.bytes) files sampled (given_shown (is_picture_name asked.file) file.bytes sampled file.shows)
 
 sample_given : (asked : RequestView) (files : List File) (lesson : Taught) → outcome (sample_plan asked) files ≡ Ok lesson → IsSample asked files lesson.kind lesson.patterns lesson.palette
 sample_given asked files lesson is =
@@ -149,7 +167,11 @@ given_sample asked files kind patterns palette sample =
 
 -- what a file shows are the pixels of a picture
 file_sampled : (files : List File) (name : List ℕ) (sampled : SampledView) → IsSampleFile files name sampled → IsSampled sampled
-file_sampled files name sampled file = subst IsSampled (sym file.shows.shows) (grid_sampled file.shows.grid file.shows.spelled.grid file.shows.small)
+file_sampled files name sampled file = by_name (is_picture_name name) file.shows
+  where
+    by_name : (picture : Bool) → Shows picture file.bytes sampled → IsSampled sampled
+    by_name true shown = let made = read-picture file.bytes shown.ppm shown.read in subst IsSampled (sym shown.shows) (ppm_sampled shown.ppm made.0 made.1)
+    by_name false shown = subst IsSampled (sym shown.shows) (grid_sampled shown.grid shown.spelled.grid shown.small)
 
 -- what a sample teaches are patterns of its palette's numbers
 pub sample_lesson : (asked : RequestView) (files : List File) (kind : Kind) (patterns : PatternsView) (palette : List Symbol) → IsSampleAsked asked → IsSample asked files kind patterns palette

@@ -7,7 +7,7 @@ use Rattle.wfc_words.specs.RequestView.{RequestView}
 use Rattle.wfc_words.specs.declared.kinds.SourceModel.{SourceModel}
 use Rattle.wfc_words.specs.declared.kinds.SourceModel.TheVariants.{Overlap, Tiles}
 use Rattle.wfc_task.specs.Asked.{IsSampleAsked, IsOutputAsked}
-use Rattle.wfc_task.specs.Built.{is_of_grid, is_of_windows, is_picture_name, side_of}
+use Rattle.wfc_task.specs.Built.{is_of_windows, side_of}
 
 -- a command with a model that is of windows
 pub sample_asked : (asked : RequestView) → IsInRange asked → takes_word asked.command (codes "MODEL") ≡ true → is_of_windows asked.source ≡ true → IsSampleAsked asked
@@ -23,11 +23,3 @@ sample_asked asked range takes windows =
 pub output_asked : (asked : RequestView) → IsInRange asked → takes_word asked.command (codes "WIDTH") ≡ true → takes_word asked.command (codes "HEIGHT") ≡ true → IsOutputAsked asked
 output_asked asked range wide high =
     record { some_width = range.some_width wide; some_height = range.some_height high; width_limit = range.width_limit; height_limit = range.height_limit }
-
--- a request for a grid's windows is of windows
-pub of_grid_windows : (asked : RequestView) → is_of_grid asked ≡ true → is_of_windows asked.source ≡ true
-of_grid_windows asked is = by_test (is_of_windows asked.source) refl is
-  where
-    by_test : (windows : Bool) → is_of_windows asked.source ≡ windows → (windows && not (is_picture_name asked.file)) ≡ true → is_of_windows asked.source ≡ true
-    by_test true was is = was
-    by_test false was is = absurd (cc)

@@ -18,6 +18,10 @@ use Rattle.wfc_model.specs.Raster.{Raster}
 use Rattle.wfc_pattern.specs.Learning.{patterns_of}
 use Rattle.wfc_pattern.specs.declared.learning.LearnFault.{LearnFault}
 use Rattle.wfc_pattern.specs.declared.learning.LearnFault.TheVariants as learning
+use Rattle.wfc_ppm.specs.Ppm.{PpmView}
+use Rattle.wfc_ppm.specs.Reading.{ppm_of}
+use Rattle.wfc_ppm.specs.declared.reading.PpmFault.{PpmFault}
+use Rattle.wfc_ppm.specs.declared.reading.PpmFault.TheVariants as ppms
 use Rattle.wfc_problem.specs.Network.{Network}
 use Rattle.wfc_pins.specs.Pins.{pins_of}
 use Rattle.wfc_pins.specs.Steps.{range_fault, steps_of}
@@ -38,12 +42,12 @@ use Rattle.wfc_words.specs.RequestView.{RequestView}
 use Rattle.wfc_words.specs.declared.kinds.CommandKind.{CommandKind}
 use Rattle.wfc_words.specs.declared.kinds.CommandKind.TheVariants as commands
 use Rattle.wfc_task.specs.declared.fault.Source.TheVariants.{Sample}
-use Rattle.wfc_task.specs.declared.fault.Refusal.TheVariants.{NotBuilt, Chooser, Grid, Colours, Learn, Render, Pins, Build, Steps}
+use Rattle.wfc_task.specs.declared.fault.Refusal.TheVariants.{NotBuilt, Chooser, Grid, Ppm, Colours, Learn, Render, Pins, Build, Steps}
 use Rattle.wfc_task.specs.declared.task.Taught.{Taught}
-use Rattle.wfc_task.specs.Built.{is_built, is_built_by, side_of}
+use Rattle.wfc_task.specs.Built.{is_built, is_built_by, is_picture_name, side_of}
 use Rattle.wfc_task.specs.Demo.{demo_patterns, demo_problem}
-use Rattle.wfc_task.specs.Sampled.{of_grid}
-use Rattle.wfc_task.specs.Steps.{chosen, coloured, fitting, laid, or_refuse, posed, same_rule, steps_in, taught, unless_out}
+use Rattle.wfc_task.specs.Sampled.{of_grid, of_ppm}
+use Rattle.wfc_task.specs.Steps.{chosen, coloured, fitting, laid, or_refuse, posed, same_rule, shown_in, steps_in, taught, unless_out}
 use Rattle.wfc_task.specs.Task.{Task, learn, fill, domains, demo, picture_plan, sample_plan, sampled_plan, pins_plan, problem_plan, steps_plan, learn_plan, fill_plan, domains_plan, demo_plan, plan_by, plan_of}
 use Rattle.wfc_task.proofs.TaskLemmas.{behind_lesson, behind_layout, behind_picture, behind_problem, behind_sample, behind_sampled}
 use Rattle.wfc_task.specs.declared.fault.Source.{Source}
@@ -114,6 +118,17 @@ grids_never source (grids.BadByte line column) words = cc
 grids_never source grids.TooLarge words = cc
 grids_never source grids.NoMemory words = cc
 
+ppms_never : (source : Source) (fault : PpmFault) → NotWords (Ppm source fault)
+ppms_never source ppms.Magic words = cc
+ppms_never source (ppms.Header at) words = cc
+ppms_never source (ppms.Maxval value) words = cc
+ppms_never source ppms.TooLarge words = cc
+ppms_never source (ppms.Truncated wanted found) words = cc
+ppms_never source (ppms.SampleAboveMaxval at) words = cc
+ppms_never source (ppms.BadSample at) words = cc
+ppms_never source (ppms.Trailing at) words = cc
+ppms_never source ppms.NoMemory words = cc
+
 colours_never : (fault : PaletteFault) → NotWords (Colours fault)
 colours_never (palettes.TooManyColours at) words = cc
 colours_never palettes.NoMemory words = cc
@@ -149,11 +164,19 @@ chosen_never kinds rule = by_test (list_any (same_rule rule) kinds)
     by_test false = λ words. cc
 
 sampled_never : (asked : RequestView) → NeverWords (sampled_plan asked)
-sampled_never asked = λ bytes. by_grid (grid_of bytes)
+sampled_never asked = λ bytes. by_name (is_picture_name asked.file) bytes
   where
+    by_ppm : (read : Result PpmView PpmFault) → NeverWords (step (result_map of_ppm (or_refuse (Ppm Sample) read)))
+    by_ppm (Ok ppm) = tt
+    by_ppm (Err fault) = ppms_never Sample fault
+
     by_grid : (read : Result GridView GridFault) → NeverWords (step (result_map of_grid (or_refuse (Grid Sample) read)))
     by_grid (Ok grid) = tt
     by_grid (Err fault) = grids_never Sample fault
+
+    by_name : (picture : Bool) (bytes : List ℕ) → NeverWords (step (shown_in picture bytes))
+    by_name true bytes = by_ppm (ppm_of bytes)
+    by_name false bytes = by_grid (grid_of bytes)
 
 sample_never : (asked : RequestView) → NeverWords (sample_plan asked)
 sample_never asked =

@@ -1,5 +1,5 @@
--- Which requests are answered: those for the windows of a character grid, and demonstrations.
-use Rattle.std.specs.Prelude.{ℕ, Bool, true, false, not, ◌&&◌, ◌||◌, List, nat_eq, codes}
+-- Which requests are answered: those for the windows of a sample, and demonstrations.
+use Rattle.std.specs.Prelude.{ℕ, Bool, true, false, ◌||◌, List, nat_eq, codes}
 use Rattle.std.specs.List.{ends_with}
 use Rattle.wfc_words.specs.RequestView.{RequestView}
 use Rattle.wfc_words.specs.declared.kinds.CommandKind.{CommandKind}
@@ -16,15 +16,11 @@ abbrev pub is_of_windows : SourceModel → Bool
 is_of_windows (Overlap n) = true
 is_of_windows Tiles = false
 
--- whether the sample is a character grid whose windows are asked for
-abbrev pub is_of_grid : RequestView → Bool
-is_of_grid asked = is_of_windows asked.source && not (is_picture_name asked.file)
-
 -- whether a command with this request is answered
 abbrev pub is_built_by : CommandKind → RequestView → Bool
-is_built_by Learn asked = is_of_grid asked
-is_built_by Fill asked = is_of_grid asked
-is_built_by Domains asked = is_of_grid asked
+is_built_by Learn asked = is_of_windows asked.source
+is_built_by Fill asked = is_of_windows asked.source
+is_built_by Domains asked = is_of_windows asked.source
 is_built_by Demo asked = true
 is_built_by _ asked = false
 

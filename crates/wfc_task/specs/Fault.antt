@@ -4,6 +4,8 @@ use Rattle.wfc_outside.specs.declared.whole.ReadFault.{ReadFault}
 use Rattle.wfc_outside.specs.declared.whole.ReadFault.TheVariants as reading
 use Rattle.wfc_grid.specs.declared.reading.GridFault.{GridFault}
 use Rattle.wfc_grid.specs.declared.reading.GridFault.TheVariants as grids
+use Rattle.wfc_ppm.specs.declared.reading.PpmFault.{PpmFault}
+use Rattle.wfc_ppm.specs.declared.reading.PpmFault.TheVariants as ppms
 use Rattle.wfc_picture.specs.declared.palette.PaletteFault.{PaletteFault}
 use Rattle.wfc_picture.specs.declared.palette.PaletteFault.TheVariants as palettes
 use Rattle.wfc_pattern.specs.declared.learning.LearnFault.{LearnFault}
@@ -15,7 +17,7 @@ use Rattle.wfc_pins.specs.declared.fault.BuildFault.TheVariants as builds
 use Rattle.wfc_pins.specs.declared.steps.StepFault.{StepFault}
 use Rattle.wfc_pins.specs.declared.steps.StepFault.TheVariants as steps
 use Rattle.wfc_task.specs.declared.fault.Refusal.{Refusal}
-use Rattle.wfc_task.specs.declared.fault.Refusal.TheVariants.{NotBuilt, Chooser, Grid, Colours, Learn, Render, Pins, Build, Steps, Range, NoMemory}
+use Rattle.wfc_task.specs.declared.fault.Refusal.TheVariants.{NotBuilt, Chooser, Grid, Ppm, Colours, Learn, Render, Pins, Build, Steps, Range, NoMemory}
 use Rattle.wfc_task.specs.declared.fault.Fault.{Fault}
 use Rattle.wfc_task.specs.declared.fault.Fault.TheVariants.{Unread, Refused}
 use Rattle.wfc_task.specs.declared.fault.Class.{Class}
@@ -25,6 +27,10 @@ use Rattle.wfc_task.specs.declared.fault.Class.TheVariants.{Words, Input, Memory
 abbrev pub grid_class : GridFault → Class
 grid_class grids.NoMemory = Memory
 grid_class _ = Input
+
+abbrev pub ppm_class : PpmFault → Class
+ppm_class ppms.NoMemory = Memory
+ppm_class _ = Input
 
 abbrev pub colours_class : PaletteFault → Class
 colours_class palettes.NoMemory = Memory
@@ -51,6 +57,7 @@ abbrev pub class_of : Refusal → Class
 class_of NotBuilt = Words
 class_of (Chooser rule) = NoChooser
 class_of (Grid source fault) = grid_class fault
+class_of (Ppm source fault) = ppm_class fault
 class_of (Colours fault) = colours_class fault
 class_of (Learn fault) = learn_class fault
 class_of (Render fault) = Input

@@ -1,5 +1,5 @@
 -- Tasks over files that are told, in the subject's words.
-use Rattle.std.specs.Prelude.{◌≡◌, ℕ, ◌*◌, ◌≤◌, List, [], length, Option, None, Some, Ok, Contains}
+use Rattle.std.specs.Prelude.{◌≡◌, ℕ, ◌*◌, ◌≤◌, Bool, true, false, List, [], length, Option, None, Some, Ok, Contains}
 use Rattle.wfc_outside.specs.Folder.{File, file_of}
 use Rattle.wfc_model.specs.Legal.{Pin}
 use Rattle.wfc_model.specs.Raster.{Raster}
@@ -11,6 +11,8 @@ use Rattle.wfc_picture.specs.declared.symbol.Kind.{Kind}
 use Rattle.wfc_pattern.specs.Learning.{patterns_of}
 use Rattle.wfc_pattern.specs.Patterns.{PatternsView}
 use Rattle.wfc_problem.specs.Network.{Network}
+use Rattle.wfc_ppm.specs.Ppm.{PpmView}
+use Rattle.wfc_ppm.specs.Reading.{ppm_of}
 use Rattle.wfc_pins.specs.PinView.{PinView}
 use Rattle.wfc_pins.specs.Pins.{pins_of}
 use Rattle.wfc_pins.specs.Steps.{range_fault, steps_of}
@@ -22,8 +24,8 @@ use Rattle.wfc_choose.specs.declared.RuleKind.{RuleKind}
 use Rattle.wfc_render.specs.Layout.{layout_of}
 use Rattle.wfc_render.specs.declared.form.Layout.{Layout}
 use Rattle.wfc_words.specs.RequestView.{RequestView}
-use Rattle.wfc_task.specs.Built.{side_of}
-use Rattle.wfc_task.specs.Sampled.{SampledView, of_grid}
+use Rattle.wfc_task.specs.Built.{is_picture_name, side_of}
+use Rattle.wfc_task.specs.Sampled.{SampledView, of_grid, of_ppm}
 
 -- the file of that name has these bytes, which are no more than a file may have
 pub record IsFile (files : List File) (name bytes : List ℕ) : Type 0 where
@@ -37,11 +39,22 @@ pub record ShowsGrid (bytes : List ℕ) (sampled : SampledView) : Type 0 where
   pub small : grid.width * grid.height ≤ 1048576
   pub shows : sampled ≡ of_grid grid
 
+-- the bytes are read as a picture of colours that shows this
+pub record ShowsPpm (bytes : List ℕ) (sampled : SampledView) : Type 0 where
+  pub ppm : PpmView
+  pub read : ppm_of bytes ≡ Ok ppm
+  pub shows : sampled ≡ of_ppm ppm
+
+-- the bytes show this, as a picture of colours or as a grid
+abbrev pub Shows : Bool → List ℕ → SampledView → Type 0
+Shows true bytes sampled = ShowsPpm bytes sampled
+Shows false bytes sampled = ShowsGrid bytes sampled
+
 -- the file of that name shows this
 pub record IsSampleFile (files : List File) (name : List ℕ) (sampled : SampledView) : Type 0 where
   pub bytes : List ℕ
   pub file : IsFile files name bytes
-  pub shows : ShowsGrid bytes sampled
+  pub shows : Shows (is_picture_name name) bytes sampled
 
 -- the file asked for shows symbols of this kind, which have this palette, and whose numbers teach these patterns by the request
 pub record IsSample (asked : RequestView) (files : List File) (kind : Kind) (patterns : PatternsView) (palette : List Symbol) : Type 0 where

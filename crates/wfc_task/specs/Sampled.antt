@@ -4,7 +4,8 @@ use Rattle.wfc_grid.specs.Grid.{GridView}
 use Rattle.wfc_picture.specs.declared.symbol.Kind.{Kind}
 use Rattle.wfc_picture.specs.declared.symbol.Kind.TheVariants as kinds
 use Rattle.wfc_picture.specs.declared.symbol.Symbol.{Symbol}
-use Rattle.wfc_picture.specs.declared.symbol.Symbol.TheVariants.{Char}
+use Rattle.wfc_picture.specs.declared.symbol.Symbol.TheVariants.{Char, Rgb}
+use Rattle.wfc_ppm.specs.Ppm.{PpmView}
 use Rattle.wfc_task.specs.declared.sampled.Sampled.{Sampled}
 
 -- what the pixels show row by row, how wide the picture is, and how a map of it is written
@@ -24,3 +25,11 @@ symbols_of grid = map (λ byte. Char byte) grid.bytes
 -- what a grid shows
 abbrev pub of_grid : GridView → SampledView
 of_grid grid = record { kind = kinds.Grid; width = grid.width; symbols = symbols_of grid }
+
+-- what the pixels of a picture of colours show
+abbrev pub colours_of : PpmView → List Symbol
+colours_of ppm = map (λ colour. Rgb colour) ppm.pixels
+
+-- what a picture of colours shows
+abbrev pub of_ppm : PpmView → SampledView
+of_ppm ppm = record { kind = kinds.Ppm ppm.maxval; width = ppm.width; symbols = colours_of ppm }

@@ -11,6 +11,8 @@ use Rattle.wfc_picture.specs.declared.symbol.Kind.{Kind}
 use Rattle.wfc_pattern.specs.Learning.{patterns_of}
 use Rattle.wfc_pattern.specs.Patterns.{PatternsView}
 use Rattle.wfc_problem.specs.Network.{Network}
+use Rattle.wfc_ppm.specs.Ppm.{PpmView}
+use Rattle.wfc_ppm.specs.Reading.{ppm_of}
 use Rattle.wfc_pins.specs.PinView.{PinView}
 use Rattle.wfc_pins.specs.Pins.{pins_of}
 use Rattle.wfc_pins.specs.Steps.{steps_of, range_fault}
@@ -26,9 +28,9 @@ use Rattle.wfc_words.specs.RequestView.{RequestView}
 use Rattle.wfc_task.specs.declared.fault.Source.{Source}
 use Rattle.wfc_task.specs.declared.fault.Source.TheVariants.{Sample}
 use Rattle.wfc_task.specs.declared.fault.Refusal.{Refusal}
-use Rattle.wfc_task.specs.declared.fault.Refusal.TheVariants.{Chooser, Grid, Colours, Learn, Render, Pins, Build, Steps, Range}
-use Rattle.wfc_task.specs.Built.{side_of}
-use Rattle.wfc_task.specs.Sampled.{SampledView, of_grid}
+use Rattle.wfc_task.specs.declared.fault.Refusal.TheVariants.{Chooser, Grid, Ppm, Colours, Learn, Render, Pins, Build, Steps, Range}
+use Rattle.wfc_task.specs.Built.{is_picture_name, side_of}
+use Rattle.wfc_task.specs.Sampled.{SampledView, of_grid, of_ppm}
 
 -- a result whose fault is refused
 abbrev pub or_refuse : {T E : Type 0} → (E → Refusal) → Result T E → Result T Refusal
@@ -50,9 +52,17 @@ chosen kinds rule = if list_any (same_rule rule) kinds then Ok tt else Err (Choo
 abbrev pub grid_in : Source → List ℕ → Result GridView Refusal
 grid_in source text = or_refuse (Grid source) (grid_of text)
 
--- what the bytes of a sample show
+-- the picture of colours that a file spells
+abbrev pub ppm_in : Source → List ℕ → Result PpmView Refusal
+ppm_in source text = or_refuse (Ppm source) (ppm_of text)
+
+-- what the bytes of a sample show: a picture of colours where its name says so, else a grid
+abbrev pub shown_in : Bool → List ℕ → Result SampledView Refusal
+shown_in true text = result_map of_ppm (ppm_in Sample text)
+shown_in false text = result_map of_grid (grid_in Sample text)
+
 abbrev pub sampled_in : RequestView → List ℕ → Result SampledView Refusal
-sampled_in asked text = result_map of_grid (grid_in Sample text)
+sampled_in asked text = shown_in (is_picture_name asked.file) text
 
 -- the picture of a sample in numbers, and the palette that says what they stand for
 abbrev pub coloured : SampledView → Result (Raster × List Symbol) Refusal

@@ -1,26 +1,21 @@
 //! Which requests are answered.
 
 ghost use Rattle.std.specs.Prelude.{◌≡◌};
-ghost use Rattle.wfc_task.specs.Built.{is_built, is_of_grid, is_of_windows, is_picture_name, side_of};
+ghost use Rattle.wfc_task.specs.Built.{is_built, is_of_windows, is_picture_name, side_of};
 
 use wfc_words::{CommandKind, Request, SourceModel};
 
-/// Whether the request is answered: one for the windows of a character grid, or a demonstration.
+/// Whether the request is answered: one for the windows of a sample, or a demonstration.
 pub fn is_built(request: &Request) -> bool
     ensures value { result ≡ is_built request.now }
 {
     match request.command {
-        CommandKind::Learn | CommandKind::Fill | CommandKind::Domains => is_of_grid(request),
+        CommandKind::Learn | CommandKind::Fill | CommandKind::Domains => {
+            is_of_windows(request.source)
+        }
         CommandKind::Demo => true,
         CommandKind::Refute | CommandKind::Check | CommandKind::Upgrade => false,
     }
-}
-
-/// Whether the sample is a character grid whose windows are asked for.
-fn is_of_grid(request: &Request) -> bool
-    ensures value { result ≡ is_of_grid request.now }
-{
-    is_of_windows(request.source) && !is_picture_name(request.file().as_bytes())
 }
 
 /// Whether the map is made of windows.
@@ -34,7 +29,7 @@ fn is_of_windows(source: SourceModel) -> bool
 }
 
 /// Whether a file is named as a picture in colours.
-fn is_picture_name(name: &[u8]) -> bool
+pub(crate) fn is_picture_name(name: &[u8]) -> bool
     ensures value { result ≡ is_picture_name name.now }
 {
     name.ends_with(b".ppm") || name.ends_with(b".PPM")

@@ -8,6 +8,7 @@ use wfc_outside::{NoMemory, ReadFault};
 use wfc_pattern::LearnFault;
 use wfc_picture::PaletteFault;
 use wfc_pins::{BuildFault, PinFault, RangeFault, StepFault};
+use wfc_ppm::PpmFault;
 use wfc_render::RenderFault;
 
 /// What a file is to a command.
@@ -28,6 +29,8 @@ pub enum Refusal {
     Chooser { rule: RuleKind },
     /// A file spells no grid.
     Grid { source: Source, fault: GridFault },
+    /// A file spells no picture of colours.
+    Ppm { source: Source, fault: PpmFault },
     /// The sample has no palette.
     Colours { fault: PaletteFault },
     /// The sample teaches no patterns.
@@ -79,6 +82,7 @@ impl Refusal {
             Refusal::NotBuilt => Class::Words,
             Refusal::Chooser { .. } => Class::NoChooser,
             Refusal::Grid { fault, .. } => grid_class(*fault),
+            Refusal::Ppm { fault, .. } => ppm_class(*fault),
             Refusal::Colours { fault } => colours_class(*fault),
             Refusal::Learn { fault } => learn_class(*fault),
             Refusal::Pins { fault } => pins_class(*fault),
@@ -90,13 +94,22 @@ impl Refusal {
     }
 }
 
-ghost use Rattle.wfc_task.specs.Fault.{build_class, class_status, colours_class, grid_class, learn_class, pins_class, steps_class};
+ghost use Rattle.wfc_task.specs.Fault.{build_class, class_status, colours_class, grid_class, learn_class, pins_class, ppm_class, steps_class};
 
 fn grid_class(fault: GridFault) -> Class
     ensures value { result ≡ grid_class fault }
 {
     match fault {
         GridFault::NoMemory => Class::Memory,
+        _ => Class::Input,
+    }
+}
+
+fn ppm_class(fault: PpmFault) -> Class
+    ensures value { result ≡ ppm_class fault }
+{
+    match fault {
+        PpmFault::NoMemory => Class::Memory,
         _ => Class::Input,
     }
 }

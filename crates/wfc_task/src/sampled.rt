@@ -4,15 +4,17 @@ ghost use Rattle.std.specs.Prelude.{◌≡◌, ◌*◌, ◌≤◌, length, IfOk,
 ghost use Rattle.wfc_outside.specs.Gives.{result_map};
 ghost use Rattle.wfc_task.specs.Filling.{IsSampled};
 ghost use Rattle.wfc_task.specs.Plan.{GivesStep};
-ghost use Rattle.wfc_task.specs.Sampled.{of_grid, sampled_view, symbols_of};
+ghost use Rattle.wfc_task.specs.Sampled.{colours_of, of_grid, of_ppm, sampled_view, symbols_of};
 ghost use Rattle.wfc_task.specs.Steps.{sampled_in};
 
+use crate::built::is_picture_name;
 use crate::fault::{Refusal, Source};
-use crate::steps::grid;
+use crate::steps::{grid, ppm};
 use std::alloc::Global;
 use wfc_grid::{Grid, MAX_CELLS};
 use wfc_outside::{MAX_FILE_BYTES, NoMemory};
-use wfc_picture::{Kind, Symbol};
+use wfc_picture::{Kind, MAX_PIXELS, Symbol};
+use wfc_ppm::Ppm;
 use wfc_words::Request;
 
 /// What a sample shows: how a map of it is written, its width in pixels, and the symbols of its pixels row by row.
@@ -29,8 +31,41 @@ pub(crate) fn shown(alloc: Global, request: &Request, bytes: &[u8]) -> Result<Sa
     ensures exact { GivesStep (sampled_in request.now bytes.now) (result_map sampled_view result) }
     ensures sampled { IfOk result (λ sampled. IsSampled (sampled_view sampled)) }
 {
-    let grid = grid(alloc, Source::Sample, bytes)?;
-    of_grid(alloc, grid)
+    if is_picture_name(request.file().as_bytes()) {
+        let ppm = ppm(alloc, Source::Sample, bytes)?;
+        of_ppm(alloc, ppm)
+    } else {
+        let grid = grid(alloc, Source::Sample, bytes)?;
+        of_grid(alloc, grid)
+    }
+}
+
+/// What a picture of colours shows. The picture is let go.
+fn of_ppm(alloc: Global, ppm: Ppm) -> Result<Sampled, Refusal>
+    requires small { ppm.width * ppm.height ≤ MAX_PIXELS }
+    ensures exact { GivesStep (Ok (of_ppm ppm)) (result_map sampled_view result) }
+    ensures sampled { IfOk result (λ sampled. IsSampled (sampled_view sampled)) }
+{
+    let width = ppm.width;
+    let maxval = ppm.maxval;
+    let symbols = colours(alloc, ppm)?;
+    Ok(Sampled {
+        kind: Kind::Ppm { maxval },
+        width,
+        symbols,
+    })
+}
+
+/// What the pixels of a picture of colours show.
+fn colours(alloc: Global, ppm: Ppm) -> Result<Vec<Symbol>, NoMemory>
+    ensures value { IfOk result (λ symbols. symbols.items ≡ colours_of ppm) }
+{
+    let pixels = ppm.pixels.as_slice();
+    let mut symbols = Vec::with_capacity(alloc, pixels.len())?;
+    for colour in pixels {
+        symbols.push(Symbol::Rgb(*colour))?;
+    }
+    Ok(symbols)
 }
 
 /// What a grid shows. The grid is let go.

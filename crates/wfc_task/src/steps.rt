@@ -14,7 +14,7 @@ ghost use Rattle.wfc_task.specs.Asked.{IsSampleAsked, IsOutputAsked};
 ghost use Rattle.wfc_task.specs.Filling.{IsNumbered, IsPosed, IsSampled};
 ghost use Rattle.wfc_task.specs.Plan.{GivesStep};
 ghost use Rattle.wfc_task.specs.Sampled.{sampled_view};
-ghost use Rattle.wfc_task.specs.Steps.{chosen, coloured, fitting, grid_in, laid, or_refuse, pins_in, posed, same_rule, steps_in, taught};
+ghost use Rattle.wfc_task.specs.Steps.{chosen, coloured, fitting, grid_in, laid, or_refuse, pins_in, posed, ppm_in, same_rule, steps_in, taught};
 ghost use Rattle.wfc_task.specs.declared.fault.Refusal.TheVariants.{Build, Colours, Learn};
 
 use crate::built::side_of;
@@ -29,6 +29,7 @@ use wfc_overlap::build;
 use wfc_pattern::{Patterns, learn};
 use wfc_picture::{Kind, MAX_PIXELS, Palette, Picture, Symbol};
 use wfc_pins::{PinLine, StepLine, read_pins, read_steps, steps_fit};
+use wfc_ppm::Ppm;
 use wfc_problem::Problem;
 use wfc_render::{Layout, layout};
 use wfc_words::Request;
@@ -54,6 +55,18 @@ pub(crate) fn grid(alloc: Global, source: Source, bytes: &[u8]) -> Result<Grid, 
     match wfc_grid::read(alloc, bytes) {
         Ok(grid) => Ok(grid),
         Err(fault) => Err(Refusal::Grid { source, fault }),
+    }
+}
+
+/// The picture of colours that the bytes of a file spell.
+pub(crate) fn ppm(alloc: Global, source: Source, bytes: &[u8]) -> Result<Ppm, Refusal>
+    requires short { length bytes.now ≤ MAX_FILE_BYTES }
+    ensures exact { GivesStep (ppm_in source bytes.now) result }
+    ensures small { IfOk result (λ ppm. ppm.width * ppm.height ≤ MAX_PIXELS) }
+{
+    match wfc_ppm::read(alloc, bytes) {
+        Ok(ppm) => Ok(ppm),
+        Err(fault) => Err(Refusal::Ppm { source, fault }),
     }
 }
 

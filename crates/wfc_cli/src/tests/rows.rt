@@ -148,8 +148,69 @@ static FILL: [Row; 35] = [
     ("paint chk.txt", 3, "", "wfc: command refused\n"),
     ("", 3, "", "wfc: command refused\n"),
     // What isn't built yet.
-    ("fill one.ppm 1 2 1", 3, "", "wfc: command refused\n"),
+    ("fill chk.txt tiles 2 2", 3, "", "wfc: command refused\n"),
     ("refute chk.txt 2 3 2", 3, "", "wfc: command refused\n"),
+];
+
+/// Samples in colours.
+static PICTURES: [Row; 11] = [
+    (
+        "fill one.ppm 1 2 1",
+        0,
+        "P6\n2 1\n255\n\x01\x02\x03\x01\x02\x03",
+        "",
+    ),
+    (
+        "fill one.ppm 1 2 1 --form p3",
+        0,
+        "P3\n2 1\n255\n1 2 3\n1 2 3\n",
+        "",
+    ),
+    ("fill one.ppm 1 2 1 --form cells", 0, "0 0\n", ""),
+    (
+        "fill one.ppm 1 2 1 --form grid",
+        4,
+        "",
+        "wfc: render FormDiffers\n",
+    ),
+    // The last of two columns is red in a map whose first is blue.
+    (
+        "fill two.PPM 1 2 1 --form p3 --pins blue.pins",
+        0,
+        "P3\n2 1\n9\n0 0 9\n9 0 0\n",
+        "",
+    ),
+    (
+        "fill one.ppm 1 2 1 --pins a.pins",
+        4,
+        "",
+        "wfc: build UnknownSymbol line=1 file=a.pins\n",
+    ),
+    (
+        "fill two.ppm 1 2 1",
+        5,
+        "",
+        "wfc: device Missing file=two.ppm\n",
+    ),
+    (
+        "learn two.PPM 1",
+        0,
+        "overlap 1\ncolours 2\n0 9,0,0\n1 0,0,9\npatterns 2\n0 1: 0\n1 1: 1\n",
+        "",
+    ),
+    (
+        "domains two.PPM 1 2 1 --pins blue.pins",
+        0,
+        "step 0\n0: 1\n1: 0\n",
+        "",
+    ),
+    ("learn e.ppm 1", 4, "", "wfc: ppm Magic file=e.ppm\n"),
+    (
+        "learn cut.ppm 1",
+        4,
+        "",
+        "wfc: ppm Truncated wanted=3 found=2 file=cut.ppm\n",
+    ),
 ];
 
 static LEARN: [Row; 5] = [
@@ -274,6 +335,7 @@ fn commands_answer(rt: HostRuntime) -> Result<(), Fail> {
     check_in_pieces(&rt, 1, &FILL)?;
     check_in_pieces(&rt, 64, &FILL)?;
     check_in_pieces(&rt, 7, &LEARN)?;
+    check_in_pieces(&rt, 3, &PICTURES)?;
     check_in_pieces(&rt, 5, &DOMAINS)?;
     check_in_pieces(&rt, 64, &DEMO)
 }

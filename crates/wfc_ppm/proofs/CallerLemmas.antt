@@ -1,0 +1,2 @@
+-- What callers cite.
+pub use Rattle.wfc_ppm.proofs.PpmLemmas.{spelled-read, read-spelled, read-picture, one_picture}
