@@ -1,0 +1,7 @@
+use Rattle.wfc_lines.proofs.ppms.ppm.Goals as goal
+
+pub returns-in-SampleAboveMaxval : goal.returns-in-SampleAboveMaxval
+returns-in-SampleAboveMaxval g c = record { told = rw c.in-SampleAboveMaxval.is c.numbered-in-SampleAboveMaxval.ensures.told }
+
+pub returns-in-Trailing : goal.returns-in-Trailing
+returns-in-Trailing g c = record { told = rw c.in-Trailing.is c.numbered-in-Trailing.ensures.told }
