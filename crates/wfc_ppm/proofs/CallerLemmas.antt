@@ -1,2 +1,3 @@
 -- What callers cite.
-pub use Rattle.wfc_ppm.proofs.PpmLemmas.{spelled-read, read-spelled, read-picture, one_picture}
+pub use Rattle.wfc_ppm.proofs.PpmLemmas.{spelled-read, read-spelled, read-picture}
+pub use Rattle.wfc_ppm.proofs.OneLemmas.{one_picture}

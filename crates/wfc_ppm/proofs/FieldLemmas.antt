@@ -85,9 +85,14 @@ start-digits (digit ∷ digits) rest each some = stop-other digit (digits ++ res
 
 -- ---- what is read where a field stands
 
+-- the number as it is written, of any length
+abbrev pub written_value : List ℕ → ℕ
+written_value text = digits_value 10 (digits_of (start_of text))
+
 pub record ReadsField (text digits rest : List ℕ) (n : ℕ) : Type 0 where
   pub stop : stop_of false text ≡ record { rest = digits ++ rest; cut = false }
   pub value : field_value text ≡ min n 4294967295
+  pub written : written_value text ≡ n
   pub behind : behind_field text ≡ rest
   pub longer : length (digits ++ rest) < length text
   pub some : 0 < length digits
@@ -108,6 +113,7 @@ field-reads bytes rest n field stops =
     record {
       stop = stop;
       value = ap (λ t. min (digits_value 10 (digits_of t)) 4294967295) start ∙ ap (λ t. min (digits_value 10 t) 4294967295) (digits_of-front field.digits rest field.numeral.each stops) ∙ ap (λ v. min v 4294967295) field.numeral.value;
+      written = ap (λ t. digits_value 10 (digits_of t)) start ∙ ap (digits_value 10) (digits_of-front field.digits rest field.numeral.each stops) ∙ field.numeral.value;
       behind = ap behind_digits start ∙ behind_digits-front field.digits rest field.numeral.each stops;
       longer = omega (arith, ap length parts, length-append (concat field.apart.gaps) (field.digits ++ rest), longer_gaps field.apart.gaps field.apart.each field.apart.some);
       some = field.numeral.some;
@@ -140,10 +146,6 @@ pub field-stops : (bytes rest : List ℕ) (n : ℕ) → IsField bytes n → Stop
 field-stops bytes rest n field = token-stops (bytes ++ rest) (field-ends bytes rest n field)
 
 -- ---- the field that stands where no fault is
-
--- the number as it is written, of any length
-abbrev pub written_value : List ℕ → ℕ
-written_value text = digits_value 10 (digits_of (start_of text))
 
 pub record StandsField (text : List ℕ) : Type 0 where
   pub bytes : List ℕ

@@ -4,6 +4,7 @@ pub mod FieldLemmas
 pub mod GapLemmas
 pub mod HeadLemmas
 pub mod HeaderLemmas
+pub mod OneLemmas
 pub mod PixelLemmas
 pub mod PlainLemmas
 pub mod PlainPixelLemmas

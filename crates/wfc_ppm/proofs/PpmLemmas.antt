@@ -250,7 +250,3 @@ read-picture text ppm read = by (form_of text) refl read
     by : (form : Option Form) → form_of text ≡ form → ppm_in form text ≡ Ok ppm → IsPpm ppm × (ppm.width * ppm.height ≤ 1048576)
     by None formed same = absurd (cc)
     by (Some form) formed same = in_form form (fault_of form text) refl same
-
--- within the limit a text spells at most one picture
-pub one_picture : (text : List ℕ) (a b : PpmView) → SpellsPpm text a → SpellsPpm text b → a.width * a.height ≤ 1048576 → b.width * b.height ≤ 1048576 → a ≡ b
-one_picture text a b one other within_a within_b = let left = spelled-read text a one within_a in let right = spelled-read text b other within_b in cc

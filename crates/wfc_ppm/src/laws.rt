@@ -20,6 +20,11 @@ pub fn spelled_pictures_are_read()
         → ((ppm_of text ≡ Ok ppm) ↔ (SpellsPpm text ppm × (ppm.width * ppm.height ≤ MAX_PIXELS))) }
 {}
 
+/// A text spells at most one picture, of any size.
+pub fn spelled_pictures_are_one()
+    ensures one { (text : List ℕ) (a b : PpmView) → SpellsPpm text a → SpellsPpm text b → a ≡ b }
+{}
+
 /// Two pixels in a row, as they are read and written in both forms.
 pub fn two_pixels_by_example()
     ensures raw { ppm_of (codes "P6\n# made by hand\n2 1\n200 " ++ 1 ∷ 2 ∷ 3 ∷ 200 ∷ 0 ∷ 10 ∷ []) ≡ Ok two_pixels }
