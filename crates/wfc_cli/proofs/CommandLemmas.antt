@@ -106,7 +106,7 @@ came_to rules command words before after status answer asked files given = by_ca
     by_call (told reply replied delivers) = by_reply reply replied delivers
 
 -- the outcome of the plan of its command
-planned : (rules : List Rule) (asked : RequestView) (files : List File) (command : CommandKind) (task : Task) → is_built asked ≡ true → asked.command ≡ command → task_of rules asked files ≡ Ok task
+pub planned : (rules : List Rule) (asked : RequestView) (files : List File) (command : CommandKind) (task : Task) → is_built asked ≡ true → asked.command ≡ command → task_of rules asked files ≡ Ok task
     → outcome (plan_by command (kinds_of rules) asked) files ≡ Ok task
 planned rules asked files command task built is comes = ap (λ (plan : Plan Task). outcome plan files) (built_plan rules asked command built is) ∙ comes
 

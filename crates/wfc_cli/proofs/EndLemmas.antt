@@ -69,19 +69,19 @@ ends_unbuilt rules asked folder sink unbuilt =
     }
 
 -- a command that is built is one of these
-pub other_built : (asked : RequestView) (command : CommandKind) → asked.command ≡ command → (command ≡ commands.Learn → ⊥) → (command ≡ commands.Fill → ⊥) → (command ≡ commands.Domains → ⊥) → (command ≡ commands.Demo → ⊥)
+pub other_built : (asked : RequestView) (command : CommandKind) → asked.command ≡ command → (command ≡ commands.Learn → ⊥) → (command ≡ commands.Fill → ⊥) → (command ≡ commands.Domains → ⊥) → (command ≡ commands.Demo → ⊥) → (command ≡ commands.Check → ⊥)
     → is_built asked ≡ true → ⊥
-other_built asked command is not_learn not_fill not_domains not_demo built =
-    false≢true (sym (by_command command not_learn not_fill not_domains not_demo) ∙ sym (ap (λ c. is_built_by c asked) is) ∙ built)
+other_built asked command is not_learn not_fill not_domains not_demo not_check built =
+    false≢true (sym (by_command command not_learn not_fill not_domains not_demo not_check) ∙ sym (ap (λ c. is_built_by c asked) is) ∙ built)
   where
-    by_command : (c : CommandKind) → (c ≡ commands.Learn → ⊥) → (c ≡ commands.Fill → ⊥) → (c ≡ commands.Domains → ⊥) → (c ≡ commands.Demo → ⊥) → is_built_by c asked ≡ false
-    by_command commands.Learn l f d e = absurd (l refl)
-    by_command commands.Fill l f d e = absurd (f refl)
-    by_command commands.Domains l f d e = absurd (d refl)
-    by_command commands.Demo l f d e = absurd (e refl)
-    by_command commands.Refute l f d e = refl
-    by_command commands.Check l f d e = refl
-    by_command commands.Upgrade l f d e = refl
+    by_command : (c : CommandKind) → (c ≡ commands.Learn → ⊥) → (c ≡ commands.Fill → ⊥) → (c ≡ commands.Domains → ⊥) → (c ≡ commands.Demo → ⊥) → (c ≡ commands.Check → ⊥) → is_built_by c asked ≡ false
+    by_command commands.Learn l f d e k = absurd (l refl)
+    by_command commands.Fill l f d e k = absurd (f refl)
+    by_command commands.Domains l f d e k = absurd (d refl)
+    by_command commands.Demo l f d e k = absurd (e refl)
+    by_command commands.Refute l f d e k = refl
+    by_command commands.Check l f d e k = absurd (k refl)
+    by_command commands.Upgrade l f d e k = refl
 
 -- a command that puts its text itself: its plan ended with a fault, and nothing was put
 pub put_none : (rules : List Rule) (asked : RequestView) (command : CommandKind) (before after : FolderView) (sink : SinkView) (fault : Fault) → is_built asked ≡ true → asked.command ≡ command
@@ -139,7 +139,7 @@ answered rules words asked before after status ended spelled put says = record {
     by_reply : (reply : Reply) (ended : Result Verdict Stop) → Leaves reply before.out after.out ended → Says asked ended before.err after.err status → Delivers (said_of asked reply) before.out after.out before.err after.err status
     by_reply (Ok answer) (Ok verdict) leaves says = inl (record {
       taken = leaves.1;
-      told = subst (λ v. Tells (verdict_text v) before.err after.err) leaves.0 says.0;
+      told = subst (λ v. Tells (verdict_text asked v) before.err after.err) leaves.0 says.0;
       same_status = says.1 ∙ ap verdict_status leaves.0;
     })
     by_reply (Ok answer) (Err Cut) leaves says = inr (record { front = leaves; told = says.0; five = says.1 })

@@ -5,3 +5,4 @@ pub mod WalkLemmas
 pub mod EndLemmas
 pub mod TheoremLemmas
 pub mod CommandLemmas
+pub mod CheckLemmas

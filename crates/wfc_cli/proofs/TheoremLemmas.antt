@@ -26,7 +26,7 @@ use Rattle.wfc_cli.specs.Choosers.{kinds_of}
 use Rattle.wfc_cli.specs.ErrorLine.{command_status}
 use Rattle.wfc_cli.specs.Reply.{Reply, CutsOff, Delivers, IsDelivered, Takes, said_of, verdict_status}
 use Rattle.wfc_cli.specs.declared.reply.Verdict.{Verdict}
-use Rattle.wfc_cli.specs.declared.reply.Verdict.TheVariants.{Done, NoMap, Spent, Dead, MapExists}
+use Rattle.wfc_cli.specs.declared.reply.Verdict.TheVariants.{Done, NoMap, Spent, Dead, MapExists, Unaccepted}
 use Rattle.wfc_cli.specs.Answer.{AnswersAsked, Devices, Ends, IsAnswer, IsAnswerTo, IsRefusedCall, Replied, Replies}
 use Rattle.wfc_cli.specs.Theorem.{AreQuiet, HasFirstFault, IsAnswered, IsComplete, IsDeviceFault, IsFileFault, IsGiven, IsNoCommand, IsRefusedFirst, IsRefusedWith, IsWithoutAnswer, NoneCounted, task_of}
 
@@ -37,6 +37,7 @@ verdict_low NoMap = omega arith
 verdict_low (Spent budget) = omega arith
 verdict_low Dead = omega arith
 verdict_low MapExists = omega arith
+verdict_low (Unaccepted fault) = omega arith
 
 -- so none has one from 3 to 7
 pub verdict_apart : (verdict : Verdict) (k : ℕ) → 3 ≤ k → verdict_status verdict ≡ k → ⊥

@@ -12,6 +12,7 @@ use Rattle.wfc_pins.specs.declared.steps.Step.TheVariants.{Assume, Undo}
 use Rattle.wfc_pins.specs.declared.steps.StepLine.{StepLine}
 use Rattle.wfc_overlap.specs.Sample.{Output, output_with}
 use Rattle.wfc_overlap.specs.Bridge.{picture_of}
+use Rattle.wfc_check.specs.declared.fault.CheckFault.{CheckFault}
 use Rattle.wfc_choose.specs.Pick.{Rule}
 use Rattle.wfc_choose.specs.declared.RuleKind.TheVariants.{Fewest}
 use Rattle.wfc_search.specs.Run.{State}
@@ -23,13 +24,13 @@ use Rattle.wfc_render.specs.Learned.{learned_text}
 use Rattle.wfc_render.specs.Map.{map_text}
 use Rattle.wfc_render.specs.declared.form.Layout.{Layout}
 use Rattle.wfc_words.specs.RequestView.{RequestView}
-use Rattle.wfc_task.specs.Task.{Task, learn, fill, domains, demo}
+use Rattle.wfc_task.specs.Task.{Task, learn, fill, domains, demo, check}
 use Rattle.wfc_cli.specs.Reply.{Answered, done_with}
 use Rattle.wfc_cli.specs.Runs.{end_of}
 use Rattle.wfc_cli.specs.declared.runs.End.{End}
 use Rattle.wfc_cli.specs.declared.runs.End.TheVariants as held
 use Rattle.wfc_cli.specs.declared.reply.Verdict.{Verdict}
-use Rattle.wfc_cli.specs.declared.reply.Verdict.TheVariants.{Done, NoMap, Spent, Dead}
+use Rattle.wfc_cli.specs.declared.reply.Verdict.TheVariants.{Done, NoMap, Spent, Dead, Unaccepted}
 
 -- the output that a request asks for
 abbrev pub output_of : RequestView → Output
@@ -114,11 +115,21 @@ root_verdict P = if is_dead P (greatest P []) then Dead else Done
 abbrev pub domains_answer : Network → List StepLine → Answered
 domains_answer P steps = record { verdict = root_verdict P; text = Some (steps_text P steps) }
 
+-- what `check` writes of a refutation
+abbrev pub accepted_text : List ℕ
+accepted_text = codes "accepted\n"
+
+-- the answer of `check`, where this is the first fault of the text, or there is none
+abbrev pub check_answer : Option CheckFault → Answered
+check_answer None = done_with accepted_text
+check_answer (Some fault) = record { verdict = Unaccepted fault; text = None }
+
 -- the answer to a task, where these are the rules of the choosers
 abbrev pub answer_of : List Rule → RequestView → Task → Option Answered
 answer_of rules asked (learn patterns palette) = Some (done_with (learned_text patterns palette))
 answer_of rules asked (fill patterns palette layout P) = fill_answer asked patterns palette layout P (end_of rules asked.rule P asked.budget asked.seed)
 answer_of rules asked (domains P steps) = Some (domains_answer P steps)
+answer_of rules asked (check found) = Some (check_answer found)
 answer_of rules asked (demo patterns P) = demo_answer patterns P (end_of rules Fewest P demo_budget asked.number)
 
 -- how a demonstration ends whose run ends so

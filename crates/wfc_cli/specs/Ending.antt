@@ -28,6 +28,6 @@ pub record EndsPut (rules : List Rule) (asked : RequestView) (before after : Fol
 
 -- what the error stream is told of an ending, and the status
 abbrev pub Says : RequestView → Result Verdict Stop → SinkView → SinkView → ℕ → Type 0
-Says asked (Ok verdict) old new status = Tells (verdict_text verdict) old new × (status ≡ verdict_status verdict)
+Says asked (Ok verdict) old new status = Tells (verdict_text asked verdict) old new × (status ≡ verdict_status verdict)
 Says asked (Err Cut) old new status = Tells (Some out_failed_text) old new × (status ≡ 5)
 Says asked (Err (Unanswered fault)) old new status = Tells (Some (fault_text asked fault)) old new × (status ≡ status_of fault)

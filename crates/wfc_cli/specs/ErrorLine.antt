@@ -1,5 +1,6 @@
 -- The text of the line of a fault: which kind of line it is, and the file that it names.
 use Rattle.std.specs.Prelude.{ℕ, List, [], unwrap_or}
+use Rattle.wfc_outside.specs.declared.whole.ReadFault.TheVariants as reads
 use Rattle.wfc_lines.specs.Build.{text_of_build}
 use Rattle.wfc_lines.specs.Command.{text_of_chooser, text_of_command}
 use Rattle.wfc_lines.specs.Grid.{text_of_grid}
@@ -46,6 +47,7 @@ refusal_text asked (refused.Pins fault) = text_of_pins fault (name_of asked sour
 refusal_text asked (refused.Build fault) = text_of_build fault (name_of asked source.Pins)
 refusal_text asked (refused.Steps fault) = text_of_steps fault (name_of asked source.Steps)
 refusal_text asked (refused.Range fault) = text_of_range fault (name_of asked source.Steps)
+refusal_text asked (refused.TooLong which) = text_of_reading reads.TooLong (name_of asked which)
 refusal_text asked refused.NoMemory = no_memory_text
 
 -- the text of a fault; a file is named as the words do

@@ -9,3 +9,4 @@ pub mod Answer
 pub mod Ending
 pub mod Theorem
 pub mod Claims
+pub mod CheckClaims

@@ -5,12 +5,14 @@ use Rattle.wfc_words.specs.RequestView.{RequestView}
 use Rattle.wfc_words.specs.declared.fault.CommandFault.{CommandFault}
 use Rattle.wfc_task.specs.Fault.{status_of}
 use Rattle.wfc_task.specs.declared.fault.Fault.{Fault}
+use Rattle.wfc_lines.specs.Check.{text_of_check}
 use Rattle.wfc_lines.specs.Command.{text_of_command}
 use Rattle.wfc_lines.specs.Line.{line}
 use Rattle.wfc_lines.specs.Outcome.{map_exists_text, no_domains_text, no_map_text, out_failed_text, text_of_budget}
-use Rattle.wfc_cli.specs.ErrorLine.{command_status, fault_text}
+use Rattle.wfc_task.specs.declared.fault.Source.TheVariants as source
+use Rattle.wfc_cli.specs.ErrorLine.{command_status, fault_text, name_of}
 use Rattle.wfc_cli.specs.declared.reply.Verdict.{Verdict}
-use Rattle.wfc_cli.specs.declared.reply.Verdict.TheVariants.{Done, NoMap, Spent, Dead, MapExists}
+use Rattle.wfc_cli.specs.declared.reply.Verdict.TheVariants.{Done, NoMap, Spent, Dead, MapExists, Unaccepted}
 
 -- an answer: how the command ended, and the text that it writes, if it writes any
 pub record Answered : Type 0 where
@@ -32,14 +34,16 @@ verdict_status NoMap = 1
 verdict_status (Spent budget) = 2
 verdict_status Dead = 1
 verdict_status MapExists = 1
+verdict_status (Unaccepted fault) = 1
 
 -- what the error stream is told of a verdict
-abbrev pub verdict_text : Verdict → Option (List ℕ)
-verdict_text Done = None
-verdict_text NoMap = Some no_map_text
-verdict_text (Spent budget) = Some (text_of_budget budget)
-verdict_text Dead = Some no_domains_text
-verdict_text MapExists = Some map_exists_text
+abbrev pub verdict_text : RequestView → Verdict → Option (List ℕ)
+verdict_text asked Done = None
+verdict_text asked NoMap = Some no_map_text
+verdict_text asked (Spent budget) = Some (text_of_budget budget)
+verdict_text asked Dead = Some no_domains_text
+verdict_text asked MapExists = Some map_exists_text
+verdict_text asked (Unaccepted fault) = Some (text_of_check fault (name_of asked source.Refutation))
 
 -- what leaves a call: its status, the text for the sink of the answer, and the text of the line for the error stream
 pub record Said : Type 0 where
@@ -49,7 +53,7 @@ pub record Said : Type 0 where
 
 -- what a reply says
 abbrev pub said_of : RequestView → Reply → Said
-said_of asked (Ok answered) = record { status = verdict_status answered.verdict; text = answered.text; told = verdict_text answered.verdict }
+said_of asked (Ok answered) = record { status = verdict_status answered.verdict; text = answered.text; told = verdict_text asked answered.verdict }
 said_of asked (Err fault) = record { status = status_of fault; text = None; told = Some (fault_text asked fault) }
 
 -- what words say that were read as no request

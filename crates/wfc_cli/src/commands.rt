@@ -7,6 +7,7 @@ ghost use Rattle.wfc_task.specs.declared.fault.Refusal.TheVariants.{NotBuilt};
 ghost use Rattle.wfc_cli.specs.Ending.{EndsPut};
 ghost use Rattle.wfc_cli.specs.declared.reply.Stop.TheVariants.{Unanswered};
 
+mod check;
 mod demo;
 mod domains;
 mod fill;
@@ -14,6 +15,7 @@ mod learn;
 
 use crate::deliver::put;
 use crate::reply::{Stop, Verdict};
+use check::check;
 use demo::demo;
 use domains::domains;
 use fill::fill;
@@ -44,6 +46,7 @@ pub(crate) fn run<F: Folder, O: Sink>(
         CommandKind::Fill => put(out, fill(alloc, request, choosers, folder)),
         CommandKind::Demo => put(out, demo(alloc, request, choosers, folder)),
         CommandKind::Domains => domains(alloc, request, folder, out),
+        CommandKind::Check => put(out, check(alloc, request, folder)),
         _ => Err(unbuilt()),
     }
 }

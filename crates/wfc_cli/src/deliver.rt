@@ -5,11 +5,11 @@ ghost use Rattle.wfc_cli.specs.Ending.{Leaves, Says};
 ghost use Rattle.wfc_cli.specs.Reply.{Tells, said_of_words, verdict_text};
 ghost use Rattle.wfc_cli.specs.ReplyView.{reply_view};
 
-use crate::lines::tell_fault;
+use crate::lines::{name, tell_fault};
 use crate::reply::{Answer, Stop, Verdict};
-use wfc_lines::{budget_spent, command, map_exists, no_domains, no_map, out_failed};
+use wfc_lines::{budget_spent, check, command, map_exists, no_domains, no_map, out_failed};
 use wfc_outside::{Sink, write_all};
-use wfc_task::Fault;
+use wfc_task::{Fault, Source};
 use wfc_words::{CommandFault, Request};
 
 /// Tells how a command ended, and answers the status.
@@ -18,7 +18,7 @@ pub(crate) fn deliver<E: Sink>(request: &Request, ended: Result<Verdict, Stop>, 
 {
     match ended {
         Ok(verdict) => {
-            tell_verdict(err, verdict);
+            tell_verdict(err, request, verdict);
             verdict.status()
         }
         Err(Stop::Cut) => {
@@ -57,8 +57,8 @@ pub(crate) fn put<O: Sink>(out: &mut O, reply: Result<Answer, Fault>) -> Result<
 }
 
 /// Tells the line of a verdict, if it has one.
-fn tell_verdict<E: Sink>(err: &mut E, verdict: Verdict)
-    ensures told { Tells (verdict_text verdict) (E.seen err.old) (E.seen err.new) }
+fn tell_verdict<E: Sink>(err: &mut E, request: &Request, verdict: Verdict)
+    ensures told { Tells (verdict_text request.now verdict) (E.seen err.old) (E.seen err.new) }
 {
     let _ = match verdict {
         Verdict::Done => Ok(()),
@@ -66,5 +66,6 @@ fn tell_verdict<E: Sink>(err: &mut E, verdict: Verdict)
         Verdict::Spent { budget } => budget_spent(err, budget),
         Verdict::Dead => no_domains(err),
         Verdict::MapExists => map_exists(err),
+        Verdict::Unaccepted { fault } => check(err, &fault, name(request, Source::Refutation)),
     };
 }

@@ -4,6 +4,7 @@
 ghost use Rattle.std.specs.Prelude.{◌≡◌, ◌≢◌, ◌⊎◌, map};
 ghost use Rattle.wfc_words.specs.Request.{texts};
 ghost use Rattle.wfc_cli.specs.Answer.{IsAnswer, devices};
+ghost use Rattle.wfc_cli.specs.CheckClaims.{ChecksRefutation};
 ghost use Rattle.wfc_cli.specs.Claims.{HasNoMap, IsAsRun, IsNeverSpent, WritesDemo, WritesDomains, WritesFront, WritesLearned, WritesLegalMap};
 ghost use Rattle.wfc_cli.specs.Reply.{Tells, said_of_words};
 ghost use Rattle.wfc_cli.specs.Theorem.{AreQuiet, HasFirstFault, IsComplete, IsDeviceFault, IsNoCommand, IsRefusedFirst, IsWithoutAnswer};
@@ -66,9 +67,10 @@ pub fn run<F: Folder, O: Sink, E: Sink>(
         (devices (F.seen folder.old) (O.seen out.old) (E.seen err.old)) (devices (F.seen folder.new) (O.seen out.new) (E.seen err.new)) result }
     ensures never_spent { IsNeverSpent (map (λ chooser. (told chooser).rule) choosers.items) (texts words.now) (devices (F.seen folder.old) (O.seen out.old) (E.seen err.old)) result }
 
-    // What the other commands write.
+    // What the other commands write; `check` accepts exactly the refutations, and then no picture is legal.
     ensures learned { WritesLearned (texts words.now) (devices (F.seen folder.old) (O.seen out.old) (E.seen err.old)) (devices (F.seen folder.new) (O.seen out.new) (E.seen err.new)) result }
     ensures domains { WritesDomains (texts words.now) (devices (F.seen folder.old) (O.seen out.old) (E.seen err.old)) (devices (F.seen folder.new) (O.seen out.new) (E.seen err.new)) result }
+    ensures checked { ChecksRefutation (texts words.now) (devices (F.seen folder.old) (O.seen out.old) (E.seen err.old)) (devices (F.seen folder.new) (O.seen out.new) (E.seen err.new)) result }
     ensures demo { WritesDemo (map (λ chooser. (told chooser).rule) choosers.items) (texts words.now)
         (devices (F.seen folder.old) (O.seen out.old) (E.seen err.old)) (devices (F.seen folder.new) (O.seen out.new) (E.seen err.new)) result }
 {

@@ -9,7 +9,7 @@ use wfc_lines::{
     build, chooser, command, grid, learn, no_memory, palette, pins, ppm, range, reading, render,
     steps,
 };
-use wfc_outside::{Sink, SinkFault};
+use wfc_outside::{ReadFault, Sink, SinkFault};
 use wfc_task::{Fault, Refusal, Source};
 use wfc_words::{CommandFault, Request};
 
@@ -28,7 +28,7 @@ pub(crate) fn tell_fault<E: Sink>(
 }
 
 /// The name of a file by what it is to the command.
-fn name(request: &Request, source: Source) -> &str
+pub(crate) fn name(request: &Request, source: Source) -> &str
     ensures value { result.now ≡ name_of request.now source }
 {
     match source {
@@ -54,6 +54,7 @@ fn tell_refusal<E: Sink>(err: &mut E, request: &Request, refusal: Refusal) -> Re
         Refusal::Build { fault } => build(err, fault, name(request, Source::Pins)),
         Refusal::Steps { fault } => steps(err, fault, name(request, Source::Steps)),
         Refusal::Range { fault } => range(err, fault, name(request, Source::Steps)),
+        Refusal::TooLong { source } => reading(err, ReadFault::TooLong, name(request, source)),
         Refusal::NoMemory => no_memory(err),
     }
 }

@@ -3,6 +3,7 @@
 ghost use Rattle.std.specs.Prelude.{◌≡◌};
 ghost use Rattle.wfc_cli.specs.Reply.{verdict_status};
 
+use wfc_check::CheckFault;
 use wfc_outside::{NoMemory, SinkFault};
 use wfc_task::{Fault, Refusal};
 
@@ -19,6 +20,8 @@ pub enum Verdict {
     Dead,
     /// A map was found where none was wanted.
     MapExists,
+    /// The text of a file is no refutation, for this fault.
+    Unaccepted { fault: CheckFault },
 }
 
 /// The answer of a command.
@@ -67,7 +70,7 @@ impl Verdict {
     {
         match self {
             Verdict::Done => 0,
-            Verdict::NoMap | Verdict::Dead | Verdict::MapExists => 1,
+            Verdict::NoMap | Verdict::Dead | Verdict::MapExists | Verdict::Unaccepted { .. } => 1,
             Verdict::Spent { .. } => 2,
         }
     }

@@ -13,7 +13,7 @@ use wfc_choose::{Buckets, Chooser, Scanning};
 use wfc_outside::{Folder, MemoryFolder, MemorySink};
 
 /// The files of the tests.
-const FILES: [(&str, &str); 25] = [
+const FILES: [(&str, &str); 30] = [
     ("chk.txt", "ab\nba\n"),
     ("a.txt", "a\n"),
     ("e.txt", ""),
@@ -42,6 +42,20 @@ const FILES: [(&str, &str); 25] = [
     ("out.steps", "choose 3 0\n"),
     ("bad.steps", "choose 3\n"),
     ("low.steps", "choose 0 2\n"),
+    (
+        "one.ref",
+        "wfc-refutation 1\ncells 2 values 1\nr 0 0 2\nx 0\nq\n",
+    ),
+    (
+        "two.ref",
+        "wfc-refutation 2\ncells 2 values 1\nfor 2 3 2 1 1 0 0\nr 0 0 0 2\nx 0\nq\n",
+    ),
+    (
+        "other.ref",
+        "wfc-refutation 2\ncells 2 values 1\nfor 2 3 2 1 8 0 0\nr 0 0 0 2\nx 0\nq\n",
+    ),
+    ("open.ref", "wfc-refutation 1\ncells 2 values 1\nr 0 0 2\n"),
+    ("full.ref", "wfc-refutation 1\ncells 2 values 1\nx 0\nq\n"),
 ];
 
 pub fn folder_of(alloc: Global, piece: usize) -> Result<MemoryFolder, AllocError>

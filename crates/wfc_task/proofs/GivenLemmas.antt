@@ -61,15 +61,15 @@ use Rattle.wfc_task.proofs.PlanLemmas.{outcome_on, outcome_parts}
 use Rattle.wfc_task.proofs.TaskLemmas.{behind_lesson, behind_layout, behind_picture, behind_problem, behind_sample, behind_sampled}
 
 -- a step that comes to a value, and a value that a step comes to
-step_ok : {T : Type 0} (result : Result T Refusal) (files : List File) (value : T) → outcome (step result) files ≡ Ok value → result ≡ Ok value
+pub step_ok : {T : Type 0} (result : Result T Refusal) (files : List File) (value : T) → outcome (step result) files ≡ Ok value → result ≡ Ok value
 step_ok (Ok x) files value is = let same : x ≡ value = cc in ap (λ v. let result : Result _ Refusal = Ok v in result) same
 step_ok (Err refusal) files value is = absurd (cc)
 
-ok_step : {T : Type 0} (result : Result T Refusal) (files : List File) (value : T) → result ≡ Ok value → outcome (step result) files ≡ Ok value
+pub ok_step : {T : Type 0} (result : Result T Refusal) (files : List File) (value : T) → result ≡ Ok value → outcome (step result) files ≡ Ok value
 ok_step result files value is = ap (λ r. outcome (step r) files) is
 
 -- a plan that ends with what it came to
-done_is : {T : Type 0} (value wanted : T) (files : List File) → outcome (done value) files ≡ Ok wanted → value ≡ wanted
+pub done_is : {T : Type 0} (value wanted : T) (files : List File) → outcome (done value) files ≡ Ok wanted → value ≡ wanted
 done_is value wanted files is = cc
 
 -- a call whose fault is refused
@@ -132,7 +132,7 @@ given_sampled asked files sampled file =
     outcome_on (file_plan Sample asked.file) (λ bytes. step (sampled_in asked bytes)) files file.bytes (given_file Sample asked.file files file.bytes file.file)
     ∙ ok_step (sampled_in asked file.bytes) files sampled (given_shown (is_picture_name asked.file) file.bytes sampled file.shows)
 
-sample_given : (asked : RequestView) (files : List File) (lesson : Taught) → outcome (sample_plan asked) files ≡ Ok lesson → IsSample asked files lesson.kind lesson.patterns lesson.palette
+pub sample_given : (asked : RequestView) (files : List File) (lesson : Taught) → outcome (sample_plan asked) files ≡ Ok lesson → IsSample asked files lesson.kind lesson.patterns lesson.palette
 sample_given asked files lesson is =
     let seen = outcome_parts (picture_plan asked) (behind_picture asked) files lesson is in
     let shown = outcome_parts (sampled_plan asked) behind_sampled files seen.0 seen.1 in
@@ -150,7 +150,7 @@ sample_given asked files lesson is =
       learned = unrefused refusals.Learn (patterns_of seen.0.1 (side_of asked.source) asked.symmetry asked.wrap_in) known.0 (step_ok (taught asked seen.0.1) files known.0 known.1);
     })
 
-given_sample : (asked : RequestView) (files : List File) (kind : Kind) (patterns : PatternsView) (palette : List Symbol) → IsSample asked files kind patterns palette
+pub given_sample : (asked : RequestView) (files : List File) (kind : Kind) (patterns : PatternsView) (palette : List Symbol) → IsSample asked files kind patterns palette
     → outcome (sample_plan asked) files ≡ Ok (record { kind = kind; palette = palette; patterns = patterns })
 given_sample asked files kind patterns palette sample =
     let sampled = sample.sampled in
@@ -218,7 +218,7 @@ given_steps (Some name) P files steps held inside =
     ∙ ok_step (fitting P steps) files steps (ap (unless_out steps) inside)
 
 -- problems
-problem_given : (asked : RequestView) (files : List File) (lesson : Taught) (P : Network) → outcome (problem_plan asked lesson) files ≡ Ok P → IsProblemOf asked files lesson.patterns lesson.palette P
+pub problem_given : (asked : RequestView) (files : List File) (lesson : Taught) (P : Network) → outcome (problem_plan asked lesson) files ≡ Ok P → IsProblemOf asked files lesson.patterns lesson.palette P
 problem_given asked files lesson P is =
     let output = output_with asked.width asked.height asked.wrap_out in
     let held = outcome_parts (pins_plan asked.pins) (λ lines. step (posed asked lesson.patterns lesson.palette lines)) files P is in
@@ -234,7 +234,7 @@ given_built patterns palette output lines pins room meant =
     let few : nat_lt MAX_PAIRS (pairs patterns output) ≡ false = grind (arith, nat_tests, room.few_pairs) in
     rw (wide, high, few, meant) refl
 
-given_problem : (asked : RequestView) (files : List File) (lesson : Taught) (P : Network) → IsProblemOf asked files lesson.patterns lesson.palette P → outcome (problem_plan asked lesson) files ≡ Ok P
+pub given_problem : (asked : RequestView) (files : List File) (lesson : Taught) (P : Network) → IsProblemOf asked files lesson.patterns lesson.palette P → outcome (problem_plan asked lesson) files ≡ Ok P
 given_problem asked files lesson P task =
     let output = output_with asked.width asked.height asked.wrap_out in
     outcome_on (pins_plan asked.pins) (λ lines. step (posed asked lesson.patterns lesson.palette lines)) files task.lines (given_pins asked.pins files task.lines task.held)

@@ -5,6 +5,7 @@ pub mod DemoLemmas
 pub mod TaskLemmas
 pub mod FillingLemmas
 pub mod GivenLemmas
+pub mod CheckingLemmas
 pub mod RequestLemmas
 pub mod CountLemmas
 pub mod CallerLemmas

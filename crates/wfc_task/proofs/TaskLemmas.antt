@@ -14,8 +14,9 @@ use Rattle.wfc_task.specs.declared.fault.Refusal.{Refusal}
 use Rattle.wfc_task.specs.declared.task.Taught.{Taught}
 use Rattle.wfc_task.specs.Plan.{Plan, Goes, GivesStep, done, step, and_then}
 use Rattle.wfc_task.specs.Sampled.{SampledView}
+use Rattle.wfc_task.specs.Checking.{refutation_plan}
 use Rattle.wfc_task.specs.Steps.{chosen, coloured, laid, taught}
-use Rattle.wfc_task.specs.Task.{Task, fill, domains, sample_plan, problem_plan, steps_plan, fill_plan}
+use Rattle.wfc_task.specs.Task.{Task, fill, domains, check, sample_plan, problem_plan, steps_plan, fill_plan}
 use Rattle.wfc_task.proofs.PlanLemmas.{refused, goes_step, goes_on, goes_out}
 
 -- a step behind a plan that came to something, as the last
@@ -52,6 +53,13 @@ behind_problem asked P = and_then (steps_plan asked.steps P) (λ steps. done (do
 
 abbrev pub behind_lesson : RequestView → Taught → Plan Task
 behind_lesson asked lesson = and_then (problem_plan asked lesson) (behind_problem asked)
+
+-- what follows a problem and a sample in `check`
+abbrev pub behind_checked_problem : RequestView → Network → Plan Task
+behind_checked_problem asked P = and_then (refutation_plan asked P) (λ found. done (check found))
+
+abbrev pub behind_checked_lesson : RequestView → Taught → Plan Task
+behind_checked_lesson asked lesson = and_then (problem_plan asked lesson) (behind_checked_problem asked)
 
 -- a chooser that is there, and what follows in `fill`
 pub behind_chooser : (kinds : List RuleKind) (asked : RequestView) (rule : RuleKind) (before after : FolderView) (given : Unit {0}) (result : Result Task Fault)

@@ -35,6 +35,9 @@ use Rattle.wfc_pins.specs.declared.steps.StepFault.TheVariants as steps
 use Rattle.wfc_pins.specs.declared.steps.RangeFault.{RangeFault}
 use Rattle.wfc_overlap.specs.Built.{built}
 use Rattle.wfc_overlap.specs.Sample.{output_with}
+use Rattle.wfc_check.specs.Text.{checked}
+use Rattle.wfc_check.specs.declared.fault.CheckFault.{CheckFault}
+use Rattle.wfc_check.specs.declared.fault.CheckFault.TheVariants as checks
 use Rattle.wfc_choose.specs.declared.RuleKind.{RuleKind}
 use Rattle.wfc_choose.specs.declared.RuleKind.TheVariants as rules
 use Rattle.wfc_render.specs.Layout.{layout_of}
@@ -45,11 +48,12 @@ use Rattle.wfc_task.specs.declared.fault.Source.TheVariants.{Sample}
 use Rattle.wfc_task.specs.declared.fault.Refusal.TheVariants.{NotBuilt, Chooser, Grid, Ppm, Colours, Learn, Render, Pins, Build, Steps}
 use Rattle.wfc_task.specs.declared.task.Taught.{Taught}
 use Rattle.wfc_task.specs.Built.{is_built, is_built_by, is_picture_name, side_of}
+use Rattle.wfc_task.specs.Checking.{refutation_plan, shape_of, verdict_in}
 use Rattle.wfc_task.specs.Demo.{demo_patterns, demo_problem}
 use Rattle.wfc_task.specs.Sampled.{of_grid, of_ppm}
 use Rattle.wfc_task.specs.Steps.{chosen, coloured, fitting, laid, or_refuse, posed, same_rule, shown_in, steps_in, taught, unless_out}
-use Rattle.wfc_task.specs.Task.{Task, learn, fill, domains, demo, picture_plan, sample_plan, sampled_plan, pins_plan, problem_plan, steps_plan, learn_plan, fill_plan, domains_plan, demo_plan, plan_by, plan_of}
-use Rattle.wfc_task.proofs.TaskLemmas.{behind_lesson, behind_layout, behind_picture, behind_problem, behind_sample, behind_sampled}
+use Rattle.wfc_task.specs.Task.{Task, learn, fill, domains, demo, check, picture_plan, sample_plan, sampled_plan, pins_plan, problem_plan, steps_plan, learn_plan, fill_plan, domains_plan, demo_plan, check_plan, plan_by, plan_of}
+use Rattle.wfc_task.proofs.TaskLemmas.{behind_checked_lesson, behind_checked_problem, behind_lesson, behind_layout, behind_picture, behind_problem, behind_sample, behind_sampled}
 use Rattle.wfc_task.specs.declared.fault.Source.{Source}
 use Rattle.wfc_task.specs.declared.fault.Fault.{Fault}
 use Rattle.wfc_task.specs.declared.fault.Fault.TheVariants.{Unread, Refused}
@@ -223,6 +227,24 @@ domains_never asked =
 demo_never : (kinds : List RuleKind) (asked : RequestView) → NeverWords (demo_plan kinds asked)
 demo_never kinds asked = never_then (step (chosen kinds rules.Fewest)) (λ _. let end : Plan Task = done (demo (demo_patterns asked.number) (demo_problem asked.number)) in end) (chosen_never kinds rules.Fewest) (λ _. tt)
 
+check_never : (asked : RequestView) → NeverWords (check_plan asked)
+check_never asked =
+    never_then (sample_plan asked) (behind_checked_lesson asked) (sample_never asked) (λ lesson.
+    never_then (problem_plan asked lesson) (behind_checked_problem asked) (problem_never asked lesson) (λ P.
+    never_then (refutation_plan asked P) (λ found. let end : Plan Task = done (check found) in end) (λ text. judged_never (checked P (shape_of asked) text)) (λ found. tt)))
+  where
+    judged_never : (answer : Result (Unit {0}) CheckFault) → NeverWords (step (verdict_in answer))
+    judged_never (Ok accepted) = tt
+    judged_never (Err (checks.Rejected line reject)) = tt
+    judged_never (Err (checks.BadLine line)) = tt
+    judged_never (Err (checks.HeaderDiffers cells values)) = tt
+    judged_never (Err checks.NotEnded) = tt
+    judged_never (Err checks.Missing) = tt
+    judged_never (Err checks.Failed) = tt
+    judged_never (Err checks.TooLong) = λ words. cc
+    judged_never (Err checks.NoMemory) = tt
+    judged_never (Err (checks.OptionsDiffer found)) = tt
+
 -- a request that isn't answered is refused at once
 pub unbuilt_plan : (kinds : List RuleKind) (asked : RequestView) → is_built asked ≡ false → plan_of kinds asked ≡ refuse NotBuilt
 unbuilt_plan kinds asked unbuilt = rw unbuilt refl
@@ -237,7 +259,7 @@ words_unbuilt kinds asked before after fault goes three = by_test (is_built aske
     by_command commands.Domains is = domains_never asked
     by_command commands.Demo is = demo_never kinds asked
     by_command commands.Refute is = absurd (cc)
-    by_command commands.Check is = absurd (cc)
+    by_command commands.Check is = check_never asked
     by_command commands.Upgrade is = absurd (cc)
 
     by_test : (built : Bool) → is_built asked ≡ built → Goes (if built then plan_by asked.command kinds asked else refuse NotBuilt) before after (Err fault) → is_built asked ≡ false

@@ -17,7 +17,7 @@ use Rattle.wfc_pins.specs.declared.fault.BuildFault.TheVariants as builds
 use Rattle.wfc_pins.specs.declared.steps.StepFault.{StepFault}
 use Rattle.wfc_pins.specs.declared.steps.StepFault.TheVariants as steps
 use Rattle.wfc_task.specs.declared.fault.Refusal.{Refusal}
-use Rattle.wfc_task.specs.declared.fault.Refusal.TheVariants.{NotBuilt, Chooser, Grid, Ppm, Colours, Learn, Render, Pins, Build, Steps, Range, NoMemory}
+use Rattle.wfc_task.specs.declared.fault.Refusal.TheVariants.{NotBuilt, Chooser, Grid, Ppm, Colours, Learn, Render, Pins, Build, Steps, Range, TooLong, NoMemory}
 use Rattle.wfc_task.specs.declared.fault.Fault.{Fault}
 use Rattle.wfc_task.specs.declared.fault.Fault.TheVariants.{Unread, Refused}
 use Rattle.wfc_task.specs.declared.fault.Class.{Class}
@@ -65,6 +65,7 @@ class_of (Pins fault) = pins_class fault
 class_of (Build fault) = build_class fault
 class_of (Steps fault) = steps_class fault
 class_of (Range fault) = Input
+class_of (TooLong source) = Input
 class_of NoMemory = Memory
 
 -- the exit status of a class

@@ -4,8 +4,10 @@ pub mod Built
 pub mod Asked
 pub mod Sampled
 pub mod Steps
+pub mod Checking
 pub mod Demo
 pub mod Task
 pub mod Made
 pub mod Filling
 pub mod Given
+pub mod CheckGiven

@@ -7,6 +7,7 @@ use Rattle.wfc_pattern.specs.Patterns.{PatternsView}
 use Rattle.wfc_problem.specs.Network.{Network}
 use Rattle.wfc_pins.specs.PinView.{PinView}
 use Rattle.wfc_pins.specs.declared.steps.StepLine.{StepLine}
+use Rattle.wfc_check.specs.declared.fault.CheckFault.{CheckFault}
 use Rattle.wfc_choose.specs.declared.RuleKind.{RuleKind}
 use Rattle.wfc_choose.specs.declared.RuleKind.TheVariants as rules
 use Rattle.wfc_render.specs.declared.form.Layout.{Layout}
@@ -18,6 +19,7 @@ use Rattle.wfc_task.specs.declared.fault.Source.TheVariants.{Sample, Pins, Steps
 use Rattle.wfc_task.specs.declared.fault.Refusal.TheVariants.{NotBuilt}
 use Rattle.wfc_task.specs.declared.task.Taught.{Taught}
 use Rattle.wfc_task.specs.Built.{is_built}
+use Rattle.wfc_task.specs.Checking.{refutation_plan}
 use Rattle.wfc_task.specs.Demo.{demo_patterns, demo_problem}
 use Rattle.wfc_task.specs.Plan.{Plan, done, refuse, read, step, and_then, most_bytes}
 use Rattle.wfc_task.specs.Sampled.{SampledView}
@@ -29,6 +31,7 @@ pub data Task : Type 0 where
   fill : PatternsView → List Symbol → Layout → Network → Task
   domains : Network → List StepLine → Task
   demo : PatternsView → Network → Task
+  check : Option CheckFault → Task
 
 -- the whole of a file
 abbrev pub file_plan : Source → List ℕ → Plan (List ℕ)
@@ -101,12 +104,21 @@ abbrev pub demo_plan : List RuleKind → RequestView → Plan Task
 demo_plan kinds asked =
     and_then (step (chosen kinds rules.Fewest)) (λ _. done (demo (demo_patterns asked.number) (demo_problem asked.number)))
 
+-- what `check` comes to: the refutation is read once there is a problem
+abbrev pub check_plan : RequestView → Plan Task
+check_plan asked =
+    and_then (sample_plan asked) (λ lesson.
+    and_then (problem_plan asked lesson) (λ P.
+    and_then (refutation_plan asked P) (λ found.
+    done (check found))))
+
 -- the plan of a request that is answered
 abbrev pub plan_by : CommandKind → List RuleKind → RequestView → Plan Task
 plan_by commands.Learn kinds asked = learn_plan asked
 plan_by commands.Fill kinds asked = fill_plan kinds asked
 plan_by commands.Domains kinds asked = domains_plan asked
 plan_by commands.Demo kinds asked = demo_plan kinds asked
+plan_by commands.Check kinds asked = check_plan asked
 plan_by _ kinds asked = refuse NotBuilt
 
 -- the plan of a request, where these are the kinds of the choosers

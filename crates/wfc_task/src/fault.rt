@@ -45,6 +45,8 @@ pub enum Refusal {
     Steps { fault: StepFault },
     /// A step isn't in the problem.
     Range { fault: RangeFault },
+    /// A file that is read in pieces is too long.
+    TooLong { source: Source },
     /// Memory ran out.
     NoMemory,
 }
@@ -88,7 +90,8 @@ impl Refusal {
             Refusal::Pins { fault } => pins_class(*fault),
             Refusal::Build { fault } => build_class(*fault),
             Refusal::Steps { fault } => steps_class(*fault),
-            Refusal::Render { .. } | Refusal::Range { .. } => Class::Input,
+            Refusal::Render { .. } | Refusal::Range { .. } | Refusal::TooLong { .. } =>
+                Class::Input,
             Refusal::NoMemory => Class::Memory,
         }
     }

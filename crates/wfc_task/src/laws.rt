@@ -1,6 +1,6 @@
 //! Laws of the definitions, each a function with no body whose contract is the law. They run nothing.
 
-ghost use Rattle.std.specs.Prelude.{◌≡◌, ◌↔◌, ℕ, List, [], ◌∷◌, Ok, Err, true, false, codes, Contains};
+ghost use Rattle.std.specs.Prelude.{◌≡◌, ◌↔◌, ℕ, List, Option, [], ◌∷◌, Ok, Err, true, false, codes, Contains};
 ghost use Rattle.wfc_outside.specs.Folder.{File};
 ghost use Rattle.wfc_picture.specs.declared.symbol.Symbol.{Symbol};
 ghost use Rattle.wfc_picture.specs.declared.symbol.Symbol.TheVariants.{Char};
@@ -13,10 +13,12 @@ ghost use Rattle.wfc_render.specs.declared.form.Layout.{Layout};
 ghost use Rattle.wfc_words.specs.RequestView.{RequestView};
 ghost use Rattle.wfc_task.specs.Built.{is_built, is_picture_name};
 ghost use Rattle.wfc_task.specs.Demo.{demo_patterns, demo_problem, demo_symbol};
+ghost use Rattle.wfc_check.specs.declared.fault.CheckFault.{CheckFault};
+ghost use Rattle.wfc_task.specs.CheckGiven.{IsCheckTask};
 ghost use Rattle.wfc_task.specs.Given.{IsDomainsTask, IsFillTask, IsTaught};
 ghost use Rattle.wfc_task.specs.Plan.{outcome, refuse};
 ghost use Rattle.wfc_task.specs.Steps.{chosen};
-ghost use Rattle.wfc_task.specs.Task.{demo, demo_plan, domains, domains_plan, fill, fill_plan, learn, learn_plan, plan_of};
+ghost use Rattle.wfc_task.specs.Task.{check, check_plan, demo, demo_plan, domains, domains_plan, fill, fill_plan, learn, learn_plan, plan_of};
 ghost use Rattle.wfc_outside.specs.declared.whole.ReadFault.TheVariants.{Missing};
 ghost use Rattle.wfc_task.specs.declared.fault.Refusal.TheVariants.{NotBuilt, Chooser};
 ghost use Rattle.wfc_task.specs.declared.fault.Fault.TheVariants.{Refused, Unread};
@@ -43,6 +45,14 @@ pub fn domains_tasks_are_given()
     ensures task { (asked : RequestView) (files : List File) (P : Network) (steps : List StepLine) →
         (outcome (domains_plan asked) files ≡ Ok (domains P steps))
         ↔ IsDomainsTask asked files P steps }
+{}
+
+/// `check` comes to this task exactly where the problem is that of the request, and this is what the file of the refutation is
+/// answered.
+pub fn check_tasks_are_given()
+    ensures task { (asked : RequestView) (files : List File) (found : Option CheckFault) →
+        (outcome (check_plan asked) files ≡ Ok (check found))
+        ↔ IsCheckTask asked files found }
 {}
 
 /// `demo` comes to its task wherever a chooser of the fewest values is there, whatever its number and the files are.

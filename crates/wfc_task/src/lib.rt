@@ -2,6 +2,7 @@
 #![tactic(auto)]
 
 mod built;
+mod checking;
 mod demo;
 mod fault;
 mod files;
@@ -11,6 +12,7 @@ mod steps;
 mod task;
 
 pub use built::is_built;
+pub use checking::{check_task, shape};
 pub use fault::{Class, Fault, Refusal, Source};
 pub use task::{Demo, Filling, Stepping, Taught, demo_task, domains_task, fill_task, learn_task};
 

@@ -1,4 +1,5 @@
 use Rattle.wfc_cli.proofs.TheoremLemmas.{first_fault_decides, has_first_fault, is_device_fault, is_no_command, keeps_counts, keeps_out, no_command_is_3, task_is_answered}
+use Rattle.wfc_cli.proofs.CheckLemmas.{checks_refutation}
 use Rattle.wfc_cli.proofs.CommandLemmas.{has_no_map, is_as_run, is_never_spent, writes_demo, writes_domains, writes_front, writes_learned, writes_legal}
 use Rattle.wfc_cli.proofs.run.Goals as goal
 
@@ -49,3 +50,6 @@ returns-clause-domains g c = writes_domains _ _ _ _ _ c.answer.ensures.answer
 
 pub returns-clause-demo : goal.returns-clause-demo
 returns-clause-demo g c = writes_demo _ _ _ _ _ c.answer.ensures.answer
+
+pub returns-clause-checked : goal.returns-clause-checked
+returns-clause-checked g c = checks_refutation _ _ _ _ _ c.answer.ensures.answer

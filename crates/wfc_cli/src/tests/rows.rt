@@ -299,6 +299,48 @@ static DOMAINS: [Row; 9] = [
     ),
 ];
 
+static CHECK: [Row; 8] = [
+    ("check chk.txt 2 3 2 one.ref", 0, "accepted\n", ""),
+    ("check chk.txt 2 3 2 two.ref", 0, "accepted\n", ""),
+    (
+        "check chk.txt 2 3 2 other.ref",
+        1,
+        "",
+        "wfc: check OptionsDiffer n=2 width=3 height=2 depth=1 symmetry=8 wrap_in=0 wrap_out=0 file=other.ref\n",
+    ),
+    (
+        "check chk.txt 2 3 2 open.ref",
+        1,
+        "",
+        "wfc: check NotEnded file=open.ref\n",
+    ),
+    (
+        "check chk.txt 2 3 2 full.ref",
+        1,
+        "",
+        "wfc: check Rejected line=3 reject=NotEmpty value=0 file=full.ref\n",
+    ),
+    // A ring of three by three has other cells and values.
+    (
+        "check chk.txt 2 3 3 --wrap-in --wrap-out one.ref",
+        1,
+        "",
+        "wfc: check HeaderDiffers cells=2 values=1 file=one.ref\n",
+    ),
+    (
+        "check chk.txt 2 3 2 a.txt",
+        1,
+        "",
+        "wfc: check BadLine line=1 file=a.txt\n",
+    ),
+    (
+        "check chk.txt 2 3 2 gone.ref",
+        5,
+        "",
+        "wfc: device Missing file=gone.ref\n",
+    ),
+];
+
 static DEMO: [Row; 3] = [
     (
         "demo 0",
@@ -337,5 +379,7 @@ fn commands_answer(rt: HostRuntime) -> Result<(), Fail> {
     check_in_pieces(&rt, 7, &LEARN)?;
     check_in_pieces(&rt, 3, &PICTURES)?;
     check_in_pieces(&rt, 5, &DOMAINS)?;
+    check_in_pieces(&rt, 1, &CHECK)?;
+    check_in_pieces(&rt, 64, &CHECK)?;
     check_in_pieces(&rt, 64, &DEMO)
 }

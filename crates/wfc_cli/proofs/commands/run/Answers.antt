@@ -1,6 +1,6 @@
 use Rattle.std.proofs.Common.{sym, ap, ◌∙◌, refl}
 use Rattle.wfc_words.specs.RequestView.{RequestView}
-use Rattle.wfc_words.specs.declared.kinds.CommandKind.TheVariants.{Learn, Fill, Domains}
+use Rattle.wfc_words.specs.declared.kinds.CommandKind.TheVariants.{Learn, Fill, Domains, Check}
 use Rattle.wfc_cli.proofs.EndLemmas.{ends_unbuilt, other_built, output_asked, sample_asked}
 use Rattle.wfc_cli.proofs.commands.run.Goals as goal
 
@@ -25,7 +25,14 @@ domains-requires-clause-sample g c =
 pub domains-requires-clause-output : goal.domains-requires-clause-output
 domains-requires-clause-output g c = output_asked c.args.request.now Domains c.requires.in_range (sym (ap (λ (r : RequestView). r.command) c.request.view_is) ∙ c.in-Domains.is) refl refl
 
+pub check-requires-clause-sample : goal.check-requires-clause-sample
+check-requires-clause-sample g c =
+    sample_asked c.args.request.now Check c.requires.in_range (sym c.if-not-is_built.ensures.value) (sym (ap (λ (r : RequestView). r.command) c.request.view_is) ∙ c.in-Check.is) refl refl
+
+pub check-requires-clause-output : goal.check-requires-clause-output
+check-requires-clause-output g c = output_asked c.args.request.now Check c.requires.in_range (sym (ap (λ (r : RequestView). r.command) c.request.view_is) ∙ c.in-Check.is) refl refl
+
 pub returns-in_default : goal.returns-in_default
 returns-in_default g c =
-    absurd (other_built c.args.request.now c.request.inside.command (sym (ap (λ (r : RequestView). r.command) c.request.view_is)) c.in_default.not-Learn c.in_default.not-Fill c.in_default.not-Domains c.in_default.not-Demo
+    absurd (other_built c.args.request.now c.request.inside.command (sym (ap (λ (r : RequestView). r.command) c.request.view_is)) c.in_default.not-Learn c.in_default.not-Fill c.in_default.not-Domains c.in_default.not-Demo c.in_default.not-Check
     (sym c.if-not-is_built.ensures.value))

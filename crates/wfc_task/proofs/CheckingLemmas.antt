@@ -1,0 +1,100 @@
+-- What the check of a file answers is what its plan comes to.
+use Rattle.std.proofs.Common.{◌≡◌, ℕ, List, Option, None, Some, Result, Ok, Err, refl, ap, sym, ◌∙◌, subst, inl, inr}
+use Rattle.wfc_outside.specs.Folder.{File, FolderView, file_of}
+use Rattle.wfc_outside.specs.declared.whole.ReadFault.TheVariants as reading
+use Rattle.wfc_problem.specs.Network.{Network}
+use Rattle.wfc_proof.specs.declared.heads.Shape.{Shape}
+use Rattle.wfc_check.specs.Answered.{Answers, IsOfFile}
+use Rattle.wfc_check.specs.declared.fault.CheckFault.{CheckFault}
+use Rattle.wfc_check.specs.declared.fault.CheckFault.TheVariants as faults
+use Rattle.wfc_words.specs.RequestView.{RequestView}
+use Rattle.wfc_task.specs.Checking.{shape_of, verdict_in, judged, refutation_name, refutation_plan, found_in}
+use Rattle.wfc_task.specs.CheckGiven.{IsCheckTask}
+use Rattle.wfc_task.specs.Plan.{Goes, Plan, step, done, outcome, after_reading, reading_of}
+use Rattle.wfc_task.specs.Task.{Task, check, check_plan, problem_plan, sample_plan}
+use Rattle.wfc_task.specs.declared.task.Taught.{Taught}
+use Rattle.wfc_task.specs.declared.fault.Fault.{Fault}
+use Rattle.wfc_task.specs.declared.fault.Fault.TheVariants.{Refused}
+use Rattle.wfc_task.specs.declared.fault.Refusal.{Refusal}
+use Rattle.wfc_task.specs.declared.fault.Refusal.TheVariants as refusals
+use Rattle.wfc_task.specs.declared.fault.Source.TheVariants.{Refutation}
+use Rattle.wfc_task.proofs.GivenLemmas.{done_is, given_problem, given_sample, ok_step, problem_given, sample_given, step_ok}
+use Rattle.wfc_task.proofs.PlanLemmas.{refused, goes_read, goes_step, outcome_on, outcome_parts}
+use Rattle.wfc_task.proofs.TaskLemmas.{behind_checked_lesson, behind_checked_problem}
+
+-- the answer to the bytes of a file
+of_file : (asked : RequestView) (P : Network) (old new : FolderView) (answer : Result (Unit {0}) CheckFault) → IsOfFile P (shape_of asked) (refutation_name asked) old new answer
+    → Goes (refutation_plan asked P) old new (refused (verdict_in answer))
+of_file asked P old new answer of =
+    subst (λ (f : FolderView). Goes (refutation_plan asked P) old f (refused (verdict_in answer))) (sym of.same)
+    (goes_read Refutation (refutation_name asked) None (λ text. step (judged asked P text)) old old of.bytes (refused (verdict_in answer)) (record { told = of.told; within = refl })
+    (goes_step (judged asked P of.bytes) (verdict_in answer) old (inl (ap verdict_in (sym of.is)))))
+
+pub refutation_goes : (asked : RequestView) (P : Network) (old new : FolderView) (answer : Result (Unit {0}) CheckFault) → Answers P (shape_of asked) (refutation_name asked) old new answer
+    → Goes (refutation_plan asked P) old new (found_in answer)
+refutation_goes asked P old new (Ok accepted) of = of_file asked P old new (Ok accepted) of
+refutation_goes asked P old new (Err (faults.Rejected line reject)) of = of_file asked P old new (Err (faults.Rejected line reject)) of
+refutation_goes asked P old new (Err (faults.BadLine line)) of = of_file asked P old new (Err (faults.BadLine line)) of
+refutation_goes asked P old new (Err (faults.HeaderDiffers cells values)) of = of_file asked P old new (Err (faults.HeaderDiffers cells values)) of
+refutation_goes asked P old new (Err faults.NotEnded) of = of_file asked P old new (Err faults.NotEnded) of
+refutation_goes asked P old new (Err faults.Missing) of = inl (inr (reading.Missing, of, refl))
+refutation_goes asked P old new (Err faults.Failed) of = inl (inr (reading.Failed, of, refl))
+refutation_goes asked P old new (Err faults.TooLong) of = of_file asked P old new (Err faults.TooLong) of
+refutation_goes asked P old new (Err faults.NoMemory) of = inr (of, (Refused refusals.NoMemory, refl, refl))
+refutation_goes asked P old new (Err (faults.OptionsDiffer found)) of = of_file asked P old new (Err (faults.OptionsDiffer found)) of
+
+-- ---- over files that are told
+
+-- a reading that came to something
+refutation_there : (asked : RequestView) (P : Network) (files : List File) (found : Option CheckFault) → outcome (refutation_plan asked P) files ≡ Ok found
+    → (bytes : List ℕ) × (file_of files (refutation_name asked) ≡ Some bytes) × (judged asked P bytes ≡ Ok found)
+refutation_there asked P files found is = by_file (file_of files (refutation_name asked)) refl is
+  where
+    by_file : (file : Option (List ℕ)) → file_of files (refutation_name asked) ≡ file → after_reading Refutation (λ text. outcome (step (judged asked P text)) files) (reading_of None file) ≡ Ok found
+        → (bytes : List ℕ) × (file_of files (refutation_name asked) ≡ Some bytes) × (judged asked P bytes ≡ Ok found)
+    by_file None there is = absurd (cc)
+    by_file (Some bytes) there is = (bytes, there, step_ok (judged asked P bytes) files found is)
+
+there_refutation : (asked : RequestView) (P : Network) (files : List File) (bytes : List ℕ) (found : Option CheckFault) → file_of files (refutation_name asked) ≡ Some bytes → judged asked P bytes ≡ Ok found
+    → outcome (refutation_plan asked P) files ≡ Ok found
+there_refutation asked P files bytes found there is =
+    ap (λ file. after_reading Refutation (λ text. outcome (step (judged asked P text)) files) (reading_of None file)) there ∙ ok_step (judged asked P bytes) files found is
+
+-- what `check` comes to
+pub check_given : (asked : RequestView) (files : List File) (task : Task) → outcome (check_plan asked) files ≡ Ok task → (found : Option CheckFault) × (check found ≡ task) × IsCheckTask asked files found
+check_given asked files task is =
+    let known = outcome_parts (sample_plan asked) (behind_checked_lesson asked) files task is in
+    let made = outcome_parts (problem_plan asked known.0) (behind_checked_problem asked) files task known.2 in
+    let said = outcome_parts (refutation_plan asked made.0) (λ found. let end : Plan Task = done (check found) in end) files task made.2 in
+    let there = refutation_there asked made.0 files said.0 said.1 in (
+      said.0,
+      done_is _ task files said.2,
+      record {
+        work = record {
+          kind = known.0.kind;
+          patterns = known.0.patterns;
+          palette = known.0.palette;
+          sample = sample_given asked files known.0 known.1;
+          P = made.0;
+          problem = problem_given asked files known.0 made.0 made.1;
+          bytes = there.0;
+          there = there.1;
+        };
+        answer = there.2;
+      },
+    )
+
+pub given_check : (asked : RequestView) (files : List File) (found : Option CheckFault) → IsCheckTask asked files found → outcome (check_plan asked) files ≡ Ok (check found)
+given_check asked files found task =
+    let work = task.work in
+    let lesson : Taught = record { kind = work.kind; palette = work.palette; patterns = work.patterns } in
+    outcome_on (sample_plan asked) (behind_checked_lesson asked) files lesson (given_sample asked files work.kind work.patterns work.palette work.sample)
+    ∙ outcome_on (problem_plan asked lesson) (behind_checked_problem asked) files work.P (given_problem asked files lesson work.P work.problem)
+    ∙ outcome_on (refutation_plan asked work.P) (λ found. let end : Plan Task = done (check found) in end) files found (there_refutation asked work.P files work.bytes found work.there task.answer)
+
+-- the same of a call that was given this shape and this name
+pub refutation_found : (asked : RequestView) (P : Network) (old new : FolderView) (shape : Shape) (name : List ℕ) (answer : Result (Unit {0}) CheckFault) (found : Result (Option CheckFault) Fault) → shape ≡ shape_of asked
+    → name ≡ refutation_name asked → Answers P shape name old new answer → found ≡ found_in answer → Goes (refutation_plan asked P) old new found
+refutation_found asked P old new shape name answer found of_shape of_name answers is =
+    subst (Goes (refutation_plan asked P) old new) (sym is)
+    (refutation_goes asked P old new answer (subst (λ n. Answers P (shape_of asked) n old new answer) of_name (subst (λ (s : Shape). Answers P s name old new answer) of_shape answers)))

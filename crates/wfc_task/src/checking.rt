@@ -1,0 +1,107 @@
+//! The refutation of a request.
+
+ghost use Rattle.std.specs.Prelude.{◌≡◌};
+ghost use Rattle.wfc_task.specs.Asked.{IsSampleAsked, IsOutputAsked};
+ghost use Rattle.wfc_task.specs.Checking.{found_in, refutation_name, refutation_plan, shape_of};
+ghost use Rattle.wfc_task.specs.Made.{check_made};
+ghost use Rattle.wfc_task.specs.Plan.{Goes};
+ghost use Rattle.wfc_task.specs.Task.{check_plan};
+ghost use Rattle.wfc_task.specs.declared.fault.Fault.TheVariants.{Unread};
+ghost use Rattle.wfc_task.specs.declared.fault.Source.TheVariants.{Refutation};
+
+use crate::built::side_of;
+use crate::fault::{Fault, Refusal, Source};
+use crate::files::{problem, sample};
+use std::alloc::Global;
+use wfc_check::{CheckFault, check};
+use wfc_outside::{Folder, ReadFault};
+use wfc_problem::Problem;
+use wfc_proof::Shape;
+use wfc_words::Request;
+
+/// What `check` comes to: the first fault of the refutation's text, if it has one.
+pub fn check_task<F: Folder>(
+    alloc: Global,
+    request: &Request,
+    folder: &mut F,
+) -> Result<Option<CheckFault>, Fault>
+    requires sample { IsSampleAsked request.now }
+    requires output { IsOutputAsked request.now }
+    ensures goes { Goes (check_plan request.now)
+        (F.seen folder.old) (F.seen folder.new) (check_made result) }
+{
+    let taught = sample(alloc, request, folder)?;
+    let problem = problem(alloc, request, &taught, folder)?;
+    let found = refutation(alloc, request, &problem, folder)?;
+    Ok(found)
+}
+
+/// The first fault of the text of the refutation, which is held to the problem.
+fn refutation<F: Folder>(
+    alloc: Global,
+    request: &Request,
+    problem: &Problem,
+    folder: &mut F,
+) -> Result<Option<CheckFault>, Fault>
+    ensures goes { Goes (refutation_plan request.now problem.now)
+        (F.seen folder.old) (F.seen folder.new) result }
+{
+    let shape = shape(request);
+    let name = refutation_name(request);
+    found_in(check(alloc, problem, &shape, folder, name))
+}
+
+/// The name of the file of the refutation.
+fn refutation_name(request: &Request) -> &str
+    ensures value { result.now ≡ refutation_name request.now }
+{
+    match request.refutation() {
+        Some(name) => name,
+        None => "",
+    }
+}
+
+/// The shape of a request.
+pub fn shape(request: &Request) -> Shape
+    ensures value { result ≡ shape_of request.now }
+{
+    Shape {
+        n: side_of(request.source),
+        width: request.width,
+        height: request.height,
+        depth: 1,
+        symmetry: request.symmetry,
+        wrap_in: request.wrap_in,
+        wrap_out: request.wrap_out,
+    }
+}
+
+/// The answer to a file, as a task's.
+fn found_in(answer: Result<(), CheckFault>) -> Result<Option<CheckFault>, Fault>
+    ensures value { result ≡ found_in answer }
+{
+    match answer {
+        Ok(()) => Ok(None),
+        Err(CheckFault::Missing) => Err(unread(ReadFault::Missing)),
+        Err(CheckFault::Failed) => Err(unread(ReadFault::Failed)),
+        Err(CheckFault::TooLong) => Err(Fault::Refused {
+            refusal: Refusal::TooLong {
+                source: Source::Refutation,
+            },
+        }),
+        Err(CheckFault::NoMemory) => Err(Fault::Refused {
+            refusal: Refusal::NoMemory,
+        }),
+        Err(fault) => Ok(Some(fault)),
+    }
+}
+
+/// The fault of a refutation that isn't read.
+fn unread(fault: ReadFault) -> Fault
+    ensures value { result ≡ Unread Refutation fault }
+{
+    Fault::Unread {
+        source: Source::Refutation,
+        fault,
+    }
+}
