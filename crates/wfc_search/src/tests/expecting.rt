@@ -39,7 +39,7 @@ impl Expecting<'_> {
 impl Journal for Expecting<'_> {
     ghost use Rattle.std.specs.Prelude.{None};
 
-    ghost seen = { λ j. record { lines = None; failed = j.failed; faults = j.faults } };
+    ghost seen = { λ j. record { lines = None; failed = j.failed; faults = j.faults; target = None } };
 
     fn line(&mut self, line: Line) -> Result<(), JournalFault> {
         if self.wanted.get(self.taken) != Some(&line) {
