@@ -7,31 +7,29 @@ use Rattle.wfc_domains.specs.declared.Removal.{Removal}
 use Rattle.wfc_domains.specs.declared.Verdict.TheVariants.{Alive}
 use Rattle.wfc_domains.specs.declared.board.Board.{Board}
 use Rattle.wfc_domains.specs.Domains.{has}
-use Rattle.wfc_domains.specs.Counters.{Table, counts_of, place}
+use Rattle.wfc_domains.specs.Counters.{HasCounts, Table, place}
 use Rattle.wfc_domains.specs.Removals.{without}
 use Rattle.wfc_domains.specs.Store.{IsSound, IsOpening, IsVerdict, left_of, mark_of, all_but_last, without_last}
 use Rattle.wfc_domains.specs.Log.{Heights}
 use Rattle.wfc_domains.specs.Board.{view_of, IsTraced, IsBoard, IsCut}
 use Rattle.wfc_domains.proofs.Problems.{consistent-from_counts, counts-from_consistent, greatest-consistent, neighbour-dir}
-use Rattle.wfc_domains.proofs.Places.{counts_are}
 use Rattle.wfc_domains.proofs.Removals.{without-in}
 use Rattle.wfc_domains.proofs.Boards.{stands-in}
 use Rattle.wfc_domains.proofs.Sound.{sound-from}
 use Rattle.wfc_ac4.specs.Places.{times}
-use Rattle.wfc_ac4.specs.State.{AreLowered, HaveSupport, IsBetween, counted}
+use Rattle.wfc_ac4.specs.State.{AreGone, AreLowered, HaveSupport, IsBetween, counted}
+use Rattle.wfc_ac4.proofs.MarkLemmas.{gone-within}
 use Rattle.wfc_ac4.proofs.Steps.{lowered-agree}
 
 -- with nothing pending the counters count what stands
 pub settled-counts : (b : Board) (T : Table) (head : ℕ) → AreLowered b.problem.now (counted b head) [] T → head ≡ length b.trail.removals → AreLowered b.problem.now (left_of (view_of b)) [] T
 settled-counts b T head h e = lowered-agree b.problem.now _ _ [] T h (ap (without (in_base b.problem.now)) (take_all head b.trail.removals (omega arith)))
 
-pub settled-table : (b : Board) (T : Table) (head : ℕ) → AreLowered b.problem.now (counted b head) [] T → head ≡ length b.trail.removals → T ≡ counts_of b.problem.now (left_of (view_of b))
-settled-table b T head h e =
-    let now = settled-counts b T head h e in
-    counts_are b.problem.now (left_of (view_of b)) T now.fits (λ c v d hc hv hd.
-    let is = now.each c v d hc hv hd in
+pub settled-table : (b : Board) (T : Table) (head : ℕ) → AreLowered b.problem.now (counted b head) [] T → head ≡ length b.trail.removals → HasCounts b.problem.now (left_of (view_of b)) T
+settled-table b T head h e = λ c v d hc hv hd.
+    let is = (settled-counts b T head h e).each c v d hc hv hd in
     let none : times (place b.problem.now c v d) [] ≡ 0 = refl in
-    omega arith)
+    omega arith
 
 -- and so what stands is consistent
 settled-consistent : (b : Board) (T : Table) (head : ℕ) → IsBetween b T head → b.verdict ≡ Alive → head ≡ length b.trail.removals → IsArcConsistent b.problem.now (left_of (view_of b))
@@ -62,13 +60,14 @@ alive-supported b T head t sound counters e alive c v d n stands beside =
     omega arith
 
 -- the same domains and log, under one literal more, and after what it cut
-pub put-between : (old new : Board) (T : Table) (head : ℕ) → IsTraced old → IsSound (view_of old) → old.verdict ≡ Alive → AreLowered old.problem.now (counted old head) [] T → head ≡ length old.trail.removals
+pub put-between : (old new : Board) (T : Table) (head : ℕ) → IsTraced old → IsSound (view_of old) → old.verdict ≡ Alive → AreLowered old.problem.now (counted old head) [] T → head ≡ length old.trail.removals → AreGone old.domains T
     → IsBoard new → IsCut new → new.problem ≡ old.problem → (more : List Removal) → new.trail.removals ≡ old.trail.removals ++ more → Within (has new.domains) (has old.domains) → IsBetween new T head
-put-between old new T head t sound alive counters e board cut same more log within = record {
+put-between old new T head t sound alive counters e gone board cut same more log within = record {
   board = board;
   cut = cut;
   counters = subst (λ P. AreLowered P (without (in_base P) (take head new.trail.removals)) [] T) (sym (ap (λ p. p.now) same))
       (lowered-agree old.problem.now _ _ [] T counters (ap (without (in_base old.problem.now)) (sym (ap (take head) log ∙ take-append-le head old.trail.removals more (omega arith)))));
+  marks = gone-within old.domains new.domains T gone within;
   supported = λ still c v d n stands beside. alive-supported old T head t sound counters e alive c v d n (within c v stands) (ap (λ p. neighbour p.now c d) (sym same) ∙ beside);
   in_log = omega (arith, ap length log, length-append old.trail.removals more);
 }

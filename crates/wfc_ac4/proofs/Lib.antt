@@ -1,4 +1,5 @@
 pub mod PlaceLemmas
+pub mod MarkLemmas
 pub mod Steps
 pub mod LinkLemmas
 pub mod Rolls

@@ -4,24 +4,26 @@ use Rattle.std.specs.Prelude.{IsTrue, slice_get}
 use Rattle.std.proofs.Math.Nat.{mul-le-mul_right}
 use Rattle.std.proofs.lemmas.Bool.{cases_lt, cases_eq, and_from}
 use Rattle.std.proofs.lemmas.List.FromFn.{get_or-map-range_with_len, length-map-range_with_len}
+use Rattle.std.proofs.lemmas.List.{get_or_past}
 use Rattle.std.proofs.lemmas.Nat.{same_from_place, mul-add-lt, div-mul-add, mod-mul-add}
-use Rattle.wfc_problem.specs.Network.{Network, values, neighbour, in_base}
+use Rattle.wfc_problem.specs.Network.{Network, values, neighbour, in_base, IsProblem}
 use Rattle.wfc_problem.specs.Domains.{Test, Within, base_with, support_count}
 use Rattle.wfc_domains.specs.declared.Cause.TheVariants.{Arc}
 use Rattle.wfc_domains.specs.declared.Removal.{Removal}
 use Rattle.wfc_domains.specs.declared.Verdict.TheVariants.{Alive, Dead}
 use Rattle.wfc_domains.specs.declared.board.Board.{Board}
-use Rattle.wfc_domains.specs.Domains.{has, size_of, less}
-use Rattle.wfc_domains.specs.Counters.{Table, FitsTable, count_of, counts_of, counters_of, place}
+use Rattle.wfc_domains.specs.Domains.{Flags, has, size_of, less}
+use Rattle.wfc_domains.specs.Counters.{entry_of, Table, FitsTable, count_of, counts_of, counters_of, place}
 use Rattle.wfc_domains.specs.Removals.{without, IsUnsupported}
 use Rattle.wfc_domains.specs.Store.{left_of, IsOpening, IsLeastUnsupported, IsLeastEmpty, IsBefore}
 use Rattle.wfc_domains.specs.Board.{view_of, IsTraced, IsFresh, Loses}
-use Rattle.wfc_domains.proofs.Problems.{neighbour-dir, support_count-le}
+use Rattle.wfc_domains.proofs.Problems.{support_count-few, neighbour-dir, support_count-le}
 use Rattle.wfc_domains.proofs.Places.{place_in-lt}
 use Rattle.wfc_domains.proofs.Removals.{less-within, without-within}
 use Rattle.wfc_domains.proofs.Boards.{board-lost, stands-in, not-alive}
 use Rattle.wfc_ac4.specs.Places.{times}
-use Rattle.wfc_ac4.specs.State.{AreLowered, IsBetween, IsScanned}
+use Rattle.wfc_ac4.specs.State.{AreGone, AreLowered, IsBetween, IsScanned}
+use Rattle.wfc_ac4.proofs.MarkLemmas.{mod-small, gone-within}
 
 -- ---- counters as they are loaded
 
@@ -33,8 +35,8 @@ loaded-fits P D = record {
   whole = length-map-range_with_len (λ i. support_count P D (i / P.dirs / values P) (i / P.dirs % values P) (i % P.dirs)) 0 (counters_of P);
 }
 
-pub loaded-count : (P : Network) (D : Test) (c v d : ℕ) → c < P.cells → v < values P → d < P.dirs → count_of (counts_of P D) c v d ≡ support_count P D c v d
-loaded-count P D c v d hc hv hd =
+loaded-entry : (P : Network) (D : Test) (c v d : ℕ) → c < P.cells → v < values P → d < P.dirs → entry_of (counts_of P D) c v d ≡ support_count P D c v d
+loaded-entry P D c v d hc hv hd =
     let i = place P c v d in
     let q : i / P.dirs ≡ c * values P + v = div-mul-add (c * values P + v) P.dirs d hd in
     let r : i % P.dirs ≡ d = mod-mul-add (c * values P + v) P.dirs d hd in
@@ -43,14 +45,29 @@ loaded-count P D c v d hc hv hd =
     get_or-map-range_with_len (λ j. support_count P D (j / P.dirs / values P) (j / P.dirs % values P) (j % P.dirs)) 0 (counters_of P) i i 0 (place_in-lt (values P) P.dirs c v d P.cells hc hv hd) (omega arith)
     ∙ ap (λ a. support_count P D a (i / P.dirs % values P) (i % P.dirs)) x ∙ ap (λ a. support_count P D c a (i % P.dirs)) y ∙ ap (support_count P D c v) r
 
-pub loaded-lowered : (P : Network) (D : Test) (T : Table) → T ≡ counts_of P D → AreLowered P D [] T
-loaded-lowered P D T e = subst (λ t. AreLowered P D [] t) (sym e) (record {
+pub loaded-count : (P : Network) → IsProblem P → (D : Test) (c v d : ℕ) → c < P.cells → v < values P → d < P.dirs → count_of (counts_of P D) c v d ≡ support_count P D c v d
+loaded-count P p D c v d hc hv hd =
+    ap (λ x. x % 32768) (loaded-entry P D c v d hc hv hd) ∙ mod-small (support_count P D c v d) (omega (arith, support_count-few P p D c v d hd))
+
+pub loaded-lowered : (P : Network) → IsProblem P → (D : Test) (T : Table) → T ≡ counts_of P D → AreLowered P D [] T
+loaded-lowered P p D T e = subst (λ t. AreLowered P D [] t) (sym e) (record {
   fits = loaded-fits P D;
   each = λ c v d hc hv hd.
-      let now = loaded-count P D c v d hc hv hd in
+      let now = loaded-count P p D c v d hc hv hd in
       let none : times (place P c v d) [] ≡ 0 = refl in
       omega arith;
 })
+
+-- none is marked
+pub loaded-gone : (P : Network) → IsProblem P → (D : Test) (E : Flags) (T : Table) → T ≡ counts_of P D → AreGone E T
+loaded-gone P p D E T e = subst (AreGone E) (sym e) (λ c v d hv hd m. elim (cases_lt c P.cells) [
+  | inl hc ↦ absurd (omega (arith, loaded-entry P D c v d hc hv hd, support_count-few P p D c v d hd))
+  | inr past ↦
+      let row : P.cells * values P ≤ c * values P = mul-le-mul_right (values P) past in
+      let more : P.cells * values P ≤ c * values P + v = omega arith in
+      let behind : counters_of P ≤ (c * values P + v) * P.dirs = mul-le-mul_right P.dirs more in
+      absurd (omega (arith, get_or_past (counts_of P D).counts (place P c v d) 0 (omega (arith, (loaded-fits P D).whole))))
+])
 
 -- ---- one pair looked at
 
@@ -117,6 +134,7 @@ scanned-removed b b' T cell value dir next h alive hc hv hd beside zero' earlier
       board = board-lost b D cell value (Arc dir) h.board alive l hc hv (left_cut, bare);
       cut = λ _ x y t. h.cut alive x y (within' x y t);
       counters = h.counters;
+      marks = gone-within b.domains D T h.marks within';
       supported = λ _ c v d n i t e. h.supported alive c v d n i (within' c v t) e;
       first = λ f e. elim (first-push rs r f e) [
         | inl old ↦ h.first f old
@@ -130,6 +148,7 @@ scanned-next b T c v h hv here = record {
   board = h.board;
   cut = h.cut;
   counters = h.counters;
+  marks = h.marks;
   supported = λ alive c' v' d n l t e. elim (cases_eq (c' * values b.problem.now + v') (c * values b.problem.now + v)) [
     | inl same ↦
         let range = stands-in b h.board.traced c' v' t in
@@ -148,6 +167,7 @@ scanned-row b T cell h here = record {
   board = h.board;
   cut = h.cut;
   counters = h.counters;
+  marks = h.marks;
   supported = λ alive c v d n l t e.
       let P = b.problem.now in
       let range = stands-in b h.board.traced c v t in
@@ -180,6 +200,7 @@ scanned-done b T h = record {
   board = h.board;
   cut = h.cut;
   counters = h.counters;
+  marks = h.marks;
   supported = λ alive c v d n t e.
       let range = stands-in b h.board.traced c v t in
       h.supported alive c v d n (omega (arith, mul-add-lt c (values b.problem.now) v b.problem.now.cells range.0 range.1)) t e;
@@ -191,7 +212,8 @@ pub scanned-none : (b : Board) (T : Table) (spare : ℕ) → IsFresh b spare →
 scanned-none b T spare f e = record {
   board = f.board;
   cut = λ _ c v t. subst (λ ls. IsTrue (base_with b.problem.now ls c v)) (sym (ap (λ l. l.standing) f.levels)) (and_from _ _ (ap (λ g. g c v) (sym base) ∙ t) refl);
-  counters = loaded-lowered b.problem.now (in_base b.problem.now) T (e ∙ ap (counts_of b.problem.now) base);
+  counters = loaded-lowered b.problem.now f.board.traced.problem (in_base b.problem.now) T (e ∙ ap (counts_of b.problem.now) base);
+  marks = loaded-gone b.problem.now f.board.traced.problem (has b.domains) b.domains T e;
   supported = λ alive c v d n l. absurd (omega arith);
   first = λ r g. absurd (no_first (sym (ap (λ rs. slice_get rs 0) f.removals) ∙ g));
 }
@@ -236,7 +258,7 @@ opening-closed a s n spare f alive same_s same_n first more e idle = record {
 pub between-dead : (b : Board) (T : Table) (spare : ℕ) → IsFresh b spare → (b.verdict ≡ Alive → ⊥) → T ≡ counts_of b.problem.now (has b.domains) → IsBetween b T 0
 between-dead b T spare f dead e =
     let s = scanned-none b T spare f e in
-    record { board = s.board; cut = s.cut; counters = s.counters; supported = λ alive. absurd (dead alive); in_log = omega arith }
+    record { board = s.board; cut = s.cut; counters = s.counters; supported = λ alive. absurd (dead alive); marks = s.marks; in_log = omega arith }
 
 pub between-at : (b : Board) (T : Table) (i j : ℕ) → IsBetween b T i → i ≡ j → IsBetween b T j
 between-at b T i j h e = subst (IsBetween b T) e h

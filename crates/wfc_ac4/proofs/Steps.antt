@@ -1,8 +1,8 @@
 -- One step of the engine: a counter lowered, a value removed, a removal worked off.
-use Rattle.std.proofs.Common.{◌≡◌, ◌≢◌, ℕ, zero, suc, ◌+◌, ◌-◌, ◌<◌, ◌≤◌, cond, List, [], ◌∷◌, ◌++◌, length, get_or, take, set, refl, sym, ◌∙◌, ap, subst, add-one, arith, Option, Some, None, inl, inr}
+use Rattle.std.proofs.Common.{◌≡◌, ◌≢◌, ℕ, zero, suc, ◌+◌, ◌-◌, ◌%◌, ◌<◌, ◌≤◌, false, cond, List, [], ◌∷◌, ◌++◌, length, get_or, take, set, refl, sym, ◌∙◌, ap, subst, add-one, arith, Option, Some, None, inl, inr}
 use Rattle.std.specs.Prelude.{◌==◌, IsTrue, slice_index, slice_get}
-use Rattle.std.proofs.lemmas.Bool.{cases_eq, cases_lt, eq-eqb, ne_eqb}
-use Rattle.std.proofs.lemmas.List.{get_or_default, length_push, get_or-map, length-map, length-set, get_or_past, get_or-set_same, get_or-set_other, take-append-le, take_more, append_assoc, append-nil}
+use Rattle.std.proofs.lemmas.Bool.{cases_eq, cases_lt, eq-eqb, ne_eqb, true≢false}
+use Rattle.std.proofs.lemmas.List.{get_or_default, length_push, get_or-map, length-map, length-set, get_or_past, take-append-le, take_more, append_assoc, append-nil}
 use Rattle.std.proofs.lemmas.List.Sums.{sum_by-take-le, sum_by_push}
 use Rattle.wfc_model.specs.Direction.{opposite}
 use Rattle.wfc_problem.specs.Network.{Network, values, neighbour, supports_of, in_base, IsProblem}
@@ -12,16 +12,18 @@ use Rattle.wfc_domains.specs.declared.Removal.{Removal}
 use Rattle.wfc_domains.specs.declared.Verdict.TheVariants.{Alive}
 use Rattle.wfc_domains.specs.declared.board.Board.{Board}
 use Rattle.wfc_domains.specs.Domains.{Flags, has, size_of, less, IsLess}
-use Rattle.wfc_domains.specs.Counters.{Table, FitsTable, count_of, with_count, place, place_in}
+use Rattle.wfc_domains.specs.Counters.{IsMarked, Marks, entry_of, Table, FitsTable, count_of, with_count, place, place_in}
 use Rattle.wfc_domains.specs.Removals.{without, IsUnsupported}
 use Rattle.wfc_domains.specs.Store.{left_of}
 use Rattle.wfc_domains.specs.Board.{view_of, AreStood, IsTraced, lost, Loses, Grows}
 use Rattle.wfc_domains.proofs.Problems.{in_values, in_cells, opposite-in, neighbour-dir, support_count-few, support_count-le}
+use Rattle.wfc_domains.proofs.Marking.{entry-same, entry-other}
 use Rattle.wfc_domains.proofs.Places.{place-same, place_in-lt, place-is}
 use Rattle.wfc_domains.proofs.Removals.{less-within, less-lacks, without-within, without-push, without-in}
 use Rattle.wfc_domains.proofs.Boards.{board-lost, stands-in}
 use Rattle.wfc_ac4.specs.Places.{side_places, places_upto, places_of, times}
 use Rattle.wfc_ac4.specs.State.{AreLowered, AreRaised, IsWorking, IsBetween, IsRaising, counted}
+use Rattle.wfc_ac4.proofs.MarkLemmas.{entry-pos, pred-mod, suc-mod, mod-small, gone-within, gone-lowered, gone-marked, fewer-raised, lowered-marked}
 use Rattle.wfc_ac4.proofs.PlaceLemmas.{times-append, places-count}
 
 -- ---- counters
@@ -42,15 +44,18 @@ fits-with P T n w d x h = record {
 }
 
 -- a count that was set, and the others
-pub with-same : (T : Table) (n w d x c v e : ℕ) → place_in T.values T.dirs c v e ≡ place_in T.values T.dirs n w d → place_in T.values T.dirs n w d < length T.counts → count_of (with_count T n w d x) c v e ≡ x
-with-same T n w d x c v e same inside = ap (slice_index (set T.counts (place_in T.values T.dirs n w d) x)) same ∙ get_or-set_same T.counts (place_in T.values T.dirs n w d) x 0 inside
+pub with-same : (T : Table) (n w d x c v e : ℕ) → place_in T.values T.dirs c v e ≡ place_in T.values T.dirs n w d → place_in T.values T.dirs n w d < length T.counts → count_of (with_count T n w d x) c v e ≡ x % 32768
+with-same T n w d x c v e same inside = ap (λ y. y % 32768) (entry-same T n w d x c v e same inside)
 
 pub with-other : (T : Table) (n w d x c v e : ℕ) → place_in T.values T.dirs c v e ≢ place_in T.values T.dirs n w d → count_of (with_count T n w d x) c v e ≡ count_of T c v e
-with-other T n w d x c v e ne = get_or-set_other T.counts (place_in T.values T.dirs n w d) (place_in T.values T.dirs c v e) x 0 ne
+with-other T n w d x c v e ne = ap (λ y. y % 32768) (entry-other T n w d x c v e ne)
 
 -- a counter that is lowered has one less
-lowered-left : (T : Table) (n w d : ℕ) → 0 < count_of T n w d → count_of (with_count T n w d (count_of T n w d - 1)) n w d ≡ count_of T n w d - 1
-lowered-left T n w d pos = with-same T n w d (count_of T n w d - 1) n w d refl (in_list T.counts (place_in T.values T.dirs n w d) pos)
+pub counted-in : (T : Table) (n w d : ℕ) → 0 < count_of T n w d → place_in T.values T.dirs n w d < length T.counts
+counted-in T n w d pos = in_list T.counts (place_in T.values T.dirs n w d) (entry-pos (entry_of T n w d) pos)
+
+lowered-left : (T : Table) (n w d : ℕ) → 0 < count_of T n w d → count_of (with_count T n w d (entry_of T n w d - 1)) n w d ≡ count_of T n w d - 1
+lowered-left T n w d pos = with-same T n w d (entry_of T n w d - 1) n w d refl (counted-in T n w d pos) ∙ pred-mod (entry_of T n w d) pos
 
 -- a place that is not, or is, another's
 flag-is : (a b : ℕ) → a ≡ b → cond {A = ℕ} (a == b) 1 0 ≡ 1
@@ -60,9 +65,9 @@ flag-not : (a b : ℕ) → a ≢ b → cond {A = ℕ} (a == b) 1 0 ≡ 0
 flag-not a b ne = ap (λ t. cond {A = ℕ} t 1 0) (ne_eqb a b ne)
 
 -- one counter lowered
-pub lowered-one : (P : Network) (E : Test) (lowered : List ℕ) (T : Table) (n w d : ℕ) → AreLowered P E lowered T → 0 < count_of T n w d → AreLowered P E (lowered ++ place P n w d ∷ []) (with_count T n w d (count_of T n w d - 1))
+pub lowered-one : (P : Network) (E : Test) (lowered : List ℕ) (T : Table) (n w d : ℕ) → AreLowered P E lowered T → 0 < count_of T n w d → AreLowered P E (lowered ++ place P n w d ∷ []) (with_count T n w d (entry_of T n w d - 1))
 lowered-one P E lowered T n w d h pos = record {
-  fits = fits-with P T n w d (count_of T n w d - 1) h.fits;
+  fits = fits-with P T n w d (entry_of T n w d - 1) h.fits;
   each = λ c' v' d' hc hv hd.
       let old = h.each c' v' d' hc hv hd in
       let i = place_in T.values T.dirs n w d in
@@ -72,17 +77,17 @@ lowered-one P E lowered T n w d h pos = record {
       let more = times-push (place P c' v' d') lowered (place P n w d) in
       elim (cases_eq j i) [
         | inl e ↦
-            let same = with-same T n w d (count_of T n w d - 1) c' v' d' e (in_list T.counts i pos) in
-            let was : count_of T c' v' d' ≡ count_of T n w d = ap (slice_index T.counts) e in
+            let same = with-same T n w d (entry_of T n w d - 1) c' v' d' e (counted-in T n w d pos) ∙ pred-mod (entry_of T n w d) pos in
+            let was : count_of T c' v' d' ≡ count_of T n w d = ap (λ k. slice_index T.counts k % 32768) e in
             omega (arith, flag-is (place P n w d) (place P c' v' d') (ei ∙ sym e ∙ sym ej))
-        | inr ne ↦ omega (arith, with-other T n w d (count_of T n w d - 1) c' v' d' ne, flag-not (place P n w d) (place P c' v' d') (λ e. ne (sym ej ∙ sym e ∙ ei)))
+        | inr ne ↦ omega (arith, with-other T n w d (entry_of T n w d - 1) c' v' d' ne, flag-not (place P n w d) (place P c' v' d') (λ e. ne (sym ej ∙ sym e ∙ ei)))
       ];
 }
 
 -- one counter raised
-raised-one : (P : Network) (E : Test) (raised : List ℕ) (T : Table) (n w d : ℕ) → AreRaised P E raised T → n < P.cells → w < values P → d < P.dirs → AreRaised P E (raised ++ place P n w d ∷ []) (with_count T n w d (count_of T n w d + 1))
-raised-one P E raised T n w d h hn hw hd = record {
-  fits = fits-with P T n w d (count_of T n w d + 1) h.fits;
+raised-one : (P : Network) (E : Test) (raised : List ℕ) (T : Table) (n w d : ℕ) → AreRaised P E raised T → n < P.cells → w < values P → d < P.dirs → count_of T n w d < 4096 → AreRaised P E (raised ++ place P n w d ∷ []) (with_count T n w d (entry_of T n w d + 1))
+raised-one P E raised T n w d h hn hw hd few = record {
+  fits = fits-with P T n w d (entry_of T n w d + 1) h.fits;
   each = λ c' v' d' hc hv hd'.
       let old = h.each c' v' d' hc hv hd' in
       let i = place_in T.values T.dirs n w d in
@@ -93,10 +98,10 @@ raised-one P E raised T n w d h hn hw hd = record {
       let inside : i < length T.counts = omega (arith, place_in-lt (values P) P.dirs n w d P.cells hn hw hd, ei, h.fits.whole) in
       elim (cases_eq j i) [
         | inl e ↦
-            let same = with-same T n w d (count_of T n w d + 1) c' v' d' e inside in
-            let was : count_of T c' v' d' ≡ count_of T n w d = ap (slice_index T.counts) e in
+            let same = with-same T n w d (entry_of T n w d + 1) c' v' d' e inside ∙ suc-mod (entry_of T n w d) few in
+            let was : count_of T c' v' d' ≡ count_of T n w d = ap (λ k. slice_index T.counts k % 32768) e in
             omega (arith, flag-is (place P n w d) (place P c' v' d') (ei ∙ sym e ∙ sym ej))
-        | inr ne ↦ omega (arith, with-other T n w d (count_of T n w d + 1) c' v' d' ne, flag-not (place P n w d) (place P c' v' d') (λ e. ne (sym ej ∙ sym e ∙ ei)))
+        | inr ne ↦ omega (arith, with-other T n w d (entry_of T n w d + 1) c' v' d' ne, flag-not (place P n w d) (place P c' v' d') (λ e. ne (sym ej ∙ sym e ∙ ei)))
       ];
 }
 
@@ -173,7 +178,7 @@ support-lowered b D T n w d x t fits supported within hw hd here c v e m s besid
           let which = place-same P c v e n w d range.1 hw dir hd (place-is P T fits c v e ∙ same ∙ sym (place-is P T fits n w d)) in
           let s' : IsTrue (has D n w) = sym (ap (λ a. has D a v) which.0 ∙ ap (has D n) which.1) ∙ s in
           let pos = here s' in
-          let eq = ap (slice_index (set T.counts (place_in T.values T.dirs n w d) x)) same in
+          let eq = ap (λ k. slice_index (set T.counts (place_in T.values T.dirs n w d) x) k % 32768) same in
           omega arith
       | inr ne ↦
           let pos = supported c v e m (within c v s) beside in
@@ -185,13 +190,14 @@ support-lowered b D T n w d x t fits supported within hw hd here c v e m s besid
 -- the value keeps a support, or does not stand, or a cell is empty
 working-lowered : (b : Board) (T : Table) (head c v : ℕ) (lowered : List ℕ) (n w d : ℕ) → IsWorking b T head c v lowered
     → w < values b.problem.now → d < b.problem.now.dirs → 0 < count_of T n w d
-    → (b.verdict ≡ Alive → IsTrue (has b.domains n w) → 0 < count_of (with_count T n w d (count_of T n w d - 1)) n w d)
-    → IsWorking b (with_count T n w d (count_of T n w d - 1)) head c v (lowered ++ place b.problem.now n w d ∷ [])
+    → (b.verdict ≡ Alive → IsTrue (has b.domains n w) → 0 < count_of (with_count T n w d (entry_of T n w d - 1)) n w d)
+    → IsWorking b (with_count T n w d (entry_of T n w d - 1)) head c v (lowered ++ place b.problem.now n w d ∷ [])
 working-lowered b T head c v lowered n w d h hw hd pos here = record {
   board = h.board;
   cut = h.cut;
   counters = lowered-one b.problem.now (counted b head) lowered T n w d h.counters pos;
-  supported = λ alive. support-lowered b b.domains T n w d (count_of T n w d - 1) h.board.traced h.counters.fits (h.supported alive) (λ c' v' t. t) hw hd (here alive);
+  supported = λ alive. support-lowered b b.domains T n w d (entry_of T n w d - 1) h.board.traced h.counters.fits (h.supported alive) (λ c' v' t. t) hw hd (here alive);
+  marks = gone-lowered b.domains T n w d h.marks (entry-pos (entry_of T n w d) pos) (counted-in T n w d pos);
   still_counted = h.still_counted;
   gone = h.gone;
   in_log = h.in_log;
@@ -201,15 +207,15 @@ working-lowered b T head c v lowered n w d h hw hd pos here = record {
 working-removed : (b : Board) (D : Flags) (T : Table) (head c v : ℕ) (lowered : List ℕ) (n w d : ℕ) → IsWorking b T head c v lowered → b.verdict ≡ Alive
     → n < b.problem.now.cells → w < values b.problem.now → d < b.problem.now.dirs → 0 < count_of T n w d → neighbour b.problem.now n d ≡ Some c
     → times (place b.problem.now n w d) (lowered ++ place b.problem.now n w d ∷ []) ≤ times (place b.problem.now n w d) (places_of b.problem.now c v)
-    → count_of (with_count T n w d (count_of T n w d - 1)) n w d ≡ 0
+    → count_of (with_count T n w d (entry_of T n w d - 1)) n w d ≡ 0
     → IsLess b.domains D n w
-    → IsWorking (lost b D n w (Arc d)) (with_count T n w d (count_of T n w d - 1)) head c v (lowered ++ place b.problem.now n w d ∷ [])
+    → IsWorking (lost b D n w (Arc d)) (with_count T n w d (entry_of T n w d - 1)) head c v (lowered ++ place b.problem.now n w d ∷ [])
 working-removed b D T head c v lowered n w d h alive hn hw hd pos beside part none_left less' =
     let P = b.problem.now in
     let rs = b.trail.removals in
     let r : Removal = record { cell = n; value = w; before = size_of b.domains n; cause = Arc d } in
     let E = counted b head in
-    let T' = with_count T n w d (count_of T n w d - 1) in
+    let T' = with_count T n w d (entry_of T n w d - 1) in
     let lower = lowered-one P E lowered T n w d h.counters pos in
     let same_head : take head (rs ++ r ∷ []) ≡ take head rs = take-append-le head rs (r ∷ []) h.in_log in
     let no = no_support P h.board.traced.problem E (left_of (view_of b)) (lowered ++ place P n w d ∷ []) T' c v n w d lower h.still_counted h.gone hn hw hd part none_left in
@@ -221,7 +227,8 @@ working-removed b D T head c v lowered n w d h alive hn hw hd pos beside part no
       board = board-lost b D n w (Arc d) h.board alive less' hn hw (left_cut, bare);
       cut = λ _ x y t. h.cut alive x y (within' x y t);
       counters = subst (λ xs. AreLowered P (without (in_base P) xs) (lowered ++ place P n w d ∷ []) T') (sym same_head) lower;
-      supported = λ _. support-lowered b D T n w d (count_of T n w d - 1) h.board.traced h.counters.fits (h.supported alive) within' hw hd (λ t. absurd (lacks t));
+      supported = λ _. support-lowered b D T n w d (entry_of T n w d - 1) h.board.traced h.counters.fits (h.supported alive) within' hw hd (λ t. absurd (lacks t));
+      marks = gone-within b.domains D T' (gone-lowered b.domains T n w d h.marks (entry-pos (entry_of T n w d) pos) (counted-in T n w d pos)) within';
       still_counted = subst (λ xs. IsTrue (without (in_base P) xs c v)) (sym same_head) h.still_counted;
       gone = subst (λ xs. Within (without (in_base P) (rs ++ r ∷ [])) (less (without (in_base P) xs) c v)) (sym same_head)
           (λ c' v' t. h.gone c' v' (less-within (without (in_base P) rs) n w c' v' (ap (λ f. f c' v') (sym (without-push (in_base P) rs r)) ∙ t)));
@@ -251,27 +258,45 @@ pub record SideStep (P : Network) (lowered next : List ℕ) (c v n w back : ℕ)
 -- the state after it, where it is removed
 pub step_removed : (b b' : Board) (T T' : Table) (head c v : ℕ) (lowered : List ℕ) (next : Network → List ℕ) (n w d : ℕ)
     → IsWorking b T head c v lowered → SideStep b.problem.now lowered (next b.problem.now) c v n w d T
-    → T' ≡ with_count T n w d (count_of T n w d - 1) → b.verdict ≡ Alive → count_of T n w d ≡ 1 → Loses b b' n w (Arc d)
+    → T' ≡ with_count T n w d (entry_of T n w d - 1) → b.verdict ≡ Alive → entry_of T n w d ≡ 1 → Loses b b' n w (Arc d)
     → IsWorking b' T' head c v (next b'.problem.now)
 step_removed b b' T T' head c v lowered next n w d h s is_table alive one_left loses =
-    let z : count_of (with_count T n w d (count_of T n w d - 1)) n w d ≡ 0 = omega (arith, lowered-left T n w d s.above_zero) in
+    let z : count_of (with_count T n w d (entry_of T n w d - 1)) n w d ≡ 0 = omega (arith, lowered-left T n w d s.above_zero, ap (λ x. x % 32768) one_left) in
     let r = working-removed b b'.domains T head c v lowered n w d h alive s.cell_in s.value_in s.dir_in s.above_zero s.beside s.part z loses.less in
     subst (λ (x : Board). IsWorking x T' head c v (next x.problem.now)) (sym loses.same)
     (subst (λ t. IsWorking (lost b b'.domains n w (Arc d)) t head c v (next b.problem.now)) (sym is_table)
-    (subst (λ xs. IsWorking (lost b b'.domains n w (Arc d)) (with_count T n w d (count_of T n w d - 1)) head c v xs) s.next_is r))
+    (subst (λ xs. IsWorking (lost b b'.domains n w (Arc d)) (with_count T n w d (entry_of T n w d - 1)) head c v xs) s.next_is r))
 
 -- and where it is not
 pub step_lowered : (b : Board) (T T' : Table) (head c v : ℕ) (lowered next : List ℕ) (n w d : ℕ)
     → IsWorking b T head c v lowered → SideStep b.problem.now lowered next c v n w d T
-    → T' ≡ with_count T n w d (count_of T n w d - 1) → (b.verdict ≡ Alive → count_of T n w d ≡ 1 → IsTrue (has b.domains n w) → ⊥)
+    → T' ≡ with_count T n w d (entry_of T n w d - 1) → (b.verdict ≡ Alive → entry_of T n w d ≡ 1 → IsTrue (has b.domains n w) → ⊥)
     → IsWorking b T' head c v next
 step_lowered b T T' head c v lowered next n w d h s is_table keeps =
     let r = working-lowered b T head c v lowered n w d h s.value_in s.dir_in s.above_zero
-    (λ alive t. elim (cases_lt 0 (count_of (with_count T n w d (count_of T n w d - 1)) n w d)) [
+    (λ alive t. elim (cases_lt 0 (count_of (with_count T n w d (entry_of T n w d - 1)) n w d)) [
       | inl l ↦ l
-      | inr l ↦ absurd (keeps alive (omega (arith, lowered-left T n w d s.above_zero, s.above_zero)) t)
+      | inr l ↦
+          let one : count_of T n w d ≡ 1 = omega (arith, lowered-left T n w d s.above_zero, s.above_zero) in
+          elim (cases_lt (entry_of T n w d) 32768) [
+            | inl plain ↦ absurd (keeps alive (sym (mod-small (entry_of T n w d) plain) ∙ one) t)
+            | inr marked ↦ absurd (true≢false (sym t ∙ h.marks n w d (omega (arith, s.value_in, h.counters.fits.same_values)) (omega (arith, s.dir_in, h.counters.fits.same_dirs)) marked))
+          ]
     ]) in
-    subst (λ t. IsWorking b t head c v next) (sym is_table) (subst (λ xs. IsWorking b (with_count T n w d (count_of T n w d - 1)) head c v xs) s.next_is r)
+    subst (λ t. IsWorking b t head c v next) (sym is_table) (subst (λ xs. IsWorking b (with_count T n w d (entry_of T n w d - 1)) head c v xs) s.next_is r)
+
+-- a value that was removed is marked
+pub working-marked : (b : Board) (T T' : Table) (head c v n w : ℕ) (lowered : List ℕ) → IsWorking b T head c v lowered → Marks T T' n w → has b.domains n w ≡ false → IsWorking b T' head c v lowered
+working-marked b T T' head c v n w lowered h k f = record {
+  board = h.board;
+  cut = h.cut;
+  counters = lowered-marked b.problem.now (counted b head) lowered T T' n w h.counters k;
+  supported = λ alive c' v' d' m t e. let pos = h.supported alive c' v' d' m t e in let same = k.counts c' v' d' in omega arith;
+  marks = gone-marked b.domains T T' n w h.marks k f;
+  still_counted = h.still_counted;
+  gone = h.gone;
+  in_log = h.in_log;
+}
 
 -- ---- the removal at the head
 
@@ -313,6 +338,7 @@ start_working b T head r h e = record {
   cut = h.cut;
   counters = h.counters;
   supported = h.supported;
+  marks = h.marks;
   still_counted = stood_at (in_base b.problem.now) b.trail.removals head r h.board.traced.stood e;
   gone = gone_at (in_base b.problem.now) b.trail.removals head r e;
   in_log = h.in_log;
@@ -324,6 +350,7 @@ end_working b T head r h e = record {
   cut = h.cut;
   counters = lowered-agree b.problem.now _ _ [] T (worked_off b.problem.now h.board.traced.problem _ T r.cell r.value h.counters h.still_counted) (sym (without_at (in_base b.problem.now) b.trail.removals head r e));
   supported = h.supported;
+  marks = h.marks;
   in_log = omega (arith, in_list-get b.trail.removals head r e);
 }
 
@@ -343,7 +370,8 @@ pub record RaiseStep (P : Network) (E : Test) (next : List ℕ) (c v n w back : 
   pub value_in : w < values P
   pub dir_in : back < P.dirs
   pub below_limit : count_of T n w back < 4096
-  pub after : IsRaising P E c v next (with_count T n w back (count_of T n w back + 1))
+  pub fewer : (c v d : ℕ) → IsMarked (with_count T n w back (entry_of T n w back + 1)) c v d → IsMarked T c v d
+  pub after : IsRaising P E c v next (with_count T n w back (entry_of T n w back + 1))
 
 pub raise_step : (P : Network) (E : Test) (c v d n k w back : ℕ) (xs : List ℕ) (T : Table)
     → IsRaising P E c v (places_upto P c v d ++ take k (side_places P v d (Some n))) T → d < P.dirs → neighbour P c d ≡ Some n
@@ -361,14 +389,17 @@ raise_step P E c v d n k w turned xs T h hd e is_xs l is_w is_back =
     ap (λ x. raised ++ place P n x turned ∷ []) w_is ∙ ap (λ x. raised ++ place P n (get_or (supports_of P v d) k 0) x ∷ []) is_back ∙ next_lowered P c v d n k l' in
     let part : times (place P n w turned) (raised ++ place P n w turned ∷ []) ≤ times (place P n w turned) (places_of P c v) =
     omega (arith, ap (times (place P n w turned)) next, part-le P c v d n (place P n w turned) (k + 1) hd e) in
+    let few : count_of T n w turned < 4096 = omega (arith, h.counters.each n w turned hn hw hb, places-count P p E c v n w turned h.stood hw hb, times-push (place P n w turned) raised (place P n w turned), support_count-few P p E n w turned hb, flag-is (place P n w turned) (place P n w turned) refl) in
+    let inside : place_in T.values T.dirs n w turned < length T.counts = omega (arith, place_in-lt (values P) P.dirs n w turned P.cells hn hw hb, place-is P T h.counters.fits n w turned, h.counters.fits.whole) in
     record {
       cell_in = hn;
       value_in = hw;
       dir_in = hb;
-      below_limit = omega (arith, h.counters.each n w turned hn hw hb, places-count P p E c v n w turned h.stood hw hb, times-push (place P n w turned) raised (place P n w turned), support_count-few P p E n w turned hb, flag-is (place P n w turned) (place P n w turned) refl);
-      after = subst (λ ys. IsRaising P E c v ys (with_count T n w turned (count_of T n w turned + 1))) next (record {
+      below_limit = few;
+      fewer = fewer-raised T n w turned few inside;
+      after = subst (λ ys. IsRaising P E c v ys (with_count T n w turned (entry_of T n w turned + 1))) next (record {
         problem = p;
-        counters = raised-one P (less E c v) raised T n w turned h.counters hn hw hb;
+        counters = raised-one P (less E c v) raised T n w turned h.counters hn hw hb few;
         stood = h.stood;
       });
     }

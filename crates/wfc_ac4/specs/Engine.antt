@@ -4,7 +4,7 @@ use Rattle.wfc_domains.specs.declared.Verdict.TheVariants.{Alive}
 use Rattle.wfc_domains.specs.Store.{StoreView, IsSound, mark_of}
 use Rattle.wfc_domains.specs.Board.{view_of, IsTraced, HasLevels}
 use Rattle.wfc_ac4.specs.Links.{AreLinks}
-use Rattle.wfc_ac4.specs.State.{AreLowered, counted}
+use Rattle.wfc_ac4.specs.State.{AreLowered, AreGone, counted}
 use Rattle.wfc_ac4.specs.declared.Ac4.TheInside.{Inside}
 
 -- what contracts see of it
@@ -18,6 +18,7 @@ pub record HoldsTogether (a : Inside) : Type 0 where
   pub traced : IsTraced a.flight.board
   pub levels : HasLevels (view_of a.flight.board)
   pub counters : AreLowered a.flight.board.problem.now (counted a.flight.board a.flight.head) [] a.flight.counters
+  pub marks : AreGone a.flight.board.domains a.flight.counters
   pub in_log : a.flight.head ≤ length a.flight.board.trail.removals
   pub settled : a.flight.board.verdict ≡ Alive → a.flight.head ≡ length a.flight.board.trail.removals
   pub linked : AreLinks a.flight.board.problem.now a.links

@@ -1,7 +1,7 @@
 -- What a flight's steps leave as it was.
 use Rattle.std.specs.Prelude.{◌≡◌, ℕ, ◌<◌, ◌∷◌, ◌++◌, [], length, min, take, Some}
 use Rattle.wfc_problem.specs.Network.{neighbour}
-use Rattle.wfc_domains.specs.Counters.{count_of, cost_of}
+use Rattle.wfc_domains.specs.Counters.{Table, IsMarked, count_of, cost_of}
 use Rattle.wfc_domains.specs.declared.Removal.{Removal}
 use Rattle.wfc_domains.specs.Board.{Grows}
 use Rattle.wfc_ac4.specs.declared.flight.Flight.{Flight}
@@ -18,6 +18,10 @@ pub record GoesOn (old new : Flight) : Type 0 where
 -- only the counters changed
 abbrev pub Recounts : Flight → Flight → Type 0
 Recounts old new = new ≡ record old { counters = new.counters }
+
+-- no mark more stands
+abbrev pub HasNoMore : Table → Table → Type 0
+HasNoMore old new = (c v d : ℕ) → IsMarked new c v d → IsMarked old c v d
 
 -- the last removal was taken back; if it was worked off, the head went back too
 pub record IsShorter (old new : Flight) : Type 0 where

@@ -1,12 +1,12 @@
 -- The state of an engine, between removals and in the midst of working one off.
-use Rattle.std.specs.Prelude.{◌≡◌, ℕ, ◌+◌, ◌*◌, ◌<◌, ◌≤◌, List, [], length, take, slice_get, Some, IsTrue}
+use Rattle.std.specs.Prelude.{◌≡◌, ℕ, ◌+◌, ◌*◌, ◌<◌, ◌≤◌, List, [], length, take, slice_get, Some, IsTrue, false}
 use Rattle.wfc_problem.specs.Network.{Network, values, neighbour, in_base, IsProblem}
 use Rattle.wfc_problem.specs.Domains.{Test, Within, support_count}
 use Rattle.wfc_domains.specs.declared.Verdict.TheVariants.{Alive}
 use Rattle.wfc_domains.specs.declared.Removal.{Removal}
 use Rattle.wfc_domains.specs.declared.board.Board.{Board}
-use Rattle.wfc_domains.specs.Domains.{has, less}
-use Rattle.wfc_domains.specs.Counters.{Table, FitsTable, count_of, place}
+use Rattle.wfc_domains.specs.Domains.{Flags, has, less}
+use Rattle.wfc_domains.specs.Counters.{Table, FitsTable, IsMarked, count_of, place}
 use Rattle.wfc_domains.specs.Removals.{without}
 use Rattle.wfc_domains.specs.Board.{IsTraced, IsBoard, IsCut}
 use Rattle.wfc_domains.specs.Store.{IsLeastUnsupported}
@@ -26,6 +26,10 @@ pub record AreRaised (P : Network) (E : Test) (raised : List ℕ) (T : Table) : 
   pub fits : FitsTable P T
   pub each : (c v d : ℕ) → c < P.cells → v < values P → d < P.dirs → count_of T c v d ≡ support_count P E c v d + times (place P c v d) raised
 
+-- marks stand only at values that don't stand
+abbrev pub AreGone : Flags → Table → Type 0
+AreGone D T = (c v d : ℕ) → v < T.values → d < T.dirs → IsMarked T c v d → has D c v ≡ false
+
 -- while the board is alive each value that stands has support left in each direction
 abbrev pub HaveSupport : Board → Table → Type 0
 HaveSupport b T = b.verdict ≡ Alive → (c v d n : ℕ) → IsTrue (has b.domains c v) → neighbour b.problem.now c d ≡ Some n → 0 < count_of T c v d
@@ -36,6 +40,7 @@ pub record IsWorking (b : Board) (T : Table) (head c v : ℕ) (lowered : List �
   pub cut : IsCut b
   pub counters : AreLowered b.problem.now (counted b head) lowered T
   pub supported : HaveSupport b T
+  pub marks : AreGone b.domains T
   pub still_counted : IsTrue (counted b head c v)
   pub gone : Within (without (in_base b.problem.now) b.trail.removals) (less (counted b head) c v)
   pub in_log : head ≤ length b.trail.removals
@@ -46,11 +51,13 @@ pub record IsBetween (b : Board) (T : Table) (head : ℕ) : Type 0 where
   pub cut : IsCut b
   pub counters : AreLowered b.problem.now (counted b head) [] T
   pub supported : HaveSupport b T
+  pub marks : AreGone b.domains T
   pub in_log : head ≤ length b.trail.removals
 
 -- while removals are taken back: nothing is said of the literals and of the verdict
 pub record IsRolled (b : Board) (T : Table) (head : ℕ) : Type 0 where
   pub traced : IsTraced b
+  pub marks : AreGone b.domains T
   pub counters : AreLowered b.problem.now (counted b head) [] T
   pub in_log : head ≤ length b.trail.removals
 
@@ -66,5 +73,6 @@ pub record IsScanned (b : Board) (T : Table) (i : ℕ) : Type 0 where
   pub board : IsBoard b
   pub cut : IsCut b
   pub counters : AreLowered b.problem.now (in_base b.problem.now) [] T
+  pub marks : AreGone b.domains T
   pub supported : b.verdict ≡ Alive → (c v d n : ℕ) → c * values b.problem.now + v < i → IsTrue (has b.domains c v) → neighbour b.problem.now c d ≡ Some n → 0 < count_of T c v d
   pub first : (r : Removal) → slice_get b.trail.removals 0 ≡ Some r → IsLeastUnsupported b.problem.now (in_base b.problem.now) r

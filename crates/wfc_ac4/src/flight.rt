@@ -4,14 +4,14 @@ ghost use Rattle.std.specs.Prelude.{◌≡◌, ℕ, ◌+◌, ◌-◌, ◌*◌, �
 ghost use Rattle.wfc_problem.specs.Network.{values, neighbour, supports_of, in_base};
 ghost use Rattle.wfc_domains.specs.declared.Verdict.TheVariants.{Alive};
 ghost use Rattle.wfc_domains.specs.Domains.{has};
-ghost use Rattle.wfc_domains.specs.Counters.{FitsTable, count_of, with_count, counts_of, cost_at, cost_of};
+ghost use Rattle.wfc_domains.specs.Counters.{FitsTable, count_of, entry_of, with_count, counts_of, cost_at, cost_of};
 ghost use Rattle.wfc_domains.specs.Removals.{without};
 ghost use Rattle.wfc_domains.specs.Store.{IsOpening};
 ghost use Rattle.wfc_domains.specs.Board.{Grows, IsFresh};
 ghost use Rattle.wfc_ac4.specs.Places.{places_upto, side_places, places_of};
 ghost use Rattle.wfc_ac4.specs.Links.{AreLinks, links_of};
 ghost use Rattle.wfc_ac4.specs.State.{IsWorking, IsBetween, IsRolled, IsRaising, IsScanned, AreLowered, counted};
-ghost use Rattle.wfc_ac4.specs.Flight.{front_cost, GoesOn, Recounts, IsShorter, IsRolledTo, IsFirstBare};
+ghost use Rattle.wfc_ac4.specs.Flight.{front_cost, GoesOn, Recounts, HasNoMore, IsShorter, IsRolledTo, IsFirstBare};
 
 use crate::links::{Link, Links};
 use std::sync::ledger::Ledger;
@@ -26,7 +26,8 @@ pub struct Flight<'p> {
     pub head: usize,
 }
 
-/// Lowers a counter, and says whether its value stands without support then, and no cell is empty.
+/// Lowers a counter, and says whether its value stands without support then, and no cell is empty. The counters of
+/// a value that was removed are marked, so that they don't come to 0.
 #[inline]
 fn lower<L: Ledger>(
     board: &Board<'_>,
@@ -41,17 +42,15 @@ fn lower<L: Ledger>(
     requires counter_cell { cell < counters.old.cells }
     requires counter_value { value < counters.old.values }
     requires dir_in { dir < counters.old.dirs }
-    requires some { 0 < count_of counters.old cell value dir }
-    ensures spent { IsTrue result ↔ ((count_of counters.old cell value dir ≡ 1)
+    requires some { 0 < entry_of counters.old cell value dir }
+    ensures spent { IsTrue result ↔ ((entry_of counters.old cell value dir ≡ 1)
         × IsTrue (has board.now.domains cell value) × (board.now.verdict ≡ Alive)) }
     ensures changed { counters.new ≡ with_count counters.old cell value dir
-        (count_of counters.old cell value dir - 1) }
+        (entry_of counters.old cell value dir - 1) }
     ensures steps { steps.new ≡ steps.old + 1 }
 {
     let left = counters.down(cell, value, dir, steps);
-    // One comparison says both that none is left and that the value stands: neither can be foretold
-    // alone.
-    left < u32::from(board.domains.has(cell, value)) && is_alive(board.verdict)
+    left == 0 && board.domains.has(cell, value) && is_alive(board.verdict)
 }
 
 impl<'p> Flight<'p> {
@@ -76,6 +75,7 @@ impl<'p> Flight<'p> {
                     steps,
                 ) {
                     self.board.remove(next, link.value, Cause::Arc(link.back));
+                    self.counters.mark(next, link.value);
                 }
             }
         }
@@ -136,6 +136,7 @@ impl<'p> Flight<'p> {
             self.old.board.problem.now cell value dir ++ side_places self.old.board.problem.now
             value dir (Some next)) self.new.counters }
         ensures same { Recounts self.old self.new }
+        ensures marks { HasNoMore self.old.counters self.new.counters }
         ensures steps { steps.new
             ≡ steps.old + length (supports_of self.old.board.problem.now value dir) }
     {
@@ -156,6 +157,7 @@ impl<'p> Flight<'p> {
         ensures counters { AreLowered self.old.board.problem.now (without (in_base
             self.old.board.problem.now) self.old.board.trail.removals) [] self.new.counters }
         ensures same { Recounts self.old self.new }
+        ensures marks { HasNoMore self.old.counters self.new.counters }
         ensures steps { steps.new ≡ steps.old + cost_at self.old.board.problem.now cell value }
     {
         let problem = self.board.problem;
@@ -176,6 +178,7 @@ impl<'p> Flight<'p> {
             ≤ steps.old + cost_of self.old.board.problem.now self.old.board.trail.removals }
     {
         let removal = self.board.take_back();
+        self.counters.unmark(removal.cell, removal.value);
         if self.head > self.board.trail.len() {
             self.raise(removal.cell, removal.value, steps);
             self.head -= 1;

@@ -8,7 +8,7 @@
 ghost use Rattle.std.specs.Prelude.{◌≡◌, ◌+◌, ◌<◌, ◌≤◌, length, IfOk};
 ghost use Rattle.wfc_problem.specs.Domains.{IsLiteralIn};
 ghost use Rattle.wfc_domains.specs.declared.Verdict.TheVariants.{Alive};
-ghost use Rattle.wfc_domains.specs.Counters.{FitsTable, counts_of, cost_of};
+ghost use Rattle.wfc_domains.specs.Counters.{FitsTable, HasCounts, cost_of};
 ghost use Rattle.wfc_domains.specs.Store.{IsSound, IsAssumed, IsOpened, left_of, added_of, without_last};
 
 mod flight;
@@ -59,8 +59,8 @@ impl<'p> Ac4<'p> {
     /// every direction, 0 where there is no neighbour. It holds while the verdict is alive.
     #[inline]
     pub fn counters(&self) -> &Counters
-        ensures value { self.now.verdict ≡ Alive → result.now
-            ≡ counts_of self.now.problem (left_of self.now) }
+        ensures value { self.now.verdict ≡ Alive → HasCounts self.now.problem (left_of self.now)
+            result.now }
         ensures fits { FitsTable self.now.problem result.now }
     {
         &self.flight.counters

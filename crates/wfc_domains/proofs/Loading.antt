@@ -1,5 +1,5 @@
 -- The counters set one after another.
-use Rattle.std.proofs.Common.{◌≡◌, ℕ, ◌+◌, ◌-◌, ◌*◌, ◌<◌, ◌≤◌, Bool, Some, refl, List, length, get_or, take, drop, set, sym, ◌∙◌, ap, subst, arith, inl, inr}
+use Rattle.std.proofs.Common.{◌≡◌, ℕ, ◌+◌, ◌-◌, ◌*◌, ◌%◌, ◌<◌, ◌≤◌, Bool, Some, refl, List, length, get_or, take, drop, set, sym, ◌∙◌, ap, subst, arith, inl, inr}
 use Rattle.std.specs.Prelude.{count_by, filter}
 use Rattle.std.specs.List.{range_with_len}
 use Rattle.std.proofs.lemmas.Bool.{cases_eq, cases_lt}
@@ -13,7 +13,7 @@ use Rattle.wfc_lists.proofs.Ranges.{range_at}
 use Rattle.wfc_problem.specs.Network.{Network, values, neighbour, supports_of, IsProblem}
 use Rattle.wfc_problem.specs.Domains.{Test, count_at, support_count}
 use Rattle.wfc_domains.specs.Domains.{Flags, has, size_of}
-use Rattle.wfc_domains.specs.Counters.{Table, with_count, count_of, counts_of, place_in, place}
+use Rattle.wfc_domains.specs.Counters.{Table, with_count, entry_of, counts_of, place_in, place}
 use Rattle.wfc_domains.specs.Loaded.{AreLoaded, IsSurrounded, IsCopied}
 use Rattle.wfc_domains.proofs.Problems.{supports-below}
 use Rattle.wfc_domains.proofs.Places.{place-same, place_in-lt, place-is, counts_are}
@@ -96,7 +96,7 @@ loaded-copied P D T T' from to h earlier to_in like here copy = record {
         | inl before ↦ copy.others c v d before hv' hd' ∙ h.below c v d hc hv hd (row-before c v d before hv hd)
         | inr after ↦
             let same : c ≡ to = omega (arith, place-row P c v d to hv hd l) in
-            ap (λ x. count_of T' x v d) same ∙ copy.copied v d hv' hd'
+            ap (λ x. entry_of T' x v d) same ∙ copy.copied v d hv' hd'
             ∙ h.below from v d (omega arith) hv hd (row-before from v d earlier hv hd) ∙ like v d hd ∙ sym (here v d hd)
             ∙ ap (λ x. support_count P D x v d) (sym same)
       ];
@@ -107,8 +107,8 @@ loaded-copied P D T T' from to h earlier to_in like here copy = record {
 
 -- the numbers of a cell's row are its counts
 pub row-positive : (n k cells cell : ℕ) (xs ys : List ℕ) → ys ≡ xs → length xs ≡ (cells * n) * k → cell < cells
-    → ((i : ℕ) → i < length (take (cell * (n * k) + n * k - cell * (n * k)) (drop (cell * (n * k)) ys)) → 0 < get_or (take (cell * (n * k) + n * k - cell * (n * k)) (drop (cell * (n * k)) ys)) i 0)
-    → (v d : ℕ) → v < n → d < k → 0 < get_or xs (place_in n k cell v d) 0
+    → ((i : ℕ) → i < length (take (cell * (n * k) + n * k - cell * (n * k)) (drop (cell * (n * k)) ys)) → 0 < get_or (take (cell * (n * k) + n * k - cell * (n * k)) (drop (cell * (n * k)) ys)) i 0 % 32768)
+    → (v d : ℕ) → v < n → d < k → 0 < get_or xs (place_in n k cell v d) 0 % 32768
 row-positive n k cells cell xs ys same whole hc h v d hv hd =
     let start = cell * (n * k) in
     let m = start + n * k - start in
@@ -119,7 +119,7 @@ row-positive n k cells cell xs ys same whole hc h v d hv hd =
     let long : i < length (take m (drop start ys)) = omega (arith, length-take m (drop start ys), length-drop start ys, ap length same) in
     let pos = h i long in
     let read : get_or (take m (drop start ys)) i 0 ≡ get_or xs (place_in n k cell v d) 0 = get_or-take m (drop start ys) i 0 short ∙ get_or-drop start ys i 0 ∙ ap (λ zs. get_or zs (start + i) 0) same ∙ ap (λ j. get_or xs j 0) (sym (place_in-row n k cell v d)) in
-    omega arith
+    omega (arith, ap (λ x. x % 32768) read)
 
 -- a row fits at each cell
 pub row-in : (n k cells from to places : ℕ) → places ≡ (cells * n) * k → to < cells → to * (n * k) + (from * (n * k) + n * k - from * (n * k)) ≤ places

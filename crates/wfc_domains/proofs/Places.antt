@@ -8,7 +8,7 @@ use Rattle.std.proofs.lemmas.Nat.{same_from_place, mul-add-lt, div-add-mod', div
 use Rattle.std.proofs.Math.Nat.{mod-lt}
 use Rattle.wfc_problem.specs.Network.{Network, values}
 use Rattle.wfc_problem.specs.Domains.{Test, support_count}
-use Rattle.wfc_domains.specs.Counters.{Table, FitsTable, count_of, counts_of, place_in, place}
+use Rattle.wfc_domains.specs.Counters.{Table, FitsTable, entry_of, counts_of, place_in, place}
 
 -- a place tells its cell, value and direction
 pub place-same : (P : Network) (c v d c' v' d' : ℕ) → v < values P → v' < values P → d < P.dirs → d' < P.dirs → place P c v d ≡ place P c' v' d' → (c ≡ c') × (v ≡ v') × (d ≡ d')
@@ -35,7 +35,7 @@ row_at a n i h = elim (cases_lt 0 n) [
 ]
 
 -- a table with the right count at each place is the table of counts
-pub counts_are : (P : Network) (D : Test) (T : Table) → FitsTable P T → ((c v d : ℕ) → c < P.cells → v < values P → d < P.dirs → count_of T c v d ≡ support_count P D c v d) → T ≡ counts_of P D
+pub counts_are : (P : Network) (D : Test) (T : Table) → FitsTable P T → ((c v d : ℕ) → c < P.cells → v < values P → d < P.dirs → entry_of T c v d ≡ support_count P D c v d) → T ≡ counts_of P D
 counts_are P D T h each = λ i. record { cells = h.same_cells i; values = h.same_values i; dirs = h.same_dirs i; counts = counts i }
   where
     n : ℕ

@@ -1,5 +1,5 @@
 -- A table of support counters, and how many of them a removal changes.
-use Rattle.std.specs.Prelude.{◌≡◌, ℕ, ◌+◌, ◌*◌, ◌/◌, ◌%◌, List, length, map, replicate, slice_index, slice_set, Option, Some, None}
+use Rattle.std.specs.Prelude.{◌≡◌, ℕ, ◌+◌, ◌*◌, ◌/◌, ◌%◌, ◌<◌, ◌≤◌, ◌⊎◌, List, length, map, replicate, slice_index, slice_set, Option, Some, None}
 use Rattle.std.specs.List.{range_with_len, sum_by}
 use Rattle.wfc_problem.specs.Network.{Network, values, neighbour, supports_of}
 use Rattle.wfc_problem.specs.Domains.{Test, support_count}
@@ -20,11 +20,19 @@ place_in n k c v d = (c * n + v) * k + d
 abbrev pub place : Network → ℕ → ℕ → ℕ → ℕ
 place P c v d = place_in (values P) P.dirs c v d
 
+-- the entry of v at c in direction d: its count, and 32,768 more where it is marked
+abbrev pub entry_of : Table → ℕ → ℕ → ℕ → ℕ
+entry_of T c v d = slice_index T.counts (place_in T.values T.dirs c v d)
+
 -- the count of v at c in direction d
 abbrev pub count_of : Table → ℕ → ℕ → ℕ → ℕ
-count_of T c v d = slice_index T.counts (place_in T.values T.dirs c v d)
+count_of T c v d = entry_of T c v d % 32768
 
--- the table with this count there
+-- the count of v at c in direction d is marked
+abbrev pub IsMarked : Table → ℕ → ℕ → ℕ → Type 0
+IsMarked T c v d = 32768 ≤ entry_of T c v d
+
+-- the table with this entry there
 abbrev pub with_count : Table → ℕ → ℕ → ℕ → ℕ → Table
 with_count T c v d n = record T { counts = slice_set T.counts (place_in T.values T.dirs c v d) n }
 
@@ -39,6 +47,25 @@ pub record FitsTable (P : Network) (T : Table) : Type 0 where
   pub same_dirs : T.dirs ≡ P.dirs
   pub whole : length T.counts ≡ counters_of P
 
+-- the counts of one value at a cell were marked, and nothing else changed
+pub record Marks (old new : Table) (cell value : ℕ) : Type 0 where
+  pub same_cells : new.cells ≡ old.cells
+  pub same_values : new.values ≡ old.values
+  pub same_dirs : new.dirs ≡ old.dirs
+  pub same_length : length new.counts ≡ length old.counts
+  pub counts : (c v d : ℕ) → count_of new c v d ≡ count_of old c v d
+  pub marks : (c v d : ℕ) → v < old.values → d < old.dirs → IsMarked new c v d → IsMarked old c v d ⊎ ((c ≡ cell) × (v ≡ value))
+
+-- the marks in the first k directions were taken from the counts of one value at a cell, and nothing else changed
+pub record Unmarks (old new : Table) (cell value k : ℕ) : Type 0 where
+  pub same_cells : new.cells ≡ old.cells
+  pub same_values : new.values ≡ old.values
+  pub same_dirs : new.dirs ≡ old.dirs
+  pub same_length : length new.counts ≡ length old.counts
+  pub counts : (c v d : ℕ) → count_of new c v d ≡ count_of old c v d
+  pub marks : (c v d : ℕ) → IsMarked new c v d → IsMarked old c v d
+  pub cleared : (d : ℕ) → d < k → IsMarked new cell value d → ⊥
+
 -- the table in which each count is 0
 abbrev pub no_counts : Network → Table
 no_counts P = record { cells = P.cells; values = values P; dirs = P.dirs; counts = replicate (counters_of P) 0 }
@@ -51,6 +78,10 @@ counts_of P D = record {
   dirs = P.dirs;
   counts = map (λ at. support_count P D (at / P.dirs / values P) (at / P.dirs % values P) (at % P.dirs)) (range_with_len 0 (counters_of P));
 }
+
+-- each count is how many supports stand
+abbrev pub HasCounts : Network → Test → Table → Type 0
+HasCounts P D T = (c v d : ℕ) → c < P.cells → v < values P → d < P.dirs → count_of T c v d ≡ support_count P D c v d
 
 -- how many values may stand beside v in direction d, 0 where there is no neighbour
 abbrev pub supports_at : Network → ℕ → ℕ → Option ℕ → ℕ

@@ -2,12 +2,12 @@
 use Rattle.std.specs.Prelude.{◌≡◌, ℕ, ◌<◌, length}
 use Rattle.wfc_problem.specs.Network.{Network, values, supports_of}
 use Rattle.wfc_problem.specs.Domains.{Test, support_count}
-use Rattle.wfc_domains.specs.Counters.{Table, FitsTable, count_of, place}
+use Rattle.wfc_domains.specs.Counters.{Table, FitsTable, entry_of, place}
 
 -- each counter before the i-th place is the number of supports that stand
 pub record AreLoaded (P : Network) (D : Test) (T : Table) (i : ℕ) : Type 0 where
   pub fits : FitsTable P T
-  pub below : (c v d : ℕ) → c < P.cells → v < values P → d < P.dirs → place P c v d < i → count_of T c v d ≡ support_count P D c v d
+  pub below : (c v d : ℕ) → c < P.cells → v < values P → d < P.dirs → place P c v d < i → entry_of T c v d ≡ support_count P D c v d
 
 -- all supports stand beside c in the first k directions
 abbrev pub IsSurrounded : Network → Test → ℕ → ℕ → Type 0
@@ -24,5 +24,5 @@ pub record IsCopied (old new : Table) (from to : ℕ) : Type 0 where
   pub same_values : new.values ≡ old.values
   pub same_dirs : new.dirs ≡ old.dirs
   pub same_length : length new.counts ≡ length old.counts
-  pub copied : (v d : ℕ) → v < old.values → d < old.dirs → count_of new to v d ≡ count_of old from v d
-  pub others : (c v d : ℕ) → c < to → v < old.values → d < old.dirs → count_of new c v d ≡ count_of old c v d
+  pub copied : (v d : ℕ) → v < old.values → d < old.dirs → entry_of new to v d ≡ entry_of old from v d
+  pub others : (c v d : ℕ) → c < to → v < old.values → d < old.dirs → entry_of new c v d ≡ entry_of old c v d

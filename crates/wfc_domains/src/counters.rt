@@ -1,9 +1,9 @@
 //! Support counters: how many supports each value has left beside each cell.
 
-ghost use Rattle.std.specs.Prelude.{◌≡◌, ℕ, ◌+◌, ◌-◌, ◌*◌, ◌<◌, ◌≤◌, ◌^◌, IfOk, IfSome, IsTrue, IsFalse, All, count_by, length, slice_index, slice_set};
+ghost use Rattle.std.specs.Prelude.{◌≡◌, ℕ, ◌+◌, ◌-◌, ◌*◌, ◌%◌, ◌<◌, ◌≤◌, ◌^◌, IfOk, IfSome, IsTrue, IsFalse, All, count_by, length, slice_index, slice_set};
 ghost use Rattle.wfc_problem.specs.Network.{values, neighbour, supports_of};
 ghost use Rattle.wfc_problem.specs.Domains.{support_count, count_at};
-ghost use Rattle.wfc_domains.specs.Counters.{FitsTable, count_of, with_count, counters_of, counts_of, no_counts, place};
+ghost use Rattle.wfc_domains.specs.Counters.{FitsTable, count_of, entry_of, with_count, Marks, Unmarks, counters_of, counts_of, no_counts, place};
 ghost use Rattle.wfc_domains.specs.Domains.{Fits, has};
 ghost use Rattle.wfc_domains.specs.Loaded.{AreLoaded, IsSurrounded, IsLike, IsCopied};
 
@@ -15,7 +15,10 @@ use std::sync::ledger::Ledger;
 use wfc_outside::NoMemory;
 use wfc_problem::Problem;
 
-/// One count for each cell, value and direction.
+/// What the entry of a marked count is above the count, which is at most 4,096.
+const MARK: u16 = 32_768;
+
+/// One count for each cell, value and direction. Each can be marked beside; a mark leaves the count as it is.
 #[derive(Drop)]
 pub struct Counters {
     cells: u32,
@@ -60,9 +63,8 @@ impl Counters {
         requires dir_in { dir < self.now.dirs }
         ensures value { result ≡ count_of self.now cell value dir }
     {
-        u32::from(
-            self.counts[(cell as usize * self.values + value as usize) * self.dirs + dir as usize],
-        )
+        let place = (cell as usize * self.values + value as usize) * self.dirs + dir as usize;
+        u32::from(self.counts[place] % MARK)
     }
 
     /// Whether an entry of the cell is 0.
@@ -191,16 +193,16 @@ impl Counters {
             count;
     }
 
-    /// One less, and how many are left. It is one step.
+    /// One less, and the entry that is left: 0 where none is left and it isn't marked. It is one step.
     #[inline]
     pub fn down<L: Ledger>(&mut self, cell: u32, value: u16, dir: u8, steps: &mut Steps<L>) -> u32
         requires cell_in { cell < self.old.cells }
         requires value_in { value < self.old.values }
         requires dir_in { dir < self.old.dirs }
-        requires some { 0 < count_of self.old cell value dir }
-        ensures left { result + 1 ≡ count_of self.old cell value dir }
+        requires some { 0 < entry_of self.old cell value dir }
+        ensures left { result + 1 ≡ entry_of self.old cell value dir }
         ensures changed { self.new
-            ≡ with_count self.old cell value dir (count_of self.old cell value dir - 1) }
+            ≡ with_count self.old cell value dir (entry_of self.old cell value dir - 1) }
         ensures steps { steps.new ≡ steps.old + 1 }
     {
         let place = (cell as usize * self.values + value as usize) * self.dirs + dir as usize;
@@ -218,22 +220,76 @@ impl Counters {
         requires dir_in { dir < self.old.dirs }
         requires limit { count_of self.old cell value dir < 4096 }
         ensures changed { self.new
-            ≡ with_count self.old cell value dir (count_of self.old cell value dir + 1) }
+            ≡ with_count self.old cell value dir (entry_of self.old cell value dir + 1) }
         ensures steps { steps.new ≡ steps.old + 1 }
     {
-        self.counts[(cell as usize * self.values + value as usize) * self.dirs + dir as usize] += 1;
+        let place = (cell as usize * self.values + value as usize) * self.dirs + dir as usize;
+        let entry = self.counts[place];
+        self.counts[place] = entry + 1;
         steps.tick();
+    }
+
+    /// Marks the counts of a value at a cell.
+    #[inline]
+    pub fn mark(&mut self, cell: u32, value: u16)
+        requires cell_in { cell < self.old.cells }
+        requires value_in { value < self.old.values }
+        ensures marks { Marks self.old self.new cell value }
+    {
+        for dir in 0..self.dirs {
+            self.mark_side(cell, value, dir);
+        }
+    }
+
+    /// Marks the count of a value at a cell in one direction.
+    #[inline]
+    fn mark_side(&mut self, cell: u32, value: u16, dir: usize)
+        requires cell_in { cell < self.old.cells }
+        requires value_in { value < self.old.values }
+        requires dir_in { dir < self.old.dirs }
+        ensures changed { self.new ≡ with_count self.old cell value dir
+            (entry_of self.old cell value dir % 32768 + 32768) }
+    {
+        let place = (cell as usize * self.values + value as usize) * self.dirs + dir;
+        let entry = self.counts[place];
+        self.counts[place] = entry % MARK + MARK;
+    }
+
+    /// Takes the marks from the counts of a value at a cell.
+    #[inline]
+    pub fn unmark(&mut self, cell: u32, value: u16)
+        requires cell_in { cell < self.old.cells }
+        requires value_in { value < self.old.values }
+        ensures unmarks { Unmarks self.old self.new cell value self.old.dirs }
+    {
+        for dir in 0..self.dirs {
+            self.unmark_side(cell, value, dir);
+        }
+    }
+
+    /// Takes the mark from the count of a value at a cell in one direction.
+    #[inline]
+    fn unmark_side(&mut self, cell: u32, value: u16, dir: usize)
+        requires cell_in { cell < self.old.cells }
+        requires value_in { value < self.old.values }
+        requires dir_in { dir < self.old.dirs }
+        ensures changed { self.new ≡ with_count self.old cell value dir
+            (entry_of self.old cell value dir % 32768) }
+    {
+        let place = (cell as usize * self.values + value as usize) * self.dirs + dir;
+        let entry = self.counts[place];
+        self.counts[place] = entry % MARK;
     }
 }
 
-/// Whether a number is 0.
-fn has_zero(numbers: &[u16]) -> bool
-    ensures none { IsFalse result → (k : ℕ) → k < length numbers.now
-        → 0 < slice_index numbers.now k }
+/// Whether a count is 0.
+fn has_zero(entries: &[u16]) -> bool
+    ensures none { IsFalse result → (k : ℕ) → k < length entries.now
+        → 0 < slice_index entries.now k % 32768 }
 {
     let mut found = false;
-    for number in numbers {
-        if *number == 0 {
+    for entry in entries {
+        if *entry % MARK == 0 {
             found = true;
         }
     }

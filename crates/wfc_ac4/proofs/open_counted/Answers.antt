@@ -26,6 +26,7 @@ invariant_of-result g c =
       traced = e.between.board.traced;
       levels = e.between.board.levels;
       counters = e.between.counters;
+      marks = e.between.marks;
       in_log = e.between.in_log;
       settled = e.closed;
       linked = subst (λ P. AreLinks P c.in_ok-links.links) (sym (ap (λ p. p.now) e.problem ∙ c.in_ok-board.ensures.problem)) c.in_ok-links.ensures.linked;

@@ -23,7 +23,7 @@ close-requires g c =
     let alive = rw (← c.self.view_is) at c.requires.alive in
     let e = c.put.ensures in
     record {
-      between = put-between f.board c.put.new.self f.counters f.head h.traced h.sound alive h.counters (h.settled alive) e.board e.cut e.put.problem e.put.more e.put.removals
+      between = put-between f.board c.put.new.self f.counters f.head h.traced h.sound alive h.counters (h.settled alive) h.marks e.board e.cut e.put.problem e.put.more e.put.removals
           (grown-within f.board c.put.new.self h.traced e.board.traced e.put.problem e.put.more e.put.removals);
       linked = subst (λ p. AreLinks p.now c.self.inside.links) (sym e.put.problem) h.linked;
     }
@@ -42,6 +42,7 @@ invariant_of-self g c =
       traced = e.between.board.traced;
       levels = e.between.board.levels;
       counters = e.between.counters;
+      marks = e.between.marks;
       in_log = e.between.in_log;
       settled = e.closed;
       linked = subst (λ p. AreLinks p.now c.self.inside.links) (sym (e.grows.problem ∙ p.problem)) h.linked;

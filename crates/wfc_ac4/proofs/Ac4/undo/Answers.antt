@@ -26,6 +26,7 @@ invariant_of-self g c =
       traced = record { problem = t.problem; same_cells = t.same_cells; same_values = t.same_values; whole = t.whole; stands = t.stands; stood = t.stood; room = t.room };
       levels = subst HasLevels (sym same) (levels-undone v h.levels some);
       counters = e.rolled.counters;
+      marks = e.rolled.marks;
       in_log = e.rolled.in_log;
       linked = subst (λ p. AreLinks p.now c.self.inside.links) (sym e.back.problem) h.linked;
       settled = λ _. omega (arith, left, e.back.head, h.marked, m);

@@ -1,5 +1,5 @@
-use Rattle.std.proofs.Common.{◌≡◌, ℕ, ◌<◌, false, get_or}
+use Rattle.std.proofs.Common.{◌≡◌, ℕ, ◌%◌, ◌<◌, false, get_or}
 use Rattle.wfc_domains.proofs.counters.has_zero.Given as goal
 
-abbrev pub invariant-loop-number : goal.invariant-loop-number
-invariant-loop-number l = l.found ≡ false → (k : ℕ) → k < l.number-index → 0 < get_or l.numbers k 0
+abbrev pub invariant-loop-entry : goal.invariant-loop-entry
+invariant-loop-entry l = l.found ≡ false → (k : ℕ) → k < l.entry-index → 0 < get_or l.entries k 0 % 32768

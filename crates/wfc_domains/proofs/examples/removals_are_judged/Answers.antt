@@ -1,4 +1,4 @@
-use Rattle.std.proofs.Common.{refl, arith, true, false, ◌≡◌, ◌∙◌, sym}
+use Rattle.std.proofs.Common.{refl, arith}
 use Rattle.std.proofs.lemmas.Bool.{false≢true, true≢false, and_from}
 use Rattle.wfc_domains.proofs.examples.removals_are_judged.Goals as goal
 

@@ -16,12 +16,14 @@ loop-dir-preserved g c =
           rw (w.self-is, w.steps-is) (record {
             raising = raised_side _ _ _ _ _ _ _ (sym c.neighbour.ensures.value ∙ w.in-Some.is) raising;
             same = e.same ∙ ap (λ (f : Flight). record f { counters = w.raise_side.new.self.counters }) c.loop-dir.invariant.same;
+            marks = λ x y z m. c.loop-dir.invariant.marks x y z (e.marks x y z m);
             steps = omega (arith, e.steps, c.loop-dir.invariant.steps, ap (λ (f : Flight). length (supports_of f.board.problem.now c.args.value c.loop-dir.dir)) c.loop-dir.invariant.same, length-upto_some c.args.self.now.board.problem.now c.args.cell c.args.value c.loop-dir.dir w.in-Some.next (sym c.neighbour.ensures.value ∙ w.in-Some.is));
           })
       | in_default w ↦
           rw (w.self-is, w.steps-is) (record {
             raising = raised_none _ _ _ _ _ _ (sym c.neighbour.ensures.value ∙ w.in_default.is) c.loop-dir.invariant.raising;
             same = c.loop-dir.invariant.same;
+            marks = c.loop-dir.invariant.marks;
             steps = omega (arith, c.loop-dir.invariant.steps, length-upto_none c.args.self.now.board.problem.now c.args.cell c.args.value c.loop-dir.dir (sym c.neighbour.ensures.value ∙ w.in_default.is));
           })
     ]

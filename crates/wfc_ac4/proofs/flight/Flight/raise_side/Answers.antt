@@ -20,5 +20,6 @@ loop-w-preserved g c =
     record {
       raising = rw c.up.ensures.changed s.after;
       same = ap (λ (f : Flight). record f { counters = c.up.new.self }) c.loop-w.invariant.same;
+      marks = λ x y z m. c.loop-w.invariant.marks x y z (s.fewer x y z (rw c.up.ensures.changed at m));
       steps = omega (arith, c.up.ensures.steps, c.loop-w.invariant.steps);
     }

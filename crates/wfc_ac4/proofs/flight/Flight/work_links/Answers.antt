@@ -2,9 +2,10 @@ use Rattle.std.proofs.Common.{◌+◌, refl, sym, ◌∙◌, ap, subst, arith, l
 use Rattle.std.proofs.lemmas.Bool.{true≢false}
 use Rattle.wfc_problem.specs.Network.{Network}
 use Rattle.wfc_domains.specs.Board.{Grows}
-use Rattle.wfc_domains.proofs.Boards.{board-room, grows-more, grows-lost, grows-none}
+use Rattle.wfc_domains.proofs.Boards.{lost-gone, board-room, grows-more, grows-lost, grows-none}
 use Rattle.wfc_ac4.specs.Links.{link_places}
-use Rattle.wfc_ac4.proofs.Steps.{step_removed, step_lowered, working-range}
+use Rattle.wfc_ac4.proofs.MarkLemmas.{entry-pos}
+use Rattle.wfc_ac4.proofs.Steps.{working-marked, step_removed, step_lowered, working-range}
 use Rattle.wfc_ac4.proofs.LinkLemmas.{is_link, link_at, link_skipped, link-none, length-some, all_links, whole-cost}
 use Rattle.wfc_ac4.proofs.flight.Flight.work_links.Goals as goal
 use Rattle.wfc_ac4.proofs.flight.Flight.work_links.Goals.{in-Some+then-lower, in-Some+else-lower, in_default}
@@ -36,7 +37,7 @@ lower-requires g c =
       counter_cell = omega (arith, s.cell_in, fits.same_cells);
       counter_value = omega (arith, s.value_in, fits.same_values);
       dir_in = omega (arith, s.dir_in, fits.same_dirs);
-      some = s.above_zero;
+      some = entry-pos _ s.above_zero;
     }
 
 pub remove-requires-clause-cell_in : goal.remove-requires-clause-cell_in
@@ -73,7 +74,7 @@ loop-link-preserved g c =
           let next = step_removed _ _ _ _ _ _ _ _ (λ (N : Network). link_places N c.args.cell (take (k + 1) ls)) _ _ _
           h.working s w.lower.ensures.changed spent.2 spent.0 r in
           rw (w.self-is, w.steps-is) (record {
-            working = next;
+            working = working-marked _ _ _ _ _ _ _ _ _ next w.mark.ensures.marks (lost-gone r.less);
             goes_on = record {
               grows = grows-more h.goes_on.grows (subst (Grows c.loop-link.self.board) (sym r.same) (grows-lost c.loop-link.self.board _ _ _ _));
               head = h.goes_on.head;

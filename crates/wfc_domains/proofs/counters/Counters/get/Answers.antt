@@ -1,4 +1,4 @@
-use Rattle.std.proofs.Common.{arith, ◌<◌, length, ◌∙◌}
+use Rattle.std.proofs.Common.{arith, ap, ◌%◌, ◌<◌, length, ◌∙◌}
 use Rattle.std.proofs.lemmas.List.{get_or_read}
 use Rattle.wfc_domains.specs.Counters.{place_in}
 use Rattle.wfc_domains.proofs.Places.{place_in-lt}
@@ -13,4 +13,4 @@ returns c =
     let lt = place_in-lt a.values a.dirs c.args.cell c.args.value c.args.dir a.cells hc hv hd in
     let i = place_in a.values a.dirs c.args.cell c.args.value c.args.dir in
     let l : i < length a.counts.items = omega arith in
-    rw (← c.self.view_is) (record { value = c.from.ensures ∙ get_or_read a.counts.items i c.index.result.now l c.index.ensures 0 })
+    rw (← c.self.view_is) (record { value = c.from.ensures ∙ ap (λ n. n % 32768) (get_or_read a.counts.items i c.index.result.now l c.index.ensures 0) })
