@@ -23,3 +23,4 @@ pub record HoldsTogether (a : Inside) : Type 0 where
   pub settled : a.flight.board.verdict ≡ Alive → a.flight.head ≡ length a.flight.board.trail.removals
   pub linked : AreLinks a.flight.board.problem.now a.links
   pub marked : mark_of a.flight.board.levels.marks ≤ a.flight.head
+  pub begun : a.flight.board.trail.start ≡ mark_of a.flight.board.levels.marks

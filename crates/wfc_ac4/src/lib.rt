@@ -95,6 +95,8 @@ impl<'p> Ac4<'p> {
         let mark = self.flight.board.levels.mark() as usize;
         self.flight.roll_back(mark, steps);
         self.flight.board.levels.pop();
+        let start = self.flight.board.levels.mark() as usize;
+        self.flight.board.trail.reopen(start);
         self.flight.board.verdict = Verdict::Alive;
     }
 }
@@ -148,8 +150,7 @@ impl<'p> Store for Ac4<'p> {
 
     #[inline]
     fn added(&self) -> &[Removal] {
-        let mark = self.flight.board.levels.mark() as usize;
-        self.flight.board.trail.from(mark)
+        self.flight.board.trail.last()
     }
 
     #[inline]

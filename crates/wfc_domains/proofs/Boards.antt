@@ -15,6 +15,7 @@ use Rattle.wfc_domains.specs.declared.Verdict.{Verdict}
 use Rattle.wfc_domains.specs.declared.Verdict.TheVariants.{Alive, Dead}
 use Rattle.wfc_domains.specs.declared.board.Board.{Board}
 use Rattle.wfc_domains.specs.Domains.{Flags, has, size_of, less, IsLess, base_of}
+use Rattle.wfc_domains.specs.Log.{extent_of, IsInside, IsCauseBelow}
 use Rattle.wfc_domains.specs.Removals.{without, IsCause, IsRemoved, AreRemoved}
 use Rattle.wfc_domains.specs.Store.{StoreView, IsSound, mark_of, left_of, before_of}
 use Rattle.wfc_domains.specs.Board.{view_of, AreStood, IsTraced, HasLevels, IsBoard, lost, Grows}
@@ -89,6 +90,7 @@ traced-lost b D cell value cause t l =
       stands = l.each ∙ ap (λ E. less E cell value) t.stands ∙ sym (without-push (in_base b.problem.now) b.trail.removals r);
       stood = stood-push (in_base b.problem.now) b.trail.removals r t.stood (ap (λ f. f cell value) (sym t.stands) ∙ l.stood);
       room = t.room;
+      extent = t.extent;
     }
 
 pub board-lost : (b : Board) (D : Flags) (cell value : ℕ) (cause : Cause) → IsBoard b → b.verdict ≡ Alive → IsLess b.domains D cell value → cell < b.problem.now.cells → value < values b.problem.now
@@ -108,6 +110,7 @@ board-lost b D cell value cause h alive l hc hv k =
       traced = traced-lost b D cell value cause h.traced l;
       levels = levels-longer (view_of b) (r ∷ []) (cond (size_of b.domains cell == 1) (Dead cell) Alive) h.levels;
       added = subst (λ front. A front (drop m (rs ++ r ∷ []))) (sym (take-append-le m rs (r ∷ []) m_in)) (subst (A (take m rs)) (sym (drop-append-le m rs (r ∷ []) m_in)) more);
+      begun = h.begun;
       filled = λ still c hc'. elim (cases_eq c cell) [
         | inl e ↦
             let big : size_of b.domains cell ≢ 1 = λ one. not-alive (sym (cond-true _ _ _ (eq-eqb _ _ one)) ∙ still) in
@@ -182,7 +185,7 @@ mark-push marks n = get_or_push marks n 0 (length (marks ++ n ∷ []) - 1) (omeg
 
 -- the board under one literal more, before it cuts
 pub board-put : (b : Board) (l : Literal) (spare : ℕ) → IsBoard b → IsSound (view_of b) → b.verdict ≡ Alive
-    → IsBoard (record b { levels = record { standing = b.levels.standing ++ l ∷ []; marks = b.levels.marks ++ length b.trail.removals ∷ []; spare = spare } })
+    → IsBoard (record b { levels = record { standing = b.levels.standing ++ l ∷ []; marks = b.levels.marks ++ length b.trail.removals ∷ []; spare = spare }; trail = record b.trail { start = length b.trail.removals } })
 board-put b l spare h sound alive = record {
   traced = record {
     problem = h.traced.problem;
@@ -192,6 +195,7 @@ board-put b l spare h sound alive = record {
     stands = h.traced.stands;
     stood = h.traced.stood;
     room = h.traced.room;
+    extent = h.traced.extent;
   };
   levels = levels-put (view_of b) l spare h.levels sound alive;
   added =
@@ -199,6 +203,7 @@ board-put b l spare h sound alive = record {
       let m = mark_of (b.levels.marks ++ length rs ∷ []) in
       let none : drop m rs ≡ [] = drop_all m rs (omega (arith, mark-push b.levels.marks (length rs))) in
       subst (λ xs. AreRemoved b.problem.now (b.levels.standing ++ l ∷ []) (without (in_base b.problem.now) (take m rs)) xs) (sym none) tt;
+  begun = sym (mark-push b.levels.marks (length b.trail.removals));
   filled = h.filled;
   empty = h.empty;
 }
@@ -224,9 +229,9 @@ last-is b rs r t e =
       gone = ap (λ f. f r.cell r.value) (t.stands ∙ ap (without (in_base P)) e ∙ without-push (in_base P) rs r) ∙ less-gone (without (in_base P) rs) r.cell r.value;
     }
 
-pub traced-back : (b : Board) (D : Flags) (rs : List Removal) (r : Removal) → IsTraced b → b.trail.removals ≡ rs ++ r ∷ [] → IsLess D b.domains r.cell r.value
-    → IsTraced (record b { domains = D; trail = record b.trail { removals = rs } })
-traced-back b D rs r t e l =
+pub traced-back : (b : Board) (D : Flags) (rs : List Removal) (r : Removal) (start : ℕ) → IsTraced b → b.trail.removals ≡ rs ++ r ∷ [] → IsLess D b.domains r.cell r.value
+    → IsTraced (record b { domains = D; trail = record b.trail { start = start; removals = rs } })
+traced-back b D rs r start t e l =
     let P = b.problem.now in
     let front = stood-front (in_base P) rs r (subst (AreStood (in_base P)) e t.stood) in
     record {
@@ -237,6 +242,7 @@ traced-back b D rs r t e l =
       stands = less-back (has D) (without (in_base P) rs) r.cell r.value (sym l.each ∙ t.stands ∙ ap (without (in_base P)) e ∙ without-push (in_base P) rs r) l.stood front.1;
       stood = front.0;
       room = t.room;
+      extent = t.extent;
     }
 
 -- ---- growing
@@ -273,6 +279,10 @@ log-few b t =
     let P = b.problem.now in
     omega (arith, stood-few P (in_base P) b.trail.removals (λ c v s. base-in P t.problem c v s) t.stood, depth-few P t.problem, few_pairs P t.problem)
 
+-- a removal of the problem's cells, values and directions is inside the log's
+pub board-inside : (b : Board) → IsTraced b → (c v : ℕ) (cause : Cause) → c < b.problem.now.cells → v < values b.problem.now → IsCauseBelow b.problem.now.dirs cause → IsInside b.trail.extent c v cause
+board-inside b t c v cause hc hv hd = subst (λ e. IsInside e c v cause) (sym t.extent) (record { cell_in = hc; value_in = hv; cause_in = hd })
+
 -- a value that stands is one of the problem
 pub stands-in : (b : Board) → IsTraced b → (c v : ℕ) → IsTrue (has b.domains c v) → (c < b.problem.now.cells) × (v < values b.problem.now)
 stands-in b t c v stands = without-in b.problem.now t.problem b.trail.removals c v (ap (λ f. f c v) (sym t.stands) ∙ stands)
@@ -294,11 +304,11 @@ grown-within old new t t' same more e c v stands =
 -- ---- a fresh board
 
 -- a board with nothing removed and no literal
-pub board-emptied : (b : Board) → IsTraced b → b.trail.removals ≡ [] → b.levels.standing ≡ [] → b.levels.marks ≡ []
+pub board-emptied : (b : Board) → IsTraced b → b.trail.removals ≡ [] → b.trail.start ≡ 0 → b.levels.standing ≡ [] → b.levels.marks ≡ []
     → (b.verdict ≡ Alive → (c : ℕ) → c < b.problem.now.cells → 0 < size_of b.domains c)
     → ((cell : ℕ) → b.verdict ≡ Dead cell → (cell < b.problem.now.cells) × (size_of b.domains cell ≡ 0))
     → IsBoard b
-board-emptied b t no_removals no_literals no_marks filled empty = record {
+board-emptied b t no_removals no_start no_literals no_marks filled empty = record {
   traced = t;
   levels = record {
     one_mark_each = ap length no_marks ∙ sym (ap length no_literals);
@@ -307,6 +317,7 @@ board-emptied b t no_removals no_literals no_marks filled empty = record {
     sound_at = λ k s l. absurd (omega (arith, ap length no_marks));
   };
   added = subst (AreRemoved b.problem.now b.levels.standing (before_of (view_of b))) (sym none) tt;
+  begun = no_start ∙ sym (ap mark_of no_marks);
   filled = filled;
   empty = empty;
 }
@@ -314,11 +325,11 @@ board-emptied b t no_removals no_literals no_marks filled empty = record {
     none : drop (mark_of b.levels.marks) b.trail.removals ≡ []
     none = drop_all (mark_of b.levels.marks) b.trail.removals (omega (arith, ap length no_removals))
 
-pub board-fresh : (b : Board) → IsProblem b.problem.now → b.domains ≡ base_of b.problem.now → b.trail.removals ≡ [] → depth_of b.problem.now ≤ b.trail.room → b.levels.standing ≡ [] → b.levels.marks ≡ []
+pub board-fresh : (b : Board) → IsProblem b.problem.now → b.domains ≡ base_of b.problem.now → b.trail.removals ≡ [] → b.trail.start ≡ 0 → depth_of b.problem.now ≤ b.trail.room → b.trail.extent ≡ extent_of b.problem.now → b.levels.standing ≡ [] → b.levels.marks ≡ []
     → (b.verdict ≡ Alive → (c : ℕ) → c < b.problem.now.cells → 0 < size_of b.domains c)
     → ((cell : ℕ) → b.verdict ≡ Dead cell → (cell < b.problem.now.cells) × (size_of b.domains cell ≡ 0))
     → IsBoard b
-board-fresh b p is_base no_removals room no_literals no_marks filled empty = board-emptied b (record {
+board-fresh b p is_base no_removals no_start room extent no_literals no_marks filled empty = board-emptied b (record {
   problem = p;
   same_cells = ap (λ d. d.cells) is_base;
   same_values = ap (λ d. d.values) is_base;
@@ -326,4 +337,5 @@ board-fresh b p is_base no_removals room no_literals no_marks filled empty = boa
   stands = ap has is_base ∙ ap (without (in_base b.problem.now)) (sym no_removals);
   stood = subst (AreStood (in_base b.problem.now)) (sym no_removals) tt;
   room = room;
-}) no_removals no_literals no_marks filled empty
+  extent = extent;
+}) no_removals no_start no_literals no_marks filled empty

@@ -4,6 +4,7 @@ pub mod Places
 pub mod Marking
 pub mod Loading
 pub mod Removals
+pub mod NumberedLemmas
 pub mod Boards
 pub mod Sound
 pub mod Cuts

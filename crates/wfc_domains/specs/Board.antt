@@ -9,8 +9,9 @@ use Rattle.wfc_domains.specs.declared.Removal.{Removal}
 use Rattle.wfc_domains.specs.declared.Verdict.TheVariants.{Alive, Dead}
 use Rattle.wfc_domains.specs.declared.board.Board.{Board}
 use Rattle.wfc_domains.specs.Domains.{Flags, has, size_of, less, IsLess}
+use Rattle.wfc_domains.specs.Log.{extent_of}
 use Rattle.wfc_domains.specs.Removals.{without, AreRemoved}
-use Rattle.wfc_domains.specs.Store.{StoreView, IsSound, IsOpening, left_of, before_of, added_of}
+use Rattle.wfc_domains.specs.Store.{StoreView, IsSound, IsOpening, left_of, before_of, added_of, mark_of}
 
 -- a board as its callers see it
 abbrev pub view_of : Board → StoreView
@@ -37,6 +38,7 @@ pub record IsTraced (b : Board) : Type 0 where
   pub stands : has b.domains ≡ left_of (view_of b)
   pub stood : AreStood (in_base b.problem.now) b.trail.removals
   pub room : depth_of b.problem.now ≤ b.trail.room
+  pub extent : b.trail.extent ≡ extent_of b.problem.now
 
 -- the store as it was before literal k was put on, but for the levels that were spare
 abbrev pub view_at : StoreView → ℕ → ℕ → StoreView
@@ -61,6 +63,7 @@ pub record IsBoard (b : Board) : Type 0 where
   pub traced : IsTraced b
   pub levels : HasLevels (view_of b)
   pub added : AreRemoved b.problem.now b.levels.standing (before_of (view_of b)) (added_of (view_of b))
+  pub begun : b.trail.start ≡ mark_of b.levels.marks
   pub filled : b.verdict ≡ Alive → (c : ℕ) → c < b.problem.now.cells → 0 < size_of b.domains c
   pub empty : (cell : ℕ) → b.verdict ≡ Dead cell → (cell < b.problem.now.cells) × (size_of b.domains cell ≡ 0)
 
@@ -91,7 +94,7 @@ pub record Grows (old new : Board) : Type 0 where
 
 -- the last removal was taken back
 pub record Regains (old new : Board) (last : Removal) : Type 0 where
-  pub same : new ≡ record old { domains = new.domains; trail = record old.trail { removals = new.trail.removals } }
+  pub same : new ≡ record old { domains = new.domains; trail = record old.trail { start = new.trail.start; removals = new.trail.removals } }
   pub removals : old.trail.removals ≡ new.trail.removals ++ last ∷ []
   pub cell_in : last.cell < old.problem.now.cells
   pub value_in : last.value < values old.problem.now

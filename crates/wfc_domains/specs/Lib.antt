@@ -5,6 +5,9 @@ pub mod Removals
 pub mod Store
 pub mod Loaded
 pub mod Log
+pub mod Numbered
+pub mod Kept
+pub mod Recent
 pub mod Room
 pub mod Board
 pub mod Swept

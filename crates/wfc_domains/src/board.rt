@@ -7,6 +7,7 @@ ghost use Rattle.wfc_domains.specs.declared.Verdict.TheVariants.{Alive};
 ghost use Rattle.wfc_domains.specs.Domains.{has};
 ghost use Rattle.wfc_domains.specs.Store.{IsSound};
 ghost use Rattle.wfc_domains.specs.Board.{view_of, IsBoard, IsTraced, IsCut, IsPut, Loses, Grows, Regains, IsFresh};
+ghost use Rattle.wfc_domains.specs.Log.{IsInside};
 
 use crate::domains::Domains;
 use crate::levels::Levels;
@@ -44,7 +45,7 @@ impl<'p> Board<'p> {
         ensures fresh { IfOk result (λ board. IsFresh board levels) }
     {
         let domains = Domains::new(alloc, problem)?;
-        let trail = Trail::new(alloc, problem.depth() as usize)?;
+        let trail = Trail::new(alloc, problem, problem.depth() as usize)?;
         let levels = Levels::new(alloc, levels)?;
         let verdict = domains.verdict();
         Ok(Board {
@@ -64,6 +65,7 @@ impl<'p> Board<'p> {
         requires stands { IsTrue (has self.old.domains cell value) }
         requires alive { self.old.verdict ≡ Alive }
         requires room { length self.old.trail.removals < self.old.trail.room }
+        requires inside { IsInside self.old.trail.extent cell value cause }
         ensures removed { Loses self.old self.new cell value cause }
     {
         let before = self.domains.size(cell);
@@ -104,6 +106,7 @@ impl<'p> Board<'p> {
         ensures put { IsPut self.old self.new literal }
     {
         let mark = self.trail.len() as u32;
+        self.trail.begin();
         self.levels.push(literal, mark);
         match literal {
             Literal::Is { cell, value } => self.cut_to(cell, value),

@@ -6,6 +6,7 @@ mod counters;
 mod domains;
 pub mod examples;
 mod levels;
+mod older;
 mod plain;
 mod steps;
 mod store;

@@ -227,8 +227,7 @@ impl<'p> Store for PlainStore<'p> {
     }
 
     fn added(&self) -> &[Removal] {
-        let mark = self.board.levels.mark() as usize;
-        self.board.trail.from(mark)
+        self.board.trail.last()
     }
 
     fn standing(&self) -> &[Literal] {

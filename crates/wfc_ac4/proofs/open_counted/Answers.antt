@@ -31,6 +31,7 @@ invariant_of-result g c =
       settled = e.closed;
       linked = subst (λ P. AreLinks P c.in_ok-links.links) (sym (ap (λ p. p.now) e.problem ∙ c.in_ok-board.ensures.problem)) c.in_ok-links.ensures.linked;
       marked = omega (arith, ap (λ l. mark_of l.marks) levels);
+      begun = e.between.board.begun;
     }
 
 pub returns : goal.returns

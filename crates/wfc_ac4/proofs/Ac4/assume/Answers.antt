@@ -14,7 +14,7 @@ pub put-requires-clause-board : goal.put-requires-clause-board
 put-requires-clause-board g c =
     let h = c.self.invariant in
     let alive = rw (← c.self.view_is) at c.requires.alive in
-    board-alive c.self.inside.flight.board h.traced h.levels h.sound alive
+    board-alive c.self.inside.flight.board h.traced h.levels h.sound alive h.begun
 
 pub close-requires : goal.close-requires
 close-requires g c =
@@ -47,6 +47,7 @@ invariant_of-self g c =
       settled = e.closed;
       linked = subst (λ p. AreLinks p.now c.self.inside.links) (sym (e.grows.problem ∙ p.problem)) h.linked;
       marked = omega (arith, ap mark_of marks, mark-push f.board.levels.marks (length f.board.trail.removals), h.settled alive, e.forward);
+      begun = e.between.board.begun;
     }
 
 pub returns-clause-sound : goal.returns-clause-sound

@@ -1,6 +1,6 @@
 use Rattle.std.proofs.Common.{sym, ◌∙◌}
 use Rattle.std.proofs.lemmas.Bool.{true≢false}
-use Rattle.wfc_domains.proofs.Boards.{board-room}
+use Rattle.wfc_domains.proofs.Boards.{board-room, board-inside}
 use Rattle.wfc_domains.proofs.Sweeps.{lost-swept, swept-lost, first-lost, swept-next}
 use Rattle.wfc_domains.proofs.plain.look_at.Goals as goal
 use Rattle.wfc_domains.proofs.plain.look_at.Goals.{else-is_alive-via-then-is_alive+else-has, else-is_alive-via-else-is_alive}
@@ -35,3 +35,6 @@ returns-else-is_alive-clause-swept c = λ start h.
       | else-is_alive-via-then-is_alive+else-has w ↦ absurd (true≢false (sym t ∙ sym w.has.ensures.value ∙ w.if-has.false))
       | else-is_alive-via-else-is_alive w ↦ absurd (true≢false (sym (c.is_alive.ensures.value.1 alive) ∙ w.if-is_alive.false))
     ])
+
+pub remove-requires-clause-inside : goal.remove-requires-clause-inside
+remove-requires-clause-inside c = board-inside c.args.board.now c.requires.board.traced _ _ _ c.requires.cell_in c.requires.value_in c.in-Some.ensures.some.dir_in

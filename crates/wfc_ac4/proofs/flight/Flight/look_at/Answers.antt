@@ -2,7 +2,7 @@ use Rattle.std.proofs.Common.{sym, ◌∙◌, ap, arith}
 use Rattle.std.proofs.lemmas.Bool.{true≢false}
 use Rattle.wfc_problem.specs.Network.{values}
 use Rattle.wfc_domains.specs.declared.board.Board.{Board}
-use Rattle.wfc_domains.proofs.Boards.{board-room, lost-gone}
+use Rattle.wfc_domains.proofs.Boards.{board-room, board-inside, lost-gone}
 use Rattle.wfc_ac4.proofs.Opening.{scanned-removed, scanned-next}
 use Rattle.wfc_ac4.proofs.flight.Flight.look_at.Goals as goal
 use Rattle.wfc_ac4.proofs.flight.Flight.look_at.Goals.{else-is_alive-via-then-is_alive+else-has, else-is_alive-via-else-is_alive}
@@ -10,6 +10,9 @@ use Rattle.wfc_ac4.proofs.flight.Flight.look_at.Goals.{else-is_alive-via-then-is
 pub remove-requires-clause-room : goal.remove-requires-clause-room
 remove-requires-clause-room c =
     board-room c.args.self.now.board c.requires.scanned.board.traced c.args.cell c.args.value (sym c.has.ensures.value ∙ c.if-has.true)
+
+pub remove-requires-clause-inside : goal.remove-requires-clause-inside
+remove-requires-clause-inside c = board-inside c.args.self.now.board c.requires.scanned.board.traced _ _ _ c.requires.cell_in c.requires.value_in c.in-Some.ensures.some.dir_in
 
 pub returns-in-Some-clause-scanned : goal.returns-in-Some-clause-scanned
 returns-in-Some-clause-scanned c =

@@ -2,7 +2,7 @@ use Rattle.std.proofs.Common.{◌+◌, refl, sym, ◌∙◌, ap, subst, arith, l
 use Rattle.std.proofs.lemmas.Bool.{true≢false}
 use Rattle.wfc_problem.specs.Network.{Network}
 use Rattle.wfc_domains.specs.Board.{Grows}
-use Rattle.wfc_domains.proofs.Boards.{lost-gone, board-room, grows-more, grows-lost, grows-none}
+use Rattle.wfc_domains.proofs.Boards.{lost-gone, board-inside, board-room, grows-more, grows-lost, grows-none}
 use Rattle.wfc_ac4.specs.Links.{link_places}
 use Rattle.wfc_ac4.proofs.MarkLemmas.{entry-pos}
 use Rattle.wfc_ac4.proofs.Steps.{working-marked, step_removed, step_lowered, working-range}
@@ -57,6 +57,13 @@ remove-requires-clause-value_in g c =
 pub remove-requires-clause-room : goal.remove-requires-clause-room
 remove-requires-clause-room g c =
     board-room c.loop-link.self.board c.loop-link.invariant.working.board.traced _ _ (c.lower.ensures.spent.0 c.if-lower.true).1
+
+pub remove-requires-clause-inside : goal.remove-requires-clause-inside
+remove-requires-clause-inside g c =
+    let h = c.loop-link.invariant in
+    let beside = sym c.neighbour.ensures.value ∙ c.in-Some.is in
+    let s = link_at _ c.args.self.now.board _ _ _ _ _ _ _ h.goes_on.grows.problem h.working c.requires.links c.loop-link-test.true beside in
+    board-inside c.loop-link.self.board h.working.board.traced _ _ _ s.cell_in s.value_in s.dir_in
 
 pub loop-link-preserved : goal.loop-link-preserved
 loop-link-preserved g c =

@@ -20,8 +20,8 @@ restore-requires-clause-gone c = (last-is c.args.self.now _ _ c.requires.traced 
 pub returns-clause-traced : goal.returns-clause-traced
 returns-clause-traced c =
     let b = c.args.self.now in
-    let back = traced-back b c.restore.new.self c.pop-removal.new.self.removals _ c.requires.traced c.pop-removal.ensures.last c.restore.ensures.less in
-    let same : c.pop-removal.new.self ≡ record b.trail { removals = c.pop-removal.new.self.removals } = c.pop-removal.ensures.same in
+    let back = traced-back b c.restore.new.self c.pop-removal.new.self.removals _ c.pop-removal.new.self.start c.requires.traced c.pop-removal.ensures.last c.restore.ensures.less in
+    let same : c.pop-removal.new.self ≡ record b.trail { start = c.pop-removal.new.self.start; removals = c.pop-removal.new.self.removals } = c.pop-removal.ensures.same in
     subst (λ (t : Log). IsTraced (record b { domains = c.restore.new.self; trail = t })) (sym same) back
 
 pub returns-clause-back : goal.returns-clause-back
