@@ -2,14 +2,8 @@
 use Rattle.std.proofs.Common.{◌≡◌, ℕ, ◌^◌, ◌<◌, ◌≤◌, ◌⊎◌, inl, inr, true, List, Option, None, Some, Result, Ok, Err, ap, sym, ◌∙◌, subst, refl, arith}
 use Rattle.wfc_outside.specs.Folder.{File}
 use Rattle.wfc_outside.specs.Sink.{after_bytes, after_finish}
-use Rattle.wfc_model.specs.Raster.{Raster}
-use Rattle.wfc_pattern.specs.Patterns.{PatternsView, IsPatterns}
-use Rattle.wfc_problem.specs.Assignment.{IsLegalAssignment}
 use Rattle.wfc_problem.specs.Network.{Network, IsProblem}
-use Rattle.wfc_overlap.specs.Bridge.{IsTaughtBy, numbers_of_windows}
-use Rattle.wfc_overlap.proofs.CallerLemmas.{sample_problem, there}
 use Rattle.wfc_proof.specs.Heads.{IsShape}
-use Rattle.wfc_check.specs.Checker.{HasNone}
 use Rattle.wfc_check.specs.Text.{checked, IsRefutation}
 use Rattle.wfc_check.specs.declared.fault.CheckFault.{CheckFault}
 use Rattle.wfc_check.specs.declared.fault.CheckFault.TheVariants as faults
@@ -18,25 +12,24 @@ use Rattle.wfc_choose.specs.Pick.{Rule}
 use Rattle.wfc_words.specs.RequestView.{RequestView}
 use Rattle.wfc_words.specs.declared.kinds.CommandKind.TheVariants as commands
 use Rattle.wfc_words.proofs.RangeLemmas.{asked-in_range}
-use Rattle.wfc_task.specs.Asked.{IsSampleAsked, IsOutputAsked}
-use Rattle.wfc_task.specs.Built.{side_of}
+use Rattle.wfc_task.specs.Asked.{IsSampleAsked}
 use Rattle.wfc_task.specs.CheckGiven.{IsCheckTask, IsCheckWork}
 use Rattle.wfc_task.specs.Checking.{judged, shape_of, verdict_in}
 use Rattle.wfc_task.specs.Task as tasks
 use Rattle.wfc_task.specs.declared.fault.Refusal.{Refusal}
-use Rattle.wfc_task.proofs.CallerLemmas.{check_given, learned_is, sample_lesson}
+use Rattle.wfc_task.proofs.CallerLemmas.{check_given}
 use Rattle.wfc_cli.specs.Answer.{Devices, IsAnswer}
-use Rattle.wfc_cli.specs.Answers.{accepted_text, answer_of, check_answer, output_of}
-use Rattle.wfc_cli.specs.CheckClaims.{Accepts, ChecksRefutation, IsLegalFor, IsRefuted, Refuses}
-use Rattle.wfc_cli.specs.Claims.{IsCommand, rules_of}
-use Rattle.wfc_cli.specs.Reply.{Answered, Takes, verdict_status}
+use Rattle.wfc_cli.specs.Answers.{Answers, accepted_text, check_answer}
+use Rattle.wfc_cli.specs.CheckClaims.{Accepts, ChecksRefutation, IsRefuted, Refuses}
+use Rattle.wfc_cli.specs.Claims.{IsCommand}
+use Rattle.wfc_cli.specs.Reply.{Answered, Takes, TakesWhole, verdict_status}
 use Rattle.wfc_cli.proofs.CommandLemmas.{CameTo, whole, cut, none, came_to, planned}
 use Rattle.wfc_cli.proofs.EndLemmas.{output_asked, sample_asked}
+use Rattle.wfc_cli.proofs.PictureLemmas.{asked_problem, asked_shape, no_picture}
 
 -- what is known of the problem of a `check`
 record IsKnown (asked : RequestView) (files : List File) (work : IsCheckWork asked files) : Type 0 where
-  patterns : IsPatterns work.patterns
-  taught : IsTaughtBy work.sample.picture (rules_of asked) work.patterns (output_of asked)
+  asks : IsSampleAsked asked
   problem : IsProblem work.P
   shape : IsShape (shape_of asked)
 
@@ -44,29 +37,11 @@ known : (words : List (List ℕ)) (before : Devices) (asked : RequestView) (file
 known words before asked files is work =
     let range = asked-in_range words asked is.given.spelled in
     let asks = sample_asked asked commands.Check range is.built is.command_is refl refl in
-    let size = output_asked asked commands.Check range is.command_is refl refl in
-    let lesson = sample_lesson asked files work.kind work.patterns work.palette asks work.sample in
-    let learned = learned_is work.sample.picture (side_of asked.source) asked.symmetry asked.wrap_in work.patterns work.sample.learned in
     record {
-      patterns = lesson.patterns;
-      taught = record { same_side = ap (λ (p : PatternsView). p.n) learned.2; same_wrap = refl; windows = ap (λ (p : PatternsView). p.windows) learned.2 };
-      problem = subst IsProblem (sym work.problem.problem) (sample_problem work.patterns (output_of asked) work.problem.pins lesson.patterns work.problem.room);
-      shape = record {
-        n = asks.small_side;
-        width = omega (arith, size.width_limit);
-        height = omega (arith, size.height_limit);
-        depth = omega arith;
-        symmetry = omega (arith, asks.eight_images);
-      };
+      asks = asks;
+      problem = asked_problem asked files work.kind work.patterns work.palette work.P asks work.sample work.problem;
+      shape = asked_shape asked asks (output_asked asked commands.Check range is.command_is refl refl);
     }
-
--- without a legal assignment no picture is legal
-no_picture : (asked : RequestView) (files : List File) (work : IsCheckWork asked files) → IsKnown asked files work → HasNone work.P → (m : Raster) → IsLegalFor asked work m → ⊥
-no_picture asked files work sure has_none m legal =
-    let numbers = numbers_of_windows work.patterns (output_of asked) m in
-    has_none numbers
-    (subst (λ P. IsLegalAssignment P numbers) (sym work.problem.problem)
-    (there work.sample.picture (rules_of asked) work.patterns (output_of asked) work.problem.pins m sure.patterns sure.taught legal))
 
 -- a text without a fault was accepted
 accepted : (answer : Result (Unit {0}) CheckFault) → verdict_in answer ≡ Ok None → answer ≡ Ok tt
@@ -90,7 +65,7 @@ checks_refutation rules words before after status answer asked files is low = by
         let work = task.work in
         let sure = known words before asked files is work in
         let refutation = accepted_refutation work.P sure.problem (shape_of asked) work.bytes (accepted (checked work.P (shape_of asked) work.bytes) task.answer) in
-        (work, inl (same, record { refutation = refutation; none = no_picture asked files work sure (refutation_none work.P sure.problem (shape_of asked) work.bytes refutation); written = takes }))
+        (work, inl (same, record { refutation = refutation; none = no_picture asked files work.kind work.patterns work.palette work.P sure.asks work.sample work.problem (refutation_none work.P sure.problem (shape_of asked) work.bytes refutation); written = takes }))
     by_found (Some fault) task same takes =
         let work = task.work in
         let sure = known words before asked files is work in (
@@ -107,11 +82,15 @@ checks_refutation rules words before after status answer asked files is low = by
           ),
         )
 
+    taken : (found : Option CheckFault) → TakesWhole (check_answer found).whole (check_answer found).text before.out after.out → Takes (check_answer found).text before.out after.out
+    taken None takes = takes
+    taken (Some fault) takes = takes
+
     by_end : CameTo rules asked files before after status → (work : IsCheckWork asked files) × (((status ≡ 0) × Accepts asked work before after) ⊎ ((status ≡ 1) × Refuses asked work before after))
     by_end (whole answered has same takes) =
         let given = check_given asked files has.task (planned rules asked files commands.Check has.task is.built is.command_is has.is) in
-        let answers : Some (check_answer given.0) ≡ Some answered = subst (λ task. answer_of rules asked task ≡ Some answered) (sym given.1) has.answers in
+        let answers : Some (check_answer given.0) ≡ Some answered = subst (λ task. Answers rules asked task answered) (sym given.1) has.answers in
         let is_answer : check_answer given.0 ≡ answered = cc (answers) in
-        by_found given.0 given.2 (same ∙ sym (ap (λ (a : Answered). verdict_status a.verdict) is_answer)) (subst (λ (a : Answered). Takes a.text before.out after.out) (sym is_answer) takes)
+        by_found given.0 given.2 (same ∙ sym (ap (λ (a : Answered). verdict_status a.verdict) is_answer)) (taken given.0 (subst (λ (a : Answered). TakesWhole a.whole a.text before.out after.out) (sym is_answer) takes))
     by_end (cut answered has five front) = absurd (omega (arith, five, low))
     by_end (none high same) = absurd (omega (arith, high, low))

@@ -56,10 +56,10 @@ use Rattle.wfc_task.specs.declared.fault.Refusal.TheVariants as refusals
 use Rattle.wfc_task.proofs.CallerLemmas.{domains_given, fill_given, learn_given, learned_is, sample_lesson}
 use Rattle.wfc_words.proofs.RangeLemmas.{asked-in_range}
 use Rattle.wfc_cli.specs.Answer.{Devices, IsAnswer, Replied}
-use Rattle.wfc_cli.specs.Answers.{answer_of, demo_answer, demo_budget, demo_text, domains_answer, fill_answer, fill_text, outcome_status, output_of, root_verdict, steps_text, verdict_of}
+use Rattle.wfc_cli.specs.Answers.{Answers, demo_answer, demo_budget, demo_text, domains_answer, fill_answer, fill_text, outcome_status, output_of, root_verdict, steps_text, verdict_of}
 use Rattle.wfc_cli.specs.Choosers.{chosen, kinds_of}
 use Rattle.wfc_cli.specs.Claims.{FillWork, HasNoMap, IsAsRun, IsCommand, IsLegalMap, IsNeverSpent, WritesDemo, WritesDomains, WritesFront, WritesLearned, WritesLegalMap, rules_of}
-use Rattle.wfc_cli.specs.Reply.{Answered, CutsOff, Delivers, Reply, Takes, done_with, said_of, verdict_status}
+use Rattle.wfc_cli.specs.Reply.{Answered, CutsOff, Delivers, Reply, Takes, TakesWhole, done_with, said_of, verdict_status}
 use Rattle.wfc_cli.specs.Runs.{end_by, end_of, seeded}
 use Rattle.wfc_cli.specs.Theorem.{task_of}
 use Rattle.wfc_cli.specs.declared.reply.Verdict.{Verdict}
@@ -73,7 +73,7 @@ use Rattle.wfc_cli.proofs.TheoremLemmas.{IsToldCall, ToldReply, fault_between, t
 pub record HasAnswered (rules : List Rule) (asked : RequestView) (files : List File) (answered : Answered) : Type 0 where
   pub task : Task
   pub is : task_of rules asked files ≡ Ok task
-  pub answers : answer_of rules asked task ≡ Some answered
+  pub answers : Answers rules asked task answered
 
 answered_task : (rules : List Rule) (asked : RequestView) (before after : Devices) (files : List File) (answered : Answered) → ToldReply rules asked before.folder after.folder files (Ok answered) → HasAnswered rules asked files answered
 answered_task rules asked before after files answered (inl replied) = by_task (task_of rules asked files) refl replied
@@ -86,7 +86,7 @@ answered_task rules asked before after files answered (inr (inr hindered)) = abs
 
 -- a call that came to an answer, and what it did to the sink
 pub data CameTo (rules : List Rule) (asked : RequestView) (files : List File) (before after : Devices) (status : ℕ) : Type 0 where
-  whole : (answered : Answered) → HasAnswered rules asked files answered → status ≡ verdict_status answered.verdict → Takes answered.text before.out after.out → CameTo rules asked files before after status
+  whole : (answered : Answered) → HasAnswered rules asked files answered → status ≡ verdict_status answered.verdict → TakesWhole answered.whole answered.text before.out after.out → CameTo rules asked files before after status
   cut : (answered : Answered) → HasAnswered rules asked files answered → status ≡ 5 → CutsOff answered.text before.out after.out → CameTo rules asked files before after status
   none : 3 ≤ status → after.out ≡ before.out → CameTo rules asked files before after status
 
@@ -119,13 +119,13 @@ writes_learned rules words before after status answer asked files is low = by_en
         → (status ≡ 0) × (patterns : PatternsView) × (palette : List Symbol) × IsTaught asked files patterns palette × (after.out ≡ after_finish (after_bytes before.out (learned_text patterns palette)))
     by_end (whole answered has same takes) =
         let given = learn_given asked files has.task (planned rules asked files commands.Learn has.task is.built is.command_is has.is) in
-        let answers : Some (done_with (learned_text given.0 given.1)) ≡ Some answered = subst (λ task. answer_of rules asked task ≡ Some answered) (sym given.2) has.answers in
+        let answers : Some (done_with (learned_text given.0 given.1)) ≡ Some answered = subst (λ task. Answers rules asked task answered) (sym given.2) has.answers in
         let is_answer : done_with (learned_text given.0 given.1) ≡ answered = cc (answers) in (
           same ∙ sym (ap (λ (a : Answered). verdict_status a.verdict) is_answer),
           given.0,
           given.1,
           given.3,
-          subst (λ (a : Answered). Takes a.text before.out after.out) (sym is_answer) takes,
+          subst (λ (a : Answered). TakesWhole a.whole a.text before.out after.out) (sym is_answer) takes,
         )
     by_end (cut answered has five front) = absurd (omega (arith, five, low))
     by_end (none high same) = absurd (omega (arith, high, low))
@@ -195,13 +195,13 @@ record HasFilled (rules : List Rule) (asked : RequestView) (files : List File) (
   work : FillWork rules asked files
   end : Outcome × State
   ends : end_of rules asked.rule work.P asked.budget asked.seed ≡ Some end
-  is : answered ≡ record { verdict = verdict_of asked.budget end.0; text = fill_text asked work.patterns work.palette work.layout work.P end }
+  is : answered ≡ record { verdict = verdict_of asked.budget end.0; text = fill_text asked work.patterns work.palette work.layout work.P end; whole = true }
 
 fill_answered : (rules : List Rule) (words : List (List ℕ)) (before : Devices) (asked : RequestView) (files : List File) (answered : Answered) → IsCommand commands.Fill words before asked files → HasAnswered rules asked files answered
     → HasFilled rules asked files answered
 fill_answered rules words before asked files answered is has =
     let given = fill_given (kinds_of rules) asked files has.task (planned rules asked files commands.Fill has.task is.built is.command_is has.is) in
-    let answers = subst (λ task. answer_of rules asked task ≡ Some answered) (sym given.4) has.answers in
+    let answers = subst (λ task. Answers rules asked task answered) (sym given.4) has.answers in
     by_end given.0 given.1 given.2 given.3 given.5 (end_of rules asked.rule given.3 asked.budget asked.seed) refl answers
   where
     by_end : (patterns : PatternsView) (palette : List Symbol) (layout : Layout) (P : Network) → IsFillTask (kinds_of rules) asked files patterns palette layout P → (end : Option (Outcome × State))
@@ -231,7 +231,7 @@ is_as_run rules words before after status answer asked files is low = by_end (ca
           filled.end,
           filled.ends,
           same ∙ ap (λ (a : Answered). verdict_status a.verdict) filled.is ∙ verdict_outcome asked.budget filled.end.0,
-          subst (λ (a : Answered). Takes a.text before.out after.out) filled.is takes,
+          subst (λ (a : Answered). TakesWhole a.whole a.text before.out after.out) filled.is takes,
         )
     by_end (cut answered has five front) = absurd (omega (arith, five, low))
     by_end (none high same) = absurd (omega (arith, high, low))
@@ -328,12 +328,12 @@ writes_domains rules words before after status answer asked files is low = by_en
         × (((status ≡ 0) × (is_dead P (greatest P []) ≡ false)) ⊎ ((status ≡ 1) × (is_dead P (greatest P []) ≡ true)))
     by_end (whole answered has same takes) =
         let given = domains_given asked files has.task (planned rules asked files commands.Domains has.task is.built is.command_is has.is) in
-        let answers : Some (domains_answer given.0 given.1) ≡ Some answered = subst (λ task. answer_of rules asked task ≡ Some answered) (sym given.2) has.answers in
+        let answers : Some (domains_answer given.0 given.1) ≡ Some answered = subst (λ task. Answers rules asked task answered) (sym given.2) has.answers in
         let is_answer : domains_answer given.0 given.1 ≡ answered = cc (answers) in (
           given.0,
           given.1,
           given.3,
-          subst (λ (a : Answered). Takes a.text before.out after.out) (sym is_answer) takes,
+          subst (λ (a : Answered). TakesWhole a.whole a.text before.out after.out) (sym is_answer) takes,
           root_verdict_status given.0 status (same ∙ sym (ap (λ (a : Answered). verdict_status a.verdict) is_answer)),
         )
     by_end (cut answered has five front) = absurd (omega (arith, five, low))
@@ -359,19 +359,19 @@ writes_demo rules words before after status answer asked files is low = by_end (
     P : Network
     P = demo_problem asked.number
 
-    by_answer : (answered : Answered) → status ≡ verdict_status answered.verdict → Takes answered.text before.out after.out → (end : Option (Outcome × State)) → end_of rules Fewest P demo_budget asked.number ≡ end
+    by_answer : (answered : Answered) → status ≡ verdict_status answered.verdict → TakesWhole answered.whole answered.text before.out after.out → (end : Option (Outcome × State)) → end_of rules Fewest P demo_budget asked.number ≡ end
         → demo_answer patterns P end ≡ Some answered
         → (end : Outcome × State) × (end_of rules Fewest P demo_budget asked.number ≡ Some end) × (status ≡ outcome_status end.0)
         × (after.out ≡ after_finish (after_bytes before.out (demo_text (length patterns.windows) P.cells end.1.retractions status)))
     by_answer answered same takes None ends answers = absurd (cc (answers))
     by_answer answered same takes (Some end) ends answers =
-        let made : Answered = record { verdict = verdict_of demo_budget end.0; text = Some (demo_text (length patterns.windows) P.cells end.1.retractions (outcome_status end.0)) } in
+        let made : Answered = record { verdict = verdict_of demo_budget end.0; text = Some (demo_text (length patterns.windows) P.cells end.1.retractions (outcome_status end.0)); whole = true } in
         let is_answer : made ≡ answered = cc (answers) in
         let status_is : status ≡ outcome_status end.0 = same ∙ sym (ap (λ (a : Answered). verdict_status a.verdict) is_answer) ∙ verdict_outcome demo_budget end.0 in (
           end,
           ends,
           status_is,
-          subst (λ (a : Answered). Takes a.text before.out after.out) (sym is_answer) takes ∙ ap (λ k. after_finish (after_bytes before.out (demo_text (length patterns.windows) P.cells end.1.retractions k))) (sym status_is),
+          subst (λ (a : Answered). TakesWhole a.whole a.text before.out after.out) (sym is_answer) takes ∙ ap (λ k. after_finish (after_bytes before.out (demo_text (length patterns.windows) P.cells end.1.retractions k))) (sym status_is),
         )
 
     by_end : CameTo rules asked files before after status
@@ -379,6 +379,6 @@ writes_demo rules words before after status answer asked files is low = by_end (
         × (after.out ≡ after_finish (after_bytes before.out (demo_text (length patterns.windows) P.cells end.1.retractions status)))
     by_end (whole answered has same takes) =
         let given = demo_given (kinds_of rules) asked files has.task (planned rules asked files commands.Demo has.task is.built is.command_is has.is) in
-        by_answer answered same takes (end_of rules Fewest P demo_budget asked.number) refl (subst (λ task. answer_of rules asked task ≡ Some answered) (sym given) has.answers)
+        by_answer answered same takes (end_of rules Fewest P demo_budget asked.number) refl (subst (λ task. Answers rules asked task answered) (sym given) has.answers)
     by_end (cut answered has five front) = absurd (omega (arith, five, low))
     by_end (none high same) = absurd (omega (arith, high, low))

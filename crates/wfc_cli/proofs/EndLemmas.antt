@@ -68,21 +68,6 @@ ends_unbuilt rules asked folder sink unbuilt =
       leaves = (refl, refl);
     }
 
--- a command that is built is one of these
-pub other_built : (asked : RequestView) (command : CommandKind) → asked.command ≡ command → (command ≡ commands.Learn → ⊥) → (command ≡ commands.Fill → ⊥) → (command ≡ commands.Domains → ⊥) → (command ≡ commands.Demo → ⊥) → (command ≡ commands.Check → ⊥)
-    → is_built asked ≡ true → ⊥
-other_built asked command is not_learn not_fill not_domains not_demo not_check built =
-    false≢true (sym (by_command command not_learn not_fill not_domains not_demo not_check) ∙ sym (ap (λ c. is_built_by c asked) is) ∙ built)
-  where
-    by_command : (c : CommandKind) → (c ≡ commands.Learn → ⊥) → (c ≡ commands.Fill → ⊥) → (c ≡ commands.Domains → ⊥) → (c ≡ commands.Demo → ⊥) → (c ≡ commands.Check → ⊥) → is_built_by c asked ≡ false
-    by_command commands.Learn l f d e k = absurd (l refl)
-    by_command commands.Fill l f d e k = absurd (f refl)
-    by_command commands.Domains l f d e k = absurd (d refl)
-    by_command commands.Demo l f d e k = absurd (e refl)
-    by_command commands.Refute l f d e k = refl
-    by_command commands.Check l f d e k = absurd (k refl)
-    by_command commands.Upgrade l f d e k = refl
-
 -- a command that puts its text itself: its plan ended with a fault, and nothing was put
 pub put_none : (rules : List Rule) (asked : RequestView) (command : CommandKind) (before after : FolderView) (sink : SinkView) (fault : Fault) → is_built asked ≡ true → asked.command ≡ command
     → Goes (plan_by command (kinds_of rules) asked) before after (Err fault) → EndsPut rules asked before after sink sink (Err (Unanswered fault))
@@ -97,21 +82,31 @@ put_short rules asked command before after sink task fault built is goes short =
 
 -- the whole text of an answer was put
 pub put_whole : (rules : List Rule) (asked : RequestView) (command : CommandKind) (before after : FolderView) (old new : SinkView) (task : Task) (verdict : Verdict) (text : Option (List ℕ)) → is_built asked ≡ true → asked.command ≡ command
-    → Goes (plan_by command (kinds_of rules) asked) before after (Ok task) → Replies rules asked task (Ok (record { verdict = verdict; text = text })) → Takes text old new → EndsPut rules asked before after old new (Ok verdict)
+    → Goes (plan_by command (kinds_of rules) asked) before after (Ok task) → Replies rules asked task (Ok (record { verdict = verdict; text = text; whole = true })) → Takes text old new → EndsPut rules asked before after old new (Ok verdict)
 put_whole rules asked command before after old new task verdict text built is goes replied takes =
     record {
-      reply = Ok (record { verdict = verdict; text = text });
-      ends = ends_by rules asked command before after (Ok task) (Ok (record { verdict = verdict; text = text })) built is goes replied;
+      reply = Ok (record { verdict = verdict; text = text; whole = true });
+      ends = ends_by rules asked command before after (Ok task) (Ok (record { verdict = verdict; text = text; whole = true })) built is goes replied;
       leaves = (refl, takes);
     }
 
 -- a front of it was put
 pub put_cut : (rules : List Rule) (asked : RequestView) (command : CommandKind) (before after : FolderView) (old new : SinkView) (task : Task) (verdict : Verdict) (text : Option (List ℕ)) → is_built asked ≡ true → asked.command ≡ command
-    → Goes (plan_by command (kinds_of rules) asked) before after (Ok task) → Replies rules asked task (Ok (record { verdict = verdict; text = text })) → CutsOff text old new → EndsPut rules asked before after old new (Err Cut)
+    → Goes (plan_by command (kinds_of rules) asked) before after (Ok task) → Replies rules asked task (Ok (record { verdict = verdict; text = text; whole = true })) → CutsOff text old new → EndsPut rules asked before after old new (Err Cut)
 put_cut rules asked command before after old new task verdict text built is goes replied cut =
     record {
-      reply = Ok (record { verdict = verdict; text = text });
-      ends = ends_by rules asked command before after (Ok task) (Ok (record { verdict = verdict; text = text })) built is goes replied;
+      reply = Ok (record { verdict = verdict; text = text; whole = true });
+      ends = ends_by rules asked command before after (Ok task) (Ok (record { verdict = verdict; text = text; whole = true })) built is goes replied;
+      leaves = cut;
+    }
+
+-- a front of a text that isn't a whole answer was put
+pub put_front : (rules : List Rule) (asked : RequestView) (command : CommandKind) (before after : FolderView) (old new : SinkView) (task : Task) (verdict : Verdict) (text : Option (List ℕ)) → is_built asked ≡ true → asked.command ≡ command
+    → Goes (plan_by command (kinds_of rules) asked) before after (Ok task) → Replies rules asked task (Ok (record { verdict = verdict; text = text; whole = false })) → CutsOff text old new → EndsPut rules asked before after old new (Err Cut)
+put_front rules asked command before after old new task verdict text built is goes replied cut =
+    record {
+      reply = Ok (record { verdict = verdict; text = text; whole = false });
+      ends = ends_by rules asked command before after (Ok task) (Ok (record { verdict = verdict; text = text; whole = false })) built is goes replied;
       leaves = cut;
     }
 

@@ -6,3 +6,7 @@ pub mod EndLemmas
 pub mod TheoremLemmas
 pub mod CommandLemmas
 pub mod CheckLemmas
+pub mod RefuteLemmas
+pub mod RunTextLemmas
+pub mod PictureLemmas
+pub mod UpgradeLemmas

@@ -1,5 +1,5 @@
 -- What a search came to, as the run of a problem.
-use Rattle.std.proofs.Common.{◌≡◌, ℕ, List, [], Option, Some, None, length, ap, sym, ◌∙◌, subst, refl}
+use Rattle.std.proofs.Common.{◌≡◌, ℕ, true, List, [], Option, Some, None, length, ap, sym, ◌∙◌, subst, refl}
 use Rattle.rand_core.specs.Pcg32Seed.{pcg32_seed}
 use Rattle.rand_core.specs.Steps.{stream_of, steps_u64_low}
 use Rattle.rand_pcg.specs.Lcg.{Lcg}
@@ -72,8 +72,8 @@ ended rules kind P rule budget seed ran found is = ap (λ o. end_by o P budget s
 -- what a run came to, as the answer of `fill`: the map of its assignment is written
 abbrev pub AnswersRan : RequestView → PatternsView → List Symbol → Layout → End → Answered → Type 0
 AnswersRan asked patterns palette layout (held.Map assignment) answer = answer ≡ done_with (map_text layout palette (picture_of patterns (output_of asked) assignment.items))
-AnswersRan asked patterns palette layout held.NoMap answer = answer ≡ record { verdict = verdict.NoMap; text = None }
-AnswersRan asked patterns palette layout held.Spent answer = answer ≡ record { verdict = verdict.Spent asked.budget; text = None }
+AnswersRan asked patterns palette layout held.NoMap answer = answer ≡ record { verdict = verdict.NoMap; text = None; whole = true }
+AnswersRan asked patterns palette layout held.Spent answer = answer ≡ record { verdict = verdict.Spent asked.budget; text = None; whole = true }
 
 pub fill_ran : (rules : List Rule) (kind : RuleKind) (asked : RequestView) (patterns : PatternsView) (palette : List Symbol) (layout : Layout) (P : Network) (rule : Rule) (seed : ℕ) (ran : Ran) (answer : Answered)
     → chosen kind rules ≡ Some rule → IsRan P rule asked.budget seed ran → AnswersRan asked patterns palette layout ran.end answer
@@ -97,7 +97,7 @@ fill_ran rules kind asked patterns palette layout P rule seed ran answer found i
 
 pub demo_ran : (rules : List Rule) (kind : RuleKind) (patterns : PatternsView) (P : Network) (rule : Rule) (seed : ℕ) (ran : Ran) (answer : Answered)
     → chosen kind rules ≡ Some rule → IsRan P rule demo_budget seed ran → answer.verdict ≡ demo_verdict ran.end
-    → answer ≡ record { verdict = answer.verdict; text = Some (demo_text (length patterns.windows) P.cells ran.retractions (verdict_status answer.verdict)) }
+    → answer ≡ record { verdict = answer.verdict; text = Some (demo_text (length patterns.windows) P.cells ran.retractions (verdict_status answer.verdict)); whole = true }
     → demo_answer patterns P (end_of rules kind P demo_budget seed) ≡ Some answer
 demo_ran rules kind patterns P rule seed ran answer found is verdict_is answers =
     ap (demo_answer patterns P) (ended rules kind P rule demo_budget seed ran found is) ∙ by_end is.outcome ran.end is.held verdict_is ∙ ap Some (sym answers)
@@ -106,10 +106,10 @@ demo_ran rules kind patterns P rule seed ran answer found is verdict_is answers 
     text retractions status = demo_text (length patterns.windows) P.cells retractions status
 
     by_end : (o : Outcome) (end : End) → IsHeld P is.state.standing o end → answer.verdict ≡ demo_verdict end
-        → demo_answer patterns P (Some (o, is.state)) ≡ Some (record { verdict = answer.verdict; text = Some (text ran.retractions (verdict_status answer.verdict)) })
-    by_end outcome.Map (held.Map assignment) same v = λ i. Some (record { verdict = sym v i; text = Some (text (sym is.retractions i) (verdict_status (sym v i))) })
-    by_end outcome.NoMap held.NoMap same v = λ i. Some (record { verdict = sym v i; text = Some (text (sym is.retractions i) (verdict_status (sym v i))) })
-    by_end outcome.Spent held.Spent same v = λ i. Some (record { verdict = sym v i; text = Some (text (sym is.retractions i) (verdict_status (sym v i))) })
+        → demo_answer patterns P (Some (o, is.state)) ≡ Some (record { verdict = answer.verdict; text = Some (text ran.retractions (verdict_status answer.verdict)); whole = true })
+    by_end outcome.Map (held.Map assignment) same v = λ i. Some (record { verdict = sym v i; text = Some (text (sym is.retractions i) (verdict_status (sym v i))); whole = true })
+    by_end outcome.NoMap held.NoMap same v = λ i. Some (record { verdict = sym v i; text = Some (text (sym is.retractions i) (verdict_status (sym v i))); whole = true })
+    by_end outcome.Spent held.Spent same v = λ i. Some (record { verdict = sym v i; text = Some (text (sym is.retractions i) (verdict_status (sym v i))); whole = true })
     by_end outcome.Map held.NoMap same v = absurd same
     by_end outcome.Map held.Spent same v = absurd same
     by_end outcome.NoMap (held.Map a) same v = absurd same

@@ -1,5 +1,5 @@
 -- What the relation of a call says by the class of its end alone, whichever the command.
-use Rattle.std.proofs.Common.{◌≡◌, ◌≢◌, ℕ, ◌≤◌, ◌⊎◌, inl, inr, false, List, Option, None, Some, Result, Ok, Err, ap, sym, ◌∙◌, subst, refl, arith}
+use Rattle.std.proofs.Common.{◌≡◌, ◌≢◌, ℕ, ◌≤◌, ◌⊎◌, inl, inr, true, false, Bool, List, Option, None, Some, Result, Ok, Err, ap, sym, ◌∙◌, subst, refl, arith}
 use Rattle.std.specs.Result.{IsErr}
 use Rattle.wfc_outside.specs.Count.{HasRisen}
 use Rattle.wfc_outside.specs.Folder.{File, FolderView}
@@ -24,7 +24,7 @@ use Rattle.wfc_task.proofs.PlanLemmas.{goes_device, goes_quiet, goes_told}
 use Rattle.wfc_task.proofs.WordLemmas.{unbuilt_plan, words_unbuilt}
 use Rattle.wfc_cli.specs.Choosers.{kinds_of}
 use Rattle.wfc_cli.specs.ErrorLine.{command_status}
-use Rattle.wfc_cli.specs.Reply.{Reply, CutsOff, Delivers, IsDelivered, Takes, said_of, verdict_status}
+use Rattle.wfc_cli.specs.Reply.{Reply, CutsOff, Delivers, IsDelivered, Takes, TakesWhole, said_of, verdict_status}
 use Rattle.wfc_cli.specs.declared.reply.Verdict.{Verdict}
 use Rattle.wfc_cli.specs.declared.reply.Verdict.TheVariants.{Done, NoMap, Spent, Dead, MapExists, Unaccepted}
 use Rattle.wfc_cli.specs.Answer.{AnswersAsked, Devices, Ends, IsAnswer, IsAnswerTo, IsRefusedCall, Replied, Replies}
@@ -148,6 +148,11 @@ no_command_is_3 rules words before after status answer none = elim (answer.answe
     by_none to (inl no_request) = by_request (request_of words) to no_request
     by_none to (inr (asked, spelled, unbuilt)) = unbuilt_3 rules asked before after status (subst (λ request. AnswersAsked rules request before after status) spelled to) unbuilt
 
+-- what is taken whole is taken
+taken_whole : (whole : Bool) (text : Option (List ℕ)) (old new : SinkView) → TakesWhole whole text old new → Takes text old new
+taken_whole true text old new takes = takes
+taken_whole false text old new takes = absurd takes
+
 -- what is taken raises no count
 taken_quiet : (text : Option (List ℕ)) (old new : SinkView) → Takes text old new → new.faults ≡ old.faults
 taken_quiet None old new takes = ap (λ (s : SinkView). s.faults) takes
@@ -165,7 +170,7 @@ keeps_counts rules words before after status answer not5 = elim (answer.answers)
       folder = goes_quiet (plan_of (kinds_of rules) asked) before.folder after.folder ends.ended ends.goes (λ fault is five.
           let as_fault : reply ≡ Err fault = replied_fault rules asked ends.ended reply fault is ends.replied in
           not5 (delivered.same_status ∙ ap (λ r. (said_of asked r).status) as_fault ∙ five));
-      out = taken_quiet (said_of asked reply).text before.out after.out delivered.taken;
+      out = taken_quiet (said_of asked reply).text before.out after.out (taken_whole (said_of asked reply).whole (said_of asked reply).text before.out after.out delivered.taken);
     }
 
     by_request : (request : Result RequestView CommandFault) → AnswersAsked rules request before after status → AreQuiet before after

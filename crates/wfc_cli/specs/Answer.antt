@@ -11,7 +11,7 @@ use Rattle.wfc_task.specs.Fault.{status_of}
 use Rattle.wfc_task.specs.Plan.{Goes}
 use Rattle.wfc_task.specs.Task.{Task, plan_of}
 use Rattle.wfc_task.specs.declared.fault.Fault.{Fault}
-use Rattle.wfc_cli.specs.Answers.{answer_of}
+use Rattle.wfc_cli.specs.Answers.{Answers}
 use Rattle.wfc_cli.specs.Choosers.{kinds_of}
 use Rattle.wfc_cli.specs.Reply.{Reply, Delivers, said_of, said_of_words}
 
@@ -26,7 +26,7 @@ devices folder out err = record { folder = folder; out = out; err = err }
 
 -- what a command may reply to its task: its answer, or want of memory
 abbrev pub Replies : List Rule → RequestView → Task → Reply → Type 0
-Replies rules asked task (Ok answered) = answer_of rules asked task ≡ Some answered
+Replies rules asked task (Ok answered) = Answers rules asked task answered
 Replies rules asked task (Err fault) = status_of fault ≡ 6
 
 -- what a command may reply where its plan ended so: the fault, or a reply to the task

@@ -1,5 +1,5 @@
 -- The answer of each command to its task.
-use Rattle.std.specs.Prelude.{◌≡◌, ℕ, ◌-◌, List, [], ◌∷◌, ◌++◌, length, map, codes, decimal, take, Option, None, Some, Result, Ok, Err, if◌then◌else◌}
+use Rattle.std.specs.Prelude.{◌≡◌, ℕ, ◌-◌, true, List, [], ◌∷◌, ◌++◌, length, map, codes, decimal, take, Option, None, Some, Result, Ok, Err, if◌then◌else◌}
 use Rattle.wfc_problem.specs.Domains.{Test}
 use Rattle.wfc_problem.specs.Network.{Network, values}
 use Rattle.wfc_problem.specs.Rounds.{greatest}
@@ -24,9 +24,12 @@ use Rattle.wfc_render.specs.Learned.{learned_text}
 use Rattle.wfc_render.specs.Map.{map_text}
 use Rattle.wfc_render.specs.declared.form.Layout.{Layout}
 use Rattle.wfc_words.specs.RequestView.{RequestView}
-use Rattle.wfc_task.specs.Task.{Task, learn, fill, domains, demo, check}
+use Rattle.wfc_task.specs.Task.{Task, learn, fill, domains, demo, refute, check, upgrade}
+use Rattle.wfc_cli.specs.Choosers.{chosen}
+use Rattle.wfc_cli.specs.Refuting.{RefutesBy}
 use Rattle.wfc_cli.specs.Reply.{Answered, done_with}
 use Rattle.wfc_cli.specs.Runs.{end_of}
+use Rattle.wfc_cli.specs.Upgrading.{first_fault, upgrade_answer}
 use Rattle.wfc_cli.specs.declared.runs.End.{End}
 use Rattle.wfc_cli.specs.declared.runs.End.TheVariants as held
 use Rattle.wfc_cli.specs.declared.reply.Verdict.{Verdict}
@@ -55,7 +58,7 @@ fill_text asked patterns palette layout P (_, s) = None
 abbrev pub fill_answer : RequestView → PatternsView → List Symbol → Layout → Network → Option (Outcome × State) → Option Answered
 fill_answer asked patterns palette layout P None = None
 fill_answer asked patterns palette layout P (Some end) =
-    Some (record { verdict = verdict_of asked.budget end.0; text = fill_text asked patterns palette layout P end })
+    Some (record { verdict = verdict_of asked.budget end.0; text = fill_text asked patterns palette layout P end; whole = true })
 
 -- the status that a run which ends so has
 abbrev pub outcome_status : Outcome → ℕ
@@ -83,6 +86,7 @@ demo_answer patterns P None = None
 demo_answer patterns P (Some end) = Some (record {
   verdict = verdict_of demo_budget end.0;
   text = Some (demo_text (length patterns.windows) P.cells end.1.retractions (outcome_status end.0));
+  whole = true;
 })
 
 -- the literals that stand after a step
@@ -113,7 +117,7 @@ root_verdict P = if is_dead P (greatest P []) then Dead else Done
 
 -- the answer of `domains`
 abbrev pub domains_answer : Network → List StepLine → Answered
-domains_answer P steps = record { verdict = root_verdict P; text = Some (steps_text P steps) }
+domains_answer P steps = record { verdict = root_verdict P; text = Some (steps_text P steps); whole = true }
 
 -- what `check` writes of a refutation
 abbrev pub accepted_text : List ℕ
@@ -122,15 +126,27 @@ accepted_text = codes "accepted\n"
 -- the answer of `check`, where this is the first fault of the text, or there is none
 abbrev pub check_answer : Option CheckFault → Answered
 check_answer None = done_with accepted_text
-check_answer (Some fault) = record { verdict = Unaccepted fault; text = None }
+check_answer (Some fault) = record { verdict = Unaccepted fault; text = None; whole = true }
 
--- the answer to a task, where these are the rules of the choosers
+-- the one answer to a task that has one, where these are the rules of the choosers
 abbrev pub answer_of : List Rule → RequestView → Task → Option Answered
 answer_of rules asked (learn patterns palette) = Some (done_with (learned_text patterns palette))
 answer_of rules asked (fill patterns palette layout P) = fill_answer asked patterns palette layout P (end_of rules asked.rule P asked.budget asked.seed)
 answer_of rules asked (domains P steps) = Some (domains_answer P steps)
+answer_of rules asked (refute P) = None
 answer_of rules asked (check found) = Some (check_answer found)
+answer_of rules asked (upgrade P bytes) = Some (upgrade_answer asked P bytes (first_fault asked P bytes))
 answer_of rules asked (demo patterns P) = demo_answer patterns P (end_of rules Fewest P demo_budget asked.number)
+
+-- an answer to a task, where these are the rules of the choosers: of a refutation the lines of a run, and else the one there is
+abbrev pub Answers : List Rule → RequestView → Task → Answered → Type 0
+Answers rules asked (learn patterns palette) answered = answer_of rules asked (learn patterns palette) ≡ Some answered
+Answers rules asked (fill patterns palette layout P) answered = answer_of rules asked (fill patterns palette layout P) ≡ Some answered
+Answers rules asked (domains P steps) answered = answer_of rules asked (domains P steps) ≡ Some answered
+Answers rules asked (refute P) answered = RefutesBy (chosen asked.rule rules) asked P answered
+Answers rules asked (check found) answered = answer_of rules asked (check found) ≡ Some answered
+Answers rules asked (upgrade P bytes) answered = answer_of rules asked (upgrade P bytes) ≡ Some answered
+Answers rules asked (demo patterns P) answered = answer_of rules asked (demo patterns P) ≡ Some answered
 
 -- how a demonstration ends whose run ends so
 abbrev pub demo_verdict : End → Verdict

@@ -32,7 +32,8 @@ use Rattle.wfc_cli.specs.Runs.{end_of}
 use Rattle.wfc_cli.specs.Theorem.{IsGiven}
 
 -- the words ask for this command, which is built for what they name, and the folder tells these files
-pub record IsCommand (command : CommandKind) (words : List (List ℕ)) (before : Devices) (asked : RequestView) (files : List File) : Type 0 where
+pub record IsCommand (command : CommandKind) (words : List (List ℕ)) (before : Devices)
+    (asked : RequestView) (files : List File) : Type 0 where
   pub given : IsGiven words before asked files
   pub command_is : asked.command ≡ command
   pub built : is_built asked ≡ true
@@ -51,7 +52,8 @@ pub record FillWork (rules : List Rule) (asked : RequestView) (files : List File
 abbrev pub rules_of : RequestView → Rules
 rules_of asked = record { n = side_of asked.source; symmetry = asked.symmetry; wrap_in = asked.wrap_in; wrap_out = asked.wrap_out }
 
--- a picture of palette numbers of the size asked for, each of whose windows is learned from the sample, and which the pins and bans of the pins file meet
+-- a picture of palette numbers of the size asked for, each of whose windows is learned from the sample, and which the pins and bans
+-- of the pins file meet
 abbrev pub IsLegalMap : {rules : List Rule} {files : List File} (asked : RequestView) → FillWork rules asked files → Raster → Type 0
 IsLegalMap asked work m = IsLegalPicture work.task.sample.picture (rules_of asked) work.task.problem.pins asked.width asked.height m
 
@@ -59,13 +61,16 @@ IsLegalMap asked work m = IsLegalPicture work.task.sample.picture (rules_of aske
 abbrev pub WritesLegalMap : List Rule → List (List ℕ) → Devices → Devices → ℕ → Type 0
 WritesLegalMap rules words before after status =
     (asked : RequestView) (files : List File) → IsCommand commands.Fill words before asked files → status ≡ 0
-    → (work : FillWork rules asked files) × (m : Raster) × IsLegalMap asked work m × (after.out ≡ after_finish (after_bytes before.out (map_text work.layout work.palette m)))
+    → (work : FillWork rules asked files) × (m : Raster) × IsLegalMap asked work m
+    × (after.out ≡ after_finish (after_bytes before.out (map_text work.layout work.palette m)))
 
 -- status 5 of `fill`: nothing was written, or a front of the text of a legal map
 abbrev pub WritesFront : List Rule → List (List ℕ) → Devices → Devices → ℕ → Type 0
 WritesFront rules words before after status =
     (asked : RequestView) (files : List File) → IsCommand commands.Fill words before asked files → status ≡ 5
-    → (after.out ≡ before.out) ⊎ ((work : FillWork rules asked files) × (m : Raster) × IsLegalMap asked work m × IsFaultAfterFront before.out after.out (map_text work.layout work.palette m))
+    → (after.out ≡ before.out)
+    ⊎ ((work : FillWork rules asked files) × (m : Raster) × IsLegalMap asked work m
+    × IsFaultAfterFront before.out after.out (map_text work.layout work.palette m))
 
 -- status 1 of `fill`: no map is legal, and nothing was written
 abbrev pub HasNoMap : List Rule → List (List ℕ) → Devices → Devices → ℕ → Type 0
@@ -73,7 +78,8 @@ HasNoMap rules words before after status =
     (asked : RequestView) (files : List File) → IsCommand commands.Fill words before asked files → status ≡ 1
     → (work : FillWork rules asked files) × ((m : Raster) → IsLegalMap asked work m → ⊥) × (after.out ≡ before.out)
 
--- statuses 0, 1 and 2 of `fill`: the run of its problem by the rule, the budget and the seed asked for ends in this order in a map, in no map, or spent, and what is written is the map of its assignment
+-- statuses 0, 1 and 2 of `fill`: the run of its problem by the rule, the budget and the seed asked for ends in this order in a map,
+-- in no map, or spent, and what is written is the map of its assignment
 abbrev pub IsAsRun : List Rule → List (List ℕ) → Devices → Devices → ℕ → Type 0
 IsAsRun rules words before after status =
     (asked : RequestView) (files : List File) → IsCommand commands.Fill words before asked files → status ≤ 2
@@ -92,18 +98,23 @@ IsNeverSpent rules words before status =
 abbrev pub WritesLearned : List (List ℕ) → Devices → Devices → ℕ → Type 0
 WritesLearned words before after status =
     (asked : RequestView) (files : List File) → IsCommand commands.Learn words before asked files → status ≤ 2
-    → (status ≡ 0) × (patterns : PatternsView) × (palette : List Symbol) × IsTaught asked files patterns palette × (after.out ≡ after_finish (after_bytes before.out (learned_text patterns palette)))
+    → (status ≡ 0) × (patterns : PatternsView) × (palette : List Symbol) × IsTaught asked files patterns palette
+    × (after.out ≡ after_finish (after_bytes before.out (learned_text patterns palette)))
 
--- statuses 0 and 1 of `domains`: the blocks before the first step and after each were written, and the status is 1 exactly where the root is dead
+-- statuses 0 and 1 of `domains`: the blocks before the first step and after each were written, and the status is 1 exactly where
+-- the root is dead
 abbrev pub WritesDomains : List (List ℕ) → Devices → Devices → ℕ → Type 0
 WritesDomains words before after status =
     (asked : RequestView) (files : List File) → IsCommand commands.Domains words before asked files → status ≤ 2
-    → (P : Network) × (steps : List StepLine) × IsDomainsTask asked files P steps × (after.out ≡ after_finish (after_bytes before.out (steps_text P steps)))
+    → (P : Network) × (steps : List StepLine) × IsDomainsTask asked files P steps
+    × (after.out ≡ after_finish (after_bytes before.out (steps_text P steps)))
     × (((status ≡ 0) × (is_dead P (greatest P []) ≡ false)) ⊎ ((status ≡ 1) × (is_dead P (greatest P []) ≡ true)))
 
 -- statuses 0, 1 and 2 of `demo`: its four numbers were written, and the status is that of its run
 abbrev pub WritesDemo : List Rule → List (List ℕ) → Devices → Devices → ℕ → Type 0
 WritesDemo rules words before after status =
     (asked : RequestView) (files : List File) → IsCommand commands.Demo words before asked files → status ≤ 2
-    → (end : Outcome × State) × (end_of rules Fewest (demo_problem asked.number) demo_budget asked.number ≡ Some end) × (status ≡ outcome_status end.0)
-    × (after.out ≡ after_finish (after_bytes before.out (demo_text (length (demo_patterns asked.number).windows) (demo_problem asked.number).cells end.1.retractions status)))
+    → (end : Outcome × State) × (end_of rules Fewest (demo_problem asked.number) demo_budget asked.number ≡ Some end)
+    × (status ≡ outcome_status end.0)
+    × (after.out ≡ after_finish (after_bytes before.out
+    (demo_text (length (demo_patterns asked.number).windows) (demo_problem asked.number).cells end.1.retractions status)))

@@ -8,14 +8,14 @@ use Rattle.wfc_task.specs.Fault.{status_of}
 use Rattle.wfc_cli.specs.Answer.{Ends}
 use Rattle.wfc_lines.specs.Outcome.{out_failed_text}
 use Rattle.wfc_cli.specs.ErrorLine.{fault_text}
-use Rattle.wfc_cli.specs.Reply.{Reply, CutsOff, Takes, Tells, verdict_status, verdict_text}
+use Rattle.wfc_cli.specs.Reply.{Reply, CutsOff, TakesWhole, Tells, verdict_status, verdict_text}
 use Rattle.wfc_cli.specs.declared.reply.Verdict.{Verdict}
 use Rattle.wfc_cli.specs.declared.reply.Stop.{Stop}
 use Rattle.wfc_cli.specs.declared.reply.Stop.TheVariants.{Cut, Unanswered}
 
 -- what a reply does to the sink of the answer, where the code ends so: with its verdict the whole text, else a front of it, and without an answer nothing
 abbrev pub Leaves : Reply → SinkView → SinkView → Result Verdict Stop → Type 0
-Leaves (Ok answered) old new (Ok verdict) = (verdict ≡ answered.verdict) × Takes answered.text old new
+Leaves (Ok answered) old new (Ok verdict) = (verdict ≡ answered.verdict) × TakesWhole answered.whole answered.text old new
 Leaves (Ok answered) old new (Err Cut) = CutsOff answered.text old new
 Leaves (Err fault) old new (Err (Unanswered other)) = (other ≡ fault) × (new ≡ old)
 Leaves _ _ _ _ = ⊥

@@ -3,6 +3,8 @@ pub mod Choosers
 pub mod Runs
 pub mod Reply
 pub mod ReplyView
+pub mod Refuting
+pub mod Upgrading
 pub mod Answers
 pub mod Walk
 pub mod Answer
@@ -10,3 +12,5 @@ pub mod Ending
 pub mod Theorem
 pub mod Claims
 pub mod CheckClaims
+pub mod RefuteClaims
+pub mod UpgradeClaims

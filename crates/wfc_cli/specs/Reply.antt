@@ -1,5 +1,5 @@
 -- What a command replies, and what of it the streams and the status say.
-use Rattle.std.specs.Prelude.{◌≡◌, ℕ, ◌⊎◌, List, Option, None, Some, Result, Ok, Err}
+use Rattle.std.specs.Prelude.{◌≡◌, ℕ, ◌⊎◌, Bool, true, false, List, Option, None, Some, Result, Ok, Err}
 use Rattle.wfc_outside.specs.Sink.{SinkView, after_bytes, after_finish, IsFaultAfterFront}
 use Rattle.wfc_words.specs.RequestView.{RequestView}
 use Rattle.wfc_words.specs.declared.fault.CommandFault.{CommandFault}
@@ -14,14 +14,16 @@ use Rattle.wfc_cli.specs.ErrorLine.{command_status, fault_text, name_of}
 use Rattle.wfc_cli.specs.declared.reply.Verdict.{Verdict}
 use Rattle.wfc_cli.specs.declared.reply.Verdict.TheVariants.{Done, NoMap, Spent, Dead, MapExists, Unaccepted}
 
--- an answer: how the command ended, and the text that it writes, if it writes any
+-- an answer: how the command ended, and the text that it writes, if it writes any; where it isn't the whole, the text is one
+-- of which a sink that failed took a front
 pub record Answered : Type 0 where
   pub verdict : Verdict
   pub text : Option (List ℕ)
+  pub whole : Bool
 
 -- a command that is done, with its text
 abbrev pub done_with : List ℕ → Answered
-done_with text = record { verdict = Done; text = Some text }
+done_with text = record { verdict = Done; text = Some text; whole = true }
 
 -- an answer, or a fault
 abbrev pub Reply : Type 0
@@ -49,21 +51,27 @@ verdict_text asked (Unaccepted fault) = Some (text_of_check fault (name_of asked
 pub record Said : Type 0 where
   pub status : ℕ
   pub text : Option (List ℕ)
+  pub whole : Bool
   pub told : Option (List ℕ)
 
 -- what a reply says
 abbrev pub said_of : RequestView → Reply → Said
-said_of asked (Ok answered) = record { status = verdict_status answered.verdict; text = answered.text; told = verdict_text asked answered.verdict }
-said_of asked (Err fault) = record { status = status_of fault; text = None; told = Some (fault_text asked fault) }
+said_of asked (Ok answered) = record { status = verdict_status answered.verdict; text = answered.text; whole = answered.whole; told = verdict_text asked answered.verdict }
+said_of asked (Err fault) = record { status = status_of fault; text = None; whole = true; told = Some (fault_text asked fault) }
 
 -- what words say that were read as no request
 abbrev pub said_of_words : CommandFault → Said
-said_of_words fault = record { status = command_status fault; text = None; told = Some (text_of_command fault) }
+said_of_words fault = record { status = command_status fault; text = None; whole = true; told = Some (text_of_command fault) }
 
 -- the sink took the whole text and was finished, or there is none and it is as before
 abbrev pub Takes : Option (List ℕ) → SinkView → SinkView → Type 0
 Takes None old new = new ≡ old
 Takes (Some text) old new = new ≡ after_finish (after_bytes old text)
+
+-- so, and the text is the whole
+abbrev pub TakesWhole : Bool → Option (List ℕ) → SinkView → SinkView → Type 0
+TakesWhole true text old new = Takes text old new
+TakesWhole false text old new = ⊥
 
 -- the stream took the line of the text, or a front of it and then met a counted fault
 pub record IsTold (text : List ℕ) (old new : SinkView) : Type 0 where
@@ -76,7 +84,7 @@ Tells (Some text) old new = IsTold text old new
 
 -- all of it was put
 pub record IsDelivered (said : Said) (out_old out_new err_old err_new : SinkView) (status : ℕ) : Type 0 where
-  pub taken : Takes said.text out_old out_new
+  pub taken : TakesWhole said.whole said.text out_old out_new
   pub told : Tells said.told err_old err_new
   pub same_status : status ≡ said.status
 

@@ -12,6 +12,8 @@ mod demo;
 mod domains;
 mod fill;
 mod learn;
+mod refute;
+mod upgrade;
 
 use crate::deliver::put;
 use crate::reply::{Stop, Verdict};
@@ -20,7 +22,9 @@ use demo::demo;
 use domains::domains;
 use fill::fill;
 use learn::learn;
+use refute::refute;
 use std::alloc::Global;
+use upgrade::upgrade;
 use wfc_choose::Chooser;
 use wfc_outside::{Folder, Sink};
 use wfc_task::{Fault, Refusal, is_built};
@@ -46,8 +50,9 @@ pub(crate) fn run<F: Folder, O: Sink>(
         CommandKind::Fill => put(out, fill(alloc, request, choosers, folder)),
         CommandKind::Demo => put(out, demo(alloc, request, choosers, folder)),
         CommandKind::Domains => domains(alloc, request, folder, out),
+        CommandKind::Refute => refute(alloc, request, choosers, folder, out),
         CommandKind::Check => put(out, check(alloc, request, folder)),
-        _ => Err(unbuilt()),
+        CommandKind::Upgrade => upgrade(alloc, request, folder, out),
     }
 }
 

@@ -4,9 +4,13 @@ ghost use Rattle.std.specs.Prelude.{◌≡◌, ◌∷◌, [], None, Some, codes}
 ghost use Rattle.wfc_choose.specs.declared.RuleKind.TheVariants as rules;
 ghost use Rattle.wfc_pins.specs.declared.steps.Step.TheVariants.{Assume, Undo};
 ghost use Rattle.wfc_problem.specs.declared.Literal.TheVariants.{Is, Not};
+ghost use Rattle.wfc_proof.specs.declared.Line.TheVariants.{Empty, End, Remove, Span, Try};
+ghost use Rattle.wfc_proof.specs.declared.heads.Format.TheVariants.{One, Two};
 ghost use Rattle.wfc_search.specs.declared.Outcome.TheVariants as outcomes;
 ghost use Rattle.wfc_cli.specs.Answers.{demo_text, outcome_status, standings};
 ghost use Rattle.wfc_cli.specs.Choosers.{chosen};
+ghost use Rattle.wfc_cli.specs.RefuteClaims.{refute_status};
+ghost use Rattle.wfc_cli.specs.Refuting.{lines_in, refute_verdict, written_format};
 ghost use Rattle.wfc_cli.specs.Reply.{verdict_status};
 ghost use Rattle.wfc_cli.specs.declared.reply.Verdict.TheVariants as verdicts;
 
@@ -34,6 +38,19 @@ pub fn statuses_are()
     ensures dead { verdict_status verdicts.Dead ≡ 1 }
     ensures exists { verdict_status verdicts.MapExists ≡ 1 }
     ensures budget { verdict_status (verdicts.Spent 1000) ≡ 2 }
+{}
+
+/// What `refute` writes and how it ends, by example: removals of one cell and direction whose values follow are one line of format 2.
+pub fn refutations_by_example()
+    ensures one { written_format 1 ≡ One }
+    ensures two { written_format 2 ≡ Two }
+    ensures plain { lines_in One (Remove 0 0 2 ∷ Remove 0 1 2 ∷ Empty 0 ∷ []) ≡ Remove 0 0 2 ∷ Remove 0 1 2 ∷ Empty 0 ∷ [] }
+    ensures joined { lines_in Two (Try 1 3 ∷ Remove 0 0 2 ∷ Remove 0 1 2 ∷ Remove 0 2 1 ∷ Remove 4 3 1 ∷ Remove 4 5 1 ∷ Empty 0 ∷ End ∷ [])
+        ≡ Try 1 3 ∷ Span 0 0 1 2 ∷ Span 0 2 2 1 ∷ Span 4 3 3 1 ∷ Span 4 5 5 1 ∷ Empty 0 ∷ End ∷ [] }
+    ensures map { verdict_status (refute_verdict 7 outcomes.Map) ≡ 1 }
+    ensures no_map { verdict_status (refute_verdict 7 outcomes.NoMap) ≡ 0 }
+    ensures spent { refute_verdict 7 outcomes.Spent ≡ verdicts.Spent 7 }
+    ensures statuses { (refute_status outcomes.NoMap ≡ 0) × (refute_status outcomes.Map ≡ 1) × (refute_status outcomes.Spent ≡ 2) }
 {}
 
 /// The first rule of a kind is used, by example.

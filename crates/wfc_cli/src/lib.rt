@@ -5,8 +5,11 @@ ghost use Rattle.std.specs.Prelude.{◌≡◌, ◌≢◌, ◌⊎◌, map};
 ghost use Rattle.wfc_words.specs.Request.{texts};
 ghost use Rattle.wfc_cli.specs.Answer.{IsAnswer, devices};
 ghost use Rattle.wfc_cli.specs.CheckClaims.{ChecksRefutation};
-ghost use Rattle.wfc_cli.specs.Claims.{HasNoMap, IsAsRun, IsNeverSpent, WritesDemo, WritesDomains, WritesFront, WritesLearned, WritesLegalMap};
+ghost use Rattle.wfc_cli.specs.Claims.{HasNoMap, IsAsRun, IsNeverSpent, WritesDemo, WritesDomains};
+ghost use Rattle.wfc_cli.specs.Claims.{WritesFront, WritesLearned, WritesLegalMap};
+ghost use Rattle.wfc_cli.specs.RefuteClaims.{WritesRefutation, WritesRunFront};
 ghost use Rattle.wfc_cli.specs.Reply.{Tells, said_of_words};
+ghost use Rattle.wfc_cli.specs.UpgradeClaims.{UpgradesFront, UpgradesRefutation};
 ghost use Rattle.wfc_cli.specs.Theorem.{AreQuiet, HasFirstFault, IsComplete, IsDeviceFault, IsNoCommand, IsRefusedFirst, IsWithoutAnswer};
 
 mod choosers;
@@ -38,7 +41,8 @@ pub fn run<F: Folder, O: Sink, E: Sink>(
 ) -> u8
     // Which statuses, bytes and lines go together, and why each comes.
     ensures answer { IsAnswer (map (λ chooser. (told chooser).rule) choosers.items) (texts words.now)
-        (devices (F.seen folder.old) (O.seen out.old) (E.seen err.old)) (devices (F.seen folder.new) (O.seen out.new) (E.seen err.new)) result }
+        (devices (F.seen folder.old) (O.seen out.old) (E.seen err.old))
+        (devices (F.seen folder.new) (O.seen out.new) (E.seen err.new)) result }
 
     // Each status has its cause.
     ensures command { result ≡ 3 → IsNoCommand (texts words.now) }
@@ -47,32 +51,59 @@ pub fn run<F: Folder, O: Sink, E: Sink>(
         (devices (F.seen folder.old) (O.seen out.old) (E.seen err.old)) result }
     ensures device { result ≡ 5 → IsDeviceFault (map (λ chooser. (told chooser).rule) choosers.items) (texts words.now)
         (devices (F.seen folder.old) (O.seen out.old) (E.seen err.old)) (devices (F.seen folder.new) (O.seen out.new) (E.seen err.new)) }
-    ensures counts { result ≢ 5 → AreQuiet (devices (F.seen folder.old) (O.seen out.old) (E.seen err.old)) (devices (F.seen folder.new) (O.seen out.new) (E.seen err.new)) }
+    ensures counts { result ≢ 5 → AreQuiet (devices (F.seen folder.old) (O.seen out.old) (E.seen err.old))
+        (devices (F.seen folder.new) (O.seen out.new) (E.seen err.new)) }
     ensures untouched { IsWithoutAnswer result → O.seen out.new ≡ O.seen out.old }
 
     // Where no fault is counted, the files and the words decide.
     ensures refused { IsRefusedFirst (map (λ chooser. (told chooser).rule) choosers.items) (texts words.now)
-        (devices (F.seen folder.old) (O.seen out.old) (E.seen err.old)) (devices (F.seen folder.new) (O.seen out.new) (E.seen err.new)) result }
+        (devices (F.seen folder.old) (O.seen out.old) (E.seen err.old))
+        (devices (F.seen folder.new) (O.seen out.new) (E.seen err.new)) result }
     ensures complete { IsComplete (map (λ chooser. (told chooser).rule) choosers.items) (texts words.now)
-        (devices (F.seen folder.old) (O.seen out.old) (E.seen err.old)) (devices (F.seen folder.new) (O.seen out.new) (E.seen err.new)) result }
+        (devices (F.seen folder.old) (O.seen out.old) (E.seen err.old))
+        (devices (F.seen folder.new) (O.seen out.new) (E.seen err.new)) result }
 
     // What `fill` writes is a legal map; 'no map' is answered only where none exists.
     ensures legal { WritesLegalMap (map (λ chooser. (told chooser).rule) choosers.items) (texts words.now)
-        (devices (F.seen folder.old) (O.seen out.old) (E.seen err.old)) (devices (F.seen folder.new) (O.seen out.new) (E.seen err.new)) result }
+        (devices (F.seen folder.old) (O.seen out.old) (E.seen err.old))
+        (devices (F.seen folder.new) (O.seen out.new) (E.seen err.new)) result }
     ensures front { WritesFront (map (λ chooser. (told chooser).rule) choosers.items) (texts words.now)
-        (devices (F.seen folder.old) (O.seen out.old) (E.seen err.old)) (devices (F.seen folder.new) (O.seen out.new) (E.seen err.new)) result }
+        (devices (F.seen folder.old) (O.seen out.old) (E.seen err.old))
+        (devices (F.seen folder.new) (O.seen out.new) (E.seen err.new)) result }
     ensures no_map { HasNoMap (map (λ chooser. (told chooser).rule) choosers.items) (texts words.now)
-        (devices (F.seen folder.old) (O.seen out.old) (E.seen err.old)) (devices (F.seen folder.new) (O.seen out.new) (E.seen err.new)) result }
+        (devices (F.seen folder.old) (O.seen out.old) (E.seen err.old))
+        (devices (F.seen folder.new) (O.seen out.new) (E.seen err.new)) result }
     ensures as_run { IsAsRun (map (λ chooser. (told chooser).rule) choosers.items) (texts words.now)
-        (devices (F.seen folder.old) (O.seen out.old) (E.seen err.old)) (devices (F.seen folder.new) (O.seen out.new) (E.seen err.new)) result }
-    ensures never_spent { IsNeverSpent (map (λ chooser. (told chooser).rule) choosers.items) (texts words.now) (devices (F.seen folder.old) (O.seen out.old) (E.seen err.old)) result }
+        (devices (F.seen folder.old) (O.seen out.old) (E.seen err.old))
+        (devices (F.seen folder.new) (O.seen out.new) (E.seen err.new)) result }
+    ensures never_spent { IsNeverSpent (map (λ chooser. (told chooser).rule) choosers.items) (texts words.now)
+        (devices (F.seen folder.old) (O.seen out.old) (E.seen err.old)) result }
 
     // What the other commands write; `check` accepts exactly the refutations, and then no picture is legal.
-    ensures learned { WritesLearned (texts words.now) (devices (F.seen folder.old) (O.seen out.old) (E.seen err.old)) (devices (F.seen folder.new) (O.seen out.new) (E.seen err.new)) result }
-    ensures domains { WritesDomains (texts words.now) (devices (F.seen folder.old) (O.seen out.old) (E.seen err.old)) (devices (F.seen folder.new) (O.seen out.new) (E.seen err.new)) result }
-    ensures checked { ChecksRefutation (texts words.now) (devices (F.seen folder.old) (O.seen out.old) (E.seen err.old)) (devices (F.seen folder.new) (O.seen out.new) (E.seen err.new)) result }
+    ensures learned { WritesLearned (texts words.now)
+        (devices (F.seen folder.old) (O.seen out.old) (E.seen err.old))
+        (devices (F.seen folder.new) (O.seen out.new) (E.seen err.new)) result }
+    ensures domains { WritesDomains (texts words.now)
+        (devices (F.seen folder.old) (O.seen out.old) (E.seen err.old))
+        (devices (F.seen folder.new) (O.seen out.new) (E.seen err.new)) result }
+    ensures checked { ChecksRefutation (texts words.now)
+        (devices (F.seen folder.old) (O.seen out.old) (E.seen err.old))
+        (devices (F.seen folder.new) (O.seen out.new) (E.seen err.new)) result }
+    ensures refuted { WritesRefutation (map (λ chooser. (told chooser).rule) choosers.items) (texts words.now)
+        (devices (F.seen folder.old) (O.seen out.old) (E.seen err.old))
+        (devices (F.seen folder.new) (O.seen out.new) (E.seen err.new)) result }
+    ensures refuted_front { WritesRunFront (map (λ chooser. (told chooser).rule) choosers.items) (texts words.now)
+        (devices (F.seen folder.old) (O.seen out.old) (E.seen err.old))
+        (devices (F.seen folder.new) (O.seen out.new) (E.seen err.new)) result }
+    ensures upgraded { UpgradesRefutation (texts words.now)
+        (devices (F.seen folder.old) (O.seen out.old) (E.seen err.old))
+        (devices (F.seen folder.new) (O.seen out.new) (E.seen err.new)) result }
+    ensures upgraded_front { UpgradesFront (texts words.now)
+        (devices (F.seen folder.old) (O.seen out.old) (E.seen err.old))
+        (devices (F.seen folder.new) (O.seen out.new) (E.seen err.new)) result }
     ensures demo { WritesDemo (map (λ chooser. (told chooser).rule) choosers.items) (texts words.now)
-        (devices (F.seen folder.old) (O.seen out.old) (E.seen err.old)) (devices (F.seen folder.new) (O.seen out.new) (E.seen err.new)) result }
+        (devices (F.seen folder.old) (O.seen out.old) (E.seen err.old))
+        (devices (F.seen folder.new) (O.seen out.new) (E.seen err.new)) result }
 {
     answer(alloc, words, folder, out, err, choosers)
 }
@@ -87,7 +118,8 @@ fn answer<F: Folder, O: Sink, E: Sink>(
     choosers: Vec<Box<dyn Chooser>>,
 ) -> u8
     ensures answer { IsAnswer (map (λ chooser. (told chooser).rule) choosers.items) (texts words.now)
-        (devices (F.seen folder.old) (O.seen out.old) (E.seen err.old)) (devices (F.seen folder.new) (O.seen out.new) (E.seen err.new)) result }
+        (devices (F.seen folder.old) (O.seen out.old) (E.seen err.old))
+        (devices (F.seen folder.new) (O.seen out.new) (E.seen err.new)) result }
 {
     match request(alloc, words) {
         Ok(request) => {

@@ -3,6 +3,7 @@
 ghost use Rattle.std.specs.Prelude.{◌≤◌};
 
 mod devices;
+mod proofs;
 mod rows;
 
 use crate::run;
@@ -13,9 +14,10 @@ use wfc_choose::{Buckets, Chooser, Scanning};
 use wfc_outside::{Folder, MemoryFolder, MemorySink};
 
 /// The files of the tests.
-const FILES: [(&str, &str); 30] = [
+const FILES: [(&str, &str); 34] = [
     ("chk.txt", "ab\nba\n"),
     ("a.txt", "a\n"),
+    ("col.txt", "ab\ncd\nef\n"),
     ("e.txt", ""),
     ("r.txt", "ab\nb\n"),
     ("tab.txt", "ab\r\nb\t"),
@@ -53,6 +55,18 @@ const FILES: [(&str, &str); 30] = [
     (
         "other.ref",
         "wfc-refutation 2\ncells 2 values 1\nfor 2 3 2 1 8 0 0\nr 0 0 0 2\nx 0\nq\n",
+    ),
+    (
+        "two_removals.ref",
+        "wfc-refutation 1\ncells 2 values 2\nr 0 0 2\nr 0 1 2\nx 0\nq\n",
+    ),
+    (
+        "two_spans.ref",
+        "wfc-refutation 2\ncells 2 values 2\nfor 2 3 2 1 1 0 0\nr 0 0 0 2\nr 0 1 1 2\nx 0\nq\n",
+    ),
+    (
+        "falling.ref",
+        "wfc-refutation 2\ncells 2 values 2\nfor 2 3 2 1 1 0 0\nr 0 1 1 2\nr 0 0 0 2\nx 0\nq\n",
     ),
     ("open.ref", "wfc-refutation 1\ncells 2 values 1\nr 0 0 2\n"),
     ("full.ref", "wfc-refutation 1\ncells 2 values 1\nx 0\nq\n"),

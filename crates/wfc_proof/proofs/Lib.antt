@@ -13,5 +13,6 @@ pub mod TellingLemmas
 mod PutLemmas
 mod SpanLemmas
 mod UpgradeLemmas
+pub mod Formed
 pub mod WrittenLemmas
 pub mod ProofTextLemmas

@@ -9,6 +9,7 @@ pub mod Text
 pub mod Heads
 pub mod Telling
 pub mod ProofText
+pub mod JournalText
 pub mod Over
 pub mod Spans
 pub mod Upgrade

@@ -5,4 +5,6 @@ pub use Rattle.wfc_task.proofs.RequestLemmas.{sample_asked, output_asked}
 pub use Rattle.wfc_task.proofs.FillingLemmas.{step_is, unrefused, indexed_is, learned_is, built_is}
 pub use Rattle.wfc_task.proofs.GivenLemmas.{learn_given, given_learn, fill_given, given_fill, domains_given, given_domains, given_demo, chooser_given, given_chooser, sample_lesson}
 pub use Rattle.wfc_task.proofs.DemoLemmas.{demo_are_patterns, demo_problem_is}
+pub use Rattle.wfc_task.proofs.RefutingLemmas.{refute_given, given_refute}
+pub use Rattle.wfc_task.proofs.UpgradingLemmas.{upgrade_given, given_upgrade}
 pub use Rattle.wfc_task.proofs.CheckingLemmas.{check_given}

@@ -77,7 +77,7 @@ ok_refused : {T E : Type 0} (refusal : E → Refusal) (result : Result T E) (val
 ok_refused refusal result value is = ap (or_refuse refusal) is
 
 -- files
-file_given : (source : Source) (name : List ℕ) (files : List File) (bytes : List ℕ) → outcome (file_plan source name) files ≡ Ok bytes → IsFile files name bytes
+pub file_given : (source : Source) (name : List ℕ) (files : List File) (bytes : List ℕ) → outcome (file_plan source name) files ≡ Ok bytes → IsFile files name bytes
 file_given source name files bytes is = by_file (file_of files name) refl is
   where
     by_length : (kept : List ℕ) → file_of files name ≡ Some kept → (long : Bool) → nat_lt 16777216 (length kept) ≡ long
@@ -89,7 +89,7 @@ file_given source name files bytes is = by_file (file_of files name) refl is
     by_file None was is = absurd (cc)
     by_file (Some kept) was is = by_length kept was (nat_lt 16777216 (length kept)) refl is
 
-given_file : (source : Source) (name : List ℕ) (files : List File) (bytes : List ℕ) → IsFile files name bytes → outcome (file_plan source name) files ≡ Ok bytes
+pub given_file : (source : Source) (name : List ℕ) (files : List File) (bytes : List ℕ) → IsFile files name bytes → outcome (file_plan source name) files ≡ Ok bytes
 given_file source name files bytes file =
     let short : nat_lt 16777216 (length bytes) ≡ false = grind (arith, nat_tests, file.short) in
     let reading : reading_of most_bytes (file_of files name) ≡ Ok bytes = rw (file.there, short) refl in

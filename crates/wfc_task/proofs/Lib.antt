@@ -5,6 +5,8 @@ pub mod DemoLemmas
 pub mod TaskLemmas
 pub mod FillingLemmas
 pub mod GivenLemmas
+pub mod RefutingLemmas
+pub mod UpgradingLemmas
 pub mod CheckingLemmas
 pub mod RequestLemmas
 pub mod CountLemmas

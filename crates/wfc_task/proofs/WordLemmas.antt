@@ -52,7 +52,9 @@ use Rattle.wfc_task.specs.Checking.{refutation_plan, shape_of, verdict_in}
 use Rattle.wfc_task.specs.Demo.{demo_patterns, demo_problem}
 use Rattle.wfc_task.specs.Sampled.{of_grid, of_ppm}
 use Rattle.wfc_task.specs.Steps.{chosen, coloured, fitting, laid, or_refuse, posed, same_rule, shown_in, steps_in, taught, unless_out}
-use Rattle.wfc_task.specs.Task.{Task, learn, fill, domains, demo, check, picture_plan, sample_plan, sampled_plan, pins_plan, problem_plan, steps_plan, learn_plan, fill_plan, domains_plan, demo_plan, check_plan, plan_by, plan_of}
+use Rattle.wfc_task.specs.Task.{Task, learn, fill, domains, demo, refute, check, upgrade, picture_plan, sample_plan, sampled_plan, pins_plan, problem_plan, steps_plan, learn_plan, fill_plan, domains_plan, demo_plan, refute_plan, check_plan, refutation_file_plan, upgrade_plan, plan_by, plan_of}
+use Rattle.wfc_task.proofs.RefutingLemmas.{behind_refuted}
+use Rattle.wfc_task.proofs.UpgradingLemmas.{behind_upgraded_lesson, behind_upgraded_problem}
 use Rattle.wfc_task.proofs.TaskLemmas.{behind_checked_lesson, behind_checked_problem, behind_lesson, behind_layout, behind_picture, behind_problem, behind_sample, behind_sampled}
 use Rattle.wfc_task.specs.declared.fault.Source.{Source}
 use Rattle.wfc_task.specs.declared.fault.Fault.{Fault}
@@ -227,6 +229,12 @@ domains_never asked =
 demo_never : (kinds : List RuleKind) (asked : RequestView) → NeverWords (demo_plan kinds asked)
 demo_never kinds asked = never_then (step (chosen kinds rules.Fewest)) (λ _. let end : Plan Task = done (demo (demo_patterns asked.number) (demo_problem asked.number)) in end) (chosen_never kinds rules.Fewest) (λ _. tt)
 
+refute_never : (kinds : List RuleKind) (asked : RequestView) → NeverWords (refute_plan kinds asked)
+refute_never kinds asked =
+    never_then (step (chosen kinds asked.rule)) (λ _. and_then (sample_plan asked) (behind_refuted asked)) (chosen_never kinds asked.rule) (λ _.
+    never_then (sample_plan asked) (behind_refuted asked) (sample_never asked) (λ lesson.
+    never_then (problem_plan asked lesson) (λ P. let end : Plan Task = done (refute P) in end) (problem_never asked lesson) (λ P. tt)))
+
 check_never : (asked : RequestView) → NeverWords (check_plan asked)
 check_never asked =
     never_then (sample_plan asked) (behind_checked_lesson asked) (sample_never asked) (λ lesson.
@@ -245,6 +253,12 @@ check_never asked =
     judged_never (Err checks.NoMemory) = tt
     judged_never (Err (checks.OptionsDiffer found)) = tt
 
+upgrade_never : (asked : RequestView) → NeverWords (upgrade_plan asked)
+upgrade_never asked =
+    never_then (sample_plan asked) (behind_upgraded_lesson asked) (sample_never asked) (λ lesson.
+    never_then (problem_plan asked lesson) (behind_upgraded_problem asked) (problem_never asked lesson) (λ P.
+    never_then (refutation_file_plan asked) (λ bytes. let end : Plan Task = done (upgrade P bytes) in end) (λ bytes. tt) (λ bytes. tt)))
+
 -- a request that isn't answered is refused at once
 pub unbuilt_plan : (kinds : List RuleKind) (asked : RequestView) → is_built asked ≡ false → plan_of kinds asked ≡ refuse NotBuilt
 unbuilt_plan kinds asked unbuilt = rw unbuilt refl
@@ -258,9 +272,9 @@ words_unbuilt kinds asked before after fault goes three = by_test (is_built aske
     by_command commands.Fill is = fill_never kinds asked
     by_command commands.Domains is = domains_never asked
     by_command commands.Demo is = demo_never kinds asked
-    by_command commands.Refute is = absurd (cc)
+    by_command commands.Refute is = refute_never kinds asked
     by_command commands.Check is = check_never asked
-    by_command commands.Upgrade is = absurd (cc)
+    by_command commands.Upgrade is = upgrade_never asked
 
     by_test : (built : Bool) → is_built asked ≡ built → Goes (if built then plan_by asked.command kinds asked else refuse NotBuilt) before after (Err fault) → is_built asked ≡ false
     by_test false is goes = is

@@ -3,7 +3,7 @@ use Rattle.std.specs.Prelude.{ℕ, Bool, true, false, ◌||◌, List, nat_eq, co
 use Rattle.std.specs.List.{ends_with}
 use Rattle.wfc_words.specs.RequestView.{RequestView}
 use Rattle.wfc_words.specs.declared.kinds.CommandKind.{CommandKind}
-use Rattle.wfc_words.specs.declared.kinds.CommandKind.TheVariants.{Learn, Fill, Domains, Check, Demo}
+use Rattle.wfc_words.specs.declared.kinds.CommandKind.TheVariants.{Learn, Fill, Domains, Refute, Check, Upgrade, Demo}
 use Rattle.wfc_words.specs.declared.kinds.SourceModel.{SourceModel}
 use Rattle.wfc_words.specs.declared.kinds.SourceModel.TheVariants.{Overlap, Tiles}
 
@@ -21,9 +21,10 @@ abbrev pub is_built_by : CommandKind → RequestView → Bool
 is_built_by Learn asked = is_of_windows asked.source
 is_built_by Fill asked = is_of_windows asked.source
 is_built_by Domains asked = is_of_windows asked.source
+is_built_by Refute asked = is_of_windows asked.source
 is_built_by Check asked = is_of_windows asked.source
+is_built_by Upgrade asked = is_of_windows asked.source
 is_built_by Demo asked = true
-is_built_by _ asked = false
 
 -- whether a request is answered
 abbrev pub is_built : RequestView → Bool

@@ -10,4 +10,6 @@ pub mod Task
 pub mod Made
 pub mod Filling
 pub mod Given
+pub mod RefuteGiven
 pub mod CheckGiven
+pub mod UpgradeGiven

@@ -1,6 +1,7 @@
 -- What the code makes, as tasks.
 use Rattle.std.specs.Prelude.{◌≡◌, ℕ, Option, Result, Ok, Err}
 use Rattle.wfc_check.specs.declared.fault.CheckFault.{CheckFault}
+use Rattle.wfc_problem.specs.Network.{Network}
 use Rattle.wfc_task.specs.declared.fault.Fault.{Fault}
 use Rattle.wfc_task.specs.declared.fault.Refusal.{Refusal}
 use Rattle.wfc_task.specs.declared.fault.Class.TheVariants.{Memory}
@@ -9,8 +10,9 @@ use Rattle.wfc_task.specs.declared.task.Taught.{Taught}
 use Rattle.wfc_task.specs.declared.task.Filling.{Filling}
 use Rattle.wfc_task.specs.declared.task.Stepping.{Stepping}
 use Rattle.wfc_task.specs.declared.task.Demo.{Demo}
+use Rattle.wfc_task.specs.declared.upgrading.Upgrading.{Upgrading}
 use Rattle.wfc_task.specs.Demo.{demo_patterns, demo_problem}
-use Rattle.wfc_task.specs.Task.{Task, learn, fill, domains, demo, check}
+use Rattle.wfc_task.specs.Task.{Task, learn, fill, domains, demo, refute, check, upgrade}
 
 abbrev pub learn_made : Result Taught Fault → Result Task Fault
 learn_made (Ok made) = Ok (learn made.patterns made.palette)
@@ -28,9 +30,17 @@ abbrev pub demo_made : Result Demo Fault → Result Task Fault
 demo_made (Ok made) = Ok (demo made.patterns made.problem)
 demo_made (Err fault) = Err fault
 
+abbrev pub refute_made : Result Network Fault → Result Task Fault
+refute_made (Ok P) = Ok (refute P)
+refute_made (Err fault) = Err fault
+
 abbrev pub check_made : Result (Option CheckFault) Fault → Result Task Fault
 check_made (Ok found) = Ok (check found)
 check_made (Err fault) = Err fault
+
+abbrev pub upgrade_made : Result Upgrading Fault → Result Task Fault
+upgrade_made (Ok made) = Ok (upgrade made.problem made.refutation.items)
+upgrade_made (Err fault) = Err fault
 
 -- a demonstration is made as its number says, or memory ran out
 abbrev pub IsDemoMade : ℕ → Result Demo Refusal → Type 0

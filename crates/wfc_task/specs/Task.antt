@@ -15,11 +15,11 @@ use Rattle.wfc_words.specs.RequestView.{RequestView}
 use Rattle.wfc_words.specs.declared.kinds.CommandKind.{CommandKind}
 use Rattle.wfc_words.specs.declared.kinds.CommandKind.TheVariants as commands
 use Rattle.wfc_task.specs.declared.fault.Source.{Source}
-use Rattle.wfc_task.specs.declared.fault.Source.TheVariants.{Sample, Pins, Steps}
+use Rattle.wfc_task.specs.declared.fault.Source.TheVariants.{Sample, Pins, Steps, Refutation}
 use Rattle.wfc_task.specs.declared.fault.Refusal.TheVariants.{NotBuilt}
 use Rattle.wfc_task.specs.declared.task.Taught.{Taught}
 use Rattle.wfc_task.specs.Built.{is_built}
-use Rattle.wfc_task.specs.Checking.{refutation_plan}
+use Rattle.wfc_task.specs.Checking.{refutation_name, refutation_plan}
 use Rattle.wfc_task.specs.Demo.{demo_patterns, demo_problem}
 use Rattle.wfc_task.specs.Plan.{Plan, done, refuse, read, step, and_then, most_bytes}
 use Rattle.wfc_task.specs.Sampled.{SampledView}
@@ -31,7 +31,9 @@ pub data Task : Type 0 where
   fill : PatternsView → List Symbol → Layout → Network → Task
   domains : Network → List StepLine → Task
   demo : PatternsView → Network → Task
+  refute : Network → Task
   check : Option CheckFault → Task
+  upgrade : Network → List ℕ → Task
 
 -- the whole of a file
 abbrev pub file_plan : Source → List ℕ → Plan (List ℕ)
@@ -104,6 +106,14 @@ abbrev pub demo_plan : List RuleKind → RequestView → Plan Task
 demo_plan kinds asked =
     and_then (step (chosen kinds rules.Fewest)) (λ _. done (demo (demo_patterns asked.number) (demo_problem asked.number)))
 
+-- what `refute` comes to: the chooser is looked for before the sample is read
+abbrev pub refute_plan : List RuleKind → RequestView → Plan Task
+refute_plan kinds asked =
+    and_then (step (chosen kinds asked.rule)) (λ _.
+    and_then (sample_plan asked) (λ lesson.
+    and_then (problem_plan asked lesson) (λ P.
+    done (refute P))))
+
 -- what `check` comes to: the refutation is read once there is a problem
 abbrev pub check_plan : RequestView → Plan Task
 check_plan asked =
@@ -112,14 +122,27 @@ check_plan asked =
     and_then (refutation_plan asked P) (λ found.
     done (check found))))
 
+-- the refutation is read whole
+abbrev pub refutation_file_plan : RequestView → Plan (List ℕ)
+refutation_file_plan asked = file_plan Refutation (refutation_name asked)
+
+-- what `upgrade` comes to: the refutation is read whole once there is a problem
+abbrev pub upgrade_plan : RequestView → Plan Task
+upgrade_plan asked =
+    and_then (sample_plan asked) (λ lesson.
+    and_then (problem_plan asked lesson) (λ P.
+    and_then (refutation_file_plan asked) (λ bytes.
+    done (upgrade P bytes))))
+
 -- the plan of a request that is answered
 abbrev pub plan_by : CommandKind → List RuleKind → RequestView → Plan Task
 plan_by commands.Learn kinds asked = learn_plan asked
 plan_by commands.Fill kinds asked = fill_plan kinds asked
 plan_by commands.Domains kinds asked = domains_plan asked
 plan_by commands.Demo kinds asked = demo_plan kinds asked
+plan_by commands.Refute kinds asked = refute_plan kinds asked
 plan_by commands.Check kinds asked = check_plan asked
-plan_by _ kinds asked = refuse NotBuilt
+plan_by commands.Upgrade kinds asked = upgrade_plan asked
 
 -- the plan of a request, where these are the kinds of the choosers
 abbrev pub plan_of : List RuleKind → RequestView → Plan Task

@@ -10,11 +10,13 @@ pub fn is_built(request: &Request) -> bool
     ensures value { result ≡ is_built request.now }
 {
     match request.command {
-        CommandKind::Learn | CommandKind::Fill | CommandKind::Domains | CommandKind::Check => {
-            is_of_windows(request.source)
-        }
+        CommandKind::Learn
+        | CommandKind::Fill
+        | CommandKind::Domains
+        | CommandKind::Refute
+        | CommandKind::Check
+        | CommandKind::Upgrade => is_of_windows(request.source),
         CommandKind::Demo => true,
-        CommandKind::Refute | CommandKind::Upgrade => false,
     }
 }
 

@@ -52,7 +52,7 @@ fn refutation<F: Folder>(
 }
 
 /// The name of the file of the refutation.
-fn refutation_name(request: &Request) -> &str
+pub(crate) fn refutation_name(request: &Request) -> &str
     ensures value { result.now ≡ refutation_name request.now }
 {
     match request.refutation() {

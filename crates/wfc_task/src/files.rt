@@ -25,7 +25,7 @@ use wfc_problem::Problem;
 use wfc_words::Request;
 
 /// The whole of a file.
-fn file<F: Folder>(
+pub(crate) fn file<F: Folder>(
     alloc: Global,
     folder: &mut F,
     source: Source,

@@ -15,10 +15,12 @@ ghost use Rattle.wfc_task.specs.Built.{is_built, is_picture_name};
 ghost use Rattle.wfc_task.specs.Demo.{demo_patterns, demo_problem, demo_symbol};
 ghost use Rattle.wfc_check.specs.declared.fault.CheckFault.{CheckFault};
 ghost use Rattle.wfc_task.specs.CheckGiven.{IsCheckTask};
+ghost use Rattle.wfc_task.specs.RefuteGiven.{IsRefuteTask};
+ghost use Rattle.wfc_task.specs.UpgradeGiven.{IsUpgradeTask};
 ghost use Rattle.wfc_task.specs.Given.{IsDomainsTask, IsFillTask, IsTaught};
 ghost use Rattle.wfc_task.specs.Plan.{outcome, refuse};
 ghost use Rattle.wfc_task.specs.Steps.{chosen};
-ghost use Rattle.wfc_task.specs.Task.{check, check_plan, demo, demo_plan, domains, domains_plan, fill, fill_plan, learn, learn_plan, plan_of};
+ghost use Rattle.wfc_task.specs.Task.{check, check_plan, demo, demo_plan, domains, domains_plan, fill, fill_plan, learn, learn_plan, plan_of, refute, refute_plan, upgrade, upgrade_plan};
 ghost use Rattle.wfc_outside.specs.declared.whole.ReadFault.TheVariants.{Missing};
 ghost use Rattle.wfc_task.specs.declared.fault.Refusal.TheVariants.{NotBuilt, Chooser};
 ghost use Rattle.wfc_task.specs.declared.fault.Fault.TheVariants.{Refused, Unread};
@@ -45,6 +47,20 @@ pub fn domains_tasks_are_given()
     ensures task { (asked : RequestView) (files : List File) (P : Network) (steps : List StepLine) →
         (outcome (domains_plan asked) files ≡ Ok (domains P steps))
         ↔ IsDomainsTask asked files P steps }
+{}
+
+/// `refute` comes to this task exactly where a chooser is there and the problem is that of the request.
+pub fn refute_tasks_are_given()
+    ensures task { (kinds : List RuleKind) (asked : RequestView) (files : List File) (P : Network) →
+        (outcome (refute_plan kinds asked) files ≡ Ok (refute P))
+        ↔ IsRefuteTask kinds asked files P }
+{}
+
+/// `upgrade` comes to this task exactly where the problem is that of the request, and the file of the refutation has these bytes.
+pub fn upgrade_tasks_are_given()
+    ensures task { (asked : RequestView) (files : List File) (P : Network) (bytes : List ℕ) →
+        (outcome (upgrade_plan asked) files ≡ Ok (upgrade P bytes))
+        ↔ IsUpgradeTask asked files P bytes }
 {}
 
 /// `check` comes to this task exactly where the problem is that of the request, and this is what the file of the refutation is
@@ -85,6 +101,8 @@ pub fn steps_by_example()
 pub fn first_faults()
     ensures chooser { (asked : RequestView) (files : List File) →
         outcome (fill_plan [] asked) files ≡ Err (Refused (Chooser asked.rule)) }
+    ensures refute { (asked : RequestView) (files : List File) →
+        outcome (refute_plan [] asked) files ≡ Err (Refused (Chooser asked.rule)) }
     ensures demo { (asked : RequestView) (files : List File) →
         outcome (demo_plan [] asked) files ≡ Err (Refused (Chooser Fewest)) }
     ensures sample { (asked : RequestView) →

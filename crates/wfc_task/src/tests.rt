@@ -2,7 +2,10 @@
 
 ghost use Rattle.wfc_task.specs.Asked.{IsOutputAsked, IsSampleAsked};
 
-use crate::{Fault, Refusal, Source, demo_task, domains_task, fill_task, learn_task};
+use crate::{
+    Fault, Refusal, Source, demo_task, domains_task, fill_task, learn_task, refute_task,
+    upgrade_task,
+};
 use std::alloc::Global;
 use std::test::Fail;
 use wfc_choose::RuleKind;
@@ -25,6 +28,7 @@ struct Row {
     wrap_in: bool,
     wrap_out: bool,
     pins: Option<&'static str>,
+    /// The file of the steps, or of the refutation.
     steps: Option<&'static str>,
     rule: RuleKind,
     form: Option<Form>,
@@ -102,7 +106,7 @@ fn run(alloc: Global, command: CommandKind, row: Row) -> Result<Result<Sizes, Fa
         wrap_out: row.wrap_out,
         pins: text(alloc, row.pins)?,
         steps: text(alloc, row.steps)?,
-        refutation: None,
+        refutation: text(alloc, row.steps)?,
         seed: 0,
         budget: 1,
         rule: row.rule,
@@ -150,7 +154,16 @@ fn task(
             let task = demo_task(alloc, request, &kinds, folder)?;
             Ok((task.patterns.count(), 0, 0, task.problem.cells(), 0))
         }
-        _ => Err(refused(Refusal::NotBuilt)),
+        CommandKind::Refute => {
+            let problem = refute_task(alloc, request, &kinds, folder)?;
+            Ok((problem.values(), 0, 0, problem.cells(), 0))
+        }
+        CommandKind::Upgrade => {
+            let task = upgrade_task(alloc, request, folder)?;
+            let bytes = task.refutation.len();
+            Ok((task.problem.values(), 0, 0, task.problem.cells(), bytes))
+        }
+        CommandKind::Check => Err(refused(Refusal::NotBuilt)),
     }
 }
 
@@ -164,7 +177,7 @@ fn comes_to_tasks(rt: HostRuntime) -> Result<(), Fail> {
         wrap_in: true,
         ..CHECKERS
     };
-    let cases: [(CommandKind, Row, Sizes); 9] = [
+    let cases: [(CommandKind, Row, Sizes); 11] = [
         (CommandKind::Fill, CHECKERS, (1, 1, 2, 1, 0)),
         (
             CommandKind::Fill,
@@ -198,6 +211,8 @@ fn comes_to_tasks(rt: HostRuntime) -> Result<(), Fail> {
             (2, 0, 0, 3, 4),
         ),
         (CommandKind::Domains, CHECKERS, (1, 0, 0, 1, 0)),
+        (CommandKind::Refute, CHECKERS, (1, 0, 0, 1, 0)),
+        (CommandKind::Upgrade, stepped("s.txt"), (2, 0, 0, 3, 32)),
         (CommandKind::Learn, wrapped, (2, 2, 2, 0, 0)),
         (
             CommandKind::Learn,
@@ -224,7 +239,7 @@ fn comes_to_tasks(rt: HostRuntime) -> Result<(), Fail> {
 }
 
 /// Rows that have a fault, each with the first one.
-fn faulty() -> [(CommandKind, Row, Fault); 18] {
+fn faulty() -> [(CommandKind, Row, Fault); 20] {
     let fill = CommandKind::Fill;
     let learn = CommandKind::Learn;
     let domains = CommandKind::Domains;
@@ -329,7 +344,26 @@ fn faulty() -> [(CommandKind, Row, Fault); 18] {
             },
             build(BuildFault::UnknownSymbol { line: 1 }),
         ),
-        (CommandKind::Refute, CHECKERS, refused(Refusal::NotBuilt)),
+        (
+            CommandKind::Refute,
+            Row {
+                rule: RuleKind::Ranked,
+                ..sampled("none.txt")
+            },
+            refused(Refusal::Chooser {
+                rule: RuleKind::Ranked,
+            }),
+        ),
+        (
+            CommandKind::Upgrade,
+            stepped("none.txt"),
+            missing(Source::Refutation),
+        ),
+        (
+            CommandKind::Upgrade,
+            sampled("none.txt"),
+            missing(Source::Sample),
+        ),
     ]
 }
 

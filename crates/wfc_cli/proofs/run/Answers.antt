@@ -1,6 +1,8 @@
 use Rattle.wfc_cli.proofs.TheoremLemmas.{first_fault_decides, has_first_fault, is_device_fault, is_no_command, keeps_counts, keeps_out, no_command_is_3, task_is_answered}
 use Rattle.wfc_cli.proofs.CheckLemmas.{checks_refutation}
 use Rattle.wfc_cli.proofs.CommandLemmas.{has_no_map, is_as_run, is_never_spent, writes_demo, writes_domains, writes_front, writes_learned, writes_legal}
+use Rattle.wfc_cli.proofs.RefuteLemmas.{writes_refutation, writes_run_front}
+use Rattle.wfc_cli.proofs.UpgradeLemmas.{upgrades_front, upgrades_refutation}
 use Rattle.wfc_cli.proofs.run.Goals as goal
 
 pub returns-clause-command : goal.returns-clause-command
@@ -51,5 +53,17 @@ returns-clause-domains g c = writes_domains _ _ _ _ _ c.answer.ensures.answer
 pub returns-clause-demo : goal.returns-clause-demo
 returns-clause-demo g c = writes_demo _ _ _ _ _ c.answer.ensures.answer
 
+pub returns-clause-refuted : goal.returns-clause-refuted
+returns-clause-refuted g c = writes_refutation _ _ _ _ _ c.answer.ensures.answer
+
+pub returns-clause-refuted_front : goal.returns-clause-refuted_front
+returns-clause-refuted_front g c = writes_run_front _ _ _ _ _ c.answer.ensures.answer
+
 pub returns-clause-checked : goal.returns-clause-checked
 returns-clause-checked g c = checks_refutation _ _ _ _ _ c.answer.ensures.answer
+
+pub returns-clause-upgraded : goal.returns-clause-upgraded
+returns-clause-upgraded g c = upgrades_refutation _ _ _ _ _ c.answer.ensures.answer
+
+pub returns-clause-upgraded_front : goal.returns-clause-upgraded_front
+returns-clause-upgraded_front g c = upgrades_front _ _ _ _ _ c.answer.ensures.answer

@@ -75,6 +75,48 @@ fn sinks_fail_to_finish(rt: HostRuntime) -> Result<(), Fail> {
     check(&rt, row, &mut folder, out, err)
 }
 
+/// A command line, and what a sink takes of its answer that has room for so many bytes.
+type Cut = (&'static str, usize, &'static str);
+
+const CUTS: [Cut; 7] = [
+    ("refute chk.txt 2 3 2 --format 1", 0, ""),
+    ("refute chk.txt 2 3 2 --format 1", 17, "wfc-refutation 1\n"),
+    (
+        "refute chk.txt 2 3 2 --format 1",
+        36,
+        "wfc-refutation 1\ncells 2 values 1\nr ",
+    ),
+    (
+        "refute chk.txt 2 3 2 --format 1",
+        47,
+        "wfc-refutation 1\ncells 2 values 1\nr 0 0 2\nx 0\nq",
+    ),
+    (
+        "refute col.txt 2 3 2",
+        61,
+        "wfc-refutation 2\ncells 2 values 2\nfor 2 3 2 1 1 0 0\nr 0 0 1 2",
+    ),
+    ("upgrade chk.txt 2 3 2 one.ref", 3, "wfc"),
+    (
+        "upgrade chk.txt 2 3 2 one.ref",
+        63,
+        "wfc-refutation 2\ncells 2 values 1\nfor 2 3 2 1 1 0 0\nr 0 0 0 2\nx",
+    ),
+];
+
+/// A refutation is put while the run is made: a sink with too little room has a front of it.
+#[test]
+fn refutations_are_cut_off(rt: HostRuntime) -> Result<(), Fail> {
+    for (line, room, front) in CUTS {
+        let mut folder = folder_of(rt.alloc(), 100)?;
+        let out = MemorySink::new(rt.alloc(), 5, room)?;
+        let err = sink_of(rt.alloc(), 100)?;
+        let row = (line, 5, front, "wfc: device Failed out\n");
+        check(&rt, row, &mut folder, out, err)?;
+    }
+    Ok(())
+}
+
 /// A folder in memory that counts its calls that ask for another file than the two named ones.
 #[derive(Drop)]
 struct Recorder {

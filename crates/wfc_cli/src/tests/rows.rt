@@ -149,7 +149,12 @@ static FILL: [Row; 35] = [
     ("", 3, "", "wfc: command refused\n"),
     // What isn't built yet.
     ("fill chk.txt tiles 2 2", 3, "", "wfc: command refused\n"),
-    ("refute chk.txt 2 3 2", 3, "", "wfc: command refused\n"),
+    (
+        "upgrade chk.txt tiles 3 2 one.ref",
+        3,
+        "",
+        "wfc: command refused\n",
+    ),
 ];
 
 /// Samples in colours.
@@ -299,6 +304,66 @@ static DOMAINS: [Row; 9] = [
     ),
 ];
 
+static REFUTE: [Row; 9] = [
+    (
+        "refute chk.txt 2 3 2",
+        0,
+        "wfc-refutation 2\ncells 2 values 1\nfor 2 3 2 1 1 0 0\nr 0 0 0 2\nx 0\nq\n",
+        "",
+    ),
+    (
+        "refute chk.txt 2 3 2 --format 1",
+        0,
+        "wfc-refutation 1\ncells 2 values 1\nr 0 0 2\nx 0\nq\n",
+        "",
+    ),
+    // Two removals of one cell and direction.
+    (
+        "refute col.txt 2 3 2",
+        0,
+        "wfc-refutation 2\ncells 2 values 2\nfor 2 3 2 1 1 0 0\nr 0 0 1 2\nx 0\nq\n",
+        "",
+    ),
+    // The base of a cell is empty.
+    (
+        "refute chk.txt 2 3 3 --wrap-in --pins ab.pins --format 1",
+        0,
+        "wfc-refutation 1\ncells 4 values 2\nx 0\nq\n",
+        "",
+    ),
+    (
+        "refute chk.txt 2 3 2 --rule ranked",
+        7,
+        "",
+        "wfc: chooser missing rule=ranked\n",
+    ),
+    // The one window is a map.
+    (
+        "refute chk.txt 2 2 2",
+        1,
+        "wfc-refutation 2\ncells 1 values 1\nfor 2 2 2 1 1 0 0\ns\n",
+        "wfc: map exists\n",
+    ),
+    (
+        "refute chk.txt 2 2 2 --format 1",
+        1,
+        "wfc-refutation 1\ncells 1 values 1\ns\n",
+        "wfc: map exists\n",
+    ),
+    (
+        "refute chk.txt 2 3 2 --format 3",
+        3,
+        "",
+        "wfc: command value format\n",
+    ),
+    (
+        "refute gone.txt 2 3 2",
+        5,
+        "",
+        "wfc: device Missing file=gone.txt\n",
+    ),
+];
+
 static CHECK: [Row; 8] = [
     ("check chk.txt 2 3 2 one.ref", 0, "accepted\n", ""),
     ("check chk.txt 2 3 2 two.ref", 0, "accepted\n", ""),
@@ -335,6 +400,58 @@ static CHECK: [Row; 8] = [
     ),
     (
         "check chk.txt 2 3 2 gone.ref",
+        5,
+        "",
+        "wfc: device Missing file=gone.ref\n",
+    ),
+];
+
+static UPGRADE: [Row; 8] = [
+    (
+        "upgrade chk.txt 2 3 2 one.ref",
+        0,
+        "wfc-refutation 2\ncells 2 values 1\nfor 2 3 2 1 1 0 0\nr 0 0 0 2\nx 0\nq\n",
+        "",
+    ),
+    (
+        "upgrade chk.txt 2 3 2 two.ref",
+        0,
+        "wfc-refutation 2\ncells 2 values 1\nfor 2 3 2 1 1 0 0\nr 0 0 0 2\nx 0\nq\n",
+        "",
+    ),
+    (
+        "upgrade col.txt 2 3 2 two_removals.ref",
+        0,
+        "wfc-refutation 2\ncells 2 values 2\nfor 2 3 2 1 1 0 0\nr 0 0 1 2\nx 0\nq\n",
+        "",
+    ),
+    // Spans that follow are joined, and only such.
+    (
+        "upgrade col.txt 2 3 2 two_spans.ref",
+        0,
+        "wfc-refutation 2\ncells 2 values 2\nfor 2 3 2 1 1 0 0\nr 0 0 1 2\nx 0\nq\n",
+        "",
+    ),
+    (
+        "upgrade col.txt 2 3 2 falling.ref",
+        0,
+        "wfc-refutation 2\ncells 2 values 2\nfor 2 3 2 1 1 0 0\nr 0 1 1 2\nr 0 0 0 2\nx 0\nq\n",
+        "",
+    ),
+    (
+        "upgrade chk.txt 2 3 2 other.ref",
+        1,
+        "",
+        "wfc: check OptionsDiffer n=2 width=3 height=2 depth=1 symmetry=8 wrap_in=0 wrap_out=0 file=other.ref\n",
+    ),
+    (
+        "upgrade chk.txt 2 3 2 open.ref",
+        1,
+        "",
+        "wfc: check NotEnded file=open.ref\n",
+    ),
+    (
+        "upgrade chk.txt 2 3 2 gone.ref",
         5,
         "",
         "wfc: device Missing file=gone.ref\n",
@@ -379,7 +496,11 @@ fn commands_answer(rt: HostRuntime) -> Result<(), Fail> {
     check_in_pieces(&rt, 7, &LEARN)?;
     check_in_pieces(&rt, 3, &PICTURES)?;
     check_in_pieces(&rt, 5, &DOMAINS)?;
+    check_in_pieces(&rt, 1, &REFUTE)?;
+    check_in_pieces(&rt, 64, &REFUTE)?;
     check_in_pieces(&rt, 1, &CHECK)?;
     check_in_pieces(&rt, 64, &CHECK)?;
+    check_in_pieces(&rt, 1, &UPGRADE)?;
+    check_in_pieces(&rt, 64, &UPGRADE)?;
     check_in_pieces(&rt, 64, &DEMO)
 }

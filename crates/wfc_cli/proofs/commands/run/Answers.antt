@@ -1,7 +1,7 @@
 use Rattle.std.proofs.Common.{sym, ap, ◌∙◌, refl}
 use Rattle.wfc_words.specs.RequestView.{RequestView}
-use Rattle.wfc_words.specs.declared.kinds.CommandKind.TheVariants.{Learn, Fill, Domains, Check}
-use Rattle.wfc_cli.proofs.EndLemmas.{ends_unbuilt, other_built, output_asked, sample_asked}
+use Rattle.wfc_words.specs.declared.kinds.CommandKind.TheVariants.{Learn, Fill, Domains, Check, Refute, Upgrade}
+use Rattle.wfc_cli.proofs.EndLemmas.{ends_unbuilt, output_asked, sample_asked}
 use Rattle.wfc_cli.proofs.commands.run.Goals as goal
 
 pub returns-then-not-is_built : goal.returns-then-not-is_built
@@ -32,7 +32,16 @@ check-requires-clause-sample g c =
 pub check-requires-clause-output : goal.check-requires-clause-output
 check-requires-clause-output g c = output_asked c.args.request.now Check c.requires.in_range (sym (ap (λ (r : RequestView). r.command) c.request.view_is) ∙ c.in-Check.is) refl refl
 
-pub returns-in_default : goal.returns-in_default
-returns-in_default g c =
-    absurd (other_built c.args.request.now c.request.inside.command (sym (ap (λ (r : RequestView). r.command) c.request.view_is)) c.in_default.not-Learn c.in_default.not-Fill c.in_default.not-Domains c.in_default.not-Demo c.in_default.not-Check
-    (sym c.if-not-is_built.ensures.value))
+pub refute-requires-clause-sample : goal.refute-requires-clause-sample
+refute-requires-clause-sample g c =
+    sample_asked c.args.request.now Refute c.requires.in_range (sym c.if-not-is_built.ensures.value) (sym (ap (λ (r : RequestView). r.command) c.request.view_is) ∙ c.in-Refute.is) refl refl
+
+pub refute-requires-clause-output : goal.refute-requires-clause-output
+refute-requires-clause-output g c = output_asked c.args.request.now Refute c.requires.in_range (sym (ap (λ (r : RequestView). r.command) c.request.view_is) ∙ c.in-Refute.is) refl refl
+
+pub upgrade-requires-clause-sample : goal.upgrade-requires-clause-sample
+upgrade-requires-clause-sample g c =
+    sample_asked c.args.request.now Upgrade c.requires.in_range (sym c.if-not-is_built.ensures.value) (sym (ap (λ (r : RequestView). r.command) c.request.view_is) ∙ c.in-Upgrade.is) refl refl
+
+pub upgrade-requires-clause-output : goal.upgrade-requires-clause-output
+upgrade-requires-clause-output g c = output_asked c.args.request.now Upgrade c.requires.in_range (sym (ap (λ (r : RequestView). r.command) c.request.view_is) ∙ c.in-Upgrade.is) refl refl

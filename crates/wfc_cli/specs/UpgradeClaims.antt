@@ -1,0 +1,68 @@
+-- What `upgrade` promises, in the words of its subject.
+use Rattle.std.specs.Prelude.{◌≡◌, ℕ, ◌≤◌, ◌⊎◌, List}
+use Rattle.wfc_outside.specs.Folder.{File}
+use Rattle.wfc_outside.specs.Sink.{after_bytes, after_finish, IsFaultAfterFront}
+use Rattle.wfc_model.specs.Legal.{IsLegalPicture}
+use Rattle.wfc_model.specs.Raster.{Raster}
+use Rattle.wfc_problem.specs.Network.{Network}
+use Rattle.wfc_proof.specs.Proof.{Proof}
+use Rattle.wfc_proof.specs.ProofText.{IsTextOf}
+use Rattle.wfc_proof.specs.declared.heads.Format.{Format}
+use Rattle.wfc_proof.specs.declared.heads.Format.TheVariants.{Two}
+use Rattle.wfc_check.specs.Text.{IsRefutation}
+use Rattle.wfc_words.specs.RequestView.{RequestView}
+use Rattle.wfc_words.specs.declared.kinds.CommandKind.TheVariants as commands
+use Rattle.wfc_task.specs.Checking.{shape_of}
+use Rattle.wfc_task.specs.UpgradeGiven.{IsUpgradeTask}
+use Rattle.wfc_cli.specs.Answer.{Devices}
+use Rattle.wfc_cli.specs.Claims.{IsCommand, rules_of}
+use Rattle.wfc_cli.specs.Upgrading.{same_proof_text}
+
+-- what `upgrade` works on over these files: the problem, and the bytes of the file
+pub record UpgradeWork (asked : RequestView) (files : List File) : Type 0 where
+  pub P : Network
+  pub bytes : List ℕ
+  pub task : IsUpgradeTask asked files P bytes
+
+-- a picture of palette numbers of the size asked for, each of whose windows is learned from the sample, and which the pins and bans of the pins file meet
+abbrev pub IsLegalBy : {files : List File} (asked : RequestView) → UpgradeWork asked files → Raster → Type 0
+IsLegalBy asked work m = IsLegalPicture work.task.sample.picture (rules_of asked) work.task.problem.pins asked.width asked.height m
+
+-- the file's bytes are a refutation of the problem and of the shape asked for
+abbrev pub IsUpgradable : {files : List File} (asked : RequestView) → UpgradeWork asked files → Type 0
+IsUpgradable asked work = IsRefutation work.P (shape_of asked) work.bytes
+
+-- the text in format 2 has each proof that the file's bytes are the text of
+abbrev pub KeepsProof : {files : List File} (asked : RequestView) → UpgradeWork asked files → Type 0
+KeepsProof asked work =
+    (format : Format) (proof : Proof) → IsTextOf work.P (shape_of asked) format proof work.bytes → IsTextOf work.P (shape_of asked) Two proof (same_proof_text asked work.P work.bytes)
+
+-- the file is a refutation, so no picture is legal, and its proof was written in format 2
+pub record WritesUpgraded {files : List File} (asked : RequestView) (work : UpgradeWork asked files) (before after : Devices) : Type 0 where
+  pub refutation : IsUpgradable asked work
+  pub none : (m : Raster) → IsLegalBy asked work m → ⊥
+  pub same_proof : KeepsProof asked work
+  pub written : after.out ≡ after_finish (after_bytes before.out (same_proof_text asked work.P work.bytes))
+
+-- the file is no refutation, and nothing was written
+pub record KeepsOld {files : List File} (asked : RequestView) (work : UpgradeWork asked files) (before after : Devices) : Type 0 where
+  pub none : IsUpgradable asked work → ⊥
+  pub same : after.out ≡ before.out
+
+-- statuses 0 and 1 of `upgrade`: 0 exactly where the file is a refutation
+abbrev pub UpgradesRefutation : List (List ℕ) → Devices → Devices → ℕ → Type 0
+UpgradesRefutation words before after status =
+    (asked : RequestView) (files : List File) → IsCommand commands.Upgrade words before asked files → status ≤ 2
+    → (work : UpgradeWork asked files) × (((status ≡ 0) × WritesUpgraded asked work before after) ⊎ ((status ≡ 1) × KeepsOld asked work before after))
+
+-- the file is a refutation, and a front was written of its proof in format 2
+pub record WritesUpgradedFront {files : List File} (asked : RequestView) (work : UpgradeWork asked files) (before after : Devices) : Type 0 where
+  pub refutation : IsUpgradable asked work
+  pub same_proof : KeepsProof asked work
+  pub front : IsFaultAfterFront before.out after.out (same_proof_text asked work.P work.bytes)
+
+-- status 5 of `upgrade`: nothing was written, or a front of that text
+abbrev pub UpgradesFront : List (List ℕ) → Devices → Devices → ℕ → Type 0
+UpgradesFront words before after status =
+    (asked : RequestView) (files : List File) → IsCommand commands.Upgrade words before asked files → status ≡ 5
+    → (after.out ≡ before.out) ⊎ ((work : UpgradeWork asked files) × WritesUpgradedFront asked work before after)

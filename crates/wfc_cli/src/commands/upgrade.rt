@@ -1,0 +1,94 @@
+//! The command `upgrade`: the proof of a refutation, written in format 2.
+
+ghost use Rattle.std.specs.Prelude.{◌≡◌, ◌≤◌, true, List, length, IfOk, None, Some, Ok};
+ghost use Rattle.wfc_choose.specs.Pick.{Rule};
+ghost use Rattle.wfc_check.specs.Text.{checked, IsRefutation};
+ghost use Rattle.wfc_proof.specs.ProofText.{IsProofText};
+ghost use Rattle.wfc_proof.specs.Upgrade.{upgraded_text};
+ghost use Rattle.wfc_task.specs.Asked.{IsOutputAsked, IsSampleAsked};
+ghost use Rattle.wfc_task.specs.Built.{is_built, side_of};
+ghost use Rattle.wfc_words.specs.declared.kinds.CommandKind.TheVariants as commands;
+ghost use Rattle.wfc_cli.specs.Ending.{EndsPut};
+ghost use Rattle.wfc_cli.specs.Reply.{done_with};
+ghost use Rattle.wfc_cli.specs.Upgrading.{Answering, Upgrades, fault_in};
+
+use crate::reply::{Stop, Verdict, exhausted};
+use std::alloc::Global;
+use wfc_check::{CheckFault, check_bytes};
+use wfc_outside::{Folder, MAX_FILE_BYTES, NoMemory, Sink};
+use wfc_problem::Problem;
+use wfc_proof::{Shape, upgrade as put_upgraded};
+use wfc_task::{Upgrading, shape, upgrade_task};
+use wfc_words::Request;
+
+/// Reads the files, and puts the proof of the refutation.
+pub(super) fn upgrade<F: Folder, O: Sink>(
+    alloc: Global,
+    request: &Request,
+    folder: &mut F,
+    out: &mut O,
+) -> Result<Verdict, Stop>
+    requires upgrade { request.now.command ≡ commands.Upgrade }
+    requires built { is_built request.now ≡ true }
+    requires sample { IsSampleAsked request.now }
+    requires output { IsOutputAsked request.now }
+    ensures ends { (rules : List Rule) → EndsPut rules request.now (F.seen folder.old) (F.seen folder.new) (O.seen out.old) (O.seen out.new) result }
+{
+    let upgrading = upgrade_task(alloc, request, folder)?;
+    upgraded(alloc, request, &upgrading, out)
+}
+
+/// Puts the proof of the text, if it is a refutation.
+fn upgraded<O: Sink>(
+    alloc: Global,
+    request: &Request,
+    upgrading: &Upgrading,
+    out: &mut O,
+) -> Result<Verdict, Stop>
+    requires side { side_of request.now.source ≤ 6 }
+    requires short { length upgrading.now.refutation.items ≤ MAX_FILE_BYTES }
+    ensures upgrades { Upgrades request.now upgrading.now.problem upgrading.now.refutation.items (O.seen out.old) (O.seen out.new) result }
+{
+    let shape = shape(request);
+    match first_fault(alloc, &upgrading.problem, shape, &upgrading.refutation) {
+        Ok(None) => put_proof(&upgrading.refutation, &upgrading.problem, shape, out),
+        Ok(Some(fault)) => Ok(Verdict::Unaccepted { fault }),
+        Err(cause) => Err(Stop::Unanswered {
+            fault: exhausted(cause),
+        }),
+    }
+}
+
+/// The first fault of a text as a refutation, if it has one.
+fn first_fault(
+    alloc: Global,
+    problem: &Problem,
+    shape: Shape,
+    bytes: &[u8],
+) -> Result<Option<CheckFault>, NoMemory>
+    requires short { length bytes.now ≤ MAX_FILE_BYTES }
+    ensures found { IfOk result (λ found. found ≡ fault_in (checked problem.now shape bytes.now)) }
+    ensures refutation { result ≡ Ok None → IsRefutation problem.now shape bytes.now }
+{
+    match check_bytes(alloc, problem, &shape, bytes) {
+        Ok(()) => Ok(None),
+        Err(CheckFault::NoMemory) => Err(NoMemory),
+        Err(fault) => Ok(Some(fault)),
+    }
+}
+
+/// Puts the whole text of the proof in format 2.
+fn put_proof<O: Sink>(
+    bytes: &[u8],
+    problem: &Problem,
+    shape: Shape,
+    out: &mut O,
+) -> Result<Verdict, Stop>
+    requires proof { IsProofText problem.now shape bytes.now }
+    requires limit { shape.n ≤ 6 }
+    ensures put { Answering (done_with (upgraded_text problem.now shape bytes.now)) (O.seen out.old) (O.seen out.new) result }
+{
+    put_upgraded(bytes, problem, &shape, out)?;
+    out.finish()?;
+    Ok(Verdict::Done)
+}

@@ -1,0 +1,59 @@
+//! The task of `upgrade`.
+
+ghost use Rattle.std.specs.Prelude.{◌≤◌, length, IfOk};
+ghost use Rattle.wfc_outside.specs.Gives.{result_map};
+ghost use Rattle.wfc_task.specs.Asked.{IsOutputAsked, IsSampleAsked};
+ghost use Rattle.wfc_task.specs.Made.{upgrade_made};
+ghost use Rattle.wfc_task.specs.Plan.{Goes};
+ghost use Rattle.wfc_task.specs.Task.{refutation_file_plan, upgrade_plan};
+
+use crate::checking::refutation_name;
+use crate::fault::{Fault, Source};
+use crate::files::{file, problem, sample};
+use std::alloc::Global;
+use wfc_outside::{Folder, MAX_FILE_BYTES};
+use wfc_problem::Problem;
+use wfc_words::Request;
+
+/// What `upgrade` works on.
+#[derive(Drop)]
+pub struct Upgrading {
+    pub problem: Problem,
+    /// The text of the refutation.
+    pub refutation: Vec<u8>,
+}
+
+/// What `upgrade` works on: the problem, and the whole of the refutation.
+pub fn upgrade_task<F: Folder>(
+    alloc: Global,
+    request: &Request,
+    folder: &mut F,
+) -> Result<Upgrading, Fault>
+    requires sample { IsSampleAsked request.now }
+    requires output { IsOutputAsked request.now }
+    ensures goes { Goes (upgrade_plan request.now)
+        (F.seen folder.old) (F.seen folder.new) (upgrade_made result) }
+    ensures short { IfOk result (λ made. length made.refutation.items ≤ MAX_FILE_BYTES) }
+{
+    let taught = sample(alloc, request, folder)?;
+    let problem = problem(alloc, request, &taught, folder)?;
+    let refutation = refutation_file(alloc, request, folder)?;
+    Ok(Upgrading {
+        problem,
+        refutation,
+    })
+}
+
+/// The whole of the file of the refutation.
+fn refutation_file<F: Folder>(
+    alloc: Global,
+    request: &Request,
+    folder: &mut F,
+) -> Result<Vec<u8>, Fault>
+    ensures goes { Goes (refutation_file_plan request.now)
+        (F.seen folder.old) (F.seen folder.new) (result_map (λ bytes. bytes.items) result) }
+    ensures short { IfOk result (λ bytes. length bytes.items ≤ MAX_FILE_BYTES) }
+{
+    let name = refutation_name(request);
+    file(alloc, folder, Source::Refutation, name)
+}
