@@ -4,6 +4,7 @@ pub mod Command
 pub mod Grid
 pub mod Learn
 pub mod Line
+pub mod Mask
 pub mod Outcome
 pub mod Palette
 pub mod Pins
@@ -11,3 +12,4 @@ pub mod Ppm
 pub mod Reading
 pub mod Render
 pub mod Steps
+pub mod Tiles

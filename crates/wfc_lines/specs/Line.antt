@@ -12,3 +12,7 @@ about text file = text ++ codes " file=" ++ file
 -- a text, the number straight behind it, and the name of the file that it speaks of
 abbrev pub numbered_text : List ℕ → ℕ → List ℕ → List ℕ
 numbered_text text n file = about (text ++ decimal n) file
+
+-- a text and a number, a second text and a number, and the name of the file that they speak of
+abbrev pub twice_numbered_text : List ℕ → ℕ → List ℕ → ℕ → List ℕ → List ℕ
+twice_numbered_text text n between m file = about (text ++ decimal n ++ between ++ decimal m) file

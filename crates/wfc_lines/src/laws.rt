@@ -11,6 +11,7 @@ ghost use Rattle.wfc_lines.specs.Command.{text_of_chooser, text_of_command};
 ghost use Rattle.wfc_lines.specs.Grid.{text_of_grid};
 ghost use Rattle.wfc_lines.specs.Learn.{text_of_learn};
 ghost use Rattle.wfc_lines.specs.Line.{line};
+ghost use Rattle.wfc_lines.specs.Mask.{text_of_mask, text_of_mask_grid};
 ghost use Rattle.wfc_lines.specs.Outcome.{map_exists_text, no_domains_text, no_map_text, no_memory_text, out_failed_text, text_of_budget};
 ghost use Rattle.wfc_lines.specs.Palette.{text_of_palette};
 ghost use Rattle.wfc_lines.specs.Pins.{text_of_pins};
@@ -18,6 +19,7 @@ ghost use Rattle.wfc_lines.specs.Ppm.{text_of_ppm};
 ghost use Rattle.wfc_lines.specs.Reading.{text_of_reading};
 ghost use Rattle.wfc_lines.specs.Render.{text_of_render};
 ghost use Rattle.wfc_lines.specs.Steps.{text_of_range, text_of_steps};
+ghost use Rattle.wfc_lines.specs.Tiles.{text_of_tiles};
 ghost use Rattle.wfc_outside.specs.declared.whole.ReadFault.TheVariants as reads;
 ghost use Rattle.wfc_pattern.specs.declared.learning.LearnFault.TheVariants as learns;
 ghost use Rattle.wfc_picture.specs.declared.palette.PaletteFault.TheVariants as palettes;
@@ -27,6 +29,10 @@ ghost use Rattle.wfc_pins.specs.declared.steps.RangeFault.TheVariants as ranges;
 ghost use Rattle.wfc_pins.specs.declared.steps.StepFault.TheVariants as steps;
 ghost use Rattle.wfc_ppm.specs.declared.reading.PpmFault.TheVariants as ppms;
 ghost use Rattle.wfc_render.specs.declared.form.RenderFault.TheVariants as renders;
+ghost use Rattle.wfc_tiled.specs.declared.reading.MaskFault.TheVariants as masks;
+ghost use Rattle.wfc_tileset.specs.declared.fault.Key.TheVariants as keys;
+ghost use Rattle.wfc_tileset.specs.declared.fault.Place.TheVariants as places;
+ghost use Rattle.wfc_tileset.specs.declared.fault.TileFault.TheVariants as tiles;
 ghost use Rattle.wfc_words.specs.declared.fault.CommandFault.TheVariants as commands;
 ghost use Rattle.wfc_words.specs.declared.fault.ValueName.TheVariants as names;
 
@@ -44,6 +50,7 @@ pub fn texts_of_commands_by_example()
     ensures budget { text_of_budget 1000 ≡ codes "budget spent budget=1000" }
     ensures refused { text_of_command commands.Refused ≡ codes "command refused" }
     ensures value { text_of_command (commands.Value names.Model) ≡ codes "command value MODEL" }
+    ensures mask { text_of_command (commands.Value names.Mask) ≡ codes "command value mask" }
     ensures memory { text_of_command commands.NoMemory ≡ no_memory_text }
     ensures chooser { text_of_chooser rules.Ranked ≡ codes "chooser missing rule=ranked" }
     ensures missing { text_of_reading reads.Missing (codes "a") ≡ codes "device Missing file=a" }
@@ -78,6 +85,7 @@ pub fn texts_of_inputs_by_example()
     ensures pairs { text_of_build (builds.TooLarge 8392704) (codes "p") ≡ codes "build TooLarge product=8392704" }
     ensures outside { text_of_build (builds.PinOutside 1) (codes "p") ≡ codes "build PinOutside line=1 file=p" }
     ensures symbol { text_of_build (builds.UnknownSymbol 2) (codes "p") ≡ codes "build UnknownSymbol line=2 file=p" }
+    ensures hole { text_of_build (builds.PinInHole 3) (codes "p") ≡ codes "build PinInHole line=3 file=p" }
     ensures form { text_of_render renders.FormDiffers ≡ codes "render FormDiffers" }
     ensures pixels { text_of_render (renders.TooLarge 16777217) ≡ codes "render TooLarge pixels=16777217" }
 {}
@@ -91,4 +99,36 @@ pub fn texts_of_checks_by_example()
     ensures options { text_of_check (checks.OptionsDiffer (record { n = 2; width = 3; height = 4; depth = 1; symmetry = 8; wrap_in = true; wrap_out = false })) (codes "r")
         ≡ codes "check OptionsDiffer n=2 width=3 height=4 depth=1 symmetry=8 wrap_in=1 wrap_out=0 file=r" }
     ensures too_long { text_of_check checks.TooLong (codes "r") ≡ codes "file TooLong file=r" }
+{}
+
+/// The texts of documents that are no tile sets, by example.
+pub fn texts_of_tile_sets_by_example()
+    ensures toml { text_of_tiles tiles.Toml (codes "t") ≡ codes "tiles Toml file=t" }
+    ensures none { text_of_tiles tiles.NoTiles (codes "t") ≡ codes "tiles NoTiles file=t" }
+    ensures missing { text_of_tiles (tiles.MissingKey (places.Tile 3) keys.Name) (codes "t") ≡ codes "tiles MissingKey tile=3 key=name file=t" }
+    ensures kind { text_of_tiles (tiles.WrongKind places.Top keys.Pair) (codes "t") ≡ codes "tiles WrongKind top key=pair file=t" }
+    ensures left { text_of_tiles (tiles.WrongKind (places.Pair 12) keys.Left) (codes "t") ≡ codes "tiles WrongKind pair=12 key=left file=t" }
+    ensures class { text_of_tiles (tiles.BadClass 1) (codes "t") ≡ codes "tiles BadClass tile=1 file=t" }
+    ensures weight { text_of_tiles (tiles.BadWeight 2) (codes "t") ≡ codes "tiles BadWeight tile=2 file=t" }
+    ensures picture { text_of_tiles (tiles.BadPicture 3) (codes "t") ≡ codes "tiles BadPicture tile=3 file=t" }
+    ensures side { text_of_tiles (tiles.SizeDiffers 4) (codes "t") ≡ codes "tiles SizeDiffers tile=4 file=t" }
+    ensures twice { text_of_tiles (tiles.DoubleName 5) (codes "t") ≡ codes "tiles DoubleName tile=5 file=t" }
+    ensures unknown { text_of_tiles (tiles.UnknownTile 6) (codes "t") ≡ codes "tiles UnknownTile pair=6 file=t" }
+    ensures turn { text_of_tiles (tiles.BadTurn 7) (codes "t") ≡ codes "tiles BadTurn pair=7 file=t" }
+    ensures many { text_of_tiles (tiles.TooManyVariants 4104) (codes "t") ≡ codes "tiles TooManyVariants count=4104 file=t" }
+    ensures no_file { text_of_tiles (tiles.Missing 8) (codes "t") ≡ codes "device Missing tile=8 file=t" }
+    ensures failed { text_of_tiles (tiles.Failed 9) (codes "t") ≡ codes "device Failed tile=9 file=t" }
+    ensures mixed { text_of_tiles (tiles.MixedKinds 10) (codes "t") ≡ codes "tiles MixedKinds tile=10 file=t" }
+    ensures name { text_of_tiles (tiles.BadName 11) (codes "t") ≡ codes "tiles BadName tile=11 file=t" }
+{}
+
+/// The texts of files that are no masks, by example.
+pub fn texts_of_masks_by_example()
+    ensures empty { text_of_mask_grid grids.Empty (codes "m") ≡ codes "mask Empty file=m" }
+    ensures ragged { text_of_mask_grid (grids.Ragged 2) (codes "m") ≡ codes "mask Ragged line=2 file=m" }
+    ensures byte { text_of_mask_grid (grids.BadByte 2 13) (codes "m") ≡ codes "mask BadByte line=2 column=13 file=m" }
+    ensures large { text_of_mask_grid grids.TooLarge (codes "m") ≡ codes "mask TooLarge file=m" }
+    ensures sides { text_of_mask (masks.SizeDiffers 2 1) (codes "m") ≡ codes "mask SizeDiffers width=2 height=1 file=m" }
+    ensures symbol { text_of_mask (masks.BadSymbol 1 2) (codes "m") ≡ codes "mask BadSymbol line=1 column=2 file=m" }
+    ensures holes { text_of_mask masks.AllHoles (codes "m") ≡ codes "mask AllHoles file=m" }
 {}

@@ -12,12 +12,14 @@ pub mod laws;
 mod layouts;
 mod learning;
 mod line;
+mod masks;
 mod outcome;
 mod palettes;
 mod pin_files;
 mod ppms;
 mod reads;
 mod step_files;
+mod tile_sets;
 
 pub use building::build;
 pub use checks::check;
@@ -25,13 +27,15 @@ pub use commands::{chooser, command};
 pub use grids::grid;
 pub use layouts::render;
 pub use learning::learn;
-pub use line::{count, named, numbered, plain};
+pub use line::{count, named, numbered, plain, twice_numbered};
+pub use masks::{mask, mask_grid};
 pub use outcome::{budget_spent, map_exists, no_domains, no_map, no_memory, out_failed};
 pub use palettes::palette;
 pub use pin_files::pins;
 pub use ppms::ppm;
 pub use reads::reading;
 pub use step_files::{range, steps};
+pub use tile_sets::tiles;
 
 #[cfg(test)]
 mod tests;

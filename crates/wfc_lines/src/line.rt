@@ -3,7 +3,7 @@
 ghost use Rattle.std.specs.Prelude.{◌≡◌, ◌++◌, decimal};
 ghost use Rattle.std.specs.List.{flat_map};
 ghost use Rattle.wfc_outside.specs.Sink.{Puts};
-ghost use Rattle.wfc_lines.specs.Line.{about, line, numbered_text};
+ghost use Rattle.wfc_lines.specs.Line.{about, line, numbered_text, twice_numbered_text};
 
 use itoa::Buffer;
 use wfc_outside::{Sink, SinkFault, write_all};
@@ -36,7 +36,8 @@ pub fn named<E: Sink>(err: &mut E, text: &str, file: &str) -> Result<(), SinkFau
 
 /// Puts the line of a text, the number straight behind it, and the file that it speaks of.
 pub fn numbered<E: Sink>(err: &mut E, text: &str, n: u32, file: &str) -> Result<(), SinkFault>
-    ensures told { Puts (E.seen err.old) (E.seen err.new) (line (numbered_text text.now n file.now)) result }
+    ensures told { Puts (E.seen err.old) (E.seen err.new)
+        (line (numbered_text text.now n file.now)) result }
 {
     let mut buffer = Buffer::new();
     let number = buffer.format(n).as_bytes();
@@ -53,9 +54,38 @@ pub fn numbered<E: Sink>(err: &mut E, text: &str, n: u32, file: &str) -> Result<
     )
 }
 
+/// Puts the line of a text and a number, a second text and a number, and the file that they speak
+/// of.
+pub fn twice_numbered<'a, E: Sink>(
+    err: &mut E,
+    text: &'a str,
+    n: u32,
+    between: &'a str,
+    m: u32,
+    file: &'a str,
+) -> Result<(), SinkFault>
+    ensures told { Puts (E.seen err.old) (E.seen err.new)
+        (line (twice_numbered_text text.now n between.now m file.now)) result }
+{
+    let mut first_buffer = Buffer::new();
+    let mut second_buffer = Buffer::new();
+    let first = first_buffer.format(n).as_bytes();
+    let second = second_buffer.format(m).as_bytes();
+    let text = text.as_bytes();
+    let between = between.as_bytes();
+    let file = file.as_bytes();
+    put(
+        err,
+        &[
+            b"wfc: ", text, first, between, second, b" file=", file, b"\n",
+        ],
+    )
+}
+
 /// Puts the parts, one behind another.
 pub(crate) fn put<E: Sink>(err: &mut E, parts: &[&[u8]]) -> Result<(), SinkFault>
-    ensures put { Puts (E.seen err.old) (E.seen err.new) (flat_map (λ part. part.now) parts.now) result }
+    ensures put { Puts (E.seen err.old) (E.seen err.new)
+        (flat_map (λ part. part.now) parts.now) result }
 {
     for part in parts {
         write_all(err, part)?;

@@ -3,50 +3,34 @@
 ghost use Rattle.std.specs.Prelude.{◌≡◌};
 ghost use Rattle.wfc_outside.specs.Sink.{Puts};
 ghost use Rattle.wfc_lines.specs.Line.{line};
-ghost use Rattle.wfc_lines.specs.Ppm.{text_of_ppm, truncated_text};
+ghost use Rattle.wfc_lines.specs.Ppm.{text_of_ppm};
 
-use crate::line::{named, numbered, put};
+use crate::line::{named, numbered, twice_numbered};
 use crate::outcome::no_memory;
-use itoa::Buffer;
 use wfc_outside::{Sink, SinkFault};
 use wfc_ppm::PpmFault;
 
 /// Puts why a text is no picture of colours.
 pub fn ppm<E: Sink>(err: &mut E, fault: PpmFault, file: &str) -> Result<(), SinkFault>
-    ensures told { Puts (E.seen err.old) (E.seen err.new) (line (text_of_ppm fault file.now)) result }
+    ensures told { Puts (E.seen err.old) (E.seen err.new)
+        (line (text_of_ppm fault file.now)) result }
 {
     match fault {
         PpmFault::Magic => named(err, "ppm Magic", file),
         PpmFault::Header { at } => numbered(err, "ppm Header at=", at, file),
         PpmFault::Maxval { value } => numbered(err, "ppm Maxval value=", value, file),
         PpmFault::TooLarge => named(err, "ppm TooLarge", file),
-        PpmFault::Truncated { wanted, found } => truncated(err, wanted, found, file),
+        PpmFault::Truncated { wanted, found } => twice_numbered(
+            err,
+            "ppm Truncated wanted=",
+            wanted,
+            " found=",
+            found,
+            file,
+        ),
         PpmFault::SampleAboveMaxval { at } => numbered(err, "ppm SampleAboveMaxval at=", at, file),
         PpmFault::BadSample { at } => numbered(err, "ppm BadSample at=", at, file),
         PpmFault::Trailing { at } => numbered(err, "ppm Trailing at=", at, file),
         PpmFault::NoMemory => no_memory(err),
     }
-}
-
-/// Puts that there are too few bytes or samples.
-fn truncated<E: Sink>(err: &mut E, wanted: u32, found: u32, file: &str) -> Result<(), SinkFault>
-    ensures told { Puts (E.seen err.old) (E.seen err.new) (line (truncated_text wanted found file.now)) result }
-{
-    let mut wanted_buffer = Buffer::new();
-    let mut found_buffer = Buffer::new();
-    let wanted = wanted_buffer.format(wanted).as_bytes();
-    let found = found_buffer.format(found).as_bytes();
-    let file = file.as_bytes();
-    put(
-        err,
-        &[
-            b"wfc: ppm Truncated wanted=",
-            wanted,
-            b" found=",
-            found,
-            b" file=",
-            file,
-            b"\n",
-        ],
-    )
 }

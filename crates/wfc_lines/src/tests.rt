@@ -1,10 +1,13 @@
 //! The lines of every kind, by a table, and a front of a line where the sink is full.
 
 use crate::{
-    budget_spent, build, chooser, command, grid, learn, map_exists, no_domains, no_map, no_memory,
-    out_failed, palette, pins, ppm, range, reading, render, steps,
+    budget_spent, build, check, chooser, command, grid, learn, map_exists, mask, mask_grid,
+    no_domains, no_map, no_memory, out_failed, palette, pins, ppm, range, reading, render, steps,
+    tiles,
 };
+use std::alloc::Global;
 use std::test::Fail;
+use wfc_check::{CheckFault, Reject};
 use wfc_choose::RuleKind;
 use wfc_grid::GridFault;
 use wfc_outside::{MemorySink, ReadFault, SinkFault};
@@ -12,7 +15,10 @@ use wfc_pattern::LearnFault;
 use wfc_picture::PaletteFault;
 use wfc_pins::{BuildFault, PinFault, RangeFault, StepFault};
 use wfc_ppm::PpmFault;
+use wfc_proof::Shape;
 use wfc_render::RenderFault;
+use wfc_tiled::MaskFault;
+use wfc_tileset::{Key, Place, TileFault};
 use wfc_words::{CommandFault, ValueName};
 
 /// Each kind of line.
@@ -36,6 +42,20 @@ enum Kind {
     Steps(StepFault),
     Range(RangeFault),
     Build(BuildFault),
+    Check(CheckFault),
+    Tiles(TileFault),
+    MaskGrid(GridFault),
+    Mask(MaskFault),
+}
+
+/// Whether a kind of line is put so for the file `a.txt`.
+fn is_put(alloc: Global, kind: Kind, wanted: &str) -> Result<bool, Fail> {
+    let mut sink = MemorySink::new(alloc, 7, 200).ok().ok_or("memory")?;
+    if put(&mut sink, kind, "a.txt").is_err() {
+        return Ok(false);
+    }
+    let line = format!(in alloc; "wfc: {wanted}\n")?;
+    Ok(sink.bytes() == line.as_bytes())
 }
 
 fn put(sink: &mut MemorySink, kind: Kind, file: &str) -> Result<(), SinkFault> {
@@ -58,6 +78,10 @@ fn put(sink: &mut MemorySink, kind: Kind, file: &str) -> Result<(), SinkFault> {
         Kind::Steps(fault) => steps(sink, fault, file),
         Kind::Range(fault) => range(sink, fault, file),
         Kind::Build(fault) => build(sink, fault, file),
+        Kind::Check(fault) => check(sink, &fault, file),
+        Kind::Tiles(fault) => tiles(sink, fault, file),
+        Kind::MaskGrid(fault) => mask_grid(sink, fault, file),
+        Kind::Mask(fault) => mask(sink, fault, file),
     }
 }
 
@@ -180,10 +204,127 @@ fn puts_lines(rt: HostRuntime) -> Result<(), Fail> {
         ),
     ];
     for (kind, wanted) in cases {
-        let mut sink = MemorySink::new(rt.alloc(), 7, 100).ok().ok_or("memory")?;
-        assert!(rt; put(&mut sink, kind, "a.txt").is_ok());
-        let line = format!(in rt.alloc(); "wfc: {wanted}\n")?;
-        assert!(rt; sink.bytes() == line.as_bytes(), "of {wanted:?}");
+        assert!(rt; is_put(rt.alloc(), kind, wanted)?, "of {wanted:?}");
+    }
+    Ok(())
+}
+
+#[test]
+fn puts_lines_of_refutations(rt: HostRuntime) -> Result<(), Fail> {
+    let reject = Reject::HasSupport { value: 7 };
+    let found = Shape {
+        n: 2,
+        width: 3,
+        height: 4,
+        depth: 1,
+        symmetry: 8,
+        wrap_in: true,
+        wrap_out: false,
+    };
+    let cases = [
+        (
+            CheckFault::Rejected { line: 3, reject },
+            "check Rejected line=3 reject=HasSupport value=7 file=a.txt",
+        ),
+        (
+            CheckFault::BadLine { line: 41 },
+            "check BadLine line=41 file=a.txt",
+        ),
+        (
+            CheckFault::OptionsDiffer { found },
+            "check OptionsDiffer n=2 width=3 height=4 depth=1 symmetry=8 wrap_in=1 wrap_out=0 file=a.txt",
+        ),
+        (CheckFault::Missing, "device Missing file=a.txt"),
+    ];
+    for (fault, wanted) in cases {
+        assert!(rt;
+            is_put(rt.alloc(), Kind::Check(fault), wanted)?,
+            "of {wanted:?}"
+        );
+    }
+    Ok(())
+}
+
+#[test]
+fn puts_lines_of_tile_sets(rt: HostRuntime) -> Result<(), Fail> {
+    let named = TileFault::MissingKey {
+        place: Place::Tile(3),
+        key: Key::Name,
+    };
+    let top = TileFault::WrongKind {
+        place: Place::Top,
+        key: Key::Tile,
+    };
+    let pair = TileFault::WrongKind {
+        place: Place::Pair(12),
+        key: Key::Left,
+    };
+    let cases = [
+        (TileFault::Toml, "tiles Toml"),
+        (TileFault::NoTiles, "tiles NoTiles"),
+        (named, "tiles MissingKey tile=3 key=name"),
+        (top, "tiles WrongKind top key=tile"),
+        (pair, "tiles WrongKind pair=12 key=left"),
+        (TileFault::BadName { tile: 11 }, "tiles BadName tile=11"),
+        (TileFault::BadTurn { pair: 7 }, "tiles BadTurn pair=7"),
+        (
+            TileFault::TooManyVariants { count: 4104 },
+            "tiles TooManyVariants count=4104",
+        ),
+        (TileFault::Missing { tile: 0 }, "device Missing tile=0"),
+        (TileFault::Failed { tile: 1 }, "device Failed tile=1"),
+        (TileFault::BadPicture { tile: 2 }, "tiles BadPicture tile=2"),
+        (TileFault::MixedKinds { tile: 4 }, "tiles MixedKinds tile=4"),
+        (
+            TileFault::SizeDiffers { tile: 5 },
+            "tiles SizeDiffers tile=5",
+        ),
+    ];
+    for (fault, wanted) in cases {
+        let line = format!(in rt.alloc(); "{wanted} file=a.txt")?;
+        assert!(rt;
+            is_put(rt.alloc(), Kind::Tiles(fault), &line)?,
+            "of {wanted:?}"
+        );
+    }
+    let memory = Kind::Tiles(TileFault::NoMemory);
+    assert!(rt; is_put(rt.alloc(), memory, "out of memory")?);
+    Ok(())
+}
+
+#[test]
+fn puts_lines_of_masks(rt: HostRuntime) -> Result<(), Fail> {
+    let byte = GridFault::BadByte {
+        line: 2,
+        column: 13,
+    };
+    let sides = MaskFault::SizeDiffers {
+        width: 2,
+        height: 1,
+    };
+    let symbol = MaskFault::BadSymbol { line: 1, column: 2 };
+    let cases = [
+        (Kind::MaskGrid(GridFault::Empty), "mask Empty file=a.txt"),
+        (
+            Kind::MaskGrid(byte),
+            "mask BadByte line=2 column=13 file=a.txt",
+        ),
+        (
+            Kind::Mask(sides),
+            "mask SizeDiffers width=2 height=1 file=a.txt",
+        ),
+        (
+            Kind::Mask(symbol),
+            "mask BadSymbol line=1 column=2 file=a.txt",
+        ),
+        (Kind::Mask(MaskFault::AllHoles), "mask AllHoles file=a.txt"),
+        (
+            Kind::Build(BuildFault::PinInHole { line: 3 }),
+            "build PinInHole line=3 file=a.txt",
+        ),
+    ];
+    for (kind, wanted) in cases {
+        assert!(rt; is_put(rt.alloc(), kind, wanted)?, "of {wanted:?}");
     }
     Ok(())
 }

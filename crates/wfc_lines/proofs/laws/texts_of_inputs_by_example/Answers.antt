@@ -41,3 +41,7 @@ returns-clause-symbol c = refl
 pub returns-clause-pixels : goal.returns-clause-pixels
 unfolding digits
 returns-clause-pixels c = refl
+
+pub returns-clause-hole : goal.returns-clause-hole
+unfolding digits
+returns-clause-hole c = refl

@@ -5,3 +5,6 @@ returns-in-SampleAboveMaxval g c = record { told = rw c.in-SampleAboveMaxval.is 
 
 pub returns-in-Trailing : goal.returns-in-Trailing
 returns-in-Trailing g c = record { told = rw c.in-Trailing.is c.numbered-in-Trailing.ensures.told }
+
+pub returns-in-Truncated : goal.returns-in-Truncated
+returns-in-Truncated g c = record { told = rw c.in-Truncated.is c.twice_numbered.ensures.told }

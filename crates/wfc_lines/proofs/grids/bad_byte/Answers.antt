@@ -1,7 +1,0 @@
-use Rattle.std.proofs.Common.{append_assoc}
-use Rattle.wfc_lines.proofs.grids.bad_byte.Goals as goal
-
-pub returns : goal.returns
-returns g c =
-    let put = rw (c.as_bytes-row.ensures.value, c.as_bytes-column.ensures.value, c.as_bytes-file.ensures.value, c.format.ensures.text, c.format-2.ensures.text) at c.put.ensures.put in
-    record { told = simp append_assoc put }

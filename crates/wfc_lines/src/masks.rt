@@ -1,0 +1,60 @@
+//! The lines of a file that is no mask.
+
+ghost use Rattle.std.specs.Prelude.{◌≡◌};
+ghost use Rattle.wfc_outside.specs.Sink.{Puts};
+ghost use Rattle.wfc_lines.specs.Line.{line};
+ghost use Rattle.wfc_lines.specs.Mask.{text_of_mask, text_of_mask_grid};
+
+use crate::line::{named, numbered, twice_numbered};
+use crate::outcome::no_memory;
+use wfc_grid::GridFault;
+use wfc_outside::{Sink, SinkFault};
+use wfc_tiled::MaskFault;
+
+/// Puts why the text of a mask is no grid.
+pub fn mask_grid<E: Sink>(err: &mut E, fault: GridFault, file: &str) -> Result<(), SinkFault>
+    ensures told { Puts (E.seen err.old) (E.seen err.new)
+        (line (text_of_mask_grid fault file.now)) result }
+{
+    match fault {
+        GridFault::Empty => named(err, "mask Empty", file),
+        GridFault::Ragged { line } => numbered(err, "mask Ragged line=", line, file),
+        GridFault::BadByte { line, column } => twice_numbered(
+            err,
+            "mask BadByte line=",
+            line,
+            " column=",
+            column,
+            file,
+        ),
+        GridFault::TooLarge => named(err, "mask TooLarge", file),
+        GridFault::NoMemory => no_memory(err),
+    }
+}
+
+/// Puts why a grid is no mask.
+pub fn mask<E: Sink>(err: &mut E, fault: MaskFault, file: &str) -> Result<(), SinkFault>
+    ensures told { Puts (E.seen err.old) (E.seen err.new)
+        (line (text_of_mask fault file.now)) result }
+{
+    match fault {
+        MaskFault::SizeDiffers { width, height } => twice_numbered(
+            err,
+            "mask SizeDiffers width=",
+            width,
+            " height=",
+            height,
+            file,
+        ),
+        MaskFault::BadSymbol { line, column } => twice_numbered(
+            err,
+            "mask BadSymbol line=",
+            line,
+            " column=",
+            column,
+            file,
+        ),
+        MaskFault::AllHoles => named(err, "mask AllHoles", file),
+        MaskFault::NoMemory => no_memory(err),
+    }
+}
