@@ -105,26 +105,7 @@ fn cut_place(flags: &mut [bool], patterns: &Patterns, mark: &Mark, cell: usize, 
     let first = cell * patterns.count() as usize;
     for v in 0..patterns.count() {
         let at = first + v as usize;
-        flags[at] = both(flags[at], suits(mark, patterns.window(v)[entry]));
-    }
-}
-
-#[inline]
-fn both(a: bool, b: bool) -> bool
-    ensures value { result ≡ (a && b) }
-{
-    a && b
-}
-
-/// Whether a number is what is kept, or not what is banned.
-#[inline]
-fn suits(mark: &Mark, number: u32) -> bool
-    ensures value { result ≡ suits mark.now number }
-{
-    if mark.keep {
-        number == mark.number
-    } else {
-        number != mark.number
+        flags[at] = mark.leaves(flags[at], patterns.window(v)[entry]);
     }
 }
 

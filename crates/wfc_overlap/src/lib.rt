@@ -18,5 +18,6 @@ mod supports;
 #[cfg(test)]
 mod tests;
 
+pub use mark::Mark;
 pub use painting::picture_of;
-pub use problem::build;
+pub use problem::{build, problem_with};

@@ -1,10 +1,14 @@
-//! A pin or a ban, by the number of its symbol.
+//! A pin or a ban, by a number.
+
+ghost use Rattle.std.specs.Prelude.{◌≡◌, ◌&&◌};
+ghost use Rattle.wfc_overlap.specs.Sample.{suits};
 
 use std::marker::Model;
 
-/// The pixel in a column of a row has the number, or with `keep` false hasn't.
+/// What stands in a column of a row has the number, or with `keep` false hasn't: a pixel that of its
+/// symbol, or a tile that of its variant.
 #[derive(Drop)]
-pub(crate) struct Mark {
+pub struct Mark {
     pub keep: bool,
     pub column: u32,
     pub row: u32,
@@ -22,4 +26,27 @@ impl Model for Mark {
       row = m.row;
       number = m.number;
     } };
+}
+
+impl Mark {
+    /// Whether a flag stays that is set for a number: the number is what is kept, or not what is
+    /// banned.
+    #[inline]
+    pub fn leaves(&self, flag: bool, number: u32) -> bool
+        ensures value { result ≡ (flag && suits self.now number) }
+    {
+        flag && self.suits(number)
+    }
+
+    /// Whether a number is what is kept, or not what is banned.
+    #[inline]
+    fn suits(&self, number: u32) -> bool
+        ensures value { result ≡ suits self.now number }
+    {
+        if self.keep {
+            number == self.number
+        } else {
+            number != self.number
+        }
+    }
 }

@@ -55,11 +55,11 @@ pub fn build(
     }
     let marks = marks(alloc, palette, width, height, pins)?;
     let parts = parts(alloc, patterns, layout, &marks)?;
-    Ok(sound(parts))
+    Ok(problem_with(parts))
 }
 
 /// The problem with these parts, which are one.
-fn sound(parts: Parts) -> Problem
+pub fn problem_with(parts: Parts) -> Problem
     requires problem { IsProblem parts }
     ensures value { result ≡ parts }
 {

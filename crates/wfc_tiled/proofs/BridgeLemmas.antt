@@ -14,16 +14,18 @@ use Rattle.wfc_problem.specs.Network.{Network, IsProblem, neighbour, ok, in_base
 use Rattle.wfc_problem.proofs.CallerLemmas.{base_inside}
 use Rattle.wfc_problem.specs.Assignment.{IsLegalAssignment}
 use Rattle.wfc_overlap.specs.Sample.{stepped, is_there, cell_of, suits}
+use Rattle.wfc_overlap.proofs.CallerLemmas.{suits-from, held-from_suits}
 use Rattle.wfc_overlap.proofs.StepLemmas.{IsStepped, stepped-is, exact, forth_there, stay_there}
 use Rattle.wfc_overlap.proofs.BackLemmas.{stayed}
 use Rattle.wfc_tileset.specs.Tiles.{TileSetView, variant_total, variant_at}
-use Rattle.wfc_tileset.specs.Allowed.{IsAcross, IsDown, across_pairs, down_pairs}
-use Rattle.wfc_tiled.specs.declared.TheConstants.{HOLE}
+use Rattle.wfc_tileset.specs.Allowed.{IsAcross, IsDown, across_pairs, down_pairs, may_be_above, may_be_left}
+use Rattle.wfc_tileset.specs.declared.TheConstants.{HOLE}
+use Rattle.wfc_tileset.proofs.CallerLemmas.{has_the_pair, pair_has}
 use Rattle.wfc_tiled.specs.Mask.{MaskView, IsMask, IsPlace, cell_number}
-use Rattle.wfc_tiled.specs.Tiles.{is_step, step_from, fits, may_be_left, may_be_above, suits_at, meets, problem_of_tiles}
+use Rattle.wfc_tiled.specs.Tiles.{is_step, step_from, fits, suits_at, meets, problem_of_tiles}
 use Rattle.wfc_tiled.specs.Maps.{IsNext, IsLegalTileMap, IsPlaced, ArePlaced, number_of_cell, numbers_of_cells, tile_map, numbers_of_places}
 use Rattle.wfc_tiled.proofs.MaskLemmas.{found, stands, member, there}
-use Rattle.wfc_tiled.proofs.TileLemmas.{place_is, length-weights, neighbour-cell, neighbour-beside, beside-neighbour, support-fits, fits-support, base-at, pair_has, has_the_pair}
+use Rattle.wfc_tiled.proofs.TileLemmas.{place_is, length-weights, neighbour-cell, neighbour-beside, beside-neighbour, support-fits, fits-support, base-at}
 
 -- ---- steps
 
@@ -62,21 +64,6 @@ next_is count wrap at next inside is =
       | inl e ↦ elim s.apart [ inl f ↦ omega arith | inr more ↦ elim more [ inl f ↦ absurd (omega arith) | inr f ↦ absurd (omega arith) ] ]
       | inr last ↦ let l = last.1 in let z = last.2 in elim s.apart [ inl f ↦ absurd (omega arith) | inr more ↦ elim more [ inl f ↦ omega arith | inr f ↦ absurd (omega arith) ] ]
     ]
-
--- a number that suits a pin is held, and back
-suits_held : (pin : Pin) (n : ℕ) → suits pin n ≡ true → MatchBool pin.keep (n ≡ pin.number) (n ≢ pin.number)
-suits_held pin n t = by pin.keep refl
-  where
-    by : (b : Bool) → pin.keep ≡ b → MatchBool b (n ≡ pin.number) (n ≢ pin.number)
-    by true e = eqb-true n pin.number (sym (ap (λ k. cond k (n == pin.number) (not (n == pin.number))) e) ∙ t)
-    by false e = λ same. false≢true (sym (ap not (eq-eqb n pin.number same)) ∙ sym (ap (λ k. cond k (n == pin.number) (not (n == pin.number))) e) ∙ t)
-
-held_suits : (pin : Pin) (n : ℕ) → MatchBool pin.keep (n ≡ pin.number) (n ≢ pin.number) → suits pin n ≡ true
-held_suits pin n h = by pin.keep refl h
-  where
-    by : (b : Bool) → pin.keep ≡ b → MatchBool b (n ≡ pin.number) (n ≢ pin.number) → suits pin n ≡ true
-    by true e same = ap (λ k. cond k (n == pin.number) (not (n == pin.number))) e ∙ eq-eqb n pin.number same
-    by false e other = ap (λ k. cond k (n == pin.number) (not (n == pin.number))) e ∙ ap not (ne_eqb n pin.number other)
 
 -- the column and the row of a place's number
 column_of : (w x y : ℕ) → x < w → cell_of w x y % w ≡ x
@@ -129,7 +116,7 @@ module _ (set : TileSetView) (mask : MaskView) (wrap : Bool) (pins : List Pin) w
             let column : place c % w ≡ pin.column = ap (λ k. k % w) (sym same) ∙ column_of w pin.column pin.row column_in in
             let row : place c / w ≡ pin.row = ap (λ k. k / w) (sym same) ∙ row_of w pin.column pin.row column_in in
             let there : get_or a c 0 ≡ number_at m pin.column pin.row = number c inside ∙ ap (λ k. number_at m k (place c / w)) column ∙ ap (number_at m pin.column) row in
-            ap (suits pin) there ∙ held_suits pin (number_at m pin.column pin.row) held.number
+            ap (suits pin) there ∙ suits-from pin (number_at m pin.column pin.row) held.number
 
     based : (c : ℕ) → c < P.cells → IsTrue (in_base P c (get_or a c 0))
     based c inside =
@@ -332,7 +319,7 @@ module _ (set : TileSetView) (mask : MaskView) (wrap : Bool) (pins : List Pin) w
           record {
             column_in = p.column_in;
             row_in = omega (arith, p.row_in, height-raster_of w h (numbers_of_cells mask a));
-            number = subst (λ k. MatchBool pin.keep (k ≡ pin.number) (k ≢ pin.number)) (sym c.1.tile) (suits_held pin v suits_it);
+            number = subst (λ k. MatchBool pin.keep (k ≡ pin.number) (k ≢ pin.number)) (sym c.1.tile) (held-from_suits pin v suits_it);
           },
         )
 

@@ -24,47 +24,14 @@ use Rattle.wfc_overlap.proofs.StepLemmas.{stepped-is, stepped-stepped, there_aga
 use Rattle.wfc_overlap.proofs.SampleLemmas.{one_across, one_down}
 use Rattle.wfc_tileset.specs.Tiles.{TileView, TileSetView, Variant, IsWeighed, variant_total, variant_at, tile_at}
 use Rattle.wfc_tileset.specs.TileSets.{IsTileSet}
-use Rattle.wfc_tileset.proofs.CallerLemmas.{few_tiles, variant_there}
+use Rattle.wfc_tileset.proofs.CallerLemmas.{few_tiles, has_the_pair, pair_has, variant_there}
 use Rattle.wfc_outside.specs.Gives.{result_map}
 use Rattle.wfc_pins.specs.PinView.{PinView}
 use Rattle.wfc_pins.specs.declared.fault.BuildFault.TheVariants.{TooLarge}
 use Rattle.wfc_tiled.specs.Built.{built, pairs, pins_in}
 use Rattle.wfc_tiled.specs.Mask.{MaskView, IsMask, cell_number, plain_mask}
-use Rattle.wfc_tiled.specs.Tiles.{is_step, step_from, beside, all_beside, same_variant, has_pair, may_be_left, may_be_above, fits, fitting, all_fitting, meets, base_row, problem_of_tiles}
+use Rattle.wfc_tiled.specs.Tiles.{is_step, step_from, beside, all_beside, fits, fitting, all_fitting, meets, base_row, problem_of_tiles}
 use Rattle.wfc_tiled.proofs.MaskLemmas.{found, stands, below, range_rises, few}
-
--- ---- allowed pairs, as a test
-
-variant_is : (v w : Variant) → same_variant v w ≡ true → v ≡ w
-variant_is v w t =
-    let parts = and_parts (v.0 == w.0) (v.1 == w.1) t in
-    let first : v.0 ≡ w.0 = eqb-true v.0 w.0 parts.0 in
-    let second : v.1 ≡ w.1 = eqb-true v.1 w.1 parts.1 in
-    λ i. (first i, second i)
-
-variant_same : (v : Variant) → same_variant v v ≡ true
-variant_same v = and_from _ _ (eq-eqb v.0 v.0 refl) (eq-eqb v.1 v.1 refl)
-
-pub pair_has : (ps : List (Variant × Variant)) (v w : Variant) → has_pair ps v w ≡ true → Contains ps (v, w)
-pair_has ps v w t =
-    let m = any_Contains (λ (p : Variant × Variant). same_variant p.0 v && same_variant p.1 w) ps t in
-    let parts = and_parts (same_variant m.0.0 v) (same_variant m.0.1 w) m.2 in
-    let first : m.0.0 ≡ v = variant_is m.0.0 v parts.0 in
-    let second : m.0.1 ≡ w = variant_is m.0.1 w parts.1 in
-    subst (Contains ps) (let same : m.0 ≡ (v, w) = λ i. (first i, second i) in same) m.1
-
-pub has_the_pair : (ps : List (Variant × Variant)) (v w : Variant) → Contains ps (v, w) → has_pair ps v w ≡ true
-has_the_pair ps v w c =
-    Contains_any (λ (p : Variant × Variant). same_variant p.0 v && same_variant p.1 w) ps (v, w) c (and_from _ _ (variant_same v) (variant_same w))
-
--- a flag that says whether a pair is there is the test
-pub says : (ps : List (Variant × Variant)) (v w : Variant) (r : Bool) → (IsTrue r ↔ Contains ps (v, w)) → r ≡ has_pair ps v w
-says ps v w true iff = sym (has_the_pair ps v w (iff.0 refl))
-says ps v w false iff = by (has_pair ps v w) refl
-  where
-    by : (b : Bool) → has_pair ps v w ≡ b → false ≡ has_pair ps v w
-    by true t = iff.1 (pair_has ps v w t) ∙ sym t
-    by false f = sym f
 
 -- what fits in a direction fits the other way round in the opposite one
 pub opposite_fits : (set : TileSetView) (d v w : ℕ) → d < 4 → fits set d v w ≡ true → fits set (opposite d) w v ≡ true

@@ -7,7 +7,7 @@ use Rattle.wfc_tileset.specs.Tiles.{TileSetView, variant_total, variant_at}
 use Rattle.wfc_tileset.specs.Allowed.{IsAcross, IsDown}
 use Rattle.wfc_problem.specs.Network.{IsProblem}
 use Rattle.wfc_problem.specs.Assignment.{IsLegalAssignment}
-use Rattle.wfc_tiled.specs.declared.TheConstants.{HOLE}
+use Rattle.wfc_tileset.specs.declared.TheConstants.{HOLE}
 use Rattle.wfc_tiled.specs.Mask.{MaskView, IsPlace, cell_number}
 use Rattle.wfc_tiled.specs.Tiles.{problem_of_tiles}
 

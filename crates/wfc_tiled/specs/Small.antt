@@ -19,6 +19,7 @@ abbrev pub line_and_cross : TileSetView
 line_and_cross = record {
   tiles = record { name = codes "line"; class = I; weight = 3; picture = None } ∷ record { name = codes "x"; class = X; weight = 5; picture = None } ∷ [];
   pairs = [];
+  pictures = [];
 }
 
 -- a line of a pins file

@@ -1,13 +1,13 @@
 -- The constraint problem of a tile set: a cell for each place that is no hole, and the variants as values.
 use Rattle.std.specs.Prelude.{ℕ, ◌/◌, ◌%◌, ◌==◌, Bool, not, ◌&&◌, ◌||◌, List, length, map, filter, unwrap_or, if◌then◌else◌}
-use Rattle.std.specs.List.{flat_map, list_all, list_any, range_with_len}
+use Rattle.std.specs.List.{flat_map, list_all, range_with_len}
 use Rattle.wfc_model.specs.Direction.{left_by, down_by, right_by, up_by}
 use Rattle.wfc_model.specs.Legal.{Pin}
 use Rattle.wfc_overlap.specs.Sample.{cell_of, is_there, stepped, suits}
 use Rattle.wfc_problem.specs.Network.{Network}
 use Rattle.wfc_problem.specs.declared.TheConstants.{NO_CELL}
-use Rattle.wfc_tileset.specs.Tiles.{TileView, TileSetView, Variant, variant_total, variant_at, tile_at}
-use Rattle.wfc_tileset.specs.Allowed.{across_pairs, down_pairs}
+use Rattle.wfc_tileset.specs.Tiles.{TileView, TileSetView, variant_total, variant_at, tile_at}
+use Rattle.wfc_tileset.specs.Allowed.{may_be_above, may_be_left}
 use Rattle.wfc_tiled.specs.Mask.{MaskView, cell_number}
 
 -- whether a step in a direction from the place in a column and a row leads to a place of the map
@@ -32,21 +32,6 @@ all_beside mask wrap n = map (λ d. beside mask wrap (n % mask.width) (n / mask.
 -- the cells beside each place
 abbrev pub neighbour_table : MaskView → Bool → List ℕ
 neighbour_table mask wrap = flat_map (λ n. all_beside mask wrap n) mask.places
-
--- whether two variants are one
-abbrev pub same_variant : Variant → Variant → Bool
-same_variant v w = v.0 == w.0 && v.1 == w.1
-
--- whether a list of pairs has this one
-abbrev pub has_pair : List (Variant × Variant) → Variant → Variant → Bool
-has_pair pairs v w = list_any (λ p. same_variant p.0 v && same_variant p.1 w) pairs
-
--- whether the first of two variants may stand to the left of the second, or above it
-abbrev pub may_be_left : TileSetView → ℕ → ℕ → Bool
-may_be_left set v w = has_pair (across_pairs set) (variant_at set.tiles v) (variant_at set.tiles w)
-
-abbrev pub may_be_above : TileSetView → ℕ → ℕ → Bool
-may_be_above set v w = has_pair (down_pairs set) (variant_at set.tiles v) (variant_at set.tiles w)
 
 -- whether the variant w may stand beside v in a direction
 abbrev pub fits : TileSetView → ℕ → ℕ → ℕ → Bool

@@ -1,7 +1,7 @@
 //! Which variants each cell may have: those that meet the pins and bans of its place.
 
-ghost use Rattle.std.specs.Prelude.{◌≡◌, ◌+◌, ◌*◌, ◌<◌, ◌≤◌, ◌&&◌, length, replicate, true, [], IfOk, IfSome};
-ghost use Rattle.wfc_overlap.specs.Sample.{cell_of, suits};
+ghost use Rattle.std.specs.Prelude.{◌≡◌, ◌+◌, ◌*◌, ◌<◌, ◌≤◌, length, replicate, true, [], IfOk, IfSome};
+ghost use Rattle.wfc_overlap.specs.Sample.{cell_of};
 ghost use Rattle.wfc_tileset.specs.Tiles.{variant_total};
 ghost use Rattle.wfc_tiled.specs.Cut.{AreMet, IsRowCut};
 ghost use Rattle.wfc_tiled.specs.Mask.{IsMask, cell_number};
@@ -9,9 +9,9 @@ ghost use Rattle.wfc_tiled.specs.Maps.{ArePlaced};
 ghost use Rattle.wfc_tiled.specs.Tiles.{base_table};
 
 use crate::holes::Mask;
-use crate::mark::Mark;
 use std::alloc::Global;
 use wfc_outside::NoMemory;
+use wfc_overlap::Mark;
 use wfc_tileset::TileSet;
 
 /// For each cell and variant whether the variant meets all pins and bans of the cell's place.
@@ -70,25 +70,6 @@ fn cut_row(flags: &mut [bool], count: u16, mark: &Mark, cell: usize)
     let first = cell * count as usize;
     for v in 0..count {
         let at = first + v as usize;
-        flags[at] = both(flags[at], suits(mark, v));
-    }
-}
-
-#[inline]
-fn both(a: bool, b: bool) -> bool
-    ensures value { result ≡ (a && b) }
-{
-    a && b
-}
-
-/// Whether a variant is what is kept, or not what is banned.
-#[inline]
-fn suits(mark: &Mark, variant: u16) -> bool
-    ensures value { result ≡ suits mark.now variant }
-{
-    if mark.keep {
-        u32::from(variant) == mark.number
-    } else {
-        u32::from(variant) != mark.number
+        flags[at] = mark.leaves(flags[at], u32::from(v));
     }
 }

@@ -8,7 +8,6 @@ mod base;
 pub mod examples;
 mod holes;
 pub mod laws;
-mod mark;
 mod neighbours;
 mod painting;
 mod pins;
@@ -20,6 +19,3 @@ pub use holes::Mask;
 pub use painting::{tiles_of, tiles_of_masked};
 pub use problem::{build, build_masked};
 pub use reading::{MAX_MASK_BYTES, MaskFault, mask};
-
-/// What a map of tiles shows at a hole.
-pub const HOLE: u32 = 65_535;

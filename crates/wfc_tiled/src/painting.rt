@@ -5,11 +5,11 @@ ghost use Rattle.wfc_model.specs.Raster.{IsFilled, raster_of};
 ghost use Rattle.wfc_tiled.specs.Mask.{cell_number, plain_mask};
 ghost use Rattle.wfc_tiled.specs.Maps.{IsLegalWith, number_of_cell, numbers_of_cells, tile_map};
 
-use crate::HOLE;
 use crate::holes::Mask;
 use std::alloc::Global;
 use wfc_outside::NoMemory;
 use wfc_picture::Picture;
+use wfc_tileset::HOLE;
 
 /// The map of `width` by `height` tiles that an assignment makes: each variant in its place.
 pub fn tiles_of(

@@ -6,8 +6,8 @@ ghost use Rattle.wfc_tiled.specs.Built.{pin_in, pins_in};
 ghost use Rattle.wfc_tiled.specs.Maps.{ArePlaced, IsPlaced};
 
 use crate::holes::Mask;
-use crate::mark::Mark;
 use std::alloc::Global;
+use wfc_overlap::Mark;
 use wfc_pins::{BuildFault, PinLine};
 use wfc_tileset::TileSet;
 

@@ -2,7 +2,6 @@
 
 ghost use Rattle.std.specs.Prelude.{◌≡◌, ◌<◌, ◌≤◌, IfOk};
 ghost use Rattle.wfc_outside.specs.Gives.{Gives};
-ghost use Rattle.wfc_problem.specs.Network.{IsProblem};
 ghost use Rattle.wfc_tiled.specs.Built.{built};
 ghost use Rattle.wfc_tiled.specs.Mask.{plain_mask};
 ghost use Rattle.wfc_tiled.specs.Maps.{ArePlaced};
@@ -10,12 +9,12 @@ ghost use Rattle.wfc_tiled.specs.Tiles.{problem_of_tiles};
 
 use crate::base::base;
 use crate::holes::Mask;
-use crate::mark::Mark;
 use crate::neighbours::neighbours;
 use crate::pins::marks;
 use crate::supports::{supports, weights};
 use std::alloc::Global;
 use wfc_outside::NoMemory;
+use wfc_overlap::{Mark, problem_with};
 use wfc_pins::{BuildFault, PinLine};
 use wfc_problem::{MAX_PAIRS, Parts, Problem};
 use wfc_tileset::TileSet;
@@ -70,15 +69,7 @@ pub fn build_masked(
     }
     let marks = marks(alloc, tiles, mask, pins)?;
     let parts = parts(alloc, tiles, mask, wrap, &marks)?;
-    Ok(sound(parts))
-}
-
-/// The problem with these parts, which are one.
-fn sound(parts: Parts) -> Problem
-    requires problem { IsProblem parts }
-    ensures value { result ≡ parts }
-{
-    Problem::new(parts).unwrap()
+    Ok(problem_with(parts))
 }
 
 /// What the problem is made of.

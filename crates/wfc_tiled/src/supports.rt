@@ -2,7 +2,7 @@
 
 ghost use Rattle.std.specs.Prelude.{◌≡◌, ◌<◌, ◌++◌, ◌∷◌, [], if◌then◌else◌, map, IfOk, OnOk};
 ghost use Rattle.wfc_tileset.specs.Tiles.{variant_total};
-ghost use Rattle.wfc_tiled.specs.Tiles.{all_fitting, fits, fitting, may_be_above, may_be_left, support_table, weights_of};
+ghost use Rattle.wfc_tiled.specs.Tiles.{all_fitting, fits, fitting, support_table, weights_of};
 
 use std::alloc::Global;
 use wfc_outside::NoMemory;
@@ -70,31 +70,11 @@ fn fits(tiles: &TileSet, dir: u8, v: u16, w: u16) -> bool
     ensures value { result ≡ fits tiles.now dir v w }
 {
     match dir {
-        0 => may_be_left(tiles, w, v),
-        1 => may_be_above(tiles, v, w),
-        2 => may_be_left(tiles, v, w),
-        _ => may_be_above(tiles, w, v),
+        0 => tiles.across(w, v),
+        1 => tiles.down(v, w),
+        2 => tiles.across(v, w),
+        _ => tiles.down(w, v),
     }
-}
-
-/// Whether a variant may stand to the left of another.
-#[inline]
-fn may_be_left(tiles: &TileSet, v: u16, w: u16) -> bool
-    requires v_in { v < variant_total tiles.now.tiles }
-    requires w_in { w < variant_total tiles.now.tiles }
-    ensures value { result ≡ may_be_left tiles.now v w }
-{
-    tiles.across(v, w)
-}
-
-/// Whether a variant may stand above another.
-#[inline]
-fn may_be_above(tiles: &TileSet, v: u16, w: u16) -> bool
-    requires v_in { v < variant_total tiles.now.tiles }
-    requires w_in { w < variant_total tiles.now.tiles }
-    ensures value { result ≡ may_be_above tiles.now v w }
-{
-    tiles.down(v, w)
 }
 
 /// How much each variant weighs.

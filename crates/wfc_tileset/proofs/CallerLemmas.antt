@@ -1,2 +1,4 @@
--- What crates above cite of variants: that there are no fewer than tiles, and that each number below their count is one's.
+-- What crates above cite: that there are no fewer variants than tiles, that each number below their count is one's, and that a
+-- pair is allowed exactly where the test says so.
+pub use Rattle.wfc_tileset.proofs.PairLemmas.{has_the_pair, pair_has}
 pub use Rattle.wfc_tileset.proofs.VariantLemmas.{few_tiles, variant_there}

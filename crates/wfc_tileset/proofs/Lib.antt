@@ -5,3 +5,8 @@ pub mod TileSetLemmas
 pub mod SpellingLemmas
 pub mod DocumentLemmas
 pub mod CallerLemmas
+pub mod NameLemmas
+pub mod AlikeLemmas
+pub mod PictureLemmas
+pub mod DrawnLemmas
+pub mod PairLemmas

@@ -13,7 +13,7 @@ use Rattle.wfc_tileset.specs.Numbers.{first_of, number_of, IsNamed, IsVariant}
 use Rattle.wfc_tileset.proofs.VariantLemmas.{first-suc, length-variants_from, number_below, number-variant, variant-number, variant_there}
 
 -- a tile has at most eight variants
-eight : (class : Class) → variant_count class ≤ 8
+pub eight : (class : Class) → variant_count class ≤ 8
 eight X = lit≤ tt
 eight I = lit≤ tt
 eight Slash = lit≤ tt

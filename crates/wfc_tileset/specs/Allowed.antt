@@ -1,10 +1,9 @@
 -- Which variants may stand beside each other: what each declared pair allows under the eight actions, and nothing else.
-use Rattle.std.specs.Prelude.{◌<◌, List, [], ◌∷◌, Contains}
-use Rattle.std.specs.List.{All, flat_map}
+use Rattle.std.specs.Prelude.{ℕ, ◌<◌, ◌==◌, ◌&&◌, Bool, List, [], ◌∷◌, Contains, length}
+use Rattle.std.specs.List.{All, flat_map, list_any}
 use Rattle.wfc_tileset.specs.declared.tile.End.{End}
 use Rattle.wfc_tileset.specs.declared.tile.Pair.{Pair}
-use Rattle.wfc_tileset.specs.Tiles.{TileView, TileSetView, Variant, moved}
-use Rattle.std.specs.Prelude.{length}
+use Rattle.wfc_tileset.specs.Tiles.{TileView, TileSetView, Variant, moved, variant_at}
 
 -- the variant that one end of a declared pair names: an action on the first variant of its tile
 abbrev pub named_variant : List TileView → End → Variant
@@ -50,6 +49,21 @@ IsAcross set left right = Contains (across_pairs set) (left, right)
 -- the first variant may stand above the second
 abbrev pub IsDown : TileSetView → Variant → Variant → Type 0
 IsDown set upper lower = Contains (down_pairs set) (upper, lower)
+
+-- whether two variants are one
+abbrev pub same_variant : Variant → Variant → Bool
+same_variant v w = v.0 == w.0 && v.1 == w.1
+
+-- whether a list of pairs has this one
+abbrev pub has_pair : List (Variant × Variant) → Variant → Variant → Bool
+has_pair pairs v w = list_any (λ p. same_variant p.0 v && same_variant p.1 w) pairs
+
+-- whether the first of two variants, by their numbers, may stand to the left of the second, or above it
+abbrev pub may_be_left : TileSetView → ℕ → ℕ → Bool
+may_be_left set v w = has_pair (across_pairs set) (variant_at set.tiles v) (variant_at set.tiles w)
+
+abbrev pub may_be_above : TileSetView → ℕ → ℕ → Bool
+may_be_above set v w = has_pair (down_pairs set) (variant_at set.tiles v) (variant_at set.tiles w)
 
 -- an end names a tile and one of the eight actions
 pub record IsEnd (tiles : List TileView) (end : End) : Type 0 where

@@ -170,8 +170,9 @@ some_tiles (item d ds) = tiles_from [] (item d ds)
 abbrev pub few_variants : List TileView → Result (List TileView) TileFault
 few_variants tiles = if nat_le (variant_total tiles) MAX_VARIANTS then Ok tiles else Err (fault.TooManyVariants (variant_total tiles))
 
+-- a tile set of which no picture is taken
 abbrev pub set_with : List TileView → List Pair → TileSetView
-set_with tiles pairs = record { tiles = tiles; pairs = pairs }
+set_with tiles pairs = record { tiles = tiles; pairs = pairs; pictures = [] }
 
 -- the tile set of a document
 abbrev pub set_from : Members → Result TileSetView TileFault

@@ -5,3 +5,7 @@ pub mod TileSets
 pub mod Samples
 pub mod Document
 pub mod Documents
+pub mod Shown
+pub mod Pictures
+pub mod Names
+pub use Rattle.wfc_outside.specs.Gives

@@ -2,6 +2,8 @@
 use Rattle.std.specs.Prelude.{◌≡◌, ℕ, ◌+◌, ◌<◌, ◌≤◌, List, [], ◌∷◌, ◌++◌, map, Option, None, position, slice_index_or}
 use Rattle.std.specs.List.{range_with_len, sum_by}
 use Rattle.std.specs.Str.{bytes_eq}
+use Rattle.wfc_picture.specs.declared.symbol.Kind.{Kind}
+use Rattle.wfc_picture.specs.declared.symbol.Symbol.{Symbol}
 use Rattle.wfc_symmetry.specs.Class.{variant_count, acted}
 use Rattle.wfc_symmetry.specs.declared.class.Class.{Class}
 use Rattle.wfc_symmetry.specs.declared.class.Class.TheVariants.{X}
@@ -19,10 +21,18 @@ pub record IsWeighed (tile : TileView) : Type 0 where
   pub some_weight : 1 ≤ tile.weight
   pub small_weight : tile.weight ≤ 1000000
 
--- a tile set: its tiles, and the declared pairs, of which one may stand to the left of the other
+-- a picture of a tile: what kind of file it is, how long its side is, and what its pixels show row by row
+pub record PictureView : Type 0 where
+  pub kind : Kind
+  pub side : ℕ
+  pub pixels : List Symbol
+
+-- a tile set: its tiles, the declared pairs, of which one may stand to the left of the other, and the pictures of the first
+-- tiles, as many as are taken
 pub record TileSetView : Type 0 where
   pub tiles : List TileView
   pub pairs : List Pair
+  pub pictures : List PictureView
 
 -- a variant: the number of its tile, and its own among the variants of that tile
 abbrev pub Variant : Type 0

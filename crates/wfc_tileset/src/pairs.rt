@@ -7,14 +7,15 @@ ghost use Rattle.wfc_outside.specs.Gives.{Gives};
 ghost use Rattle.toml.specs.View.{view, table_view, items_view};
 ghost use Rattle.wfc_tileset.specs.Allowed.{IsEnd, IsPair};
 ghost use Rattle.wfc_tileset.specs.Document.{and_then, table_in, end_from, end_in, pair_from, pairs_from, has_name};
+ghost use Rattle.wfc_tileset.specs.Names.{AreNames};
 ghost use Rattle.wfc_tileset.specs.declared.fault.Place.TheVariants as place;
 ghost use Rattle.wfc_tileset.specs.declared.fault.Key.TheVariants as key;
 
 use crate::document::{MAX_ELEMENTS, member, table_in, text_in};
 use crate::fault::{Key, Place, TileFault};
+use crate::names::{Names, names_of};
 use crate::terms::{name_length, turn_of};
 use crate::tile::{End, Pair, Tile};
-use crate::tiles::has_name;
 use std::alloc::Global;
 use toml::{Table, Value};
 
@@ -26,79 +27,75 @@ pub fn pairs_from(alloc: Global, tiles: &[Tile], elements: &[Value]) -> Result<V
         (pairs_from tiles.now [] (items_view elements.now)) }
     ensures pairs { IfOk result (λ pairs. All (IsPair tiles.now) pairs.items) }
 {
+    let names = names_of(alloc, tiles)?;
     let mut pairs = Vec::new(alloc);
     for element in elements {
         let pair = pairs.len() as u32;
-        pairs.push(pair_in(tiles, pair, element)?)?;
+        pairs.push(pair_in(&names, tiles, pair, element)?)?;
     }
     Ok(pairs)
 }
 
 /// The pair of an element.
-fn pair_in(tiles: &[Tile], pair: u32, element: &Value) -> Result<Pair, TileFault>
-    requires few_tiles { length tiles.now ≤ MAX_ELEMENTS }
+fn pair_in(names: &Names, tiles: &[Tile], pair: u32, element: &Value) -> Result<Pair, TileFault>
+    requires names { AreNames names.now tiles.now }
     ensures exact { result
         ≡ and_then (table_in (place.Pair pair) key.Pair (view element.now))
         (pair_from tiles.now pair) }
     ensures pair { IfOk result (IsPair tiles.now) }
 {
     let table = table_in(Place::Pair(pair), Key::Pair, element)?;
-    pair_from(tiles, pair, table)
+    pair_from(names, tiles, pair, table)
 }
 
 /// The pair of a table.
-fn pair_from(tiles: &[Tile], pair: u32, table: &Table) -> Result<Pair, TileFault>
-    requires few_tiles { length tiles.now ≤ MAX_ELEMENTS }
+fn pair_from(names: &Names, tiles: &[Tile], pair: u32, table: &Table) -> Result<Pair, TileFault>
+    requires names { AreNames names.now tiles.now }
     ensures exact { result ≡ pair_from tiles.now pair (table_view table.now) }
     ensures pair { IfOk result (IsPair tiles.now) }
 {
-    let left = end_in(tiles, pair, Key::Left, member(table, "left"))?;
-    let right = end_in(tiles, pair, Key::Right, member(table, "right"))?;
+    let left = end_in(names, tiles, pair, Key::Left, member(table, "left"))?;
+    let right = end_in(names, tiles, pair, Key::Right, member(table, "right"))?;
     Ok(Pair { left, right })
 }
 
 /// An end of a pair, which has to be there.
-fn end_in(tiles: &[Tile], pair: u32, key: Key, value: Option<&Value>) -> Result<End, TileFault>
-    requires few_tiles { length tiles.now ≤ MAX_ELEMENTS }
+fn end_in(
+    names: &Names,
+    tiles: &[Tile],
+    pair: u32,
+    key: Key,
+    value: Option<&Value>,
+) -> Result<End, TileFault>
+    requires names { AreNames names.now tiles.now }
     ensures exact { result ≡ end_in tiles.now pair key (option_map (λ v. view v.now) value.entry) }
     ensures end { IfOk result (IsEnd tiles.now) }
 {
     let text = text_in(Place::Pair(pair), key, value)?;
-    end_from(tiles, pair, text.as_bytes())
+    end_from(names, tiles, pair, text)
 }
 
 /// An end of a pair: a tile's name, and behind a blank an action.
-fn end_from(tiles: &[Tile], pair: u32, text: &[u8]) -> Result<End, TileFault>
-    requires few_tiles { length tiles.now ≤ MAX_ELEMENTS }
+fn end_from(names: &Names, tiles: &[Tile], pair: u32, text: &str) -> Result<End, TileFault>
+    requires names { AreNames names.now tiles.now }
     ensures exact { result ≡ end_from tiles.now pair text.now }
     ensures end { IfOk result (IsEnd tiles.now) }
 {
-    let length = name_length(text);
-    let Some(tile) = named(tiles, &text[..length]) else {
+    let length = name_length(text.as_bytes());
+    let Some(tile) = named(names, tiles, &text[..length]) else {
         return Err(TileFault::UnknownTile { pair });
     };
-    match turn_of(&text[length..]) {
+    match turn_of(&text.as_bytes()[length..]) {
         Some(turn) => Ok(End { tile, turn }),
         None => Err(TileFault::BadTurn { pair }),
     }
 }
 
 /// The number of the first tile that has this name.
-fn named(tiles: &[Tile], name: &[u8]) -> Option<u32>
-    requires few_tiles { length tiles.now ≤ MAX_ELEMENTS }
-    ensures value { result ≡ position (has_name name.now) tiles.now }
-    ensures tile_in { IfSome result (λ tile. tile < length tiles.now) }
+fn named(names: &Names, _tiles: &[Tile], name: &str) -> Option<u32>
+    requires names { AreNames names.now _tiles.now }
+    ensures value { result ≡ position (has_name name.now) _tiles.now }
+    ensures tile_in { IfSome result (λ tile. tile < length _tiles.now) }
 {
-    match place_of(tiles, name) {
-        Some(tile) => Some(tile as u32),
-        None => None,
-    }
-}
-
-/// Where the first tile that has this name stands.
-fn place_of(tiles: &[Tile], name: &[u8]) -> Option<usize>
-    ensures value { result ≡ position (has_name name.now) tiles.now }
-    ensures tile_in { IfSome result (λ tile. tile < length tiles.now) }
-{
-    tiles.iter().position(|tile| has_name(tile, name))
+    names.get(name).copied()
 }

@@ -6,6 +6,7 @@ ghost use Rattle.wfc_outside.specs.Gives.{Gives};
 ghost use Rattle.toml.specs.View.{table_view, items_view};
 ghost use Rattle.wfc_tileset.specs.Document.{some_tiles, few_variants, and_then, set_from, set_of};
 ghost use Rattle.wfc_tileset.specs.Tiles.{IsWeighed, variant_total};
+ghost use Rattle.wfc_tileset.specs.TileSets.{AreAlike};
 
 use crate::TileSet;
 use crate::document::{MAX_ELEMENTS, document, elements_in, member};
@@ -54,6 +55,7 @@ fn some_tiles(alloc: Global, elements: &[Value]) -> Result<Vec<Tile>, TileFault>
     ensures some_tile { IfOk result (λ tiles. 0 < length tiles.items) }
     ensures few_tiles { IfOk result (λ tiles. length tiles.items ≤ MAX_ELEMENTS) }
     ensures weighed { IfOk result (λ tiles. All IsWeighed tiles.items) }
+    ensures alike { IfOk result (λ tiles. AreAlike tiles.items) }
 {
     if elements.is_empty() {
         return Err(TileFault::NoTiles);

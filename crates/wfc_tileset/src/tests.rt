@@ -1,5 +1,7 @@
 //! Documents read, by tables.
 
+mod pictures;
+
 use crate::{Key, Place, TileFault, TileSet, read};
 use std::alloc::{AllocError, Global};
 use std::process::Abort;

@@ -1,18 +1,21 @@
 //! The tiles of a document.
 
-ghost use Rattle.std.specs.Prelude.{◌≡◌, ℕ, ◌<◌, ◌≤◌, length, IfOk, []};
+ghost use Rattle.std.specs.Prelude.{◌≡◌, ℕ, ◌<◌, ◌≤◌, length, IfOk, [], true};
 ghost use Rattle.std.specs.String.{string_bytes};
 ghost use Rattle.std.specs.List.{All, list_any};
 ghost use Rattle.std.specs.Option.{option_map};
 ghost use Rattle.wfc_outside.specs.Gives.{Gives, result_map};
 ghost use Rattle.toml.specs.View.{view, table_view, items_view};
 ghost use Rattle.wfc_tileset.specs.Tiles.{IsWeighed};
+ghost use Rattle.wfc_tileset.specs.TileSets.{AreAlike};
+ghost use Rattle.wfc_tileset.specs.Names.{AreNames};
 ghost use Rattle.wfc_tileset.specs.Document.{and_then, table_in, name_in, class_in, weight_in, picture_in, same_kind, fits_first, tile_from, tiles_from, tile_with, has_name};
 ghost use Rattle.wfc_tileset.specs.declared.fault.Place.TheVariants as place;
 ghost use Rattle.wfc_tileset.specs.declared.fault.Key.TheVariants as key;
 
 use crate::document::{MAX_ELEMENTS, member, table_in, text_in};
 use crate::fault::{Key, Place, TileFault};
+use crate::names::{Names, note};
 use crate::terms::{class_of, is_name, is_ppm_name, weight_of};
 use crate::tile::Tile;
 use std::alloc::Global;
@@ -27,36 +30,54 @@ pub fn tiles_from(alloc: Global, elements: &[Value]) -> Result<Vec<Tile>, TileFa
         (tiles_from [] (items_view elements.now)) }
     ensures counted { IfOk result (λ tiles. length tiles.items ≡ length elements.now) }
     ensures weighed { IfOk result (λ tiles. All IsWeighed tiles.items) }
+    ensures alike { IfOk result (λ tiles. AreAlike tiles.items) }
 {
     let mut tiles = Vec::new(alloc);
+    let mut names = Names::new(alloc);
     for element in elements {
-        tiles.push(tile_in(alloc, &tiles, element)?)?;
+        let tile = tile_in(alloc, &names, &tiles, element)?;
+        note(alloc, &mut names, tile.name.as_str(), tiles.len() as u32)?;
+        tiles.push(tile)?;
     }
     Ok(tiles)
 }
 
 /// The tile of an element, behind those before it.
-fn tile_in(alloc: Global, before: &[Tile], element: &Value) -> Result<Tile, TileFault>
+fn tile_in(
+    alloc: Global,
+    names: &Names,
+    before: &[Tile],
+    element: &Value,
+) -> Result<Tile, TileFault>
     requires few { length before.now ≤ MAX_ELEMENTS }
+    requires names { AreNames names.now before.now }
     ensures exact { Gives TileFault.NoMemory (λ tile. tile) result
         (and_then (table_in (place.Tile (length before.now)) key.Tile (view element.now))
         (tile_from before.now)) }
     ensures weighed { IfOk result IsWeighed }
+    ensures alike { IfOk result (λ tile. fits_first before.now tile.picture ≡ true) }
 {
     let tile = before.len() as u32;
     let table = table_in(Place::Tile(tile), Key::Tile, element)?;
-    tile_from(alloc, before, table)
+    tile_from(alloc, names, before, table)
 }
 
 /// The tile of a table, behind those before it.
-fn tile_from(alloc: Global, before: &[Tile], table: &Table) -> Result<Tile, TileFault>
+fn tile_from(
+    alloc: Global,
+    names: &Names,
+    before: &[Tile],
+    table: &Table,
+) -> Result<Tile, TileFault>
     requires few { length before.now ≤ MAX_ELEMENTS }
+    requires names { AreNames names.now before.now }
     ensures exact { Gives TileFault.NoMemory (λ tile. tile) result
         (tile_from before.now (table_view table.now)) }
     ensures weighed { IfOk result IsWeighed }
+    ensures alike { IfOk result (λ tile. fits_first before.now tile.picture ≡ true) }
 {
     let tile = before.len() as u32;
-    let name = name_in(before, member(table, "name"))?;
+    let name = name_in(names, before, member(table, "name"))?;
     let class = class_in(tile, member(table, "class"))?;
     let weight = weight_in(tile, member(table, "weight"))?;
     let picture = picture_in(tile, member(table, "picture"))?;
@@ -91,8 +112,13 @@ fn tile_with(
 }
 
 /// The name of a tile, which none before it has.
-fn name_in<'a>(before: &[Tile], value: Option<&'a Value>) -> Result<&'a str, TileFault>
+fn name_in<'a>(
+    names: &Names,
+    before: &[Tile],
+    value: Option<&'a Value>,
+) -> Result<&'a str, TileFault>
     requires few { length before.now ≤ MAX_ELEMENTS }
+    requires names { AreNames names.now before.now }
     ensures exact { result_map (λ name. name.now) result
         ≡ name_in before.now (option_map (λ v. view v.now) value.entry) }
 {
@@ -101,24 +127,18 @@ fn name_in<'a>(before: &[Tile], value: Option<&'a Value>) -> Result<&'a str, Til
     if !is_name(name.as_bytes()) {
         return Err(TileFault::BadName { tile });
     }
-    if is_taken(before, name.as_bytes()) {
+    if is_taken(names, before, name) {
         return Err(TileFault::DoubleName { tile });
     }
     Ok(name)
 }
 
 /// Whether one of the tiles has this name.
-fn is_taken(tiles: &[Tile], name: &[u8]) -> bool
-    ensures value { result ≡ list_any (has_name name.now) tiles.now }
+fn is_taken(names: &Names, _tiles: &[Tile], name: &str) -> bool
+    requires names { AreNames names.now _tiles.now }
+    ensures value { result ≡ list_any (has_name name.now) _tiles.now }
 {
-    tiles.iter().any(|tile| has_name(tile, name))
-}
-
-/// Whether a tile has this name.
-pub fn has_name(tile: &Tile, name: &[u8]) -> bool
-    ensures value { result ≡ has_name name.now tile.now }
-{
-    tile.name.as_bytes() == name
+    names.contains_key(name)
 }
 
 /// The class of a tile.

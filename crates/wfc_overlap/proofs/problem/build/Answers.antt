@@ -6,8 +6,8 @@ use Rattle.wfc_overlap.specs.Layout.{output_of}
 use Rattle.wfc_overlap.proofs.SampleLemmas.{sample_problem}
 use Rattle.wfc_overlap.proofs.problem.build.Goals as goal
 
-pub sound-requires : goal.sound-requires
-sound-requires c =
+pub problem_with-requires : goal.problem_with-requires
+problem_with-requires c =
     let P = c.args.patterns.now in
     let l = c.new-layout.result in
     let n_is : l.n ≡ P.n = c.new-layout.ensures.n ∙ c.n-n.ensures.value in

@@ -5,8 +5,8 @@ use Rattle.wfc_tiled.specs.Built.{pairs}
 use Rattle.wfc_tiled.proofs.TileLemmas.{tiles_problem}
 use Rattle.wfc_tiled.proofs.problem.build_masked.Goals as goal
 
-pub sound-requires : goal.sound-requires
-sound-requires c =
+pub problem_with-requires : goal.problem_with-requires
+problem_with-requires c =
     let set = c.args.tiles.now in
     let m = c.args.mask.now in
     let product : c.from.result * c.from-2.result ≡ pairs set m =

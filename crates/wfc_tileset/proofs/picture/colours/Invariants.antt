@@ -1,0 +1,6 @@
+use Rattle.std.proofs.Common.{◌≡◌, map, take}
+use Rattle.wfc_picture.specs.declared.symbol.Symbol.TheVariants.{Rgb}
+use Rattle.wfc_tileset.proofs.picture.colours.Given as goal
+
+abbrev pub invariant-loop-colour : goal.invariant-loop-colour
+invariant-loop-colour l = l.symbols.items ≡ map (λ colour. Rgb colour) (take l.colour-index l.colours)

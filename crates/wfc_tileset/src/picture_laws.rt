@@ -1,0 +1,55 @@
+//! Laws of the pictures of tiles, each a function with no body whose contract is the law. They run
+//! nothing.
+
+ghost use Rattle.std.specs.Prelude.{◌≡◌, List, [], ◌∷◌, ◌++◌, codes, map, Some, None, Ok, Err};
+ghost use Rattle.std.specs.List.{range_with_len};
+ghost use Rattle.wfc_picture.specs.declared.symbol.Symbol.TheVariants.{Char};
+ghost use Rattle.wfc_tileset.specs.declared.fault.TileFault.TheVariants as fault;
+ghost use Rattle.wfc_tileset.specs.Pictures.{picture_of, picture_taken, pixel_at, with_picture};
+ghost use Rattle.wfc_tileset.specs.Samples.{four_characters, four_shown, one_colour, one_taken};
+ghost use Rattle.wfc_tileset.specs.Tiles.{PictureView};
+
+use crate::MAX_TILE_SIDE;
+
+/// The longest side.
+pub fn longest_side()
+    ensures side { MAX_TILE_SIDE ≡ 64 }
+{}
+
+/// The eight variants of a picture, row by row: each of the first four is a quarter turn,
+/// counter-clockwise, of the one before, and each of the last four has the rows of the one four
+/// before the other way round.
+pub fn variants_by_example()
+    ensures shown { map (four_shown four_characters) (range_with_len 0 8)
+        ≡ (Char 97 ∷ Char 98 ∷ Char 99 ∷ Char 100 ∷ [])
+        ∷ (Char 98 ∷ Char 100 ∷ Char 97 ∷ Char 99 ∷ [])
+        ∷ (Char 100 ∷ Char 99 ∷ Char 98 ∷ Char 97 ∷ [])
+        ∷ (Char 99 ∷ Char 97 ∷ Char 100 ∷ Char 98 ∷ [])
+        ∷ (Char 98 ∷ Char 97 ∷ Char 100 ∷ Char 99 ∷ [])
+        ∷ (Char 100 ∷ Char 98 ∷ Char 99 ∷ Char 97 ∷ [])
+        ∷ (Char 99 ∷ Char 100 ∷ Char 97 ∷ Char 98 ∷ [])
+        ∷ (Char 97 ∷ Char 99 ∷ Char 98 ∷ Char 100 ∷ []) ∷ [] }
+{}
+
+/// What files are pictures of tiles: a grid where the name is not that of a PPM, square, and without
+/// a fault.
+pub fn files_by_example()
+    ensures grid { picture_of (codes "t.txt") (codes "ab\ncd\n") ≡ Some four_characters }
+    ensures ppm { picture_of (codes "t.ppm") (codes "P3 1 1 9 1 2 3") ≡ Some (one_colour 9) }
+    ensures others { map (picture_of (codes "t.ppm"))
+        (codes "ab\ncd\n" ∷ codes "P3 1 1 2 1 2 3" ∷ codes "P3 2 1 9 1 2 3 1 2 3" ∷ [])
+        ≡ None ∷ None ∷ None ∷ [] }
+    ensures not_square { map (picture_of (codes "t.txt")) (codes "ab" ∷ codes "a\nb" ∷ [] ∷ [])
+        ≡ None ∷ None ∷ None ∷ [] }
+{}
+
+/// The next picture of a tile set, and its first fault: what is no picture, another maxval, and
+/// another side.
+pub fn taken_by_example()
+    ensures taken { picture_taken one_taken (codes "P3 1 1 9 1 2 3")
+        ≡ Ok (with_picture one_taken (one_colour 9)) }
+    ensures faults { map (picture_taken one_taken)
+        (codes "P3 1 1 0 1 2 3" ∷ codes "P3 2 2 8 1 2 3 1 2 3 1 2 3 1 2 3"
+        ∷ codes "P3 2 2 9 1 2 3 1 2 3 1 2 3 1 2 3" ∷ [])
+        ≡ Err (fault.BadPicture 1) ∷ Err (fault.MixedKinds 1) ∷ Err (fault.SizeDiffers 1) ∷ [] }
+{}
