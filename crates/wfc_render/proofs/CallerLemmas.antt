@@ -13,8 +13,9 @@ use Rattle.wfc_picture.specs.Symbol.{same_symbol}
 use Rattle.wfc_picture.specs.declared.palette.TheConstants.{MAX_COLOURS}
 use Rattle.wfc_picture.specs.declared.symbol.Kind.TheVariants as kinds
 use Rattle.wfc_picture.specs.declared.symbol.Symbol.{Symbol}
-use Rattle.wfc_picture.specs.declared.symbol.Symbol.TheVariants.{Char}
+use Rattle.wfc_picture.specs.declared.symbol.Symbol.TheVariants.{Char, Rgb}
 use Rattle.wfc_picture.proofs.CallerLemmas.{numbered_below}
+use Rattle.wfc_ppm.specs.Ppm.{PpmView, IsPpm}
 use Rattle.wfc_render.specs.Layout.{IsLayout}
 use Rattle.wfc_render.specs.Map.{IsWritten, is_of_kind}
 use Rattle.wfc_render.specs.declared.form.Layout.{Layout}
@@ -41,21 +42,37 @@ indexed_is None symbols w made is =
     (ap (λ (m : Raster × List Symbol). m.0) same, ap (λ (m : Raster × List Symbol). m.1) same)
 indexed_is (Some at) symbols w made is = cc
 
--- a grid's own bytes are a map that is written
-pub written_grid : (g : GridView) (symbols : List Symbol) (made : Raster × List Symbol) (l : Layout) → IsGrid g → symbols ≡ map Char g.bytes → indexed symbols g.width ≡ Ok made
-    → IsLayout l → l.kind ≡ kinds.Grid → l.side ≡ 1 → l.width ≡ g.width → l.height ≡ g.height → IsWritten l made.1 made.0
-written_grid g symbols made l grid same is answered kind pixels wide high =
-    let found = indexed_is (first_past MAX_COLOURS symbols) symbols g.width made is in
-    let many : length symbols ≡ l.width * l.height = ap length same ∙ length-map g.bytes Char ∙ grid.filled.as_many ∙ sym (ap (λ w. w * g.height) wide) ∙ sym (ap (λ h. l.width * h) high) in
-    let wide_one : 0 < l.width = omega (arith, grid.filled.some_column, wide) in
-    let high_one : 0 < l.height = omega (arith, grid.filled.some_row, high) in
+-- what the symbols of a picture are numbered as is the map that is written of them
+pub written_index : (symbols : List Symbol) (w h : ℕ) (made : Raster × List Symbol) (l : Layout) → IsFilled w h symbols → AllPass (is_of_kind l.kind) symbols → indexed symbols w ≡ Ok made
+    → IsLayout l → l.side ≡ 1 → l.width ≡ w → l.height ≡ h → IsWritten l made.1 made.0
+written_index symbols w h made l full shown is answered pixels wide high =
+    let found = indexed_is (first_past MAX_COLOURS symbols) symbols w made is in
+    let many : length symbols ≡ l.width * l.height = full.as_many ∙ sym (ap (λ w. w * h) wide) ∙ sym (ap (λ h. l.width * h) high) in
+    let wide_one : 0 < l.width = omega (arith, full.some_column, wide) in
+    let high_one : 0 < l.height = omega (arith, full.some_row, high) in
     let filled : IsFilled l.width l.height symbols = record { some_column = wide_one; some_row = high_one; as_many = many } in
-    let shown : AllPass (is_of_kind l.kind) symbols =
-    subst (λ k. AllPass (is_of_kind k) symbols) (sym kind) (subst (AllPass (is_of_kind kinds.Grid)) (sym same) (All-map (λ s. is_of_kind kinds.Grid s ≡ true) Char g.bytes grid.printable)) in
-    let rows : l.height ≡ length symbols / g.width = sym (ap (λ n. n / g.width) (many ∙ ap (λ w. w * l.height) wide) ∙ mul-div_cancel_left l.height grid.filled.some_column) in
+    let rows : l.height ≡ length symbols / w = sym (ap (λ n. n / w) (many ∙ ap (λ w. w * l.height) wide) ∙ mul-div_cancel_left l.height full.some_column) in
     let some : 0 < length symbols = omega (arith, many, mul_some l.width l.height wide_one high_one) in
-    let picture : raster_of l.width l.height (numbered symbols) ≡ made.0 = ap (λ w. raster_of w l.height (numbered symbols)) wide ∙ ap (λ h. raster_of g.width h (numbered symbols)) rows ∙ found.0 in
+    let picture : raster_of l.width l.height (numbered symbols) ≡ made.0 = ap (λ w. raster_of w l.height (numbered symbols)) wide ∙ ap (λ h. raster_of w h (numbered symbols)) rows ∙ found.0 in
     subst (λ m. IsWritten l made.1 m) picture (subst (λ p. IsWritten l p (raster_of l.width l.height (numbered symbols))) found.1 (written_sample symbols l filled shown some answered pixels))
   where
     mul_some : (a b : ℕ) → 0 < a → 0 < b → 0 < a * b
     mul_some a b one other = grind arith
+
+-- a grid's own bytes are a map that is written
+pub written_grid : (g : GridView) (symbols : List Symbol) (made : Raster × List Symbol) (l : Layout) → IsGrid g → symbols ≡ map Char g.bytes → indexed symbols g.width ≡ Ok made
+    → IsLayout l → l.kind ≡ kinds.Grid → l.side ≡ 1 → l.width ≡ g.width → l.height ≡ g.height → IsWritten l made.1 made.0
+written_grid g symbols made l grid same is answered kind pixels wide high =
+    let filled : IsFilled g.width g.height symbols = record { some_column = grid.filled.some_column; some_row = grid.filled.some_row; as_many = ap length same ∙ length-map g.bytes Char ∙ grid.filled.as_many } in
+    let shown : AllPass (is_of_kind l.kind) symbols =
+    subst (λ k. AllPass (is_of_kind k) symbols) (sym kind) (subst (AllPass (is_of_kind kinds.Grid)) (sym same) (All-map (λ s. is_of_kind kinds.Grid s ≡ true) Char g.bytes grid.printable)) in
+    written_index symbols g.width g.height made l filled shown is answered pixels wide high
+
+-- a picture's own colours are a map that is written
+pub written_ppm : (p : PpmView) (symbols : List Symbol) (made : Raster × List Symbol) (l : Layout) → IsPpm p → symbols ≡ map Rgb p.pixels → indexed symbols p.width ≡ Ok made
+    → IsLayout l → l.kind ≡ kinds.Ppm p.maxval → l.side ≡ 1 → l.width ≡ p.width → l.height ≡ p.height → IsWritten l made.1 made.0
+written_ppm p symbols made l ppm same is answered kind pixels wide high =
+    let filled : IsFilled p.width p.height symbols = record { some_column = ppm.filled.some_column; some_row = ppm.filled.some_row; as_many = ap length same ∙ length-map p.pixels Rgb ∙ ppm.filled.as_many } in
+    let shown : AllPass (is_of_kind l.kind) symbols =
+    subst (λ k. AllPass (is_of_kind k) symbols) (sym kind) (subst (AllPass (is_of_kind (kinds.Ppm p.maxval))) (sym same) (All-map (λ s. is_of_kind (kinds.Ppm p.maxval) s ≡ true) Rgb p.pixels ppm.samples)) in
+    written_index symbols p.width p.height made l filled shown is answered pixels wide high

@@ -1,17 +1,19 @@
 //! Layouts, texts and blocks, by tables.
 
+mod colours;
+mod learned;
+
 ghost use Rattle.std.specs.Prelude.{◌≡◌, ◌*◌, ◌≤◌, map, IfOk};
 ghost use Rattle.wfc_picture.specs.declared.palette.TheConstants.{MAX_PIXELS};
 ghost use Rattle.wfc_picture.specs.declared.symbol.Symbol.TheVariants.{Char};
 
 use crate::laws::layouts_are_as_asked;
-use crate::{Form, Layout, RenderFault, layout, learned_overlap, picture_bytes, write_block};
+use crate::{Form, Layout, RenderFault, layout, picture_bytes, write_block};
 use std::alloc::{AllocError, Global};
 use std::test::Fail;
 use wfc_domains::Domains;
 use wfc_grid::Grid;
 use wfc_outside::{MemorySink, SinkFault};
-use wfc_pattern::learn;
 use wfc_picture::{Kind, Palette, Symbol};
 use wfc_problem::{NO_CELL, Parts, Problem};
 
@@ -74,20 +76,6 @@ fn lays_out(rt: HostRuntime) {
 }
 
 #[test]
-fn tells_what_was_learned(rt: HostRuntime) -> Result<(), Fail> {
-    let symbols = [b'a', b'b', b'b', b'a'].map(Symbol::Char);
-    let (picture, palette) = Palette::index(rt.alloc(), &symbols, 2)?;
-    assert!(rt; picture.width() == 2 && picture.height() == 2);
-    let patterns = learn(rt.alloc(), &picture, 2, 1, true)?;
-    let text = learned_overlap(rt.alloc(), &patterns, &palette)?;
-    assert_eq!(rt;
-        text.as_slice(),
-        b"overlap 2\ncolours 2\n0 a\n1 b\npatterns 2\n0 2: 0 1 1 0\n1 2: 1 0 0 1\n".as_slice()
-    );
-    Ok(())
-}
-
-#[test]
 fn writes_dead_blocks(rt: HostRuntime) -> Result<(), Fail> {
     let mut sink = MemorySink::new(rt.alloc(), 3, 16)?;
     assert_eq!(rt;
@@ -136,6 +124,22 @@ fn writes_maps(rt: HostRuntime) -> Result<(), Fail> {
         assert!(rt; grid.width <= 4096 && grid.height <= 4096);
         assert_eq!(rt; text_of(rt.alloc(), &grid, form)?.as_slice(), wanted);
     }
+    Ok(())
+}
+
+#[test]
+fn writes_large_grids(rt: HostRuntime) -> Result<(), Fail> {
+    let mut text = Vec::new(rt.alloc());
+    for y in 0..256_u32 {
+        for x in 0..256_u32 {
+            text.push(b'a' + ((x + 3 * y) % 26) as u8)?;
+        }
+        text.push(b'\n')?;
+    }
+    assert!(rt; text.len() < 100_000);
+    let grid = wfc_grid::read(rt.alloc(), &text)?;
+    assert!(rt; grid.width <= 4096 && grid.height <= 4096);
+    assert!(rt; text_of(rt.alloc(), &grid, Form::Grid)? == text);
     Ok(())
 }
 
