@@ -102,22 +102,23 @@ gone-unmarked D D' T T' n w h k back c v d hv hd m =
 
 -- ---- the same counts
 
-pub fits-same : (P : Network) (T T' : Table) → FitsTable P T → T'.cells ≡ T.cells → T'.values ≡ T.values → T'.dirs ≡ T.dirs → length T'.counts ≡ length T.counts → FitsTable P T'
-fits-same P T T' h c v d l = record {
+pub fits-same : (P : Network) (T T' : Table) → FitsTable P T → T'.cells ≡ T.cells → T'.values ≡ T.values → T'.dirs ≡ T.dirs → T'.limit ≡ T.limit → length T'.counts ≡ length T.counts → FitsTable P T'
+fits-same P T T' h c v d m l = record {
   same_cells = c ∙ h.same_cells;
   same_values = v ∙ h.same_values;
   same_dirs = d ∙ h.same_dirs;
+  few = λ x y. omega (arith, h.few x y, m);
   whole = l ∙ h.whole;
 }
 
 pub lowered-marked : (P : Network) (E : Test) (lowered : List ℕ) (T T' : Table) (n w : ℕ) → AreLowered P E lowered T → Marks T T' n w → AreLowered P E lowered T'
 lowered-marked P E lowered T T' n w h k = record {
-  fits = fits-same P T T' h.fits k.same_cells k.same_values k.same_dirs k.same_length;
+  fits = fits-same P T T' h.fits k.same_cells k.same_values k.same_dirs k.same_limit k.same_length;
   each = λ c v d hc hv hd. let now = h.each c v d hc hv hd in let same = k.counts c v d in omega arith;
 }
 
 pub lowered-unmarked : (P : Network) (E : Test) (lowered : List ℕ) (T T' : Table) (n w k : ℕ) → AreLowered P E lowered T → Unmarks T T' n w k → AreLowered P E lowered T'
 lowered-unmarked P E lowered T T' n w k h u = record {
-  fits = fits-same P T T' h.fits u.same_cells u.same_values u.same_dirs u.same_length;
+  fits = fits-same P T T' h.fits u.same_cells u.same_values u.same_dirs u.same_limit u.same_length;
   each = λ c v d hc hv hd. let now = h.each c v d hc hv hd in let same = u.counts c v d in omega arith;
 }

@@ -1,12 +1,12 @@
 -- The opening: each pair is looked at once.
-use Rattle.std.proofs.Common.{◌≡◌, ℕ, ◌+◌, ◌*◌, ◌/◌, ◌%◌, ◌<◌, ◌≤◌, List, [], ◌∷◌, ◌++◌, refl, sym, ◌∙◌, ap, subst, arith, Option, Some, None, inl, inr, ◌⊎◌}
+use Rattle.std.proofs.Common.{◌≡◌, ℕ, ◌+◌, ◌*◌, ◌/◌, ◌%◌, ◌<◌, ◌≤◌, List, [], ◌∷◌, ◌++◌, length, refl, sym, ◌∙◌, ap, subst, arith, Option, Some, None, inl, inr, ◌⊎◌}
 use Rattle.std.specs.Prelude.{IsTrue, slice_get}
 use Rattle.std.proofs.Math.Nat.{mul-le-mul_right}
 use Rattle.std.proofs.lemmas.Bool.{cases_lt, cases_eq, and_from}
 use Rattle.std.proofs.lemmas.List.FromFn.{get_or-map-range_with_len, length-map-range_with_len}
 use Rattle.std.proofs.lemmas.List.{get_or_past}
 use Rattle.std.proofs.lemmas.Nat.{same_from_place, mul-add-lt, div-mul-add, mod-mul-add}
-use Rattle.wfc_problem.specs.Network.{Network, values, neighbour, in_base, IsProblem}
+use Rattle.wfc_problem.specs.Network.{Network, values, neighbour, supports_of, in_base, IsProblem}
 use Rattle.wfc_problem.specs.Domains.{Test, Within, base_with, support_count}
 use Rattle.wfc_domains.specs.declared.Cause.TheVariants.{Arc}
 use Rattle.wfc_domains.specs.declared.Removal.{Removal}
@@ -27,16 +27,17 @@ use Rattle.wfc_ac4.proofs.MarkLemmas.{mod-small, gone-within}
 
 -- ---- counters as they are loaded
 
-pub loaded-fits : (P : Network) (D : Test) → FitsTable P (counts_of P D)
-loaded-fits P D = record {
+pub loaded-fits : (P : Network) (D : Test) (limit : ℕ) → ((v d : ℕ) → length (supports_of P v d) ≤ limit) → FitsTable P (counts_of P D limit)
+loaded-fits P D limit few = record {
   same_cells = refl;
   same_values = refl;
   same_dirs = refl;
+  few = few;
   whole = length-map-range_with_len (λ i. support_count P D (i / P.dirs / values P) (i / P.dirs % values P) (i % P.dirs)) 0 (counters_of P);
 }
 
-loaded-entry : (P : Network) (D : Test) (c v d : ℕ) → c < P.cells → v < values P → d < P.dirs → entry_of (counts_of P D) c v d ≡ support_count P D c v d
-loaded-entry P D c v d hc hv hd =
+loaded-entry : (P : Network) (D : Test) (limit c v d : ℕ) → c < P.cells → v < values P → d < P.dirs → entry_of (counts_of P D limit) c v d ≡ support_count P D c v d
+loaded-entry P D limit c v d hc hv hd =
     let i = place P c v d in
     let q : i / P.dirs ≡ c * values P + v = div-mul-add (c * values P + v) P.dirs d hd in
     let r : i % P.dirs ≡ d = mod-mul-add (c * values P + v) P.dirs d hd in
@@ -45,28 +46,28 @@ loaded-entry P D c v d hc hv hd =
     get_or-map-range_with_len (λ j. support_count P D (j / P.dirs / values P) (j / P.dirs % values P) (j % P.dirs)) 0 (counters_of P) i i 0 (place_in-lt (values P) P.dirs c v d P.cells hc hv hd) (omega arith)
     ∙ ap (λ a. support_count P D a (i / P.dirs % values P) (i % P.dirs)) x ∙ ap (λ a. support_count P D c a (i % P.dirs)) y ∙ ap (support_count P D c v) r
 
-pub loaded-count : (P : Network) → IsProblem P → (D : Test) (c v d : ℕ) → c < P.cells → v < values P → d < P.dirs → count_of (counts_of P D) c v d ≡ support_count P D c v d
-loaded-count P p D c v d hc hv hd =
-    ap (λ x. x % 32768) (loaded-entry P D c v d hc hv hd) ∙ mod-small (support_count P D c v d) (omega (arith, support_count-few P p D c v d hd))
+pub loaded-count : (P : Network) → IsProblem P → (D : Test) (limit c v d : ℕ) → c < P.cells → v < values P → d < P.dirs → count_of (counts_of P D limit) c v d ≡ support_count P D c v d
+loaded-count P p D limit c v d hc hv hd =
+    ap (λ x. x % 32768) (loaded-entry P D limit c v d hc hv hd) ∙ mod-small (support_count P D c v d) (omega (arith, support_count-few P p D c v d hd))
 
-pub loaded-lowered : (P : Network) → IsProblem P → (D : Test) (T : Table) → T ≡ counts_of P D → AreLowered P D [] T
-loaded-lowered P p D T e = subst (λ t. AreLowered P D [] t) (sym e) (record {
-  fits = loaded-fits P D;
+pub loaded-lowered : (P : Network) → IsProblem P → (D : Test) (T : Table) → ((v d : ℕ) → length (supports_of P v d) ≤ T.limit) → T ≡ counts_of P D T.limit → AreLowered P D [] T
+loaded-lowered P p D T few e = subst (λ t. AreLowered P D [] t) (sym e) (record {
+  fits = loaded-fits P D T.limit few;
   each = λ c v d hc hv hd.
-      let now = loaded-count P p D c v d hc hv hd in
+      let now = loaded-count P p D T.limit c v d hc hv hd in
       let none : times (place P c v d) [] ≡ 0 = refl in
       omega arith;
 })
 
 -- none is marked
-pub loaded-gone : (P : Network) → IsProblem P → (D : Test) (E : Flags) (T : Table) → T ≡ counts_of P D → AreGone E T
+pub loaded-gone : (P : Network) → IsProblem P → (D : Test) (E : Flags) (T : Table) → T ≡ counts_of P D T.limit → AreGone E T
 loaded-gone P p D E T e = subst (AreGone E) (sym e) (λ c v d hv hd m. elim (cases_lt c P.cells) [
-  | inl hc ↦ absurd (omega (arith, loaded-entry P D c v d hc hv hd, support_count-few P p D c v d hd))
+  | inl hc ↦ absurd (omega (arith, loaded-entry P D T.limit c v d hc hv hd, support_count-few P p D c v d hd))
   | inr past ↦
       let row : P.cells * values P ≤ c * values P = mul-le-mul_right (values P) past in
       let more : P.cells * values P ≤ c * values P + v = omega arith in
       let behind : counters_of P ≤ (c * values P + v) * P.dirs = mul-le-mul_right P.dirs more in
-      absurd (omega (arith, get_or_past (counts_of P D).counts (place P c v d) 0 (omega (arith, (loaded-fits P D).whole))))
+      absurd (omega (arith, get_or_past (counts_of P D T.limit).counts (place P c v d) 0 (omega (arith, length-map-range_with_len (λ i. support_count P D (i / P.dirs / values P) (i / P.dirs % values P) (i % P.dirs)) 0 (counters_of P)))))
 ])
 
 -- ---- one pair looked at
@@ -208,11 +209,11 @@ scanned-done b T h = record {
 }
 
 -- before the first look
-pub scanned-none : (b : Board) (T : Table) (spare : ℕ) → IsFresh b spare → T ≡ counts_of b.problem.now (has b.domains) → IsScanned b T 0
-scanned-none b T spare f e = record {
+pub scanned-none : (b : Board) (T : Table) (spare : ℕ) → IsFresh b spare → FitsTable b.problem.now T → T ≡ counts_of b.problem.now (has b.domains) T.limit → IsScanned b T 0
+scanned-none b T spare f fits e = record {
   board = f.board;
   cut = λ _ c v t. subst (λ ls. IsTrue (base_with b.problem.now ls c v)) (sym (ap (λ l. l.standing) f.levels)) (and_from _ _ (ap (λ g. g c v) (sym base) ∙ t) refl);
-  counters = loaded-lowered b.problem.now f.board.traced.problem (in_base b.problem.now) T (e ∙ ap (counts_of b.problem.now) base);
+  counters = loaded-lowered b.problem.now f.board.traced.problem (in_base b.problem.now) T fits.few (e ∙ ap (λ D. counts_of b.problem.now D T.limit) base);
   marks = loaded-gone b.problem.now f.board.traced.problem (has b.domains) b.domains T e;
   supported = λ alive c v d n l. absurd (omega arith);
   first = λ r g. absurd (no_first (sym (ap (λ rs. slice_get rs 0) f.removals) ∙ g));
@@ -255,9 +256,9 @@ opening-closed a s n spare f alive same_s same_n first more e idle = record {
     more-none none g = sym (ap (λ xs. xs ++ more) none) ∙ sym g
 
 -- a dead board is as it was opened
-pub between-dead : (b : Board) (T : Table) (spare : ℕ) → IsFresh b spare → (b.verdict ≡ Alive → ⊥) → T ≡ counts_of b.problem.now (has b.domains) → IsBetween b T 0
-between-dead b T spare f dead e =
-    let s = scanned-none b T spare f e in
+pub between-dead : (b : Board) (T : Table) (spare : ℕ) → IsFresh b spare → (b.verdict ≡ Alive → ⊥) → FitsTable b.problem.now T → T ≡ counts_of b.problem.now (has b.domains) T.limit → IsBetween b T 0
+between-dead b T spare f dead fits e =
+    let s = scanned-none b T spare f fits e in
     record { board = s.board; cut = s.cut; counters = s.counters; supported = λ alive. absurd (dead alive); marks = s.marks; in_log = omega arith }
 
 pub between-at : (b : Board) (T : Table) (i j : ℕ) → IsBetween b T i → i ≡ j → IsBetween b T j

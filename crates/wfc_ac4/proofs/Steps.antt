@@ -16,7 +16,7 @@ use Rattle.wfc_domains.specs.Counters.{IsMarked, Marks, entry_of, Table, FitsTab
 use Rattle.wfc_domains.specs.Removals.{without, IsUnsupported}
 use Rattle.wfc_domains.specs.Store.{left_of}
 use Rattle.wfc_domains.specs.Board.{view_of, AreStood, IsTraced, lost, Loses, Grows}
-use Rattle.wfc_domains.proofs.Problems.{in_values, in_cells, opposite-in, neighbour-dir, support_count-few, support_count-le}
+use Rattle.wfc_domains.proofs.Problems.{in_values, in_cells, opposite-in, neighbour-dir, support_count-few, support_count-le, support_count-short}
 use Rattle.wfc_domains.proofs.Marking.{entry-same, entry-other}
 use Rattle.wfc_domains.proofs.Places.{place-same, place_in-lt, place-is}
 use Rattle.wfc_domains.proofs.Removals.{less-within, less-lacks, without-within, without-push, without-in}
@@ -40,6 +40,7 @@ fits-with P T n w d x h = record {
   same_cells = h.same_cells;
   same_values = h.same_values;
   same_dirs = h.same_dirs;
+  few = h.few;
   whole = length-set T.counts (place_in T.values T.dirs n w d) x ∙ h.whole;
 }
 
@@ -369,7 +370,7 @@ pub record RaiseStep (P : Network) (E : Test) (next : List ℕ) (c v n w back : 
   pub cell_in : n < P.cells
   pub value_in : w < values P
   pub dir_in : back < P.dirs
-  pub below_limit : count_of T n w back < 4096
+  pub below_limit : count_of T n w back < T.limit
   pub fewer : (c v d : ℕ) → IsMarked (with_count T n w back (entry_of T n w back + 1)) c v d → IsMarked T c v d
   pub after : IsRaising P E c v next (with_count T n w back (entry_of T n w back + 1))
 
@@ -389,13 +390,14 @@ raise_step P E c v d n k w turned xs T h hd e is_xs l is_w is_back =
     ap (λ x. raised ++ place P n x turned ∷ []) w_is ∙ ap (λ x. raised ++ place P n (get_or (supports_of P v d) k 0) x ∷ []) is_back ∙ next_lowered P c v d n k l' in
     let part : times (place P n w turned) (raised ++ place P n w turned ∷ []) ≤ times (place P n w turned) (places_of P c v) =
     omega (arith, ap (times (place P n w turned)) next, part-le P c v d n (place P n w turned) (k + 1) hd e) in
-    let few : count_of T n w turned < 4096 = omega (arith, h.counters.each n w turned hn hw hb, places-count P p E c v n w turned h.stood hw hb, times-push (place P n w turned) raised (place P n w turned), support_count-few P p E n w turned hb, flag-is (place P n w turned) (place P n w turned) refl) in
+    let under : count_of T n w turned < support_count P E n w turned = omega (arith, h.counters.each n w turned hn hw hb, places-count P p E c v n w turned h.stood hw hb, times-push (place P n w turned) raised (place P n w turned), flag-is (place P n w turned) (place P n w turned) refl) in
+    let few : count_of T n w turned < 4096 = omega (arith, support_count-few P p E n w turned hb) in
     let inside : place_in T.values T.dirs n w turned < length T.counts = omega (arith, place_in-lt (values P) P.dirs n w turned P.cells hn hw hb, place-is P T h.counters.fits n w turned, h.counters.fits.whole) in
     record {
       cell_in = hn;
       value_in = hw;
       dir_in = hb;
-      below_limit = few;
+      below_limit = omega (arith, under, support_count-short P E n w turned, h.counters.fits.few w turned);
       fewer = fewer-raised T n w turned few inside;
       after = subst (λ ys. IsRaising P E c v ys (with_count T n w turned (entry_of T n w turned + 1))) next (record {
         problem = p;

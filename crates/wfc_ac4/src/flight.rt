@@ -42,15 +42,15 @@ fn lower<L: Ledger>(
     requires counter_cell { cell < counters.old.cells }
     requires counter_value { value < counters.old.values }
     requires dir_in { dir < counters.old.dirs }
-    requires some { 0 < entry_of counters.old cell value dir }
+    requires some { 0 < count_of counters.old cell value dir }
     ensures spent { IsTrue result ↔ ((entry_of counters.old cell value dir ≡ 1)
         × IsTrue (has board.now.domains cell value) × (board.now.verdict ≡ Alive)) }
     ensures changed { counters.new ≡ with_count counters.old cell value dir
         (entry_of counters.old cell value dir - 1) }
     ensures steps { steps.new ≡ steps.old + 1 }
 {
-    let left = counters.down(cell, value, dir, steps);
-    left == 0 && board.domains.has(cell, value) && is_alive(board.verdict)
+    let bare = counters.down(cell, value, dir, steps);
+    bare && board.domains.has(cell, value) && is_alive(board.verdict)
 }
 
 impl<'p> Flight<'p> {
@@ -241,7 +241,8 @@ impl<'p> Flight<'p> {
         requires fresh { IsFresh self.old.board self.old.board.levels.spare }
         requires linked { AreLinks self.old.board.problem.now links.now }
         requires loaded { self.old.counters
-            ≡ counts_of self.old.board.problem.now (has self.old.board.domains) }
+            ≡ counts_of self.old.board.problem.now (has self.old.board.domains) self.old.counters.limit }
+        requires fits { FitsTable self.old.board.problem.now self.old.counters }
         requires head { self.old.head ≡ 0 }
         ensures between { IsBetween self.new.board self.new.counters self.new.head }
         ensures closed { self.new.board.verdict ≡ Alive → self.new.head

@@ -1,6 +1,7 @@
 pub mod Rows
 pub mod Problems
 pub mod Places
+pub mod HalfLemmas
 pub mod Marking
 pub mod Loading
 pub mod Removals

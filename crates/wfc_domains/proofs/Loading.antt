@@ -4,7 +4,7 @@ use Rattle.std.specs.Prelude.{count_by, filter}
 use Rattle.std.specs.List.{range_with_len}
 use Rattle.std.proofs.lemmas.Bool.{cases_eq, cases_lt}
 use Rattle.std.proofs.Math.Nat.{mul-le-mul_right}
-use Rattle.std.proofs.lemmas.List.{length-set, length-take, length-drop, get_or-take, get_or-drop, get_or-set_same, get_or-set_other}
+use Rattle.std.proofs.lemmas.List.{length-set, length-take, length-drop, get_or-take, get_or-drop, get_or-set_same, get_or-set_other, get_or_past}
 use Rattle.std.proofs.lemmas.Nat.{mul-add-lt}
 use Rattle.std.proofs.lemmas.List.Sums.{length-filter}
 use Rattle.std.proofs.lemmas.List.FromFn.{length-range_with_len}
@@ -14,7 +14,9 @@ use Rattle.wfc_problem.specs.Network.{Network, values, neighbour, supports_of, I
 use Rattle.wfc_problem.specs.Domains.{Test, count_at, support_count}
 use Rattle.wfc_domains.specs.Domains.{Flags, has, size_of}
 use Rattle.wfc_domains.specs.Counters.{Table, with_count, entry_of, counts_of, place_in, place}
-use Rattle.wfc_domains.specs.Loaded.{AreLoaded, IsSurrounded, IsCopied}
+use Rattle.wfc_domains.specs.Halves.{entry_from, entries_from, limit_from}
+use Rattle.wfc_domains.specs.Loaded.{AreLoaded, IsSurrounded, IsCopied, IsRowCopied}
+use Rattle.wfc_domains.proofs.HalfLemmas.{halves-length, halves-at, limit-length}
 use Rattle.wfc_domains.proofs.Problems.{supports-below}
 use Rattle.wfc_domains.proofs.Places.{place-same, place_in-lt, place-is, counts_are}
 
@@ -26,6 +28,7 @@ loaded_more P D T T' c v d count h hc hv hd is e = subst (λ t. AreLoaded P D t 
     same_cells = h.fits.same_cells;
     same_values = h.fits.same_values;
     same_dirs = h.fits.same_dirs;
+    few = h.fits.few;
     whole = length-set T.counts (place_in T.values T.dirs c v d) count ∙ h.fits.whole;
   };
   below = λ c' v' d' hc' hv' hd' l.
@@ -44,7 +47,7 @@ loaded_more P D T T' c v d count h hc hv hd is e = subst (λ t. AreLoaded P D t 
 })
 
 -- all of them
-pub loaded_all : (P : Network) (D : Test) (T : Table) (c : ℕ) → AreLoaded P D T (place P c 0 0) → P.cells ≤ c → T ≡ counts_of P D
+pub loaded_all : (P : Network) (D : Test) (T : Table) (c : ℕ) → AreLoaded P D T (place P c 0 0) → P.cells ≤ c → T ≡ counts_of P D T.limit
 loaded_all P D T c h l =
     let rows : P.cells * values P ≤ c * values P + 0 = omega (arith, mul-le-mul_right (values P) l) in
     let all : (P.cells * values P) * P.dirs ≤ (c * values P + 0) * P.dirs = mul-le-mul_right P.dirs rows in
@@ -88,6 +91,7 @@ loaded-copied P D T T' from to h earlier to_in like here copy = record {
     same_values = copy.same_values ∙ h.fits.same_values;
     same_dirs = copy.same_dirs ∙ h.fits.same_dirs;
     whole = copy.same_length ∙ h.fits.whole;
+    few = λ v d. omega (arith, h.fits.few v d, copy.same_limit);
   };
   below = λ c v d hc hv hd l.
       let hv' : v < T.values = omega (arith, h.fits.same_values) in
@@ -107,8 +111,8 @@ loaded-copied P D T T' from to h earlier to_in like here copy = record {
 
 -- the numbers of a cell's row are its counts
 pub row-positive : (n k cells cell : ℕ) (xs ys : List ℕ) → ys ≡ xs → length xs ≡ (cells * n) * k → cell < cells
-    → ((i : ℕ) → i < length (take (cell * (n * k) + n * k - cell * (n * k)) (drop (cell * (n * k)) ys)) → 0 < get_or (take (cell * (n * k) + n * k - cell * (n * k)) (drop (cell * (n * k)) ys)) i 0 % 32768)
-    → (v d : ℕ) → v < n → d < k → 0 < get_or xs (place_in n k cell v d) 0 % 32768
+    → ((i : ℕ) → i < length (take (cell * (n * k) + n * k - cell * (n * k)) (drop (cell * (n * k)) ys)) → 0 < get_or (take (cell * (n * k) + n * k - cell * (n * k)) (drop (cell * (n * k)) ys)) i 0 % 128)
+    → (v d : ℕ) → v < n → d < k → 0 < get_or xs (place_in n k cell v d) 0 % 128
 row-positive n k cells cell xs ys same whole hc h v d hv hd =
     let start = cell * (n * k) in
     let m = start + n * k - start in
@@ -119,7 +123,7 @@ row-positive n k cells cell xs ys same whole hc h v d hv hd =
     let long : i < length (take m (drop start ys)) = omega (arith, length-take m (drop start ys), length-drop start ys, ap length same) in
     let pos = h i long in
     let read : get_or (take m (drop start ys)) i 0 ≡ get_or xs (place_in n k cell v d) 0 = get_or-take m (drop start ys) i 0 short ∙ get_or-drop start ys i 0 ∙ ap (λ zs. get_or zs (start + i) 0) same ∙ ap (λ j. get_or xs j 0) (sym (place_in-row n k cell v d)) in
-    omega (arith, ap (λ x. x % 32768) read)
+    omega (arith, ap (λ x. x % 128) read)
 
 -- a row fits at each cell
 pub row-in : (n k cells from to places : ℕ) → places ≡ (cells * n) * k → to < cells → to * (n * k) + (from * (n * k) + n * k - from * (n * k)) ≤ places
@@ -127,21 +131,50 @@ row-in n k cells from to places whole h =
     let rows : (to + 1) * (n * k) ≤ cells * (n * k) = mul-le-mul_right (n * k) (let z : to + 1 ≤ cells = omega arith in z) in
     omega arith
 
--- a row that was copied from another
-pub copied-row : (T : Table) (ys : List ℕ) (from to : ℕ) → ((j x : ℕ) → to * (T.values * T.dirs) ≤ j → j < to * (T.values * T.dirs) + (from * (T.values * T.dirs) + T.values * T.dirs - from * (T.values * T.dirs))
-    → get_or ys j x ≡ get_or T.counts (from * (T.values * T.dirs) + (j - to * (T.values * T.dirs))) x)
-    → ((j x : ℕ) → j < to * (T.values * T.dirs) → get_or ys j x ≡ get_or T.counts j x) → length ys ≡ length T.counts → IsCopied T (record T { counts = ys }) from to
-copied-row T ys from to copied below long = record {
+-- where no number stands a row is copied of itself
+pub row_none : (ls : List ℕ) (start row dest : ℕ) → length ls ≡ 0 → IsRowCopied ls ls start row dest
+row_none ls start row dest none = record {
+  copied = λ i l. get_or_past ls (dest + i) 0 (omega arith) ∙ sym (get_or_past ls (start + i) 0 (omega arith));
+  below = λ i l. refl;
+  behind = λ i l. refl;
+  same_length = refl;
+}
+
+-- entries of which both parts were copied from another row
+pub copied-row : (n k cells from to : ℕ) (ss ss' ls ls' : List ℕ) → length ss ≡ (cells * n) * k → from < cells → to < cells
+    → IsRowCopied ss ss' (from * (n * k)) (n * k) (to * (n * k)) → IsRowCopied ls ls' (from * (n * k)) (n * k) (to * (n * k))
+    → IsCopied (record { cells = cells; values = n; dirs = k; limit = limit_from ls; counts = entries_from ss ls }) (record { cells = cells; values = n; dirs = k; limit = limit_from ls'; counts = entries_from ss' ls' }) from to
+copied-row n k cells from to ss ss' ls ls' whole hf ht cs cl = record {
   same_cells = refl;
   same_values = refl;
   same_dirs = refl;
-  same_length = long;
+  same_limit = limit-length ls' ls cl.same_length;
+  same_length = halves-length ss' ls' ∙ cs.same_length ∙ sym (halves-length ss ls);
   copied = λ v d hv hd.
-      let n = T.values in
-      let k = T.dirs in
-      let inside = mul-add-lt v k d n hv hd in
-      let at : place_in n k to v d ≡ to * (n * k) + (v * k + d) = place_in-row n k to v d in
-      copied (place_in n k to v d) 0 (omega arith) (omega arith)
-      ∙ ap (λ j. get_or T.counts j 0) (let e : from * (n * k) + (place_in n k to v d - to * (n * k)) ≡ place_in n k from v d = omega (arith, place_in-row n k from v d) in e);
-  others = λ c v d hc hv hd. below (place_in T.values T.dirs c v d) 0 (omega (arith, place_in-lt T.values T.dirs c v d to hc hv hd, place_in-row T.values T.dirs to 0 0));
+      let j = v * k + d in
+      let hj : j < n * k = omega (arith, mul-add-lt v k d n hv hd) in
+      let p = place_in n k to v d in
+      let q = place_in n k from v d in
+      let pi : p < length ss' = omega (arith, place_in-lt n k to v d cells ht hv hd, whole, cs.same_length) in
+      let qi : q < length ss = omega (arith, place_in-lt n k from v d cells hf hv hd, whole) in
+      let small : get_or ss' p 0 ≡ get_or ss q 0 = ap (λ x. get_or ss' x 0) (place_in-row n k to v d) ∙ cs.copied j hj ∙ ap (λ x. get_or ss x 0) (sym (place_in-row n k from v d)) in
+      let large : get_or ls' p 0 ≡ get_or ls q 0 = ap (λ x. get_or ls' x 0) (place_in-row n k to v d) ∙ cl.copied j hj ∙ ap (λ x. get_or ls x 0) (sym (place_in-row n k from v d)) in
+      halves-at ss' ls' p pi ∙ ap (λ x. entry_from x (get_or ls' p 0)) small ∙ ap (entry_from (get_or ss q 0)) large ∙ sym (halves-at ss ls q qi);
+  others = λ c v d hc hv hd.
+      let p = place_in n k c v d in
+      let before : p < to * (n * k) = omega (arith, place_in-lt n k c v d to hc hv hd, place_in-row n k to 0 0) in
+      let inside : p < length ss = omega (arith, place_in-lt n k c v d cells (omega arith) hv hd, whole) in
+      halves-at ss' ls' p (omega (arith, inside, cs.same_length)) ∙ ap (λ x. entry_from x (get_or ls' p 0)) (cs.below p before) ∙ ap (entry_from (get_or ss p 0)) (cl.below p before) ∙ sym (halves-at ss ls p inside);
 }
+
+-- copied bytes are bytes
+pub bytes-copied : (ls ls' : List ℕ) (start row dest : ℕ) → IsRowCopied ls ls' start row dest → ((i : ℕ) → get_or ls i 0 < 256) → (i : ℕ) → get_or ls' i 0 < 256
+bytes-copied ls ls' start row dest h few i = elim (cases_lt i dest) [
+  | inl l ↦ omega (arith, few i, h.below i l)
+  | inr l ↦ elim (cases_lt i (dest + row)) [
+    | inl l' ↦
+        let at : dest + (i - dest) ≡ i = omega arith in
+        omega (arith, few (start + (i - dest)), h.copied (i - dest) (omega arith), ap (λ x. get_or ls' x 0) at)
+    | inr l' ↦ omega (arith, few i, h.behind i l')
+  ]
+]

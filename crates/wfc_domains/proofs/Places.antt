@@ -35,8 +35,8 @@ row_at a n i h = elim (cases_lt 0 n) [
 ]
 
 -- a table with the right count at each place is the table of counts
-pub counts_are : (P : Network) (D : Test) (T : Table) → FitsTable P T → ((c v d : ℕ) → c < P.cells → v < values P → d < P.dirs → entry_of T c v d ≡ support_count P D c v d) → T ≡ counts_of P D
-counts_are P D T h each = λ i. record { cells = h.same_cells i; values = h.same_values i; dirs = h.same_dirs i; counts = counts i }
+pub counts_are : (P : Network) (D : Test) (T : Table) → FitsTable P T → ((c v d : ℕ) → c < P.cells → v < values P → d < P.dirs → entry_of T c v d ≡ support_count P D c v d) → T ≡ counts_of P D T.limit
+counts_are P D T h each = λ i. record { cells = h.same_cells i; values = h.same_values i; dirs = h.same_dirs i; limit = T.limit; counts = counts i }
   where
     n : ℕ
     n = values P

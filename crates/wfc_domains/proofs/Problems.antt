@@ -1,5 +1,5 @@
 -- What a problem gives, one fact a lemma: the only file here that reads the facts of a problem.
-use Rattle.std.proofs.Common.{◌≡◌, ℕ, ◌*◌, ◌<◌, ◌≤◌, List, [], ◌∷◌, ◌++◌, length, get_or, arith, Some, true, false, sym, ◌∙◌, ap, inl, inr}
+use Rattle.std.proofs.Common.{◌≡◌, ℕ, zero, suc, ◌+◌, ◌*◌, ◌<◌, ◌≤◌, List, [], ◌∷◌, ◌++◌, length, get_or, arith, Option, Some, None, true, false, sym, ◌∙◌, ap, inl, inr}
 use Rattle.std.specs.Prelude.{Contains, IsTrue, ◌↔◌, count_by}
 use Rattle.std.proofs.lemmas.List.Sums.{count_by-le-length, length-filter}
 use Rattle.std.proofs.lemmas.Bool.{false_from_ne_true, false≢true, cases_lt}
@@ -9,7 +9,7 @@ use Rattle.std.specs.List.Sorted.{IsStrictlyIncreasing}
 use Rattle.wfc_problem.specs.Network.{Network, values, neighbour, supports_of, in_base, IsProblem}
 use Rattle.wfc_model.specs.Direction.{opposite}
 use Rattle.wfc_model.proofs.DirectionLemmas.{opposite-opposite as twice}
-use Rattle.wfc_problem.specs.Domains.{Test, Within, IsArcConsistent, IsInGreatest, IsGreatest, IsDead, IsEmptyAt, base_with, cut, support_count}
+use Rattle.wfc_problem.specs.Domains.{Test, Within, IsArcConsistent, IsInGreatest, IsGreatest, IsDead, IsEmptyAt, base_with, cut, count_at, support_count}
 use Rattle.wfc_problem.specs.Rounds.{depth_of, greatest}
 use Rattle.wfc_problem.proofs.CallerLemmas as callers
 use Rattle.wfc_problem.specs.Sizes.{is_dead, size_at}
@@ -63,9 +63,29 @@ base-in P p c v t = callers.base_inside P p c v t
 pub supports-few : (P : Network) → IsProblem P → (v d : ℕ) → d < P.dirs → length (supports_of P v d) ≤ 4096
 supports-few P p v d h = omega (arith, callers.supports_few P p.sized p.indexed v d)
 
+-- also of a direction that there isn't
+pub supports-short : (P : Network) → IsProblem P → (v d : ℕ) → length (supports_of P v d) ≤ 4096
+supports-short P p v d = omega (arith, callers.supports_few P p.sized p.indexed v d)
+
+-- there are counters
+pub some_places : (P : Network) → IsProblem P → 0 < (P.cells * values P) * P.dirs
+some_places P p = product (P.cells * values P) P.dirs (product P.cells (values P) p.sized.some_cell p.sized.some_value) (elim p.sized.four_or_six [ inl four ↦ omega (arith, four) | inr six ↦ omega (arith, six) ])
+  where
+    product : (a b : ℕ) → 0 < a → 0 < b → 0 < a * b
+    product zero b h k = absurd (omega (arith, h))
+    product (suc a) b h k = omega (arith, k)
+
 -- and so has a count of them
 pub support_count-few : (P : Network) → IsProblem P → (D : Test) (c v d : ℕ) → d < P.dirs → support_count P D c v d ≤ 4096
 support_count-few P p D c v d h = callers.support_count_few P p D c v d
+
+-- a count of supports is at most the number of supports
+pub support_count-short : (P : Network) (D : Test) (c v d : ℕ) → support_count P D c v d ≤ length (supports_of P v d)
+support_count-short P D c v d = short (neighbour P c d)
+  where
+    short : (o : Option ℕ) → count_at P D v d o ≤ length (supports_of P v d)
+    short None = omega arith
+    short (Some n) = count_by-le-length (D n) (supports_of P v d)
 
 -- each is a value
 pub supports-below : (P : Network) → IsProblem P → (v d : ℕ) (xs : List ℕ) → xs ≡ supports_of P v d → d < P.dirs → (k e : ℕ) → k < length xs → get_or xs k e < values P

@@ -5,11 +5,12 @@ use Rattle.wfc_problem.specs.Network.{Network, values, neighbour, supports_of}
 use Rattle.wfc_problem.specs.Domains.{Test, support_count}
 use Rattle.wfc_domains.specs.declared.Removal.{Removal}
 
--- one count for each cell, value and direction
+-- one count for each cell, value and direction, none of which can be above the limit
 pub record Table : Type 0 where
   pub cells : ℕ
   pub values : ℕ
   pub dirs : ℕ
+  pub limit : ℕ
   pub counts : List ℕ
 
 -- where the count of v at c in direction d stands in a table of n values and k directions
@@ -40,18 +41,20 @@ with_count T c v d n = record T { counts = slice_set T.counts (place_in T.values
 abbrev pub counters_of : Network → ℕ
 counters_of P = (P.cells * values P) * P.dirs
 
--- a table of the problem's cells, values and directions
+-- a table of the problem's cells, values and directions, with a limit that no list of supports is above
 pub record FitsTable (P : Network) (T : Table) : Type 0 where
   pub same_cells : T.cells ≡ P.cells
   pub same_values : T.values ≡ values P
   pub same_dirs : T.dirs ≡ P.dirs
   pub whole : length T.counts ≡ counters_of P
+  pub few : (v d : ℕ) → length (supports_of P v d) ≤ T.limit
 
 -- the counts of one value at a cell were marked, and nothing else changed
 pub record Marks (old new : Table) (cell value : ℕ) : Type 0 where
   pub same_cells : new.cells ≡ old.cells
   pub same_values : new.values ≡ old.values
   pub same_dirs : new.dirs ≡ old.dirs
+  pub same_limit : new.limit ≡ old.limit
   pub same_length : length new.counts ≡ length old.counts
   pub counts : (c v d : ℕ) → count_of new c v d ≡ count_of old c v d
   pub marks : (c v d : ℕ) → v < old.values → d < old.dirs → IsMarked new c v d → IsMarked old c v d ⊎ ((c ≡ cell) × (v ≡ value))
@@ -61,21 +64,23 @@ pub record Unmarks (old new : Table) (cell value k : ℕ) : Type 0 where
   pub same_cells : new.cells ≡ old.cells
   pub same_values : new.values ≡ old.values
   pub same_dirs : new.dirs ≡ old.dirs
+  pub same_limit : new.limit ≡ old.limit
   pub same_length : length new.counts ≡ length old.counts
   pub counts : (c v d : ℕ) → count_of new c v d ≡ count_of old c v d
   pub marks : (c v d : ℕ) → IsMarked new c v d → IsMarked old c v d
   pub cleared : (d : ℕ) → d < k → IsMarked new cell value d → ⊥
 
--- the table in which each count is 0
-abbrev pub no_counts : Network → Table
-no_counts P = record { cells = P.cells; values = values P; dirs = P.dirs; counts = replicate (counters_of P) 0 }
+-- the table with this limit in which each count is 0
+abbrev pub no_counts : Network → ℕ → Table
+no_counts P limit = record { cells = P.cells; values = values P; dirs = P.dirs; limit = limit; counts = replicate (counters_of P) 0 }
 
--- the table of how many supports of each value stand beside each cell in each direction
-abbrev pub counts_of : Network → Test → Table
-counts_of P D = record {
+-- the table with this limit of how many supports of each value stand beside each cell in each direction
+abbrev pub counts_of : Network → Test → ℕ → Table
+counts_of P D limit = record {
   cells = P.cells;
   values = values P;
   dirs = P.dirs;
+  limit = limit;
   counts = map (λ at. support_count P D (at / P.dirs / values P) (at / P.dirs % values P) (at % P.dirs)) (range_with_len 0 (counters_of P));
 }
 

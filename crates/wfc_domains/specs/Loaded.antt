@@ -1,5 +1,5 @@
 -- Counters that are loaded one after another.
-use Rattle.std.specs.Prelude.{◌≡◌, ℕ, ◌<◌, length}
+use Rattle.std.specs.Prelude.{◌≡◌, ℕ, ◌+◌, ◌<◌, ◌≤◌, List, length, slice_index}
 use Rattle.wfc_problem.specs.Network.{Network, values, supports_of}
 use Rattle.wfc_problem.specs.Domains.{Test, support_count}
 use Rattle.wfc_domains.specs.Counters.{Table, FitsTable, entry_of, place}
@@ -23,6 +23,14 @@ pub record IsCopied (old new : Table) (from to : ℕ) : Type 0 where
   pub same_cells : new.cells ≡ old.cells
   pub same_values : new.values ≡ old.values
   pub same_dirs : new.dirs ≡ old.dirs
+  pub same_limit : new.limit ≡ old.limit
   pub same_length : length new.counts ≡ length old.counts
   pub copied : (v d : ℕ) → v < old.values → d < old.dirs → entry_of new to v d ≡ entry_of old from v d
   pub others : (c v d : ℕ) → c < to → v < old.values → d < old.dirs → entry_of new c v d ≡ entry_of old c v d
+
+-- so many numbers were copied from one place to another, and nothing else changed
+pub record IsRowCopied (old new : List ℕ) (start row dest : ℕ) : Type 0 where
+  pub copied : (i : ℕ) → i < row → slice_index new (dest + i) ≡ slice_index old (start + i)
+  pub below : (i : ℕ) → i < dest → slice_index new i ≡ slice_index old i
+  pub behind : (i : ℕ) → dest + row ≤ i → slice_index new i ≡ slice_index old i
+  pub same_length : length new ≡ length old

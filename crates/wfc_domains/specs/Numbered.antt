@@ -1,5 +1,5 @@
 -- Removals as numbers.
-use Rattle.std.specs.Prelude.{ℕ, ◌+◌, ◌*◌, ◌/◌, ◌%◌, ◌==◌, if◌then◌else◌, List, [], ◌∷◌}
+use Rattle.std.specs.Prelude.{◌≡◌, ℕ, ◌+◌, ◌*◌, ◌/◌, ◌%◌, ◌==◌, ◌<◌, ◌≤◌, ◌^◌, if◌then◌else◌, List, [], ◌∷◌, length, vec_len, vec_capacity}
 use Rattle.wfc_domains.specs.declared.Cause.{Cause}
 use Rattle.wfc_domains.specs.declared.Cause.TheVariants.{Assumed, Arc}
 use Rattle.wfc_domains.specs.declared.Removal.{Removal}

@@ -16,7 +16,7 @@ two_rows = record { cells = 2; values = 3; flags = true ∷ false ∷ false ∷ 
 
 -- two cells, three values and four directions, with counts from 100 on
 abbrev pub numbered : Table
-numbered = record { cells = 2; values = 3; dirs = 4; counts = range_with_len 100 24 }
+numbered = record { cells = 2; values = 3; dirs = 4; limit = 127; counts = range_with_len 100 24 }
 
 -- the base value of the corner that has no support above it
 abbrev pub unsupported : Removal

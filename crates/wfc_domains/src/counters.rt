@@ -1,11 +1,11 @@
 //! Support counters: how many supports each value has left beside each cell.
 
-ghost use Rattle.std.specs.Prelude.{◌≡◌, ℕ, ◌+◌, ◌-◌, ◌*◌, ◌%◌, ◌<◌, ◌≤◌, ◌^◌, IfOk, IfSome, IsTrue, IsFalse, All, count_by, length, slice_index, slice_set};
+ghost use Rattle.std.specs.Prelude.{◌≡◌, ℕ, ◌+◌, ◌-◌, ◌*◌, ◌%◌, ◌<◌, ◌≤◌, ◌^◌, ◌↔◌, ◌⊎◌, IfOk, IfSome, IsTrue, IsFalse, All, count_by, length, slice_index, slice_set, vec_len};
 ghost use Rattle.wfc_problem.specs.Network.{values, neighbour, supports_of};
 ghost use Rattle.wfc_problem.specs.Domains.{support_count, count_at};
-ghost use Rattle.wfc_domains.specs.Counters.{FitsTable, count_of, entry_of, with_count, Marks, Unmarks, counters_of, counts_of, no_counts, place};
+ghost use Rattle.wfc_domains.specs.Counters.{FitsTable, count_of, entry_of, with_count, place_in, Marks, Unmarks, counters_of, counts_of, no_counts, place};
 ghost use Rattle.wfc_domains.specs.Domains.{Fits, has};
-ghost use Rattle.wfc_domains.specs.Loaded.{AreLoaded, IsSurrounded, IsLike, IsCopied};
+ghost use Rattle.wfc_domains.specs.Loaded.{AreLoaded, IsSurrounded, IsLike, IsCopied, IsRowCopied};
 
 use crate::domains::Domains;
 use crate::steps::Steps;
@@ -15,44 +15,64 @@ use std::sync::ledger::Ledger;
 use wfc_outside::NoMemory;
 use wfc_problem::Problem;
 
-/// What the entry of a marked count is above the count, which is at most 4,096.
-const MARK: u16 = 32_768;
+/// How many counts the small part of an entry tells apart; a marked one's is so much above.
+const HALF: u8 = 128;
 
-/// One count for each cell, value and direction. Each can be marked beside; a mark leaves the count as it is.
+/// The largest count that needs no large part.
+const SMALL: usize = 127;
+
+/// One count for each cell, value and direction. Each can be marked beside; a mark leaves the count as it is. A count
+/// and its mark take one byte, and a second one only where some value has more than 127 supports in a direction.
 #[derive(Drop)]
 pub struct Counters {
     cells: u32,
     values: usize,
     dirs: usize,
-    counts: Vec<u16>,
+    small: Vec<u8>,
+    large: Vec<u8>,
 }
 
 impl Model for Counters {
-    ghost use Rattle.std.specs.Prelude.{◌≡◌, ◌*◌, length};
     ghost use Rattle.wfc_domains.specs.Counters.{Table};
+    ghost use Rattle.wfc_domains.specs.Parts.{table_of, AreParts};
 
     ghost Value = { Table };
 
-    ghost view = { λ a. record { cells = a.cells; values = a.values; dirs = a.dirs; counts = a.counts.items } };
+    ghost view = { table_of };
 
-    ghost invariant = { λ a. length a.counts.items ≡ (a.cells * a.values) * a.dirs };
+    ghost invariant = { AreParts };
 }
 
 impl Counters {
     /// A table of the problem's size, in which each count is 0.
     pub fn new(alloc: Global, problem: &Problem) -> Result<Counters, NoMemory>
-        ensures ok { IfOk result (λ counters. counters ≡ no_counts problem.now) }
+        ensures ok { IfOk result (λ counters. counters ≡ no_counts problem.now counters.limit) }
+        ensures fits { IfOk result (FitsTable problem.now) }
     {
         let cells = problem.cells();
         let values = problem.values() as usize;
         let dirs = problem.dirs() as usize;
-        let counts = vec![in alloc; 0; cells as usize * values * dirs]?;
+        let places = cells as usize * values * dirs;
+        let large = large_places(problem, places);
         Ok(Counters {
             cells,
             values,
             dirs,
-            counts,
+            small: vec![in alloc; 0; places]?,
+            large: vec![in alloc; 0; large]?,
         })
+    }
+
+    /// Where the count of a value at a cell in a direction stands.
+    #[inline]
+    fn place(&self, cell: u32, value: u16, dir: usize) -> usize
+        requires cell_in { cell < self.now.cells }
+        requires value_in { value < self.now.values }
+        requires dir_in { dir < self.now.dirs }
+        ensures value { result ≡ place_in self.now.values self.now.dirs cell value dir }
+        ensures inside { result < length self.now.counts }
+    {
+        (cell as usize * self.values + value as usize) * self.dirs + dir
     }
 
     /// How many supports of `value` are counted beside `cell` in direction `dir`.
@@ -63,8 +83,8 @@ impl Counters {
         requires dir_in { dir < self.now.dirs }
         ensures value { result ≡ count_of self.now cell value dir }
     {
-        let place = (cell as usize * self.values + value as usize) * self.dirs + dir as usize;
-        u32::from(self.counts[place] % MARK)
+        let place = self.place(cell, value, dir as usize);
+        u32::from(self.small[place] % HALF) + 128 * u32::from(part_at(&self.large, place))
     }
 
     /// Whether an entry of the cell is 0.
@@ -75,14 +95,15 @@ impl Counters {
     {
         let row = self.values * self.dirs;
         let start = cell as usize * row;
-        has_zero(&self.counts[start..start + row])
+        has_zero(&self.small[start..start + row])
     }
 
     /// Sets each entry to the number of supports that stand, 0 where there is no neighbour. Each entry is one step.
     pub fn load<L: Ledger>(&mut self, problem: &Problem, domains: &Domains, steps: &mut Steps<L>)
         requires domains { Fits problem.now domains.now }
         requires table { FitsTable problem.now self.old }
-        ensures loaded { self.new ≡ counts_of problem.now (has domains.now) }
+        ensures loaded { self.new ≡ counts_of problem.now (has domains.now) self.new.limit }
+        ensures fits { FitsTable problem.now self.new }
         ensures steps { steps.new ≡ steps.old + counters_of problem.now }
     {
         let mut like = None;
@@ -131,8 +152,11 @@ impl Counters {
         let row = self.values * self.dirs;
         let start = from as usize * row;
         let dest = to as usize * row;
-        self.counts.copy_within(start..start + row, dest);
         steps.add(row as u64);
+        copy_row(&mut self.small, start, row, dest);
+        if self.large.len() > 0 {
+            copy_row(&mut self.large, start, row, dest);
+        }
     }
 
     /// Sets the entries of one cell.
@@ -187,29 +211,55 @@ impl Counters {
         requires cell_in { cell < self.old.cells }
         requires value_in { value < self.old.values }
         requires dir_in { dir < self.old.dirs }
+        requires limit { count ≤ self.old.limit }
         ensures changed { self.new ≡ with_count self.old cell value dir count }
     {
-        self.counts[(cell as usize * self.values + value as usize) * self.dirs + dir as usize] =
-            count;
+        let place = self.place(cell, value, dir as usize);
+        self.small[place] = (count % 128) as u8;
+        if place < self.large.len() {
+            self.large[place] = (count / 128) as u8;
+        }
     }
 
-    /// One less, and the entry that is left: 0 where none is left and it isn't marked. It is one step.
+    /// One less, and whether none is left and it isn't marked. It is one step.
     #[inline]
-    pub fn down<L: Ledger>(&mut self, cell: u32, value: u16, dir: u8, steps: &mut Steps<L>) -> u32
+    pub fn down<L: Ledger>(&mut self, cell: u32, value: u16, dir: u8, steps: &mut Steps<L>) -> bool
         requires cell_in { cell < self.old.cells }
         requires value_in { value < self.old.values }
         requires dir_in { dir < self.old.dirs }
-        requires some { 0 < entry_of self.old cell value dir }
-        ensures left { result + 1 ≡ entry_of self.old cell value dir }
+        requires some { 0 < count_of self.old cell value dir }
+        ensures bare { IsTrue result ↔ (entry_of self.old cell value dir ≡ 1) }
         ensures changed { self.new
             ≡ with_count self.old cell value dir (entry_of self.old cell value dir - 1) }
         ensures steps { steps.new ≡ steps.old + 1 }
     {
-        let place = (cell as usize * self.values + value as usize) * self.dirs + dir as usize;
-        let left = self.counts[place] - 1;
-        self.counts[place] = left;
+        let place = self.place(cell, value, dir as usize);
         steps.tick();
-        u32::from(left)
+        let small = self.small[place];
+        if small % HALF == 0 {
+            self.borrow(place);
+            return false;
+        }
+        self.small[place] = small - 1;
+        if small > 1 {
+            return false;
+        }
+        part_at(&self.large, place) == 0
+    }
+
+    /// One less at a place whose small part has no count.
+    fn borrow(&mut self, place: usize)
+        requires place_in { place < length self.old.counts }
+        requires some { 0 < slice_index self.old.counts place % 32768 }
+        requires none { slice_index self.old.counts place % 128 ≡ 0 }
+        ensures changed { self.new ≡ record self.old {
+          counts = slice_set self.old.counts place (slice_index self.old.counts place - 1);
+        } }
+    {
+        let small = self.small[place];
+        let large = self.large[place];
+        self.small[place] = small + SMALL as u8;
+        self.large[place] = large - 1;
     }
 
     /// One more. It is one step.
@@ -218,15 +268,34 @@ impl Counters {
         requires cell_in { cell < self.old.cells }
         requires value_in { value < self.old.values }
         requires dir_in { dir < self.old.dirs }
-        requires limit { count_of self.old cell value dir < 4096 }
+        requires limit { count_of self.old cell value dir < self.old.limit }
         ensures changed { self.new
             ≡ with_count self.old cell value dir (entry_of self.old cell value dir + 1) }
         ensures steps { steps.new ≡ steps.old + 1 }
     {
-        let place = (cell as usize * self.values + value as usize) * self.dirs + dir as usize;
-        let entry = self.counts[place];
-        self.counts[place] = entry + 1;
+        let place = self.place(cell, value, dir as usize);
         steps.tick();
+        let small = self.small[place];
+        if small % HALF == 127 {
+            self.carry(place);
+        } else {
+            self.small[place] = small + 1;
+        }
+    }
+
+    /// One more at a place whose small part has no room for it.
+    fn carry(&mut self, place: usize)
+        requires place_in { place < length self.old.counts }
+        requires limit { slice_index self.old.counts place % 32768 < self.old.limit }
+        requires full { slice_index self.old.counts place % 128 ≡ 127 }
+        ensures changed { self.new ≡ record self.old {
+          counts = slice_set self.old.counts place (slice_index self.old.counts place + 1);
+        } }
+    {
+        let small = self.small[place];
+        let large = self.large[place];
+        self.small[place] = small - SMALL as u8;
+        self.large[place] = large + 1;
     }
 
     /// Marks the counts of a value at a cell.
@@ -250,9 +319,9 @@ impl Counters {
         ensures changed { self.new ≡ with_count self.old cell value dir
             (entry_of self.old cell value dir % 32768 + 32768) }
     {
-        let place = (cell as usize * self.values + value as usize) * self.dirs + dir;
-        let entry = self.counts[place];
-        self.counts[place] = entry % MARK + MARK;
+        let place = self.place(cell, value, dir);
+        let small = self.small[place];
+        self.small[place] = small % HALF + HALF;
     }
 
     /// Takes the marks from the counts of a value at a cell.
@@ -276,20 +345,74 @@ impl Counters {
         ensures changed { self.new ≡ with_count self.old cell value dir
             (entry_of self.old cell value dir % 32768) }
     {
-        let place = (cell as usize * self.values + value as usize) * self.dirs + dir;
-        let entry = self.counts[place];
-        self.counts[place] = entry % MARK;
+        let place = self.place(cell, value, dir);
+        let small = self.small[place];
+        self.small[place] = small % HALF;
     }
 }
 
-/// Whether a count is 0.
-fn has_zero(entries: &[u16]) -> bool
+/// Copies a row of parts to another place.
+fn copy_row(parts: &mut Vec<u8>, start: usize, row: usize, dest: usize)
+    requires start_in { start + row ≤ vec_len parts.old }
+    requires dest_in { dest + row ≤ vec_len parts.old }
+    ensures copied { IsRowCopied parts.old.items parts.new.items start row dest }
+{
+    parts.copy_within(start..start + row, dest);
+}
+
+/// The part at a place, 0 where there is none.
+#[inline]
+fn part_at(parts: &[u8], place: usize) -> u8
+    ensures value { result ≡ slice_index parts.now place }
+{
+    match parts.get(place) {
+        Some(part) => *part,
+        None => 0,
+    }
+}
+
+/// How many large parts there are beside so many small ones: as many, or none where no count needs one.
+fn large_places(problem: &Problem, places: usize) -> usize
+    ensures both { (result ≡ 0) ⊎ (result ≡ places) }
+    ensures few { 0 < places → result ≡ 0 → (v d : ℕ) → length (supports_of problem.now v d)
+        ≤ 127 }
+{
+    if has_long_list(problem) { places } else { 0 }
+}
+
+/// Whether some value has more than 127 supports in a direction.
+fn has_long_list(problem: &Problem) -> bool
+    ensures none { IsFalse result → (v d : ℕ) → length (supports_of problem.now v d) ≤ 127 }
+{
+    for value in 0..problem.values() {
+        if has_long_side(problem, value) {
+            return true;
+        }
+    }
+    false
+}
+
+/// Whether a value has more than 127 supports in a direction.
+fn has_long_side(problem: &Problem, value: u16) -> bool
+    requires value_in { value < values problem.now }
+    ensures none { IsFalse result → (d : ℕ) → length (supports_of problem.now value d) ≤ 127 }
+{
+    for dir in 0..problem.dirs() {
+        if problem.supports(value, dir).len() > SMALL {
+            return true;
+        }
+    }
+    false
+}
+
+/// Whether a small part has no count.
+fn has_zero(entries: &[u8]) -> bool
     ensures none { IsFalse result → (k : ℕ) → k < length entries.now
-        → 0 < slice_index entries.now k % 32768 }
+        → 0 < slice_index entries.now k % 128 }
 {
     let mut found = false;
     for entry in entries {
-        if *entry % MARK == 0 {
+        if *entry % HALF == 0 {
             found = true;
         }
     }

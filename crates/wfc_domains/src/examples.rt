@@ -78,11 +78,11 @@ pub fn counters_are_read()
     ensures inner { count_of numbered 0 1 2 ≡ 106 }
     ensures set { count_of (with_count numbered 1 0 2 7) 1 0 2 ≡ 7 }
     ensures kept { count_of (with_count numbered 1 0 2 7) 1 0 3 ≡ 115 }
-    ensures counts { map (count_of (counts_of corner (in_base corner)) 0 1) (range_with_len 0 4)
+    ensures counts { map (count_of (counts_of corner (in_base corner) 127) 0 1) (range_with_len 0 4)
         ≡ 0 ∷ 2 ∷ 1 ∷ 0 ∷ [] }
-    ensures removed { map (count_of (counts_of corner (in_base corner)) 1 0) (range_with_len 0 4)
+    ensures removed { map (count_of (counts_of corner (in_base corner) 127) 1 0) (range_with_len 0 4)
         ≡ 0 ∷ 0 ∷ 1 ∷ 0 ∷ [] }
-    ensures none { count_of (no_counts corner) 3 2 3 ≡ 0 }
+    ensures none { count_of (no_counts corner 127) 3 2 3 ≡ 0 }
     ensures cost { cost_at corner 0 1 ≡ 3 }
     ensures costs { cost_of corner (unsupported ∷ record cut_first { value = 1 } ∷ []) ≡ 4 }
 {}

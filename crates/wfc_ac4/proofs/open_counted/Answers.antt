@@ -1,6 +1,6 @@
 use Rattle.std.proofs.Common.{ap, ◌∙◌, sym, subst, refl, arith}
 use Rattle.wfc_domains.specs.Domains.{has}
-use Rattle.wfc_domains.specs.Counters.{counts_of}
+use Rattle.wfc_domains.specs.Counters.{FitsTable, counts_of}
 use Rattle.wfc_domains.specs.Store.{mark_of}
 use Rattle.wfc_ac4.specs.Links.{AreLinks}
 use Rattle.wfc_ac4.proofs.Engines.{between-sound}
@@ -12,7 +12,8 @@ settle-requires g c =
     let b = c.in_ok-board.board in
     record {
       fresh = fresh-own b _ c.in_ok-board.ensures.fresh;
-      loaded = c.load.ensures.loaded ∙ ap (λ P. counts_of P (has b.domains)) (sym c.in_ok-board.ensures.problem);
+      loaded = c.load.ensures.loaded ∙ ap (λ P. counts_of P (has b.domains) c.load.new.self.limit) (sym c.in_ok-board.ensures.problem);
+      fits = subst (λ P. FitsTable P c.load.new.self) (sym c.in_ok-board.ensures.problem) c.load.ensures.fits;
       linked = subst (λ P. AreLinks P c.in_ok-links.links) (sym c.in_ok-board.ensures.problem) c.in_ok-links.ensures.linked;
       head = refl;
     }

@@ -1,5 +1,6 @@
-use Rattle.std.proofs.Common.{arith}
+use Rattle.std.proofs.Common.{◌≡◌, ◌+◌, ◌*◌, arith}
 use Rattle.wfc_domains.specs.Log.{Extent}
+use Rattle.wfc_domains.specs.Numbered.{cause_number}
 use Rattle.wfc_domains.proofs.NumberedLemmas.{number-few}
 use Rattle.wfc_domains.proofs.older.removal_number.Goals as goal
 

@@ -6,7 +6,7 @@ use Rattle.wfc_ac4.proofs.Opening.{scanned-none, scanned-done, opening-closed, b
 use Rattle.wfc_ac4.proofs.flight.Flight.settle.Goals as goal
 
 pub scan-requires : goal.scan-requires
-scan-requires g c = record { scanned = scanned-none _ _ _ c.requires.fresh c.requires.loaded }
+scan-requires g c = record { scanned = scanned-none _ _ _ c.requires.fresh c.requires.fits c.requires.loaded }
 
 pub close-requires : goal.close-requires
 close-requires g c = record {
@@ -23,7 +23,7 @@ returns-then-is_alive-clause-opening g c =
 
 pub returns-else-is_alive-clause-between : goal.returns-else-is_alive-clause-between
 returns-else-is_alive-clause-between g c =
-    between-at _ _ _ _ (between-dead _ _ _ c.requires.fresh (λ alive. true≢false (sym (c.is_alive.ensures.value.1 alive) ∙ c.if-is_alive.false)) c.requires.loaded) (sym c.requires.head)
+    between-at _ _ _ _ (between-dead _ _ _ c.requires.fresh (λ alive. true≢false (sym (c.is_alive.ensures.value.1 alive) ∙ c.if-is_alive.false)) c.requires.fits c.requires.loaded) (sym c.requires.head)
 
 pub returns-else-is_alive-clause-closed : goal.returns-else-is_alive-clause-closed
 returns-else-is_alive-clause-closed g c = λ alive. absurd (true≢false (sym (c.is_alive.ensures.value.1 alive) ∙ c.if-is_alive.false))

@@ -4,7 +4,6 @@ use Rattle.wfc_problem.specs.Network.{Network}
 use Rattle.wfc_domains.specs.Board.{Grows}
 use Rattle.wfc_domains.proofs.Boards.{lost-gone, board-inside, board-room, grows-more, grows-lost, grows-none}
 use Rattle.wfc_ac4.specs.Links.{link_places}
-use Rattle.wfc_ac4.proofs.MarkLemmas.{entry-pos}
 use Rattle.wfc_ac4.proofs.Steps.{working-marked, step_removed, step_lowered, working-range}
 use Rattle.wfc_ac4.proofs.LinkLemmas.{is_link, link_at, link_skipped, link-none, length-some, all_links, whole-cost}
 use Rattle.wfc_ac4.proofs.flight.Flight.work_links.Goals as goal
@@ -37,7 +36,7 @@ lower-requires g c =
       counter_cell = omega (arith, s.cell_in, fits.same_cells);
       counter_value = omega (arith, s.value_in, fits.same_values);
       dir_in = omega (arith, s.dir_in, fits.same_dirs);
-      some = entry-pos _ s.above_zero;
+      some = s.above_zero;
     }
 
 pub remove-requires-clause-cell_in : goal.remove-requires-clause-cell_in

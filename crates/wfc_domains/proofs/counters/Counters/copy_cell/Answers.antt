@@ -1,15 +1,81 @@
-use Rattle.std.proofs.Common.{sym, ◌∙◌}
-use Rattle.wfc_domains.proofs.Loading.{row-in, copied-row}
+use Rattle.std.proofs.Common.{◌≡◌, ◌+◌, ◌*◌, ◌<◌, ◌≤◌, length, ap, sym, ◌∙◌, arith, inl, inr}
+use Rattle.wfc_domains.proofs.Loading.{row-in, copied-row, bytes-copied, row_none}
 use Rattle.wfc_domains.proofs.counters.Counters.copy_cell.Goals as goal
 
-pub copy_within-requires-clause-dest_in_bounds : goal.copy_within-requires-clause-dest_in_bounds
-copy_within-requires-clause-dest_in_bounds g c =
+pub copy_row-requires-then-len-gt0-clause-start_in : goal.copy_row-requires-then-len-gt0-clause-start_in
+copy_row-requires-then-len-gt0-clause-start_in g c =
     let a = c.self.inside in
-    let hc = rw (← c.self.view_is) at c.requires.to_in in
-    row-in a.values a.dirs a.cells c.args.from c.args.to a.counts.len (a.counts.ok.0 ∙ c.self.invariant) hc
+    let h = c.self.invariant in
+    let n = a.values in
+    let k = a.dirs in
+    let from = c.args.from in
+    let to = c.args.to in
+    let hf = rw (← c.self.view_is) at c.requires.from_in in
+    let ht = rw (← c.self.view_is) at c.requires.to_in in
+    let ls = a.large.items in
+    let there : length ls ≡ length a.small.items = elim h.both [ inl none ↦ absurd (omega (arith, none, c.if-len-gt0.true, c.len.ensures, a.large.ok.0)) | inr both ↦ both ] in
+    omega (arith, row-in n k a.cells from from (length a.small.items) h.whole hf, there, a.large.ok.0)
 
-pub returns-clause-copied : goal.returns-clause-copied
-returns-clause-copied g c =
+pub copy_row-requires-then-len-gt0-clause-dest_in : goal.copy_row-requires-then-len-gt0-clause-dest_in
+copy_row-requires-then-len-gt0-clause-dest_in g c =
     let a = c.self.inside in
-    let e = c.copy_within.ensures in
-    rw (← c.self.view_is) (copied-row (record { cells = a.cells; values = a.values; dirs = a.dirs; counts = a.counts.items }) _ c.args.from c.args.to e.by_index.0 e.by_index.1 (sym c.copy_within.new.self.ok.0 ∙ e.len ∙ a.counts.ok.0))
+    let h = c.self.invariant in
+    let n = a.values in
+    let k = a.dirs in
+    let from = c.args.from in
+    let to = c.args.to in
+    let hf = rw (← c.self.view_is) at c.requires.from_in in
+    let ht = rw (← c.self.view_is) at c.requires.to_in in
+    let ls = a.large.items in
+    let there : length ls ≡ length a.small.items = elim h.both [ inl none ↦ absurd (omega (arith, none, c.if-len-gt0.true, c.len.ensures, a.large.ok.0)) | inr both ↦ both ] in
+    omega (arith, row-in n k a.cells from to (length a.small.items) h.whole ht, there, a.large.ok.0)
+
+pub invariant_of-self : goal.invariant_of-self
+invariant_of-self g c =
+    let a = c.self.inside in
+    let h = c.self.invariant in
+    let n = a.values in
+    let k = a.dirs in
+    let from = c.args.from in
+    let to = c.args.to in
+    let hf = rw (← c.self.view_is) at c.requires.from_in in
+    let ht = rw (← c.self.view_is) at c.requires.to_in in
+    let ls = a.large.items in
+    let there : length ls ≡ length a.small.items = elim h.both [ inl none ↦ absurd (omega (arith, none, c.if-len-gt0.true, c.len.ensures, a.large.ok.0)) | inr both ↦ both ] in
+    let cs = c.copy_row.ensures.copied in
+    let cl = c.copy_row-then-len-gt0.ensures.copied in
+    record {
+      whole = cs.same_length ∙ h.whole;
+      both = inr (cl.same_length ∙ there ∙ sym cs.same_length);
+      bytes = bytes-copied _ _ _ _ _ cl h.bytes;
+    }
+
+pub returns-then-len-gt0-clause-copied : goal.returns-then-len-gt0-clause-copied
+returns-then-len-gt0-clause-copied g c =
+    let a = c.self.inside in
+    let h = c.self.invariant in
+    let n = a.values in
+    let k = a.dirs in
+    let from = c.args.from in
+    let to = c.args.to in
+    let hf = rw (← c.self.view_is) at c.requires.from_in in
+    let ht = rw (← c.self.view_is) at c.requires.to_in in
+    let ls = a.large.items in
+    let cs = c.copy_row.ensures.copied in
+    let cl = c.copy_row-then-len-gt0.ensures.copied in
+    rw (← c.self.view_is) (copied-row n k a.cells from to a.small.items _ ls _ h.whole hf ht cs cl)
+
+pub returns-else-len-gt0-clause-copied : goal.returns-else-len-gt0-clause-copied
+returns-else-len-gt0-clause-copied g c =
+    let a = c.self.inside in
+    let h = c.self.invariant in
+    let n = a.values in
+    let k = a.dirs in
+    let from = c.args.from in
+    let to = c.args.to in
+    let hf = rw (← c.self.view_is) at c.requires.from_in in
+    let ht = rw (← c.self.view_is) at c.requires.to_in in
+    let ls = a.large.items in
+    let cs = c.copy_row.ensures.copied in
+    let none : length ls ≡ 0 = omega (arith, c.if-len-gt0.false, c.len.ensures, a.large.ok.0) in
+    rw (← c.self.view_is) (copied-row n k a.cells from to a.small.items _ ls ls h.whole hf ht cs (row_none ls _ _ _ none))

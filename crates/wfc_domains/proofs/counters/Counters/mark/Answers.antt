@@ -1,4 +1,6 @@
+use Rattle.std.proofs.Common.{◌∙◌}
 use Rattle.wfc_domains.proofs.Marking.{marks_more}
+use Rattle.wfc_domains.proofs.HalfLemmas.{halves-length}
 use Rattle.wfc_domains.proofs.counters.Counters.mark.Goals as goal
 
 pub loop-dir-preserved : goal.loop-dir-preserved
@@ -7,5 +9,5 @@ loop-dir-preserved c =
     let hv = rw (← c.self.view_is) at c.requires.value_in in
     let h = rw (← c.self.view_is) at c.loop-dir.invariant.marks in
     rw (← c.self.view_is) (record {
-      marks = marks_more _ _ _ _ _ _ h c.self.invariant hc hv c.loop-dir-test.true c.mark_side.ensures.changed;
+      marks = marks_more _ _ _ _ _ _ h (halves-length c.self.inside.small.items c.self.inside.large.items ∙ c.self.invariant.whole) hc hv c.loop-dir-test.true c.mark_side.ensures.changed;
     })

@@ -1,6 +1,6 @@
 use Rattle.std.proofs.Common.{◌≡◌, ◌<◌, refl, sym, ◌∙◌, ap, arith, length}
 use Rattle.wfc_domains.specs.Kept.{extent_in}
-use Rattle.std.specs.Prelude.{Some}
+use Rattle.std.specs.Prelude.{Some, slice_get, vec_len}
 use Rattle.std.proofs.lemmas.Option.{slice_get_read}
 use Rattle.wfc_domains.proofs.NumberedLemmas.{numbered-length, numbered-at}
 use Rattle.wfc_domains.proofs.older.Older.at.Goals as goal

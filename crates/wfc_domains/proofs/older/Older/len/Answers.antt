@@ -1,4 +1,4 @@
-use Rattle.std.proofs.Common.{◌≡◌, arith, length}
+use Rattle.std.proofs.Common.{◌≡◌, sym, ◌∙◌, arith, length}
 use Rattle.wfc_domains.specs.Kept.{extent_in}
 use Rattle.wfc_domains.proofs.NumberedLemmas.{numbered-length}
 use Rattle.wfc_domains.proofs.older.Older.len.Goals as goal

@@ -1,0 +1,22 @@
+use Rattle.std.proofs.Common.{◌≡◌, ◌+◌, ◌*◌, ◌%◌, ◌<◌, length, get_or, set, sym, ◌∙◌, ap, arith}
+use Rattle.wfc_domains.specs.Halves.{entry_from, entries_from, limit_from}
+use Rattle.std.proofs.lemmas.List.{get_or_read}
+use Rattle.wfc_domains.specs.Counters.{Table, place_in}
+use Rattle.wfc_domains.proofs.HalfLemmas.{halves-length, halves-at, halves-set, half-plain}
+use Rattle.wfc_domains.proofs.counters.Counters.unmark_side.Goals as goal
+
+pub returns : goal.returns
+returns c =
+    let a = c.self.inside in
+    let ss = a.small.items in
+    let ls = a.large.items in
+    let i = c.place-place.result in
+    let given = rw (← c.self.view_is) at c.place-place.ensures.inside in
+    let inside : i < length ss = omega (arith, given, halves-length ss ls) in
+    let s = c.index-small.result.now in
+    let read : s ≡ get_or ss i 0 = get_or_read ss i s inside c.index-small.ensures 0 in
+    let l = get_or ls i 0 in
+    let at : get_or (entries_from ss ls) i 0 ≡ entry_from s l = halves-at ss ls i inside ∙ ap (λ x. entry_from x l) (sym read) in
+    let e = rw (← c.self.view_is) at c.place-place.ensures.value in
+    let counts = halves-set ss ls i (s % 128) ∙ ap (set (entries_from ss ls) i) (half-plain s l (c.self.invariant.bytes i) ∙ ap (λ x. x % 32768) (sym at)) ∙ ap (λ k. set (entries_from ss ls) k (get_or (entries_from ss ls) k 0 % 32768)) e in
+    rw (← c.self.view_is) (record { changed = λ j. record { cells = a.cells; values = a.values; dirs = a.dirs; limit = limit_from ls; counts = counts j } })

@@ -1,0 +1,21 @@
+-- What holds of the parts that counters are kept in.
+use Rattle.std.specs.Prelude.{◌≡◌, ℕ, ◌*◌, ◌<◌, ◌⊎◌, length, slice_index}
+use Rattle.wfc_domains.specs.Counters.{Table}
+use Rattle.wfc_domains.specs.Halves.{entries_from, limit_from}
+use Rattle.wfc_domains.specs.declared.counters.Counters.TheInside.{Inside}
+
+-- what contracts see of them
+abbrev pub table_of : Inside → Table
+table_of a = record {
+  cells = a.cells;
+  values = a.values;
+  dirs = a.dirs;
+  limit = limit_from a.large.items;
+  counts = entries_from a.small.items a.large.items;
+}
+
+-- each entry has a small part, and each or none a large one; these have eight bits
+pub record AreParts (a : Inside) : Type 0 where
+  pub whole : length a.small.items ≡ (a.cells * a.values) * a.dirs
+  pub both : (length a.large.items ≡ 0) ⊎ (length a.large.items ≡ length a.small.items)
+  pub bytes : (i : ℕ) → slice_index a.large.items i < 256
