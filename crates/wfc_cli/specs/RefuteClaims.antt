@@ -33,7 +33,8 @@ pub record RefuteWork (rules : List Rule) (asked : RequestView) (files : List Fi
   pub rule : Rule
   pub first : chosen asked.rule rules ≡ Some rule
 
--- a picture of palette numbers of the size asked for, each of whose windows is learned from the sample, and which the pins and bans of the pins file meet
+-- a picture of palette numbers of the size asked for, each of whose windows is learned from the sample, and which the pins and bans
+-- of the pins file meet
 abbrev pub IsLegalOf : {rules : List Rule} {files : List File} (asked : RequestView) → RefuteWork rules asked files → Raster → Type 0
 IsLegalOf asked work m = IsLegalPicture work.task.sample.picture (rules_of asked) work.task.problem.pins asked.width asked.height m
 
@@ -44,23 +45,27 @@ refute_status outcome.Map = 1
 refute_status outcome.Spent = 2
 
 -- these are all lines of the run asked for, which has this outcome
-abbrev pub AreToldBy : {rules : List Rule} {files : List File} (asked : RequestView) → RefuteWork rules asked files → Outcome → List Line → Type 0
+abbrev pub AreToldBy : {rules : List Rule} {files : List File} (asked : RequestView) → RefuteWork rules asked files
+    → Outcome → List Line → Type 0
 AreToldBy asked work outcome lines = IsToldBy work.rule asked.budget work.P (start (seeded asked.seed)) outcome lines
 
 -- these are its first lines
-abbrev pub AreBegunBy : {rules : List Rule} {files : List File} (asked : RequestView) → RefuteWork rules asked files → List Line → Type 0
+abbrev pub AreBegunBy : {rules : List Rule} {files : List File} (asked : RequestView) → RefuteWork rules asked files
+    → List Line → Type 0
 AreBegunBy asked work lines = IsBegunBy work.rule asked.budget work.P (start (seeded asked.seed)) lines
 
--- what the text of a run is that ends so: without a map that of a proof that closes the base domains; else that of one which follows from them, with
--- the line of the end behind it
+-- what the text of a run is that ends so: without a map that of a proof that closes the base domains; else that of one which
+-- follows from them, with the line of the end behind it
 abbrev pub IsRunText : Network → Shape → Outcome → List ℕ → Type 0
 IsRunText P shape outcome.NoMap bytes = IsProofText P shape bytes
 IsRunText P shape outcome.Map bytes = IsJournalText P shape Found bytes
 IsRunText P shape outcome.Spent bytes = IsJournalText P shape Out bytes
 
--- the text of the lines of a run was written, and finished; they try what the run chooses, in order, and name as many empty cells as it has dead states;
+-- the text of the lines of a run was written, and finished; they try what the run chooses, in order, and name as many empty cells
+-- as it has dead states;
 -- without a map it is the text of a proof, and no picture is legal; a spent budget is below the volume
-pub record WritesRun {rules : List Rule} {files : List File} (asked : RequestView) (work : RefuteWork rules asked files) (before after : Devices) (status : ℕ) : Type 0 where
+pub record WritesRun {rules : List Rule} {files : List File} (asked : RequestView) (work : RefuteWork rules asked files)
+    (before after : Devices) (status : ℕ) : Type 0 where
   pub outcome : Outcome
   pub lines : List Line
   pub told : AreToldBy asked work outcome lines
@@ -78,7 +83,8 @@ WritesRefutation rules words before after status =
     → (work : RefuteWork rules asked files) × WritesRun asked work before after status
 
 -- a front was written of the text of all lines of the run, or of its first ones
-pub record IsRunFront {rules : List Rule} {files : List File} (asked : RequestView) (work : RefuteWork rules asked files) (before after : Devices) : Type 0 where
+pub record IsRunFront {rules : List Rule} {files : List File} (asked : RequestView) (work : RefuteWork rules asked files)
+    (before after : Devices) : Type 0 where
   pub lines : List Line
   pub told : ((outcome : Outcome) × AreToldBy asked work outcome lines) ⊎ AreBegunBy asked work lines
   pub count : ℕ
