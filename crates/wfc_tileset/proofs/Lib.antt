@@ -4,6 +4,7 @@ pub mod MarkLemmas
 pub mod TileSetLemmas
 pub mod SpellingLemmas
 pub mod DocumentLemmas
+pub mod DocumentSetLemmas
 pub mod CallerLemmas
 pub mod NameLemmas
 pub mod AlikeLemmas
