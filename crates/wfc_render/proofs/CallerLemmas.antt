@@ -1,4 +1,5 @@
 -- What callers cite of layouts and of maps that are written.
+pub use Rattle.wfc_render.proofs.TiledMapLemmas.{written_tiles}
 use Rattle.std.proofs.Common.{◌≡◌, ℕ, ◌*◌, ◌/◌, ◌<◌, List, length, map, true, None, Some, Option, Ok, ap, sym, ◌∙◌, subst, arith}
 use Rattle.std.proofs.lemmas.List.{length-map}
 use Rattle.std.proofs.lemmas.List.Elements.{All-map}

@@ -1,5 +1,5 @@
 -- Maps of colours that are written pixel by pixel.
-use Rattle.std.proofs.Common.{◌≡◌, ℕ, ◌+◌, ◌<◌, ◌≤◌, List, [], ◌∷◌, ◌++◌, length, take, map, get_or, true, Some, Ok, codes, flat_map, refl, ap, sym, ◌∙◌, subst, append_assoc, append-nil, arith}
+use Rattle.std.proofs.Common.{◌≡◌, ℕ, ◌+◌, ◌<◌, ◌≤◌, List, [], ◌∷◌, ◌++◌, length, take, get_or, true, Some, Ok, codes, flat_map, refl, ap, sym, ◌∙◌, subst, append_assoc, append-nil}
 use Rattle.std.proofs.lemmas.List.{take_all, take_more, map-append}
 use Rattle.std.proofs.lemmas.List.Elements.{All-get_or}
 use Rattle.std.proofs.lemmas.Grind.{flat_map-append}
@@ -9,8 +9,8 @@ use Rattle.wfc_picture.specs.declared.symbol.Kind.{Kind}
 use Rattle.wfc_picture.specs.declared.symbol.Kind.TheVariants as kinds
 use Rattle.wfc_picture.specs.declared.symbol.Symbol.{Symbol}
 use Rattle.wfc_picture.specs.declared.symbol.Symbol.TheVariants.{Char, Rgb}
-use Rattle.wfc_ppm.specs.Ppm.{PpmView, channels, head_lines, is_within, p3_text, p6_text, pixel_bytes, pixel_line, raw_bytes, sample_bytes, samples_of}
-use Rattle.wfc_model.specs.Raster.{Raster, height_of, numbers_of}
+use Rattle.wfc_ppm.specs.Ppm.{PpmView, channels, head_lines, is_within, p6_text, pixel_bytes, pixel_line, raw_bytes, sample_bytes, samples_of}
+use Rattle.wfc_model.specs.Raster.{Raster, height_of}
 use Rattle.wfc_render.specs.Colours.{head_in, pixel_in, pixels_in, ppm_text}
 use Rattle.wfc_render.specs.Layout.{layout_of}
 use Rattle.wfc_render.specs.Map.{IsWritten, colour_of, coloured_map, colours_of, is_of_kind, maxval_of, symbol_at, text_in}
@@ -24,19 +24,17 @@ raw_pixels maxval [] = refl
 raw_pixels maxval (p ∷ pixels) = flat_map-append (sample_bytes maxval) (channels p) (samples_of pixels) ∙ ap (λ t. pixel_bytes maxval p ++ t) (raw_pixels maxval pixels)
 
 -- a raw text is its head and its pixels
-raw_parts : (maxval : ℕ) (palette : List Symbol) (m : Raster)
-    → p6_text (coloured_map maxval palette m) ≡ (codes "P6\n" ++ head_lines m.width (height_of m) maxval) ++ flat_map (pixel_bytes maxval) (colours_of palette (numbers_of m))
-raw_parts maxval palette m =
-    ap (λ t. codes "P6\n" ++ (head_lines m.width (height_of m) maxval ++ t)) (raw_pixels maxval (colours_of palette (numbers_of m)))
-    ∙ sym (append_assoc (codes "P6\n") (head_lines m.width (height_of m) maxval) (flat_map (pixel_bytes maxval) (colours_of palette (numbers_of m))))
+raw_parts : (ppm : PpmView) → p6_text ppm ≡ (codes "P6\n" ++ head_lines ppm.width ppm.height ppm.maxval) ++ flat_map (pixel_bytes ppm.maxval) ppm.pixels
+raw_parts ppm =
+    ap (λ t. codes "P6\n" ++ (head_lines ppm.width ppm.height ppm.maxval ++ t)) (raw_pixels ppm.maxval ppm.pixels)
+    ∙ sym (append_assoc (codes "P6\n") (head_lines ppm.width ppm.height ppm.maxval) (flat_map (pixel_bytes ppm.maxval) ppm.pixels))
 
 -- a text is its head and its pixels
-text_parts : (form : Form) (maxval : ℕ) (palette : List Symbol) (m : Raster)
-    → ppm_text form (coloured_map maxval palette m) ≡ head_in form m.width (height_of m) maxval ++ pixels_in form maxval palette (numbers_of m)
-text_parts P3 maxval palette m = sym (append_assoc (codes "P3\n") (head_lines m.width (height_of m) maxval) (flat_map pixel_line (colours_of palette (numbers_of m))))
-text_parts P6 maxval palette m = raw_parts maxval palette m
-text_parts Grid maxval palette m = raw_parts maxval palette m
-text_parts Cells maxval palette m = raw_parts maxval palette m
+pub ppm_parts : (form : Form) (ppm : PpmView) → ppm_text form ppm ≡ head_in form ppm.width ppm.height ppm.maxval ++ flat_map (pixel_in form ppm.maxval) ppm.pixels
+ppm_parts P3 ppm = sym (append_assoc (codes "P3\n") (head_lines ppm.width ppm.height ppm.maxval) (flat_map pixel_line ppm.pixels))
+ppm_parts P6 ppm = raw_parts ppm
+ppm_parts Grid ppm = raw_parts ppm
+ppm_parts Cells ppm = raw_parts ppm
 
 -- some pixels and then more
 pixels_append : (form : Form) (maxval : ℕ) (palette : List Symbol) (xs ys : List ℕ) → pixels_in form maxval palette (xs ++ ys) ≡ pixels_in form maxval palette xs ++ pixels_in form maxval palette ys
@@ -78,7 +76,7 @@ pub pixel_rows_all : (form : Form) (maxval : ℕ) (palette : List Symbol) (m : R
 pixel_rows_all form maxval palette m y text past so_far =
     so_far
     ∙ ap (λ rows. head_in form m.width (height_of m) maxval ++ pixels_in form maxval palette (concat rows)) (take_all y m.rows past)
-    ∙ sym (text_parts form maxval palette m)
+    ∙ sym (ppm_parts form (coloured_map maxval palette m))
 
 -- a colour of a palette has samples within maxval
 pub colour_within : (maxval : ℕ) (palette : List Symbol) (n : ℕ) → AllPass (is_of_kind (kinds.Ppm maxval)) palette → n < length palette → is_within maxval (colour_of (symbol_at palette n)) ≡ true

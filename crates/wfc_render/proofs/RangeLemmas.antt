@@ -9,7 +9,7 @@ use Rattle.wfc_lists.proofs.Ranges.{range_more}
 use Rattle.wfc_render.specs.Numbers.{blank_numbers, spaced_numbers}
 
 -- the numbers below one more
-range_next : (n : ℕ) → range_with_len 0 (n + 1) ≡ range_with_len 0 n ++ n ∷ []
+pub range_next : (n : ℕ) → range_with_len 0 (n + 1) ≡ range_with_len 0 n ++ n ∷ []
 range_next n = ap (range_with_len 0) (add-one n) ∙ range_more 0 n ∙ ap (λ k. range_with_len 0 n ++ k ∷ []) (zero-add n)
 
 -- one number more

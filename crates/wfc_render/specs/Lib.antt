@@ -1,10 +1,14 @@
 pub mod Block
 pub mod Colours
+pub mod Drawn
 pub mod Gathering
 pub mod Layout
 pub mod Learned
+pub mod LearnedTiles
 pub mod Map
 pub mod Numbers
+pub mod SmallTiles
+pub mod Tiled
 pub use Rattle.wfc_domains.specs.Domains
 pub use Rattle.wfc_grid.specs.Spelling
 pub use Rattle.wfc_model.specs.Raster

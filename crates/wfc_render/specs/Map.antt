@@ -1,7 +1,6 @@
 -- The text of a map.
-use Rattle.std.specs.Prelude.{◌≡◌, ℕ, ◌<◌, Bool, false, List, [], length, map, All, slice_index_or}
+use Rattle.std.specs.Prelude.{◌≡◌, ℕ, ◌<◌, List, length, map, All, slice_index_or}
 use Rattle.std.specs.List.{AllPass}
-use Rattle.wfc_grid.specs.Grid.{is_cell}
 use Rattle.wfc_grid.specs.Spelling.{grid_text}
 use Rattle.wfc_model.specs.Raster.{Raster, IsSized, height_of, numbers_of}
 use Rattle.wfc_picture.specs.declared.symbol.Colour.{Colour}
@@ -9,18 +8,13 @@ use Rattle.wfc_picture.specs.declared.symbol.Kind.{Kind}
 use Rattle.wfc_picture.specs.declared.symbol.Kind.TheVariants as kinds
 use Rattle.wfc_picture.specs.declared.symbol.Symbol.{Symbol}
 use Rattle.wfc_picture.specs.declared.symbol.Symbol.TheVariants.{Char, Rgb}
-use Rattle.wfc_ppm.specs.Ppm.{PpmView, is_within, p3_text, p6_text}
+use Rattle.wfc_ppm.specs.Ppm.{PpmView, p3_text, p6_text}
+pub use Rattle.wfc_tileset.specs.Shown.{is_of_kind}
 use Rattle.wfc_render.specs.Layout.{IsLayout}
 use Rattle.wfc_render.specs.Numbers.{spaced_numbers}
 use Rattle.wfc_render.specs.declared.form.Form.{Form}
 use Rattle.wfc_render.specs.declared.form.Form.TheVariants.{P6, P3, Grid, Cells}
 use Rattle.wfc_render.specs.declared.form.Layout.{Layout}
-
--- whether a sample of this kind can show the symbol
-abbrev pub is_of_kind : Kind → Symbol → Bool
-is_of_kind kinds.Grid (Char byte) = is_cell byte
-is_of_kind (kinds.Ppm maxval) (Rgb colour) = is_within maxval colour
-is_of_kind _ _ = false
 
 -- the symbol with a number, and a blank where there is none
 abbrev pub symbol_at : List Symbol → ℕ → Symbol

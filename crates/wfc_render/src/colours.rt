@@ -51,9 +51,10 @@ pub(crate) fn colour_rows(
 }
 
 /// How many bytes a text has at most.
-fn room(form: Form, maxval: u16, width: u32, height: u32) -> usize {
+pub(crate) fn room(form: Form, maxval: u16, width: u32, height: u32) -> usize {
     let pixel = match form {
         Form::P3 => line_room(maxval),
+        Form::Grid => 2,
         _ if maxval < 256 => 3,
         _ => 6,
     };
@@ -62,7 +63,7 @@ fn room(form: Form, maxval: u16, width: u32, height: u32) -> usize {
 }
 
 /// Writes what stands before the pixels behind the text.
-fn push_head(
+pub(crate) fn push_head(
     text: &mut Vec<u8>,
     form: Form,
     width: u32,
@@ -101,7 +102,12 @@ fn push_colours(
 
 /// Writes a pixel behind the text.
 #[inline]
-fn push_pixel(text: &mut Vec<u8>, form: Form, maxval: u16, colour: Colour) -> Result<(), NoMemory>
+pub(crate) fn push_pixel(
+    text: &mut Vec<u8>,
+    form: Form,
+    maxval: u16,
+    colour: Colour,
+) -> Result<(), NoMemory>
     requires within { is_within maxval colour ≡ true }
     ensures pixel { OnOk result (text.new.items ≡ text.old.items ++ pixel_in form maxval colour) }
 {
@@ -117,7 +123,15 @@ fn colour(palette: &Palette, number: u32) -> Colour
     requires number_in { number < length palette.now }
     ensures value { result ≡ colour_of (symbol_at palette.now number) }
 {
-    match palette.symbol(number) {
+    colour_of(palette.symbol(number))
+}
+
+/// The colour of a symbol, and black for a character.
+#[inline]
+pub(crate) fn colour_of(symbol: Symbol) -> Colour
+    ensures value { result ≡ colour_of symbol }
+{
+    match symbol {
         Symbol::Char(_) => Colour { r: 0, g: 0, b: 0 },
         Symbol::Rgb(colour) => colour,
     }

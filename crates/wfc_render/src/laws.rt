@@ -8,6 +8,11 @@ ghost use Rattle.wfc_picture.specs.declared.symbol.Symbol.TheVariants.{Char};
 ghost use Rattle.wfc_render.specs.Block.{block_text, domain_text};
 ghost use Rattle.wfc_render.specs.Layout.{IsLayout, form_for, forms_of, layout_of, pixels_of};
 ghost use Rattle.wfc_render.specs.Learned.{learned_text};
+ghost use Rattle.wfc_render.specs.LearnedTiles.{learned_tiles_text};
+ghost use Rattle.wfc_render.specs.Tiled.{tiles_in};
+ghost use Rattle.wfc_tileset.specs.Samples.{lines, one_taken};
+ghost use Rattle.wfc_render.specs.SmallTiles.{four_shown_tiles};
+ghost use Rattle.wfc_model.specs.Raster.{raster_of};
 ghost use Rattle.wfc_render.specs.Map.{is_of_kind, symbol_at, text_in};
 ghost use Rattle.wfc_render.specs.Numbers.{spaced_numbers};
 ghost use Rattle.wfc_render.specs.declared.form.Form.{Form};
@@ -105,4 +110,18 @@ pub fn blocks_by_example()
     ensures dead { block_text 7 None 3 2 ≡ codes "step 7\ndead\n" }
     ensures steps { domain_text (Some nat_lt ∷ None ∷ []) 3 2
         ≡ codes "step 0\n0: 1 2\n1: 2\nstep 1\ndead\n" }
+{}
+
+/// A map of tiles by example: the second variant of a tile of four characters and a hole.
+pub fn tile_maps_by_example()
+    ensures grid { tiles_in Grid four_shown_tiles (raster_of 2 1 (1 ∷ 65535 ∷ [])) ≡ codes "bd  \nac  \n" }
+    ensures cells { tiles_in Cells four_shown_tiles (raster_of 2 1 (1 ∷ 65535 ∷ [])) ≡ codes "1 -\n" }
+    ensures plain { tiles_in P3 one_taken (raster_of 1 2 (65535 ∷ 0 ∷ []))
+        ≡ codes "P3\n1 2\n9\n0 0 0\n1 2 3\n" }
+{}
+
+/// The text of a straight line that may go on to the right.
+pub fn learned_tiles_by_example()
+    ensures lines { learned_tiles_text lines
+        ≡ codes "tiles 1\nvariants 2\n0 1: /0\n1 1: /1\nacross 1\n0 0\ndown 1\n1 1\n" }
 {}

@@ -9,12 +9,16 @@ pub mod laws;
 mod layouts;
 mod learned;
 mod maps;
+mod tile_texts;
+mod tiled;
 
 pub use blocks::write_block;
 pub use form::{Form, Layout, RenderFault};
 pub use layouts::{MAX_MAP_PIXELS, MAX_OUTPUT_SIDE, MAX_TILE_SIDE, layout};
 pub use learned::learned_overlap;
 pub use maps::picture_bytes;
+pub use tile_texts::learned_tiles;
+pub use tiled::tile_bytes;
 
 #[cfg(test)]
 mod tests;

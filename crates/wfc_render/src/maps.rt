@@ -71,7 +71,15 @@ fn byte(palette: &Palette, number: u32) -> u8
     requires number_in { number < length palette.now }
     ensures value { result ≡ byte_of (symbol_at palette.now number) }
 {
-    match palette.symbol(number) {
+    byte_of(palette.symbol(number))
+}
+
+/// The byte of a character, and a blank for a colour.
+#[inline]
+pub(crate) fn byte_of(symbol: Symbol) -> u8
+    ensures value { result ≡ byte_of symbol }
+{
+    match symbol {
         Symbol::Char(byte) => byte,
         Symbol::Rgb(_) => b' ',
     }
