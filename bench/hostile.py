@@ -1,0 +1,549 @@
+#!/usr/bin/env python3
+"""Runs the built program against refused memory, failing devices, hostile files and every limit.
+
+    bench/hostile.py [--wfc PROGRAM] [--only WORD] [--slow]
+
+PROGRAM is crates/wfc_app/out/wfc_app if it isn't given: the program that `rt run` or `./wfc` built. Each case runs it as a user would, in
+an empty folder of its own, and compares the status, the standard output and the error stream with what docs/commands.md says. No
+case may end by a signal, or take more than a minute, but those of --slow.
+
+allocations  each request for memory is refused in turn, and then it and all behind it: a refused run ends with status 6, an empty
+             output and the line of memory, or answers as it does with memory. bench/refuse.c, which is loaded before the program, counts
+             and refuses the requests; cc builds it.
+memory       the program under a limit of its address space (ulimit -v), at twenty sizes from the least at which it starts to one at
+             which it answers.
+devices      full, closed and missing devices; names that are no files.
+limits       each limit of docs/commands.md and docs/formats.md at its last value and one past it.
+
+--only WORD runs the cases whose name has the word. --slow adds the refutations at the limit of their length, which take 4.3 GB of disk and
+ten minutes each at most. What needs another user is left out where the script doesn't run as root. Each case is one line; the last line counts
+them. Status 0 where all are right, else 1.
+"""
+import argparse
+import os
+import resource
+import shutil
+import signal
+import stat
+import subprocess
+import sys
+import tempfile
+import threading
+import time
+
+sys.path.insert(0, os.path.dirname(os.path.abspath(__file__)))
+import bench  # noqa: E402  the windows of a map, as the reference has them
+
+HERE = os.path.dirname(os.path.abspath(__file__))
+ROOT = os.path.dirname(HERE)
+SECONDS = 60
+SLOW_SECONDS = 600
+NOBODY = 65534
+FILE_LIMIT = 16_777_216
+REFUTATION_LIMIT = 4_294_967_296
+TOWN = "".join("".join("#" if x % 4 == 0 or y % 4 == 0 else "." for x in range(16)) + "\n" for y in range(16))
+FILL_TOWN = "fill town.txt 3 48 48 --symmetry 8 --wrap-in --seed 1 --budget 0"
+HEAD = "wfc-refutation 1\ncells 2 values 1\n"
+PROOF = HEAD + "r 0 0 2\nx 0\nq\n"
+SMALL = {
+    "chk.txt": "ab\nba\n",
+    "a.txt": "a\n",
+    "six.txt": "aaaaaa\n" * 6,
+    "town.txt": TOWN,
+    "two.steps": "choose 0 0\nchoose 2 1\nundo\nundo\n",
+    "one.ref": PROOF,
+}
+STEPS = (
+    "step 0\n0: 0 1\n1: 0 1\n2: 0 1\nstep 1\n0: 0\n1: 1\n2: 0\nstep 2\ndead\n"
+    "step 3\n0: 0\n1: 1\n2: 0\nstep 4\n0: 0 1\n1: 0 1\n2: 0 1\n"
+)
+OUT_FAILED = "wfc: device Failed out\n"
+NO_MEMORY = (6, b"", b"wfc: out of memory\n")
+
+
+class Bench:
+    """The program, the folder that the cases run in, and how many of them were right."""
+
+    def __init__(self, program, folder, only):
+        self.folder, self.only = folder, only
+        self.program = os.path.join(folder, "wfc")
+        shutil.copyfile(program, self.program)
+        os.chmod(self.program, 0o755)
+        os.chmod(folder, 0o755)
+        self.right = self.wrong = 0
+
+    def wants(self, name):
+        return not self.only or self.only in name
+
+    def path(self, name):
+        return os.path.join(self.folder, name)
+
+    def write(self, name, content, size=None):
+        """Writes a file; with a size the rest of it is a hole."""
+        with open(self.path(name), "wb") as file:
+            file.write(content if isinstance(content, bytes) else content.encode())
+            if size is not None:
+                file.truncate(size)
+
+    def run(self, words, stdout=None, stderr=None, environment=None, before=None, hold=(), seconds=SECONDS):
+        """Runs the program. The answer is its status, or why there is none, and what it wrote."""
+        words = [word if isinstance(word, bytes) else word.encode() for word in words]
+        told = subprocess.Popen(
+            [self.program.encode(), *words],
+            cwd=self.folder,
+            env=environment or {},
+            stdin=subprocess.DEVNULL,
+            stdout=subprocess.PIPE if stdout is None else stdout,
+            stderr=subprocess.PIPE if stderr is None else stderr,
+            preexec_fn=before,
+            pass_fds=hold,
+        )
+        try:
+            out, err = told.communicate(timeout=seconds)
+        except subprocess.TimeoutExpired:
+            told.kill()
+            told.communicate()
+            return "it did not end", b"", b""
+        status = told.returncode if told.returncode >= 0 else signal.Signals(-told.returncode).name
+        return status, out or b"", err or b""
+
+    def tell(self, name, fault):
+        if fault:
+            self.wrong += 1
+        else:
+            self.right += 1
+        print(f"{'wrong' if fault else 'right'}  {name}{': ' + fault if fault else ''}", flush=True)
+
+    def check(self, name, line, status, out="", err="", **how):
+        """One case: the words of a line, and what comes of it. An `out` that is no text is a test of the bytes."""
+        if not self.wants(name):
+            return
+        words = line.split() if isinstance(line, str) else line
+        begun = time.monotonic()
+        got = self.run(words, **how)
+        took = time.monotonic() - begun
+        self.tell(f"{name} ({took:.1f} s)", difference(got, status, out, err))
+
+
+def shortened(bytes_):
+    return repr(bytes_ if len(bytes_) <= 80 else bytes_[:60] + b".." + bytes_[-10:])
+
+
+def difference(got, status, out, err):
+    """Says how an answer differs from what is wanted, or nothing."""
+    if got[0] != status:
+        return f"status {got[0]} and not {status}, err {shortened(got[2])}"
+    if callable(out):
+        if not out(got[1]):
+            return f"output {shortened(got[1])}"
+    elif got[1] != out.encode():
+        return f"output {shortened(got[1])}"
+    if got[2] != err.encode():
+        return f"err {shortened(got[2])}"
+    return ""
+
+
+# ---- allocations
+
+
+def is_town(out):
+    """Whether these bytes are a legal map of 48 by 48 of the town."""
+    rows = out.decode("latin-1").splitlines()
+    if len(rows) != 48 or any(len(row) != 48 for row in rows):
+        return False
+    known = {form for window in bench.windows(TOWN.split(), 3, True) for form in bench.forms(window, 8)}
+    return all(window in known for window in bench.windows(rows, 3, False))
+
+
+ROWS = [
+    ("a grid", "fill chk.txt 2 2 2", lambda out: out == b"ab\nba\n"),
+    ("domains", "domains chk.txt 2 4 2 --wrap-in --steps two.steps", lambda out: out == STEPS.encode()),
+    ("a town", FILL_TOWN, is_town),
+    ("a refutation", "refute chk.txt 2 3 2 --format 1", lambda out: out == PROOF.encode()),
+    ("a check", "check chk.txt 2 3 2 one.ref", lambda out: out == b"accepted\n"),
+    ("learning", "learn chk.txt 2 --wrap-in", lambda out: out.startswith(b"overlap 2\ncolours 2\n0 a\n1 b\npatterns 2\n")),
+]
+
+
+def run_refused(it, library, words, at, on):
+    """Runs the program with a request refused; answers what comes of it and how many requests there were."""
+    read, write = os.pipe()
+    environment = {"LD_PRELOAD": library, "REFUSE_AT": str(at), "REFUSE_TELL": str(write)}
+    if on:
+        environment["REFUSE_ON"] = "1"
+    try:
+        got = it.run(words, environment=environment, hold=(write,))
+    finally:
+        os.close(write)
+    with os.fdopen(read, "rb") as told:
+        asked = told.read()
+    return got, int(asked or b"0")
+
+
+def allocations(it):
+    library = it.path("refuse.so")
+    subprocess.run(["cc", "-O2", "-shared", "-fPIC", "-o", library, f"{HERE}/refuse.c", "-ldl"], check=True)
+    for name, line, is_right in ROWS:
+        name = f"allocations: {name}"
+        if not it.wants(name):
+            continue
+        words = line.split()
+        whole, count = run_refused(it, library, words, 0, False)
+        fault = "" if whole[0] == 0 and is_right(whole[1]) and not whole[2] else f"with memory {whole[0]} {shortened(whole[2])}"
+        if not fault and count == 0:
+            fault = "no request for memory was seen"
+        short = 0
+        for at in range(1, count + 1):
+            for on in (False, True):
+                got, asked = run_refused(it, library, words, at, on)
+                if asked < at:
+                    fault = fault or f"request {at} of {count} was not made"
+                if got == NO_MEMORY:
+                    short += 1
+                elif got != whole:
+                    fault = fault or f"request {at}{' and on' if on else ''}: {got[0]} {shortened(got[1])} {shortened(got[2])}"
+        fault = fault or ("" if short else "no run was out of memory")
+        it.tell(f"{name}: {2 * count} runs of {count} requests, {short} out of memory, the others with the whole answer", fault)
+
+
+# ---- memory
+
+
+def limited(kilobytes):
+    def before():
+        resource.setrlimit(resource.RLIMIT_AS, (kilobytes * 1024, kilobytes * 1024))
+
+    return before
+
+
+def least(holds, low, high):
+    """The least number above `low`, up to `high`, of which it holds, where it holds of all behind it."""
+    while high - low > 1:
+        middle = (low + high) // 2
+        if holds(middle):
+            high = middle
+        else:
+            low = middle
+    return high
+
+
+MEMORY = [
+    ("fill", "fill town.txt 3 200 200 --symmetry 8 --wrap-in --seed 1"),
+    ("learn", "learn large.txt 6 --symmetry 8 --wrap-in"),
+    ("domains", "domains chk.txt 2 400 400 --wrap-in"),
+    ("refute", "refute chk.txt 2 101 101 --wrap-in --wrap-out"),
+]
+
+
+def memory(it):
+    it.write("large.txt", "".join("".join("ab"[(x * x + y * y * 3 + x * y) % 7 % 2] for x in range(300)) + "\n" for y in range(300)))
+    start = least(lambda kb: it.run(["paint"], before=limited(kb))[0] == 3, 512, 1 << 20)
+    for name, line in MEMORY:
+        name = f"memory: {name}"
+        if not it.wants(name):
+            continue
+        words = line.split()
+        whole = it.run(words)
+        fault = "" if whole[0] == 0 else f"with memory {whole[0]} {shortened(whole[2])}"
+        enough = least(lambda kb: it.run(words, before=limited(kb)) == whole, start, 1 << 21)
+        sizes = [start + (enough - start) * k // 19 for k in range(20)]
+        short = 0
+        for kb in sizes:
+            got = it.run(words, before=limited(kb))
+            if got == NO_MEMORY:
+                short += 1
+            elif got != whole:
+                fault = fault or f"at {kb} kB: {got[0]} {shortened(got[1])} {shortened(got[2])}"
+        fault = fault or ("" if short else "no size was too small")
+        it.tell(f"{name}: {short} of 20 sizes from {sizes[0]} to {sizes[-1]} kB out of memory, the others with the whole answer", fault)
+
+
+# ---- devices
+
+
+def closing(*numbers):
+    def before():
+        for number in numbers:
+            os.close(number)
+
+    return before
+
+
+def as_nobody():
+    os.setgroups([])
+    os.setgid(NOBODY)
+    os.setuid(NOBODY)
+
+
+def cut_pipe(count):
+    """The end for writing of a pipe whose reader goes away behind so many bytes, and what waits for it."""
+    read, write = os.pipe()
+
+    def drain():
+        left = count
+        while left > 0:
+            got = os.read(read, left)
+            if not got:
+                break
+            left -= len(got)
+        os.close(read)
+
+    if count == 0:
+        os.close(read)
+        return write, lambda: None
+    reader = threading.Thread(target=drain)
+    reader.start()
+    return write, reader.join
+
+
+def devices_out(it):
+    """What stands in the place of the output and of the error stream."""
+    line, no_map = "fill chk.txt 2 2 2", "fill chk.txt 2 3 2"
+    large = "fill a.txt 1 4096 2048"
+    with open("/dev/full", "wb") as full:
+        it.check("devices: /dev/full as output", line, 5, err=OUT_FAILED, stdout=full)
+        it.check("devices: /dev/full as output of refute", "refute chk.txt 2 3 2", 5, err=OUT_FAILED, stdout=full)
+        it.check("devices: /dev/full as error stream", no_map, 1, stderr=full)
+        it.check("devices: /dev/full as both", line, 5, stdout=full, stderr=full)
+    for name, words, count in (("a pipe without a reader", line, 0), ("a pipe whose reader goes away", large, 1000)):
+        write, join = cut_pipe(count)
+        it.check(f"devices: {name} as output", words, 5, err=OUT_FAILED, stdout=write)
+        os.close(write)
+        join()
+    write, join = cut_pipe(0)
+    it.check("devices: a pipe without a reader as error stream", no_map, 1, stderr=write)
+    os.close(write)
+    it.check("devices: a closed output", line, 5, err=OUT_FAILED, before=closing(1))
+    it.check("devices: a closed output, nothing to write", no_map, 1, err="wfc: no map\n", before=closing(1))
+    it.check("devices: a closed error stream", no_map, 1, before=closing(2))
+    it.check("devices: a closed input", line, 0, "ab\nba\n", before=closing(0))
+    it.check("devices: all three closed", line, 5, before=closing(0, 1, 2))
+    it.check("devices: all three closed, nothing to write", no_map, 1, before=closing(0, 1, 2))
+    with open(it.path("chk.txt"), "rb") as unwritable:
+        it.check("devices: an output that can't be written", line, 5, err=OUT_FAILED, stdout=unwritable)
+
+
+def devices_in(it):
+    """What stands in the place of a file."""
+    os.mkdir(it.path("folder"))
+    it.write("secret.txt", "ab\n")
+    os.chmod(it.path("secret.txt"), 0)
+    os.symlink("loop", it.path("loop"))
+    os.symlink("chk.txt", it.path("link.txt"))
+    os.mkfifo(it.path("pipe"))
+    failed = "wfc: device Failed file={}\n"
+    it.check("devices: a folder as sample", "fill folder 2 2 2", 5, err=failed.format("folder"))
+    it.check("devices: a folder as pins", "fill chk.txt 2 2 2 --pins folder", 5, err=failed.format("folder"))
+    it.check("devices: a folder as refutation", "check chk.txt 2 3 2 folder", 5, err=failed.format("folder"))
+    it.check("devices: a missing file", "fill none.txt 2 2 2", 5, err="wfc: device Missing file=none.txt\n")
+    it.check("devices: an empty name", ["fill", "", "2", "2", "2"], 5, err="wfc: device Missing file=\n")
+    it.check("devices: a file as a folder", "fill chk.txt/x 2 2 2", 5, err=failed.format("chk.txt/x"))
+    it.check("devices: a link in a circle", "fill loop 2 2 2", 5, err=failed.format("loop"))
+    it.check("devices: a link to a file", "fill link.txt 2 2 2", 0, "ab\nba\n")
+    it.check("devices: a name of 256 bytes", ["fill", "n" * 256, "2", "2", "2"], 5, err=failed.format("n" * 256))
+    it.check("devices: a name of 100,000 bytes", ["fill", "n" * 100_000, "2", "2", "2"], 5, err=failed.format("n" * 100_000))
+    it.check("devices: a name that is no UTF-8", ["fill", b"\xff.txt", "2", "2", "2"], 3, err="wfc: command refused\n")
+    it.check("devices: /dev/null as sample", "fill /dev/null 2 2 2", 4, err="wfc: grid Empty file=/dev/null\n")
+    it.check("devices: /dev/zero as sample", "fill /dev/zero 2 2 2", 4, err="wfc: file TooLong file=/dev/zero\n")
+    it.check("devices: /dev/zero as pins", "fill chk.txt 2 2 2 --pins /dev/zero", 4, err="wfc: file TooLong file=/dev/zero\n")
+    it.check("devices: /dev/zero as refutation", "check chk.txt 2 3 2 /dev/zero", 1, err="wfc: check BadLine line=1 file=/dev/zero\n")
+    it.check("devices: /dev/zero to be upgraded", "upgrade chk.txt 2 3 2 /dev/zero", 4, err="wfc: file TooLong file=/dev/zero\n")
+    if os.geteuid() == 0:
+        it.check("devices: a file without permission", "fill secret.txt 2 2 2", 5, err=failed.format("secret.txt"), before=as_nobody)
+    if it.wants("devices: a pipe"):
+        with_writer = os.open(it.path("pipe"), os.O_RDWR)
+        it.check("devices: a pipe that is written, as sample", "fill pipe 2 2 2", 5, err=failed.format("pipe"))
+        os.close(with_writer)
+        writer = threading.Timer(1, lambda: os.close(os.open(it.path("pipe"), os.O_WRONLY)))
+        writer.start()
+        it.check("devices: a pipe that is opened for writing a second later", "fill pipe 2 2 2", 5, err=failed.format("pipe"))
+        writer.join()
+
+
+# ---- limits
+
+
+def p6(width, height, pixel):
+    pixels = b"".join(bytes(pixel(x, y)) for y in range(height) for x in range(width))
+    return f"P6\n{width} {height}\n255\n".encode() + pixels
+
+
+def padded(text, size):
+    """The text behind a comment, so many bytes long."""
+    return "#" + "x" * (size - len(text) - 2) + "\n" + text
+
+
+def limits_words(it):
+    """The ranges of the words."""
+    for name, line, value, most in (
+        ("MODEL", "fill six.txt {} 6 6", 6, "MODEL"),
+        ("WIDTH", "fill a.txt 1 {} 1", 4096, "WIDTH"),
+        ("HEIGHT", "fill a.txt 1 1 {}", 4096, "HEIGHT"),
+        ("symmetry", "fill a.txt 1 1 1 --symmetry {}", 8, "symmetry"),
+        ("seed", "fill a.txt 1 1 1 --seed {}", 18_446_744_073_709_551_615, "seed"),
+        ("budget", "fill a.txt 1 1 1 --budget {}", 1_000_000_000, "budget"),
+        ("NUMBER", "demo {}", 1_000_000, "NUMBER"),
+        ("format", "refute chk.txt 2 3 2 --format {}", 2, "format"),
+    ):
+        it.check(f"limits: {name} {value}", line.format(value), 0, out=lambda out: len(out) > 1)
+        it.check(f"limits: {name} {value + 1}", line.format(value + 1), 3, err=f"wfc: command value {most}\n")
+    for name, line in (("MODEL", "fill a.txt 0 1 1"), ("WIDTH", "fill a.txt 1 0 1"), ("HEIGHT", "fill a.txt 1 1 0")):
+        it.check(f"limits: {name} 0", line, 3, err=f"wfc: command value {name}\n")
+
+
+def limits_samples(it):
+    """Pixels, colours, patterns and the length of a sample."""
+    it.write("most.txt", ("a" * 1024 + "\n") * 1024)
+    it.write("more.txt", "a" * 1_048_577 + "\n")
+    learned = "overlap 1\ncolours 1\n0 {}\npatterns 1\n0 1048576: 0\n"
+    it.check("limits: a grid of 1,048,576 bytes", "learn most.txt 1", 0, learned.format("a"))
+    it.check("limits: a grid of 1,048,577 bytes", "learn more.txt 1", 4, err="wfc: grid TooLarge file=more.txt\n")
+    it.write("most.ppm", b"P6\n1024 1024\n255\n" + bytes(3 * 1_048_576))
+    it.write("more.ppm", b"P6\n1048577 1\n255\n" + bytes(3 * 1_048_577))
+    it.check("limits: a picture of 1,048,576 pixels", "learn most.ppm 1", 0, learned.format("0,0,0"))
+    it.check("limits: a picture of 1,048,577 pixels", "learn more.ppm 1", 4, err="wfc: ppm TooLarge file=more.ppm\n")
+    it.write("colours.ppm", p6(4096, 1, lambda x, y: (x // 256, x % 256, 0)))
+    it.write("colour_more.ppm", p6(4097, 1, lambda x, y: (x // 256, x % 256, 0)))
+    it.check("limits: 4,096 colours", "learn colours.ppm 1", 0, out=lambda out: out.startswith(b"overlap 1\ncolours 4096\n"))
+    it.check("limits: 4,097 colours", "learn colour_more.ppm 1", 4, err="wfc: palette TooManyColours at=4096 file=colour_more.ppm\n")
+    column = lambda x, y: (x % 65 if y == 0 else x // 65, 0, 0)
+    it.write("windows.ppm", p6(4097, 2, column))
+    it.write("window_more.ppm", p6(4098, 2, column))
+    it.check("limits: 4,096 patterns", "learn windows.ppm 2", 0, out=lambda out: b"\npatterns 4096\n" in out)
+    it.check("limits: 4,097 patterns", "learn window_more.ppm 2", 4, err="wfc: learn TooManyPatterns count=4097 file=window_more.ppm\n")
+    picture = "1 1\n255\n1 2 3\n"
+    for name, size in (("long", FILE_LIMIT), ("longer", FILE_LIMIT + 1)):
+        it.write(f"{name}.ppm", "P3\n" + padded(picture, size - 3))
+    it.check("limits: a sample of 16,777,216 bytes", "fill long.ppm 1 2 1 --form p3", 0, "P3\n2 1\n255\n1 2 3\n1 2 3\n")
+    it.check("limits: a sample of 16,777,217 bytes", "fill longer.ppm 1 2 1 --form p3", 4, err="wfc: file TooLong file=longer.ppm\n")
+    it.write("hole.txt", "ab\n", size=1 << 40)
+    it.check("limits: a sample of 2^40 bytes", "fill hole.txt 1 2 1", 4, err="wfc: file TooLong file=hole.txt\n")
+
+
+def limits_problems(it):
+    """Cells times values."""
+    it.check("limits: 8,388,608 cells of one value", "fill a.txt 1 4096 2048", 0, "".join(["a" * 4096 + "\n"] * 2048))
+    it.check("limits: 8,388,610 cells of one value", "fill a.txt 1 2113 3970", 4, err="wfc: build TooLarge product=8388610\n")
+    block = lambda values: "step 0\n" + "".join(f"{cell}: {' '.join(map(str, values(cell)))}\n" for cell in range(2048))
+    it.check("limits: 2,048 cells of 4,096 values", "domains colours.ppm 1 2048 1", 0, block(lambda cell: range(4096)))
+    it.check("limits: 2,049 cells of 4,096 values", "domains colours.ppm 1 2049 1", 4, err="wfc: build TooLarge product=8392704\n")
+    it.check("limits: 2,048 cells of 4,096 windows in a row", "domains windows.ppm 2 2049 2", 0, block(lambda cell: range(cell, cell + 2049)))
+    board = "".join("".join("ab"[(x + y) % 2] for x in range(4096)) + "\n" for y in range(1024))
+    it.write("last.pins", "pin 4095 1023 b\n")
+    it.check("limits: a pin that fixes 4,189,185 cells in turn", "fill chk.txt 2 4096 1024 --wrap-in --pins last.pins", 0,
+             out=lambda out: out.decode() in (board, board.translate(str.maketrans("ab", "ba"))) and out[-2:-1] == b"b")
+
+
+def limits_lines(it):
+    """Files of pins and of steps."""
+    for kind, line, text, answer in (
+        ("pins", "fill chk.txt 2 2 2 --pins {}", "pin 0 0 a\n", "ab\nba\n"),
+        ("steps", "domains chk.txt 2 2 2 --steps {}", "choose 0 0\n", "step 0\n0: 0\nstep 1\n0: 0\n"),
+    ):
+        it.write(f"long.{kind}", padded(text, FILE_LIMIT))
+        it.write(f"longer.{kind}", padded(text, FILE_LIMIT + 1))
+        it.check(f"limits: {kind} of 16,777,216 bytes", line.format(f"long.{kind}"), 0, answer)
+        it.check(f"limits: {kind} of 16,777,217 bytes", line.format(f"longer.{kind}"), 4, err=f"wfc: file TooLong file=longer.{kind}\n")
+    for value, err in ((4_294_967_295, "build PinOutside"), (4_294_967_296, "pins BadLine")):
+        it.write("far.pins", f"pin {value} 0 a\n")
+        it.check(f"limits: a pin in column {value}", "fill chk.txt 2 2 2 --pins far.pins", 4, err=f"wfc: {err} line=1 file=far.pins\n")
+    for value, err in ((65_535, "OutOfRange"), (65_536, "BadLine")):
+        it.write("far.steps", f"choose 0 {value}\n")
+        it.check(f"limits: a step of value {value}", "domains chk.txt 2 2 2 --steps far.steps", 4, err=f"wfc: steps {err} line=1 file=far.steps\n")
+
+
+def limits_refutations(it):
+    """The lines and the length of a refutation."""
+    line = "check chk.txt 2 3 2 {}"
+    for number, text, fault in (
+        (1, HEAD + "x" * 64 + "\n", "BadLine line=3"),
+        (2, HEAD + "x" * 65 + "\n", "BadLine line=3"),
+        (3, "wfc-refutation 1\ncells 4294967295 values 4294967295\n", "HeaderDiffers cells=4294967295 values=4294967295"),
+        (4, "wfc-refutation 1\ncells 4294967296 values 1\n", "BadLine line=2"),
+        (5, HEAD + "r 0 65535 2\n", "Rejected line=3 reject=IndexRange"),
+        (6, HEAD + "r 0 65536 2\n", "BadLine line=3"),
+        (7, HEAD + "r 0 0 255\n", "Rejected line=3 reject=IndexRange"),
+        (8, HEAD + "r 0 0 256\n", "BadLine line=3"),
+        (9, HEAD, "NotEnded"),
+    ):
+        it.write(f"{number}.ref", text)
+        it.check(f"limits: {fault}, refutation {number}", line.format(f"{number}.ref"), 1, err=f"wfc: check {fault} file={number}.ref\n")
+    it.write("hole.ref", "", size=REFUTATION_LIMIT + 1)
+    it.check("limits: a refutation of 4,294,967,297 zeros", line.format("hole.ref"), 1, err="wfc: check BadLine line=1 file=hole.ref\n")
+    it.write("behind.ref", PROOF, size=REFUTATION_LIMIT + 1)
+    it.check("limits: zeros behind a refutation", line.format("behind.ref"), 1, err="wfc: check BadLine line=6 file=behind.ref\n")
+    upgrade = "upgrade chk.txt 2 3 2 {}"
+    it.write("long.ref", PROOF, size=FILE_LIMIT)
+    it.write("longer.ref", PROOF, size=FILE_LIMIT + 1)
+    it.check("limits: 16,777,216 bytes to be upgraded", upgrade.format("long.ref"), 1, err="wfc: check BadLine line=6 file=long.ref\n")
+    it.check("limits: 16,777,217 bytes to be upgraded", upgrade.format("longer.ref"), 4, err="wfc: file TooLong file=longer.ref\n")
+
+
+def branches(cells):
+    """The lines of a proof that splits these cells in turn, each branch closed by the empty cell 0."""
+    lines = b"x 0\n"
+    for cell in reversed(cells):
+        lines = b"t %d 0\n" % cell + lines + lines
+    return lines
+
+
+def limits_long_refutations(it):
+    """A right proof with more bytes than a refutation may have: cell 0 has no value, and all others are split in turn."""
+    it.write("sym.txt", "ab\n")
+    it.write("both.pins", "pin 0 0 a\npin 0 0 b\n")
+    line = "check sym.txt 1 40 1 {} --pins both.pins"
+    low = branches(range(18, 38))
+    with open(it.path("whole.ref"), "wb") as file:
+        file.write(b"wfc-refutation 1\ncells 40 values 2\n")
+
+        def write(cell):
+            if file.tell() > REFUTATION_LIMIT:
+                return
+            if cell == 18:
+                file.write(low)
+                return
+            file.write(b"t %d 0\n" % cell)
+            write(cell + 1)
+            write(cell + 1)
+
+        write(1)
+        file.truncate(REFUTATION_LIMIT + 1)
+    it.check("limits: right lines past 4,294,967,296 bytes", line.format("whole.ref"), 4, err="wfc: file TooLong file=whole.ref\n", seconds=SLOW_SECONDS)
+    os.truncate(it.path("whole.ref"), REFUTATION_LIMIT)
+    if it.wants("limits: right lines up to"):
+        got = it.run(line.format("whole.ref").split(), seconds=SLOW_SECONDS)
+        good = got[0] == 1 and got[2].startswith((b"wfc: check NotEnded", b"wfc: check BadLine line="))
+        it.tell("limits: right lines up to 4,294,967,296 bytes", "" if good else f"{got[0]} {shortened(got[2])}")
+    os.remove(it.path("whole.ref"))
+
+
+def main():
+    ask = argparse.ArgumentParser(description=__doc__, formatter_class=argparse.RawDescriptionHelpFormatter)
+    ask.add_argument("--wfc", default=f"{ROOT}/crates/wfc_app/out/wfc_app")
+    ask.add_argument("--only")
+    ask.add_argument("--slow", action="store_true")
+    asked = ask.parse_args()
+    if not os.access(asked.wfc, os.X_OK):
+        sys.exit(f"no program {asked.wfc}: ./wfc builds it")
+    with tempfile.TemporaryDirectory() as folder:
+        it = Bench(asked.wfc, folder, asked.only)
+        for name, text in SMALL.items():
+            it.write(name, text)
+        allocations(it)
+        memory(it)
+        devices_out(it)
+        devices_in(it)
+        limits_words(it)
+        limits_samples(it)
+        limits_problems(it)
+        limits_lines(it)
+        limits_refutations(it)
+        if asked.slow:
+            limits_long_refutations(it)
+        os.chmod(it.path("secret.txt"), stat.S_IRUSR | stat.S_IWUSR)
+    print(f"{it.right} right, {it.wrong} wrong")
+    sys.exit(1 if it.wrong or not it.right else 0)
+
+
+if __name__ == "__main__":
+    main()

@@ -1,0 +1,83 @@
+#!/usr/bin/env python3
+"""Looks for each clause that docs/theorem.md names.
+
+    docs/clauses.py
+
+A row of a table with the columns Call and Clause names calls, as `wfc_grid::read`, and in the next column the clauses of each, those of one
+call parted by ',' and those of the next behind ';'. A row with the column Clause alone names clauses of wfc_cli::run, or a call of
+its own. A clause is there where a function of that name, in a file of crates/NAME/src, has a line 'ensures CLAUSE'.
+Status 0 where all are there, else 1 with a line for each that is not.
+"""
+import glob
+import os
+import re
+import sys
+
+ROOT = os.path.dirname(os.path.dirname(os.path.abspath(__file__)))
+TOP = "wfc_cli::run"
+
+
+def clauses_of(crate):
+    """The names of the clauses of each function of a crate, by the name of the function, and of its type in front."""
+    found = {}
+    for path in glob.glob(f"{ROOT}/crates/{crate}/src/**/*.rt", recursive=True):
+        owner = name = None
+        for line in open(path, encoding="utf-8"):
+            if line[:4] in ("impl", "trai", "pub ") and (head := re.match(r"(?:pub )?(?:impl(?:<[^>]*>)? (?:[^{]* for )?|trait )(\w+)", line)):
+                owner = head.group(1)
+            if line.startswith("}"):
+                owner = None
+            if head := re.match(r"\s*(?:pub(?:\(crate\))? )?fn (\w+)", line):
+                name = f"{owner}::{head.group(1)}" if owner and line[0] == " " else head.group(1)
+            if clause := re.match(r"\s*ensures (\w+)", line):
+                found.setdefault(name, set()).add(clause.group(1))
+    return found
+
+
+def rows(path):
+    """The rows of the page's tables, with the names of their columns."""
+    columns = None
+    for line in open(path, encoding="utf-8"):
+        if not line.startswith("|"):
+            columns = None
+            continue
+        cells = [cell.strip() for cell in line.strip().strip("|").split("|")]
+        if columns is None:
+            columns = cells
+        elif not set(line.strip()) <= set("|-"):
+            yield dict(zip(columns, cells))
+
+
+def named(row):
+    """The calls of a row, each with its clauses."""
+    groups = [re.findall(r"`([\w:]+)`", part) for part in row.get("Clause", "").split(";")]
+    if "Call" in row:
+        calls = re.findall(r"`(wfc_\w+::[\w:]+)`", row["Call"])
+        if calls and len(calls) != len(groups):
+            yield row["Call"], ["(as many groups of clauses as calls)"]
+        yield from zip(calls, groups)
+        return
+    call = TOP
+    for word in groups[0]:
+        if "::" in word:
+            call = word
+        else:
+            yield call, [word]
+
+
+def main():
+    crates, missing, count = {}, [], 0
+    for row in rows(f"{ROOT}/docs/theorem.md"):
+        for call, clauses in named(row):
+            crate, _, function = call.partition("::")
+            found = crates.setdefault(crate, clauses_of(crate)).get(function, set())
+            count += len(clauses)
+            missing += [f"{call} {clause}" for clause in clauses if clause not in found]
+    for each in missing:
+        print(f"no clause: {each}")
+    print(f"{count} clauses named, {len(missing)} missing")
+    sys.exit(1 if missing or not count else 0)
+
+
+if __name__ == "__main__":
+    main()
