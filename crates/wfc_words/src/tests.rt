@@ -45,6 +45,7 @@ fn refuses_words(rt: HostRuntime) -> Result<(), Fail> {
         "fill --opt -- chk.txt 2 2 2",
         "learn chk.txt",
         "learn chk.txt 2 --wrap-out",
+        "learn chk.toml tiles --mask m.txt",
         "domains chk.txt 2 2 2 --seed 1",
         "refute chk.txt 2 2 2 --form cells",
         "check chk.txt 2 2 2",
@@ -89,6 +90,7 @@ fn names_values(rt: HostRuntime) -> Result<(), Fail> {
         ("demo x", ValueName::Number),
         ("refute chk.txt 2 2 2 --format 3", ValueName::Format),
         ("fill chk.txt 2 3 1 --mask m.txt", ValueName::Mask),
+        ("check chk.txt 2 3 1 r.txt --mask=", ValueName::Mask),
     ];
     for (text, name) in cases {
         assert!(rt;
@@ -126,8 +128,8 @@ fn reads_others(rt: HostRuntime) -> Result<(), Fail> {
     assert!(rt;
         steps.file() == "--a" && steps.steps() == None && (steps.width, steps.height) == (3, 4)
     );
-    let steps = read(rt.alloc(), "domains a tiles 3 4 --steps s --mask m")?;
-    assert!(rt; steps.steps() == Some("s") && steps.mask() == Some("m") && !steps.wrap_in);
+    let steps = read(rt.alloc(), "domains a tiles 3 4 --steps s")?;
+    assert!(rt; steps.steps() == Some("s") && steps.mask() == None && !steps.wrap_in);
     let refuted = read(
         rt.alloc(),
         "refute a 2 3 4 --seed 18446744073709551615 --format 1",
@@ -147,5 +149,23 @@ fn reads_others(rt: HostRuntime) -> Result<(), Fail> {
             && shown.file() == ""
             && shown.source == SourceModel::Overlap { n: 0 }
     );
+    Ok(())
+}
+
+#[test]
+fn reads_masks(rt: HostRuntime) -> Result<(), Fail> {
+    let cases = [
+        "fill a.toml tiles 3 4 --pins p.txt --mask m.txt",
+        "domains a.toml tiles 3 4 --mask=m.txt --pins=p.txt",
+        "refute --mask m.txt a.toml tiles 3 4 --pins p.txt",
+        "check a.toml tiles 3 4 r.txt --mask m.txt --pins p.txt",
+        "upgrade a.toml tiles 3 --pins p.txt 4 --mask m.txt r.txt",
+    ];
+    for text in cases {
+        let asked = read(rt.alloc(), text)?;
+        assert!(rt; asked.source == SourceModel::Tiles, "of {text:?}");
+        assert!(rt; asked.file() == "a.toml" && (asked.width, asked.height) == (3, 4));
+        assert!(rt; asked.pins() == Some("p.txt") && asked.mask() == Some("m.txt"));
+    }
     Ok(())
 }
