@@ -1,47 +1,35 @@
 -- What the relation of a call says of `check`, in the subject's words.
-use Rattle.std.proofs.Common.{◌≡◌, ℕ, ◌^◌, ◌<◌, ◌≤◌, ◌⊎◌, inl, inr, true, List, Option, None, Some, Result, Ok, Err, ap, sym, ◌∙◌, subst, refl, arith}
+use Rattle.std.proofs.Common.{◌≡◌, ℕ, ◌⊎◌, inl, inr, List, Option, None, Some, Result, Ok, Err, ap, sym, ◌∙◌, subst, refl, arith}
 use Rattle.wfc_outside.specs.Folder.{File}
-use Rattle.wfc_outside.specs.Sink.{after_bytes, after_finish}
-use Rattle.wfc_problem.specs.Network.{Network, IsProblem}
 use Rattle.wfc_proof.specs.Heads.{IsShape}
-use Rattle.wfc_check.specs.Text.{checked, IsRefutation}
+use Rattle.wfc_check.specs.Text.{checked}
 use Rattle.wfc_check.specs.declared.fault.CheckFault.{CheckFault}
 use Rattle.wfc_check.specs.declared.fault.CheckFault.TheVariants as faults
 use Rattle.wfc_check.proofs.ExactLemmas.{accepted_refutation, refutation_accepted, refutation_none}
 use Rattle.wfc_choose.specs.Pick.{Rule}
 use Rattle.wfc_words.specs.RequestView.{RequestView}
 use Rattle.wfc_words.specs.declared.kinds.CommandKind.TheVariants as commands
-use Rattle.wfc_words.proofs.RangeLemmas.{asked-in_range}
-use Rattle.wfc_task.specs.Asked.{IsSampleAsked}
 use Rattle.wfc_task.specs.CheckGiven.{IsCheckTask, IsCheckWork}
-use Rattle.wfc_task.specs.Checking.{judged, shape_of, verdict_in}
-use Rattle.wfc_task.specs.Task as tasks
+use Rattle.wfc_task.specs.Checking.{shape_of, verdict_in}
 use Rattle.wfc_task.specs.declared.fault.Refusal.{Refusal}
 use Rattle.wfc_task.proofs.CallerLemmas.{check_given}
 use Rattle.wfc_cli.specs.Answer.{Devices, IsAnswer}
-use Rattle.wfc_cli.specs.Answers.{Answers, accepted_text, check_answer}
-use Rattle.wfc_cli.specs.CheckClaims.{Accepts, ChecksRefutation, IsRefuted, Refuses}
+use Rattle.wfc_cli.specs.Answers.{Answers, check_answer}
+use Rattle.wfc_cli.specs.CheckClaims.{Accepts, ChecksRefutation, Refuses}
 use Rattle.wfc_cli.specs.Claims.{IsCommand}
 use Rattle.wfc_cli.specs.Reply.{Answered, Takes, TakesWhole, verdict_status}
 use Rattle.wfc_cli.proofs.CommandLemmas.{CameTo, whole, cut, none, came_to, planned}
-use Rattle.wfc_cli.proofs.EndLemmas.{output_asked, sample_asked}
-use Rattle.wfc_cli.proofs.PictureLemmas.{asked_problem, asked_shape, no_picture}
+use Rattle.wfc_cli.proofs.MapLemmas.{TakesSides, IsBridged, command_bridged, command_shape, no_legal}
 
 -- what is known of the problem of a `check`
 record IsKnown (asked : RequestView) (files : List File) (work : IsCheckWork asked files) : Type 0 where
-  asks : IsSampleAsked asked
-  problem : IsProblem work.P
+  bridge : IsBridged asked.source asked files work.P work.posed
   shape : IsShape (shape_of asked)
 
 known : (words : List (List ℕ)) (before : Devices) (asked : RequestView) (files : List File) → IsCommand commands.Check words before asked files → (work : IsCheckWork asked files) → IsKnown asked files work
 known words before asked files is work =
-    let range = asked-in_range words asked is.given.spelled in
-    let asks = sample_asked asked commands.Check range is.built is.command_is refl refl in
-    record {
-      asks = asks;
-      problem = asked_problem asked files work.kind work.patterns work.palette work.P asks work.sample work.problem;
-      shape = asked_shape asked asks (output_asked asked commands.Check range is.command_is refl refl);
-    }
+    let sides : TakesSides commands.Check = record { model = refl; width = refl; height = refl } in
+    record { bridge = command_bridged commands.Check words before asked files work.P work.posed sides is; shape = command_shape commands.Check words before asked files sides is }
 
 -- a text without a fault was accepted
 accepted : (answer : Result (Unit {0}) CheckFault) → verdict_in answer ≡ Ok None → answer ≡ Ok tt
@@ -64,8 +52,8 @@ checks_refutation rules words before after status answer asked files is low = by
     by_found None task same takes =
         let work = task.work in
         let sure = known words before asked files is work in
-        let refutation = accepted_refutation work.P sure.problem (shape_of asked) work.bytes (accepted (checked work.P (shape_of asked) work.bytes) task.answer) in
-        (work, inl (same, record { refutation = refutation; none = no_picture asked files work.kind work.patterns work.palette work.P sure.asks work.sample work.problem (refutation_none work.P sure.problem (shape_of asked) work.bytes refutation); written = takes }))
+        let refutation = accepted_refutation work.P sure.bridge.problem (shape_of asked) work.bytes (accepted (checked work.P (shape_of asked) work.bytes) task.answer) in
+        (work, inl (same, record { refutation = refutation; none = no_legal asked files work.P work.posed sure.bridge (refutation_none work.P sure.bridge.problem (shape_of asked) work.bytes refutation); written = takes }))
     by_found (Some fault) task same takes =
         let work = task.work in
         let sure = known words before asked files is work in (
@@ -75,7 +63,7 @@ checks_refutation rules words before after status answer asked files is low = by
             record {
               none = λ refuted.
                   let other : (let none : Result (Option CheckFault) Refusal = Ok None in none) ≡ Ok (Some fault) =
-                  sym (ap verdict_in (refutation_accepted work.P sure.problem (shape_of asked) sure.shape work.bytes refuted)) ∙ task.answer in
+                  sym (ap verdict_in (refutation_accepted work.P sure.bridge.problem (shape_of asked) sure.shape work.bytes refuted)) ∙ task.answer in
                   cc (other);
               same = takes;
             },

@@ -1,30 +1,14 @@
 -- What the relation of a call says in the subject's words, command by command.
-use Rattle.std.proofs.Common.{◌≡◌, ℕ, zero, suc, ◌+◌, ◌*◌, ◌/◌, ◌<◌, ◌≤◌, ◌⊎◌, inl, inr, true, false, Bool, nat_lt, ◌&&◌, List, [], ◌∷◌, length, map, position, Option, None, Some, Result, Ok, Err, ap, sym, ◌∙◌, subst, refl, arith, if◌then◌else◌}
-use Rattle.std.proofs.lemmas.Bool.Decides.{nat_tests}
-use Rattle.std.specs.Option.{ok_or, option_map}
-use Rattle.std.specs.Prelude.{All}
-use Rattle.std.specs.Str.{bytes_eq}
-use Rattle.std.proofs.lemmas.List.Elements.{All-cons, All-nil}
+use Rattle.std.proofs.Common.{◌≡◌, ℕ, ◌+◌, ◌≤◌, ◌⊎◌, inl, inr, true, false, Bool, List, [], length, Option, None, Some, Result, Ok, Err, ap, sym, ◌∙◌, subst, refl, arith, if◌then◌else◌}
+use Rattle.std.specs.Prelude.{Contains}
 use Rattle.wfc_outside.specs.Folder.{File}
-use Rattle.wfc_outside.specs.Sink.{SinkView, after_bytes, after_finish, IsFaultAfterFront}
+use Rattle.wfc_outside.specs.Sink.{after_bytes, after_finish, IsFaultAfterFront}
 use Rattle.wfc_model.specs.Raster.{Raster}
-use Rattle.wfc_model.specs.Legal.{Pin}
-use Rattle.wfc_pattern.specs.Patterns.{PatternsView, IsPatterns}
-use Rattle.wfc_picture.specs.declared.symbol.Symbol.{Symbol}
-use Rattle.wfc_pins.specs.InOrder.{all_in_order, and_rest}
-use Rattle.wfc_pins.specs.PinView.{PinView}
-use Rattle.wfc_pins.specs.declared.fault.BuildFault.{BuildFault}
-use Rattle.wfc_pins.specs.declared.fault.BuildFault.TheVariants.{PinOutside, UnknownSymbol}
+use Rattle.wfc_pattern.specs.Patterns.{PatternsView}
 use Rattle.wfc_pins.specs.declared.steps.StepLine.{StepLine}
-use Rattle.wfc_problem.specs.Network.{Network, IsProblem}
+use Rattle.wfc_problem.specs.Network.{Network}
 use Rattle.wfc_problem.specs.Rounds.{greatest}
 use Rattle.wfc_problem.specs.Sizes.{is_dead}
-use Rattle.wfc_problem.specs.Assignment.{IsLegalAssignment}
-use Rattle.wfc_overlap.specs.Bridge.{AreInside, IsTaughtBy, picture_of}
-use Rattle.wfc_overlap.specs.Built.{pin_in, pin_with, pins_in, texts_of}
-use Rattle.wfc_overlap.specs.Sample.{Output, output_with, problem_of_sample}
-use Rattle.wfc_overlap.proofs.CallerLemmas.{back, sample_problem, there}
-use Rattle.wfc_overlap.specs.Bridge.{numbers_of_windows}
 use Rattle.wfc_choose.specs.Pick.{Rule}
 use Rattle.wfc_choose.specs.declared.RuleKind.{RuleKind}
 use Rattle.wfc_choose.specs.declared.RuleKind.TheVariants.{Fewest}
@@ -35,37 +19,37 @@ use Rattle.wfc_search.specs.declared.Outcome.{Outcome}
 use Rattle.wfc_search.specs.declared.Outcome.TheVariants as outcome
 use Rattle.wfc_search.proofs.CallerLemmas.{outcome_map, outcome_none, outcome_spent}
 use Rattle.wfc_render.specs.Learned.{learned_text}
-use Rattle.wfc_render.specs.Map.{map_text}
+use Rattle.wfc_render.specs.LearnedTiles.{learned_tiles_text}
 use Rattle.wfc_render.specs.declared.form.Layout.{Layout}
 use Rattle.wfc_words.specs.RequestView.{RequestView}
 use Rattle.wfc_words.specs.declared.kinds.CommandKind.{CommandKind}
 use Rattle.wfc_words.specs.declared.kinds.CommandKind.TheVariants as commands
-use Rattle.wfc_task.specs.Built.{is_built}
-use Rattle.wfc_task.specs.Fault.{status_of}
+use Rattle.wfc_words.specs.declared.kinds.SourceModel.{SourceModel}
+use Rattle.wfc_words.specs.declared.kinds.SourceModel.TheVariants.{Overlap, Tiles}
+use Rattle.wfc_task.specs.Built.{is_built, is_of_windows}
 use Rattle.wfc_task.specs.Plan.{Plan, outcome}
-use Rattle.wfc_task.specs.Task.{Task, learn, fill, domains, demo, plan_by, plan_of}
+use Rattle.wfc_task.specs.Task.{Task, fill, fill_plan, fill_tiles, demo, learn_plan, plan_by}
 use Rattle.wfc_task.specs.declared.fault.Fault.{Fault}
-use Rattle.wfc_task.specs.Built.{side_of}
 use Rattle.wfc_task.specs.Demo.{demo_patterns, demo_problem}
-use Rattle.wfc_task.specs.Given.{IsDomainsTask, IsFillTask, IsTaught}
+use Rattle.wfc_task.specs.DomainsGiven.{IsDomainsTask}
+use Rattle.wfc_task.specs.Posed.{PosedBy}
 use Rattle.wfc_task.specs.Plan.{and_then, done, step}
-use Rattle.wfc_task.specs.Steps.{chosen as choosing, or_refuse}
+use Rattle.wfc_task.specs.Steps.{chosen as choosing}
 use Rattle.wfc_task.specs.Task.{demo_plan}
 use Rattle.wfc_task.specs.declared.fault.Refusal.{Refusal}
-use Rattle.wfc_task.specs.declared.fault.Refusal.TheVariants as refusals
-use Rattle.wfc_task.proofs.CallerLemmas.{domains_given, fill_given, learn_given, learned_is, sample_lesson}
-use Rattle.wfc_words.proofs.RangeLemmas.{asked-in_range}
+use Rattle.wfc_task.proofs.CallerLemmas.{domains_given, fill_given, fill_tiles_given, learn_given, learn_tiles_given}
 use Rattle.wfc_cli.specs.Answer.{Devices, IsAnswer, Replied}
-use Rattle.wfc_cli.specs.Answers.{Answers, demo_answer, demo_budget, demo_text, domains_answer, fill_answer, fill_text, outcome_status, output_of, root_verdict, steps_text, verdict_of}
+use Rattle.wfc_cli.specs.Answers.{Answers, demo_answer, demo_budget, demo_text, domains_answer, fill_answer, fill_by, fill_text, outcome_status, root_verdict, steps_text, verdict_of}
 use Rattle.wfc_cli.specs.Choosers.{chosen, kinds_of}
-use Rattle.wfc_cli.specs.Claims.{FillWork, HasNoMap, IsAsRun, IsCommand, IsLegalMap, IsNeverSpent, WritesDemo, WritesDomains, WritesFront, WritesLearned, WritesLegalMap, rules_of}
+use Rattle.wfc_cli.specs.Claims.{FillWork, HasNoMap, IsAsRun, IsCommand, IsLegalMap, IsNeverSpent, IsRules, IsRulesBy, WritesDemo, WritesDomains, WritesFront, WritesLearned, WritesLegalMap, assignment_text, map_text_of}
+use Rattle.wfc_cli.specs.Maps.{IsLaidBy, map_by, map_of, map_text_by}
 use Rattle.wfc_cli.specs.Reply.{Answered, CutsOff, Delivers, Reply, Takes, TakesWhole, done_with, said_of, verdict_status}
 use Rattle.wfc_cli.specs.Runs.{end_by, end_of, seeded}
 use Rattle.wfc_cli.specs.Theorem.{task_of}
-use Rattle.wfc_cli.specs.declared.reply.Verdict.{Verdict}
 use Rattle.wfc_cli.specs.declared.reply.Verdict.TheVariants as verdict
-use Rattle.wfc_cli.proofs.EndLemmas.{built_plan, sample_asked}
-use Rattle.wfc_cli.proofs.TheoremLemmas.{IsToldCall, ToldReply, fault_between, told, short, told_call, verdict_apart, verdict_low}
+use Rattle.wfc_cli.proofs.EndLemmas.{built_plan}
+use Rattle.wfc_cli.proofs.MapLemmas.{TakesSides, IsBridged, command_bridged, no_legal}
+use Rattle.wfc_cli.proofs.TheoremLemmas.{IsToldCall, ToldReply, fault_between, told, short, told_call, verdict_apart}
 
 -- ---- what a call came to
 
@@ -112,75 +96,92 @@ planned rules asked files command task built is comes = ap (λ (plan : Plan Task
 
 -- ---- `learn`
 
+-- what `learn` answered
+record HasLearned (source : SourceModel) (asked : RequestView) (files : List File) (answered : Answered) : Type 0 where
+  text : List ℕ
+  rules : IsRulesBy source asked files text
+  is : done_with text ≡ answered
+
+has_learned : (source : SourceModel) (rules : List Rule) (asked : RequestView) (files : List File) (task : Task) (answered : Answered) → asked.source ≡ source → outcome (learn_plan asked) files ≡ Ok task
+    → Answers rules asked task answered → HasLearned source asked files answered
+has_learned (Overlap n) rules asked files task answered is comes answers =
+    let given = learn_given asked files task (ap is_of_windows is) comes in
+    let said : Some (done_with (learned_text given.0 given.1)) ≡ Some answered = subst (λ task. Answers rules asked task answered) (sym given.2) answers in
+    record { text = learned_text given.0 given.1; rules = (given.0, given.1, given.3, refl); is = cc (said) }
+has_learned Tiles rules asked files task answered is comes answers =
+    let given = learn_tiles_given asked files task (ap is_of_windows is) comes in
+    let said : Some (done_with (learned_tiles_text given.0)) ≡ Some answered = subst (λ task. Answers rules asked task answered) (sym given.1) answers in
+    record { text = learned_tiles_text given.0; rules = (given.0, given.2, refl); is = cc (said) }
+
 pub writes_learned : (rules : List Rule) (words : List (List ℕ)) (before after : Devices) (status : ℕ) → IsAnswer rules words before after status → WritesLearned words before after status
 writes_learned rules words before after status answer asked files is low = by_end (came_to rules commands.Learn words before after status answer asked files is)
   where
-    by_end : CameTo rules asked files before after status
-        → (status ≡ 0) × (patterns : PatternsView) × (palette : List Symbol) × IsTaught asked files patterns palette × (after.out ≡ after_finish (after_bytes before.out (learned_text patterns palette)))
+    by_end : CameTo rules asked files before after status → (status ≡ 0) × (text : List ℕ) × IsRules asked files text × (after.out ≡ after_finish (after_bytes before.out text))
     by_end (whole answered has same takes) =
-        let given = learn_given asked files has.task (planned rules asked files commands.Learn has.task is.built is.command_is has.is) in
-        let answers : Some (done_with (learned_text given.0 given.1)) ≡ Some answered = subst (λ task. Answers rules asked task answered) (sym given.2) has.answers in
-        let is_answer : done_with (learned_text given.0 given.1) ≡ answered = cc (answers) in (
-          same ∙ sym (ap (λ (a : Answered). verdict_status a.verdict) is_answer),
-          given.0,
-          given.1,
-          given.3,
-          subst (λ (a : Answered). TakesWhole a.whole a.text before.out after.out) (sym is_answer) takes,
+        let learned = has_learned asked.source rules asked files has.task answered refl (planned rules asked files commands.Learn has.task is.built is.command_is has.is) has.answers in (
+          same ∙ sym (ap (λ (a : Answered). verdict_status a.verdict) learned.is),
+          learned.text,
+          learned.rules,
+          subst (λ (a : Answered). TakesWhole a.whole a.text before.out after.out) (sym learned.is) takes,
         )
     by_end (cut answered has five front) = absurd (omega (arith, five, low))
     by_end (none high same) = absurd (omega (arith, high, low))
 
 -- ---- `fill`
 
--- the pins that lines mean are inside
-pin_inside : (texts : List (List ℕ)) (width height : ℕ) (line : PinView) (pin : Pin) → pin_in texts width height line ≡ Ok pin → (pin.column < width) × (pin.row < height)
-pin_inside texts width height line pin is = by_tests (nat_lt line.x width) (nat_lt line.y height) (position (λ text. bytes_eq text line.symbol) texts) refl refl is
-  where
-    by_tests : (wide high : Bool) (place : Option ℕ) → nat_lt line.x width ≡ wide → nat_lt line.y height ≡ high
-        → (if wide && high then ok_or (option_map (pin_with line) place) (UnknownSymbol line.line) else Err (PinOutside line.line)) ≡ Ok pin → (pin.column < width) × (pin.row < height)
-    by_tests true true (Some number) p q is =
-        let same : pin_with line number ≡ pin = cc (is) in
-        let x_in : line.x < width = grind (arith, nat_tests, p) in
-        let y_in : line.y < height = grind (arith, nat_tests, q) in
-        subst (λ (pin : Pin). (pin.column < width) × (pin.row < height)) same (x_in, y_in)
-    by_tests true true None p q is = absurd (cc (is))
-    by_tests true false place p q is = absurd (cc (is))
-    by_tests false high place p q is = absurd (cc (is))
+-- the task of `fill` for a problem of the request
+abbrev fill_task_by : (source : SourceModel) (asked : RequestView) (files : List File) (P : Network) → PosedBy source asked files P → Layout → Task
+fill_task_by (Overlap n) asked files P of layout = fill of.patterns of.palette layout P
+fill_task_by Tiles asked files P of layout = fill_tiles of.set of.mask layout P
 
-pins_inside : (texts : List (List ℕ)) (width height : ℕ) (lines : List PinView) (pins : List Pin) → pins_in texts width height lines ≡ Ok pins → All (λ (pin : Pin). (pin.column < width) × (pin.row < height)) pins
-pins_inside texts width height [] pins is =
-    let same : (let none : List Pin = [] in none) ≡ pins = cc (is) in subst (All (λ (pin : Pin). (pin.column < width) × (pin.row < height))) same (All-nil (λ (pin : Pin). (pin.column < width) × (pin.row < height)))
-pins_inside texts width height (line ∷ lines) pins is = by_first (pin_in texts width height line) (pins_in texts width height lines) refl refl is (λ rest known. pins_inside texts width height lines rest known)
-  where
-    by_first : (first : Result Pin BuildFault) (rest : Result (List Pin) BuildFault) → pin_in texts width height line ≡ first → pins_in texts width height lines ≡ rest → and_rest first rest ≡ Ok pins
-        → ((rest : List Pin) → pins_in texts width height lines ≡ Ok rest → All (λ (pin : Pin). (pin.column < width) × (pin.row < height)) rest) → All (λ (pin : Pin). (pin.column < width) × (pin.row < height)) pins
-    by_first (Err fault) rest p q is known = absurd (cc (is))
-    by_first (Ok pin) (Err fault) p q is known = absurd (cc (is))
-    by_first (Ok pin) (Ok rest) p q is known =
-        let same : pin ∷ rest ≡ pins = cc (is) in
-        subst (All (λ (pin : Pin). (pin.column < width) × (pin.row < height))) same
-        (All-cons (λ (pin : Pin). (pin.column < width) × (pin.row < height)) pin rest (pin_inside texts width height line pin p) (known rest q))
+-- what `fill` came to
+record HasFillTask (source : SourceModel) (rules : List Rule) (asked : RequestView) (files : List File) (task : Task) : Type 0 where
+  chooser : Contains (kinds_of rules) asked.rule
+  P : Network
+  posed : PosedBy source asked files P
+  layout : Layout
+  laid : IsLaidBy source asked files P posed layout
+  same : fill_task_by source asked files P posed layout ≡ task
+
+has_fill_task : (source : SourceModel) (rules : List Rule) (asked : RequestView) (files : List File) (task : Task) → asked.source ≡ source → outcome (fill_plan (kinds_of rules) asked) files ≡ Ok task
+    → HasFillTask source rules asked files task
+has_fill_task (Overlap n) rules asked files task is comes =
+    let given = fill_given (kinds_of rules) asked files task (ap is_of_windows is) comes in
+    let is_task = given.5 in
+    record {
+      chooser = is_task.chooser;
+      P = given.3;
+      posed = record { kind = is_task.kind; patterns = given.0; palette = given.1; sample = is_task.sample; problem = is_task.problem };
+      layout = given.2;
+      laid = is_task.written;
+      same = given.4;
+    }
+has_fill_task Tiles rules asked files task is comes =
+    let given = fill_tiles_given (kinds_of rules) asked files task (ap is_of_windows is) comes in
+    let is_task = given.5 in
+    record {
+      chooser = is_task.chooser;
+      P = given.3;
+      posed = record { set = given.0; tiles = is_task.tiles; mask = given.1; problem = is_task.problem };
+      layout = given.2;
+      laid = is_task.written;
+      same = given.4;
+    }
+
+-- an answer to it
+fill_answers : (source : SourceModel) (rules : List Rule) (asked : RequestView) (files : List File) (P : Network) (posed : PosedBy source asked files P) (layout : Layout) (answered : Answered)
+    → Answers rules asked (fill_task_by source asked files P posed layout) answered
+    → fill_by rules asked (λ a. map_text_by source asked files P posed layout (map_by source asked files P posed a)) P ≡ Some answered
+fill_answers (Overlap n) rules asked files P of layout answered answers = answers
+fill_answers Tiles rules asked files P of layout answered answers = answers
+
+sides_of_fill : TakesSides commands.Fill
+sides_of_fill = record { model = refl; width = refl; height = refl }
 
 -- what is known of the problem of a `fill`
-record IsKnown (rules : List Rule) (words : List (List ℕ)) (asked : RequestView) (files : List File) (work : FillWork rules asked files) : Type 0 where
-  patterns : IsPatterns work.patterns
-  taught : IsTaughtBy work.task.sample.picture (rules_of asked) work.patterns (output_of asked)
-  inside : AreInside (output_of asked) work.task.problem.pins
-  problem : IsProblem work.P
-
 known : (rules : List Rule) (words : List (List ℕ)) (before : Devices) (asked : RequestView) (files : List File) → IsCommand commands.Fill words before asked files → (work : FillWork rules asked files)
-    → IsKnown rules words asked files work
-known rules words before asked files is work =
-    let sample = work.task.sample in
-    let asks = sample_asked asked commands.Fill (asked-in_range words asked is.given.spelled) is.built is.command_is refl refl in
-    let lesson = sample_lesson asked files work.task.kind work.patterns work.palette asks sample in
-    let learned = learned_is sample.picture (side_of asked.source) asked.symmetry asked.wrap_in work.patterns sample.learned in
-    record {
-      patterns = lesson.patterns;
-      taught = record { same_side = ap (λ (p : PatternsView). p.n) learned.2; same_wrap = refl; windows = ap (λ (p : PatternsView). p.windows) learned.2 };
-      inside = pins_inside (texts_of work.palette) asked.width asked.height work.task.problem.lines work.task.problem.pins work.task.problem.meant;
-      problem = subst IsProblem (sym work.task.problem.problem) (sample_problem work.patterns (output_of asked) work.task.problem.pins lesson.patterns work.task.problem.room);
-    }
+    → IsBridged asked.source asked files work.P work.posed
+known rules words before asked files is work = command_bridged commands.Fill words before asked files work.P work.posed sides_of_fill is
 
 -- the rule by which a run went
 ran_by : (rules : List Rule) (kind : RuleKind) (P : Network) (budget seed : ℕ) (end : Outcome × State) → end_of rules kind P budget seed ≡ Some end → (rule : Rule) × (outcome_of P rule budget (seeded seed) ≡ Some end)
@@ -195,24 +196,19 @@ record HasFilled (rules : List Rule) (asked : RequestView) (files : List File) (
   work : FillWork rules asked files
   end : Outcome × State
   ends : end_of rules asked.rule work.P asked.budget asked.seed ≡ Some end
-  is : answered ≡ record { verdict = verdict_of asked.budget end.0; text = fill_text asked work.patterns work.palette work.layout work.P end; whole = true }
+  is : answered ≡ record { verdict = verdict_of asked.budget end.0; text = fill_text (assignment_text asked work) work.P end; whole = true }
 
 fill_answered : (rules : List Rule) (words : List (List ℕ)) (before : Devices) (asked : RequestView) (files : List File) (answered : Answered) → IsCommand commands.Fill words before asked files → HasAnswered rules asked files answered
     → HasFilled rules asked files answered
 fill_answered rules words before asked files answered is has =
-    let given = fill_given (kinds_of rules) asked files has.task (planned rules asked files commands.Fill has.task is.built is.command_is has.is) in
-    let answers = subst (λ task. Answers rules asked task answered) (sym given.4) has.answers in
-    by_end given.0 given.1 given.2 given.3 given.5 (end_of rules asked.rule given.3 asked.budget asked.seed) refl answers
+    let made = has_fill_task asked.source rules asked files has.task refl (planned rules asked files commands.Fill has.task is.built is.command_is has.is) in
+    let answers = fill_answers asked.source rules asked files made.P made.posed made.layout answered (subst (λ task. Answers rules asked task answered) (sym made.same) has.answers) in
+    by_end (record { chooser = made.chooser; P = made.P; posed = made.posed; layout = made.layout; laid = made.laid }) (end_of rules asked.rule made.P asked.budget asked.seed) refl answers
   where
-    by_end : (patterns : PatternsView) (palette : List Symbol) (layout : Layout) (P : Network) → IsFillTask (kinds_of rules) asked files patterns palette layout P → (end : Option (Outcome × State))
-        → end_of rules asked.rule P asked.budget asked.seed ≡ end → fill_answer asked patterns palette layout P end ≡ Some answered → HasFilled rules asked files answered
-    by_end patterns palette layout P task None ends answers = absurd (cc (answers))
-    by_end patterns palette layout P task (Some end) ends answers = record {
-      work = record { patterns = patterns; palette = palette; layout = layout; P = P; task = task };
-      end = end;
-      ends = ends;
-      is = sym (cc (answers));
-    }
+    by_end : (work : FillWork rules asked files) (end : Option (Outcome × State)) → end_of rules asked.rule work.P asked.budget asked.seed ≡ end
+        → fill_answer (assignment_text asked work) asked.budget work.P end ≡ Some answered → HasFilled rules asked files answered
+    by_end work None ends answers = absurd (cc (answers))
+    by_end work (Some end) ends answers = record { work = work; end = end; ends = ends; is = sym (cc (answers)) }
 
 verdict_outcome : (budget : ℕ) (o : Outcome) → verdict_status (verdict_of budget o) ≡ outcome_status o
 verdict_outcome budget outcome.Map = refl
@@ -224,7 +220,7 @@ is_as_run rules words before after status answer asked files is low = by_end (ca
   where
     by_end : CameTo rules asked files before after status
         → (work : FillWork rules asked files) × (end : Outcome × State) × (end_of rules asked.rule work.P asked.budget asked.seed ≡ Some end)
-        × (status ≡ outcome_status end.0) × Takes (fill_text asked work.patterns work.palette work.layout work.P end) before.out after.out
+        × (status ≡ outcome_status end.0) × Takes (fill_text (assignment_text asked work) work.P end) before.out after.out
     by_end (whole answered has same takes) =
         let filled = fill_answered rules words before asked files answered is has in (
           filled.work,
@@ -236,24 +232,26 @@ is_as_run rules words before after status answer asked files is low = by_end (ca
     by_end (cut answered has five front) = absurd (omega (arith, five, low))
     by_end (none high same) = absurd (omega (arith, high, low))
 
--- the map that a run ended in is legal
+-- the map that a run ended in
+abbrev found_map : (rules : List Rule) (asked : RequestView) (files : List File) → FillWork rules asked files → State → Raster
+found_map rules asked files work s = map_of asked files work.P work.posed (assignment_of work.P s.standing)
+
+-- is legal
 map_is_legal : (rules : List Rule) (words : List (List ℕ)) (before : Devices) (asked : RequestView) (files : List File) → IsCommand commands.Fill words before asked files → (work : FillWork rules asked files) (s : State)
-    → end_of rules asked.rule work.P asked.budget asked.seed ≡ Some (outcome.Map, s) → IsLegalMap asked work (picture_of work.patterns (output_of asked) (assignment_of work.P s.standing))
+    → end_of rules asked.rule work.P asked.budget asked.seed ≡ Some (outcome.Map, s) → IsLegalMap asked work (found_map rules asked files work s)
 map_is_legal rules words before asked files is work s ends =
     let sure = known rules words before asked files is work in
     let ran = ran_by rules asked.rule work.P asked.budget asked.seed (outcome.Map, s) ends in
-    let legal = (outcome_map work.P sure.problem ran.0 asked.budget (seeded asked.seed) s ran.1).1 in
-    back work.task.sample.picture (rules_of asked) work.patterns (output_of asked) work.task.problem.pins (assignment_of work.P s.standing) sure.patterns work.task.problem.room sure.taught sure.inside
-    (subst (λ P. IsLegalAssignment P (assignment_of work.P s.standing)) work.task.problem.problem legal)
+    sure.makes (assignment_of work.P s.standing) (outcome_map work.P sure.problem ran.0 asked.budget (seeded asked.seed) s ran.1).1
 
 pub writes_legal : (rules : List Rule) (words : List (List ℕ)) (before after : Devices) (status : ℕ) → IsAnswer rules words before after status → WritesLegalMap rules words before after status
 writes_legal rules words before after status answer asked files is nought =
     let run = is_as_run rules words before after status answer asked files is (omega (arith, nought)) in by_outcome run.0 run.1.0 run.1.1 run.2 run.3 run.4
   where
     by_outcome : (work : FillWork rules asked files) (o : Outcome) (s : State) → end_of rules asked.rule work.P asked.budget asked.seed ≡ Some (o, s) → status ≡ outcome_status o
-        → Takes (fill_text asked work.patterns work.palette work.layout work.P (o, s)) before.out after.out
-        → (work : FillWork rules asked files) × (m : Raster) × IsLegalMap asked work m × (after.out ≡ after_finish (after_bytes before.out (map_text work.layout work.palette m)))
-    by_outcome work outcome.Map s ends same takes = (work, picture_of work.patterns (output_of asked) (assignment_of work.P s.standing), map_is_legal rules words before asked files is work s ends, takes)
+        → Takes (fill_text (assignment_text asked work) work.P (o, s)) before.out after.out
+        → (work : FillWork rules asked files) × (m : Raster) × IsLegalMap asked work m × (after.out ≡ after_finish (after_bytes before.out (map_text_of asked work m)))
+    by_outcome work outcome.Map s ends same takes = (work, found_map rules asked files work s, map_is_legal rules words before asked files is work s ends, takes)
     by_outcome work outcome.NoMap s ends same takes = absurd (omega (arith, same, nought))
     by_outcome work outcome.Spent s ends same takes = absurd (omega (arith, same, nought))
 
@@ -262,19 +260,12 @@ has_no_map rules words before after status answer asked files is one =
     let run = is_as_run rules words before after status answer asked files is (omega (arith, one)) in by_outcome run.0 run.1.0 run.1.1 run.2 run.3 run.4
   where
     by_outcome : (work : FillWork rules asked files) (o : Outcome) (s : State) → end_of rules asked.rule work.P asked.budget asked.seed ≡ Some (o, s) → status ≡ outcome_status o
-        → Takes (fill_text asked work.patterns work.palette work.layout work.P (o, s)) before.out after.out
+        → Takes (fill_text (assignment_text asked work) work.P (o, s)) before.out after.out
         → (work : FillWork rules asked files) × ((m : Raster) → IsLegalMap asked work m → ⊥) × (after.out ≡ before.out)
-    by_outcome work outcome.NoMap s ends same takes = (
-      work,
-      (λ m legal.
-          let sure = known rules words before asked files is work in
-          let ran = ran_by rules asked.rule work.P asked.budget asked.seed (outcome.NoMap, s) ends in
-          let numbers = numbers_of_windows work.patterns (output_of asked) m in
-          outcome_none work.P sure.problem ran.0 asked.budget (seeded asked.seed) s ran.1 numbers
-          (subst (λ P. IsLegalAssignment P numbers) (sym work.task.problem.problem)
-          (there work.task.sample.picture (rules_of asked) work.patterns (output_of asked) work.task.problem.pins m sure.patterns sure.taught legal))),
-      takes,
-    )
+    by_outcome work outcome.NoMap s ends same takes =
+        let sure = known rules words before asked files is work in
+        let ran = ran_by rules asked.rule work.P asked.budget asked.seed (outcome.NoMap, s) ends in
+        (work, no_legal asked files work.P work.posed sure (outcome_none work.P sure.problem ran.0 asked.budget (seeded asked.seed) s ran.1), takes)
     by_outcome work outcome.Map s ends same takes = absurd (omega (arith, same, one))
     by_outcome work outcome.Spent s ends same takes = absurd (omega (arith, same, one))
 
@@ -296,14 +287,14 @@ pub writes_front : (rules : List Rule) (words : List (List ℕ)) (before after :
 writes_front rules words before after status answer asked files is five = by_end (came_to rules commands.Fill words before after status answer asked files is)
   where
     by_outcome : (work : FillWork rules asked files) (o : Outcome) (s : State) → end_of rules asked.rule work.P asked.budget asked.seed ≡ Some (o, s)
-        → CutsOff (fill_text asked work.patterns work.palette work.layout work.P (o, s)) before.out after.out
-        → (work : FillWork rules asked files) × (m : Raster) × IsLegalMap asked work m × IsFaultAfterFront before.out after.out (map_text work.layout work.palette m)
-    by_outcome work outcome.Map s ends front = (work, picture_of work.patterns (output_of asked) (assignment_of work.P s.standing), map_is_legal rules words before asked files is work s ends, front)
+        → CutsOff (fill_text (assignment_text asked work) work.P (o, s)) before.out after.out
+        → (work : FillWork rules asked files) × (m : Raster) × IsLegalMap asked work m × IsFaultAfterFront before.out after.out (map_text_of asked work m)
+    by_outcome work outcome.Map s ends front = (work, found_map rules asked files work s, map_is_legal rules words before asked files is work s ends, front)
     by_outcome work outcome.NoMap s ends front = absurd front
     by_outcome work outcome.Spent s ends front = absurd front
 
     by_end : CameTo rules asked files before after status
-        → (after.out ≡ before.out) ⊎ ((work : FillWork rules asked files) × (m : Raster) × IsLegalMap asked work m × IsFaultAfterFront before.out after.out (map_text work.layout work.palette m))
+        → (after.out ≡ before.out) ⊎ ((work : FillWork rules asked files) × (m : Raster) × IsLegalMap asked work m × IsFaultAfterFront before.out after.out (map_text_of asked work m))
     by_end (whole answered has same takes) = absurd (verdict_apart answered.verdict 5 (omega arith) (sym same ∙ five))
     by_end (cut answered has _ front) =
         let filled = fill_answered rules words before asked files answered is has in

@@ -1,28 +1,23 @@
 -- How a command ends after its plan.
-use Rattle.std.proofs.Common.{◌≡◌, ℕ, ◌<◌, ◌≤◌, not, ◌⊎◌, inl, inr, true, false, List, Option, Some, if◌then◌else◌, Result, Ok, Err, ap, subst, sym, ◌∙◌, refl}
+use Rattle.std.proofs.Common.{◌≡◌, ℕ, ◌⊎◌, inl, inr, true, false, List, Option, Some, if◌then◌else◌, Result, Ok, Err, ap, subst, sym, ◌∙◌, refl}
 use Rattle.wfc_outside.specs.Sink.{SinkView}
 use Rattle.wfc_outside.specs.Folder.{FolderView}
 use Rattle.wfc_choose.specs.Pick.{Rule}
 use Rattle.wfc_choose.specs.declared.RuleKind.{RuleKind}
 use Rattle.wfc_words.specs.RequestView.{RequestView}
 use Rattle.wfc_words.specs.declared.kinds.CommandKind.{CommandKind}
-use Rattle.wfc_words.specs.declared.kinds.CommandKind.TheVariants as commands
 use Rattle.std.specs.Prelude.{codes}
-use Rattle.std.proofs.lemmas.Bool.{and_parts, false≢true}
 use Rattle.wfc_words.specs.Commands.{takes_word}
-use Rattle.wfc_words.specs.InRange.{IsInRange, IsModel}
-use Rattle.wfc_words.specs.declared.kinds.SourceModel.{SourceModel}
-use Rattle.wfc_words.specs.declared.kinds.SourceModel.TheVariants.{Overlap, Tiles}
-use Rattle.wfc_task.specs.Asked.{IsOutputAsked, IsSampleAsked}
-use Rattle.wfc_task.specs.Built.{is_built, is_built_by, is_of_windows}
-use Rattle.wfc_task.proofs.RequestLemmas.{sample_asked as sample_in_range, output_asked as output_in_range}
+use Rattle.wfc_words.specs.InRange.{IsInRange}
+use Rattle.wfc_task.specs.Asked.{IsOutputAsked, IsSourceAsked}
+use Rattle.wfc_task.specs.Built.{is_built}
+use Rattle.wfc_task.proofs.CallerLemmas.{source_asked as source_in_range, output_asked as output_in_range, unbuilt_plan}
 use Rattle.wfc_task.specs.Fault.{status_of}
 use Rattle.wfc_task.specs.Plan.{Goes, Plan, refuse}
 use Rattle.wfc_task.specs.Task.{Task, plan_by, plan_of}
 use Rattle.wfc_task.specs.declared.fault.Fault.{Fault}
 use Rattle.wfc_task.specs.declared.fault.Fault.TheVariants.{Refused}
 use Rattle.wfc_task.specs.declared.fault.Refusal.TheVariants.{NotBuilt}
-use Rattle.wfc_task.proofs.WordLemmas.{unbuilt_plan}
 use Rattle.wfc_words.specs.Request.{request_of}
 use Rattle.wfc_words.specs.declared.fault.CommandFault.{CommandFault}
 use Rattle.wfc_words.specs.declared.fault.CommandFault.TheVariants.{NoMemory}
@@ -112,11 +107,9 @@ put_front rules asked command before after old new task verdict text built is go
 
 -- ---- what a command needs of its values
 
--- a command that has a model has a side of a window and images
-pub sample_asked : (asked : RequestView) (command : CommandKind) → IsInRange asked → is_built asked ≡ true → asked.command ≡ command → takes_word command (codes "MODEL") ≡ true
-    → is_built_by command asked ≡ is_of_windows asked.source → IsSampleAsked asked
-sample_asked asked command within built is takes by_windows =
-    sample_in_range asked within (ap (λ c. takes_word c (codes "MODEL")) is ∙ takes) (sym (ap (λ c. is_built_by c asked) is ∙ by_windows) ∙ built)
+-- a command that has a model asks for what can be learned
+pub source_asked : (asked : RequestView) (command : CommandKind) → IsInRange asked → asked.command ≡ command → takes_word command (codes "MODEL") ≡ true → IsSourceAsked asked
+source_asked asked command within is takes = source_in_range asked within (ap (λ c. takes_word c (codes "MODEL")) is ∙ takes)
 
 -- a command that has sides has them in range
 pub output_asked : (asked : RequestView) (command : CommandKind) → IsInRange asked → asked.command ≡ command → takes_word command (codes "WIDTH") ≡ true → takes_word command (codes "HEIGHT") ≡ true → IsOutputAsked asked

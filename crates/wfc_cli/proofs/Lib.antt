@@ -1,12 +1,13 @@
 pub mod ChooserLemmas
 pub mod FillLemmas
+pub mod HeldLemmas
 pub mod RunLemmas
 pub mod WalkLemmas
 pub mod EndLemmas
+pub mod MapLemmas
 pub mod TheoremLemmas
 pub mod CommandLemmas
 pub mod CheckLemmas
 pub mod RefuteLemmas
 pub mod RunTextLemmas
-pub mod PictureLemmas
 pub mod UpgradeLemmas

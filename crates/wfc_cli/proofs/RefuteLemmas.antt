@@ -1,5 +1,5 @@
 -- What a run that is told in lines leaves in a sink, what `refute` answers by it, and what that says in the subject's words.
-use Rattle.std.proofs.Common.{◌≡◌, ℕ, ◌+◌, ◌<◌, ◌≤◌, ◌⊎◌, inl, inr, true, false, Bool, List, [], ◌∷◌, ◌++◌, length, take, Option, None, Some, Result, Ok, Err, ap, sym, ◌∙◌, subst, refl, arith, append_assoc}
+use Rattle.std.proofs.Common.{◌≡◌, ℕ, ◌+◌, ◌≤◌, ◌⊎◌, inl, inr, true, false, Bool, List, [], ◌∷◌, ◌++◌, length, take, Option, None, Some, Result, Ok, Err, ap, sym, ◌∙◌, subst, refl, arith, append_assoc}
 use Rattle.std.specs.Borrow.{GName}
 use Rattle.std.specs.Prelude.{IfOk, OnErr}
 use Rattle.std.proofs.lemmas.Bool.{false≢true}
@@ -15,12 +15,10 @@ use Rattle.wfc_problem.specs.Assignment.{IsLegalAssignment}
 use Rattle.wfc_problem.specs.Network.{Network, IsProblem}
 use Rattle.wfc_proof.specs.Journal.{JournalView, Target, after_lines, IsCutOff}
 use Rattle.wfc_proof.specs.ProofText.{head_in}
-use Rattle.wfc_proof.specs.Spans.{Joined, as_span, grown_or_apart, growing, join_line, join_on, join_with, nothing_joined, spans_of, IsSpanning}
+use Rattle.wfc_proof.specs.Spans.{Joined, as_span, grown_or_apart, join_line, join_on, nothing_joined, spans_of, IsSpanning}
 use Rattle.wfc_proof.specs.Telling.{IsAt, begun, journal_of, refused_lines, text_of}
 use Rattle.wfc_proof.specs.declared.JournalFault.{JournalFault}
 use Rattle.wfc_proof.specs.declared.Line.{Line}
-use Rattle.wfc_proof.specs.declared.Line.TheVariants.{Remove, Span, Try, Empty, End, Found, Out}
-use Rattle.wfc_proof.specs.declared.heads.Format.{Format}
 use Rattle.wfc_proof.specs.declared.heads.Format.TheVariants.{One, Two}
 use Rattle.wfc_proof.proofs.Sound.{closed_none}
 use Rattle.wfc_proof.proofs.WrittenLemmas.{lines_cut_off, lines_written, spans_cut_off, spans_written}
@@ -36,11 +34,10 @@ use Rattle.wfc_search.proofs.Counts.{run_counts}
 use Rattle.wfc_search.proofs.Proved.{run_proved}
 use Rattle.wfc_words.specs.RequestView.{RequestView}
 use Rattle.wfc_words.specs.declared.kinds.CommandKind.TheVariants as commands
-use Rattle.wfc_words.proofs.RangeLemmas.{asked-in_range}
 use Rattle.wfc_task.specs.Built.{is_built}
 use Rattle.wfc_task.specs.Checking.{shape_of}
 use Rattle.wfc_task.specs.Fault.{status_of}
-use Rattle.wfc_task.specs.Plan.{Goes, Plan}
+use Rattle.wfc_task.specs.Plan.{Goes}
 use Rattle.wfc_task.specs.RefuteGiven.{IsRefuteTask}
 use Rattle.wfc_task.specs.Task as tasks
 use Rattle.wfc_task.specs.Task.{Task, plan_by}
@@ -51,7 +48,7 @@ use Rattle.wfc_cli.specs.Answers.{Answers}
 use Rattle.wfc_cli.specs.Choosers.{chosen, kinds_of}
 use Rattle.wfc_cli.specs.Claims.{IsCommand}
 use Rattle.wfc_cli.specs.Ending.{EndsPut}
-use Rattle.wfc_cli.specs.RefuteClaims.{AreToldBy, IsRunFront, RefuteWork, WritesRefutation, WritesRun, WritesRunFront, refute_status}
+use Rattle.wfc_cli.specs.RefuteClaims.{IsRunFront, RefuteWork, WritesRefutation, WritesRun, WritesRunFront, refute_status}
 use Rattle.wfc_cli.specs.Refuting.{CutsFrom, CutsRefutation, IsBegunBy, IsToldBy, PutsFrom, PutsRefutation, Refutes, RefutesBy, RefutesFront, RefutesWhole, lines_in, refutation_text, refute_verdict, written_format}
 use Rattle.wfc_cli.specs.Reply.{Answered, CutsOff, TakesWhole, verdict_status}
 use Rattle.wfc_cli.specs.Runs.{seeded}
@@ -60,9 +57,9 @@ use Rattle.wfc_cli.specs.declared.reply.Stop.TheVariants.{Cut, Unanswered}
 use Rattle.wfc_cli.specs.declared.reply.Verdict.{Verdict}
 use Rattle.wfc_cli.specs.declared.reply.Verdict.TheVariants as verdict
 use Rattle.wfc_cli.proofs.CommandLemmas.{CameTo, whole, cut, none, came_to, planned}
-use Rattle.wfc_cli.proofs.PictureLemmas.{no_picture}
+use Rattle.wfc_cli.proofs.MapLemmas.{IsBridged, command_bridged, no_legal}
 use Rattle.wfc_cli.proofs.RunTextLemmas.{join_more, none_growing, none_joined, run_single, run_text}
-use Rattle.wfc_cli.proofs.EndLemmas.{ends_short, put_cut, put_front, put_none, put_short, put_whole, sample_asked}
+use Rattle.wfc_cli.proofs.EndLemmas.{ends_short, put_cut, put_front, put_none, put_short, put_whole}
 use Rattle.wfc_cli.proofs.TheoremLemmas.{verdict_apart}
 
 -- ---- behind the line of an end no span is kept
@@ -374,6 +371,11 @@ has_refuted : (rules : List Rule) (words : List (List ℕ)) (before : Devices) (
     → (P : Network) → tasks.refute P ≡ task → IsRefuteTask (kinds_of rules) asked files P → Answers rules asked task answered → HasRefuted rules asked files answered
 has_refuted rules words before asked files task answered is P same given answers = refuted_by rules asked files answered P given (subst (λ (t : Task). Answers rules asked t answered) (sym same) answers)
 
+-- what is known of the problem of a `refute`
+known : (rules : List Rule) (words : List (List ℕ)) (before : Devices) (asked : RequestView) (files : List File) → IsCommand commands.Refute words before asked files → (work : RefuteWork rules asked files)
+    → IsBridged asked.source asked files work.P work.task.posed
+known rules words before asked files is work = command_bridged commands.Refute words before asked files work.P work.task.posed (record { model = refl; width = refl; height = refl }) is
+
 pub writes_refutation : (rules : List Rule) (words : List (List ℕ)) (before after : Devices) (status : ℕ) → IsAnswer rules words before after status → WritesRefutation rules words before after status
 writes_refutation rules words before after status answer asked files is low = by_end (came_to rules commands.Refute words before after status answer asked files is)
   where
@@ -395,8 +397,7 @@ writes_refutation rules words before after status answer asked files is low = by
             text = run_text asked work.P refuted.outcome refuted.lines problem proof (run_single work.P work.rule asked.budget begin first refuted.outcome refuted.lines refuted.told.tells);
             same_status = status_is;
             written = subst (λ (a : Answered). TakesWhole a.whole a.text before.out after.out) refuted.is takes;
-            none = λ nought. no_picture asked files work.task.kind work.task.patterns work.task.palette work.P
-                (sample_asked asked commands.Refute (asked-in_range words asked is.given.spelled) is.built is.command_is refl refl) work.task.sample work.task.problem
+            none = λ nought. no_legal asked files work.P work.task.posed (known rules words before asked files is work)
                 (run_none work.P problem refuted.outcome refuted.lines proof (sym status_is ∙ nought));
             spent = λ two. run_spent work.P problem work.rule asked.budget (seeded asked.seed) counts.later refuted.outcome counts.run (sym status_is ∙ two);
           },

@@ -1,5 +1,5 @@
 -- What a search came to, as the run of a problem.
-use Rattle.std.proofs.Common.{◌≡◌, ℕ, true, List, [], Option, Some, None, length, ap, sym, ◌∙◌, subst, refl}
+use Rattle.std.proofs.Common.{◌≡◌, ℕ, true, List, [], Some, length, ap, sym, ◌∙◌, subst}
 use Rattle.rand_core.specs.Pcg32Seed.{pcg32_seed}
 use Rattle.rand_core.specs.Steps.{stream_of, steps_u64_low}
 use Rattle.rand_pcg.specs.Lcg.{Lcg}
@@ -8,23 +8,15 @@ use Rattle.wfc_choose.specs.Pick.{Rule}
 use Rattle.wfc_choose.specs.declared.RuleKind.{RuleKind}
 use Rattle.wfc_problem.specs.Assignment.{IsLegalAssignment}
 use Rattle.wfc_problem.specs.Network.{Network, IsProblem}
-use Rattle.wfc_problem.specs.declared.Literal.{Literal}
-use Rattle.wfc_picture.specs.declared.symbol.Symbol.{Symbol}
 use Rattle.wfc_pattern.specs.Patterns.{PatternsView}
-use Rattle.wfc_overlap.specs.Bridge.{picture_of}
 use Rattle.wfc_search.specs.Run.{State, end_from, outcome_of}
-use Rattle.wfc_search.specs.Search.{assignment_of}
 use Rattle.wfc_search.specs.declared.Outcome.{Outcome}
 use Rattle.wfc_search.specs.declared.Outcome.TheVariants as outcome
 use Rattle.wfc_search.proofs.CallerLemmas.{outcome_map}
-use Rattle.wfc_render.specs.Map.{map_text}
-use Rattle.wfc_render.specs.declared.form.Layout.{Layout}
-use Rattle.wfc_words.specs.RequestView.{RequestView}
-use Rattle.wfc_cli.specs.Answers.{demo_answer, demo_budget, demo_text, demo_verdict, fill_answer, outcome_status, output_of, verdict_of}
+use Rattle.wfc_cli.specs.Answers.{demo_answer, demo_budget, demo_text, demo_verdict}
 use Rattle.wfc_cli.specs.Choosers.{chosen}
-use Rattle.wfc_cli.specs.Reply.{Answered, done_with, verdict_status}
-use Rattle.wfc_cli.specs.Runs.{IsHeld, IsRan, end_by, end_of, seeded}
-use Rattle.wfc_cli.specs.declared.reply.Verdict.TheVariants as verdict
+use Rattle.wfc_cli.specs.Reply.{Answered, verdict_status}
+use Rattle.wfc_cli.specs.Runs.{IsHeld, IsLegalEnd, IsRan, end_by, end_of, seeded}
 use Rattle.wfc_cli.specs.declared.runs.End.{End}
 use Rattle.wfc_cli.specs.declared.runs.End.TheVariants as held
 use Rattle.wfc_cli.specs.declared.runs.Ran.{Ran}
@@ -45,15 +37,9 @@ is_ran P Q rule r budget b seed s t outcome ran end problem same bound none unma
   retractions = many;
 }
 
--- the assignment that is held is legal
-abbrev pub IsLegalEnd : Network → End → Type 0
-IsLegalEnd P (held.Map assignment) = IsLegalAssignment P assignment.items
-IsLegalEnd P held.NoMap = Unit {0}
-IsLegalEnd P held.Spent = Unit {0}
-
 -- what a run holds that ended in a map is legal
-pub ran_legal : (P : Network) → IsProblem P → (rule : Rule) (budget seed : ℕ) (ran : Ran) → IsRan P rule budget seed ran → (end : End) → ran.end ≡ end → IsLegalEnd P end
-ran_legal P p rule budget seed ran is end same = by_end is.outcome end (subst (IsHeld P is.state.standing is.outcome) same is.held) is.ends
+pub ran_legal : (P : Network) → IsProblem P → (rule : Rule) (budget seed : ℕ) (ran : Ran) → IsRan P rule budget seed ran → IsLegalEnd P ran.end
+ran_legal P p rule budget seed ran is = by_end is.outcome ran.end is.held is.ends
   where
     by_end : (o : Outcome) (end : End) → IsHeld P is.state.standing o end → outcome_of P rule budget (seeded seed) ≡ Some (o, is.state) → IsLegalEnd P end
     by_end outcome.Map (held.Map assignment) same ends = subst (IsLegalAssignment P) (sym same) (outcome_map P p rule budget (seeded seed) is.state ends).1
@@ -66,32 +52,6 @@ ran_legal P p rule budget seed ran is end same = by_end is.outcome end (subst (I
 pub ended : (rules : List Rule) (kind : RuleKind) (P : Network) (rule : Rule) (budget seed : ℕ) (ran : Ran) → chosen kind rules ≡ Some rule → (is : IsRan P rule budget seed ran)
     → end_of rules kind P budget seed ≡ Some (is.outcome, is.state)
 ended rules kind P rule budget seed ran found is = ap (λ o. end_by o P budget seed) found ∙ is.ends
-
--- ---- the answer of `fill`
-
--- what a run came to, as the answer of `fill`: the map of its assignment is written
-abbrev pub AnswersRan : RequestView → PatternsView → List Symbol → Layout → End → Answered → Type 0
-AnswersRan asked patterns palette layout (held.Map assignment) answer = answer ≡ done_with (map_text layout palette (picture_of patterns (output_of asked) assignment.items))
-AnswersRan asked patterns palette layout held.NoMap answer = answer ≡ record { verdict = verdict.NoMap; text = None; whole = true }
-AnswersRan asked patterns palette layout held.Spent answer = answer ≡ record { verdict = verdict.Spent asked.budget; text = None; whole = true }
-
-pub fill_ran : (rules : List Rule) (kind : RuleKind) (asked : RequestView) (patterns : PatternsView) (palette : List Symbol) (layout : Layout) (P : Network) (rule : Rule) (seed : ℕ) (ran : Ran) (answer : Answered)
-    → chosen kind rules ≡ Some rule → IsRan P rule asked.budget seed ran → AnswersRan asked patterns palette layout ran.end answer
-    → fill_answer asked patterns palette layout P (end_of rules kind P asked.budget seed) ≡ Some answer
-fill_ran rules kind asked patterns palette layout P rule seed ran answer found is answers =
-    ap (fill_answer asked patterns palette layout P) (ended rules kind P rule asked.budget seed ran found is) ∙ by_end is.outcome ran.end is.held answers
-  where
-    by_end : (o : Outcome) (end : End) → IsHeld P is.state.standing o end → AnswersRan asked patterns palette layout end answer → fill_answer asked patterns palette layout P (Some (o, is.state)) ≡ Some answer
-    by_end outcome.Map (held.Map assignment) same answers =
-        ap (λ a. Some (done_with (map_text layout palette (picture_of patterns (output_of asked) a)))) (sym same) ∙ ap Some (sym answers)
-    by_end outcome.NoMap held.NoMap same answers = ap Some (sym answers)
-    by_end outcome.Spent held.Spent same answers = ap Some (sym answers)
-    by_end outcome.Map held.NoMap same answers = absurd same
-    by_end outcome.Map held.Spent same answers = absurd same
-    by_end outcome.NoMap (held.Map a) same answers = absurd same
-    by_end outcome.NoMap held.Spent same answers = absurd same
-    by_end outcome.Spent (held.Map a) same answers = absurd same
-    by_end outcome.Spent held.NoMap same answers = absurd same
 
 -- ---- the answer of `demo`
 

@@ -1,6 +1,6 @@
 -- The text of the lines of a run is the text of a proof, or of one that is left open.
-use Rattle.std.proofs.Common.{◌≡◌, ℕ, Bool, true, false, List, [], ◌∷◌, ◌++◌, length, Option, None, Some, refl, sym, ap, ◌∙◌, subst, append_assoc, append-nil}
-use Rattle.std.specs.Prelude.{◌==◌, ◌&&◌, if◌then◌else◌}
+use Rattle.std.proofs.Common.{◌≡◌, ℕ, Bool, true, false, List, [], ◌∷◌, ◌++◌, length, Option, None, Some, refl, sym, ap, ◌∙◌, append_assoc, append-nil}
+use Rattle.std.specs.Prelude.{◌==◌, if◌then◌else◌}
 use Rattle.std.specs.List.{list_all}
 use Rattle.std.proofs.lemmas.Bool.{and_from, and_parts}
 use Rattle.std.proofs.lemmas.List.Folds.{list_all-append}
@@ -13,9 +13,7 @@ use Rattle.wfc_domains.specs.declared.Verdict.{Verdict}
 use Rattle.wfc_domains.specs.declared.Verdict.TheVariants.{Alive, Dead}
 use Rattle.wfc_problem.specs.Network.{Network, IsProblem, in_base}
 use Rattle.wfc_proof.specs.JournalText.{IsOpenTextOf}
-use Rattle.wfc_proof.specs.Lines.{Spells}
-use Rattle.wfc_proof.specs.Proof.{Closes, FollowsFrom, Proof, nodes}
-use Rattle.wfc_proof.specs.ProofText.{AreOfFormat, IsTextOf, head_in}
+use Rattle.wfc_proof.specs.ProofText.{IsTextOf, head_in}
 use Rattle.wfc_proof.specs.Spans.{Joined, all_joined, apart, as_span, grown_or_apart, growing, in_spans, join_line, join_on, join_with, lines_of, nothing_joined}
 use Rattle.wfc_proof.specs.Telling.{text_of}
 use Rattle.wfc_proof.specs.declared.Line.{Line}

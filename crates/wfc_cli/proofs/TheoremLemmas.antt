@@ -20,8 +20,7 @@ use Rattle.wfc_task.specs.declared.fault.Fault.TheVariants.{Unread, Refused}
 use Rattle.wfc_task.specs.declared.fault.Refusal.TheVariants.{NotBuilt}
 use Rattle.wfc_task.specs.declared.fault.Class.{Class}
 use Rattle.wfc_task.specs.declared.fault.Class.TheVariants.{Words, Input, Memory, NoChooser}
-use Rattle.wfc_task.proofs.PlanLemmas.{goes_device, goes_quiet, goes_told}
-use Rattle.wfc_task.proofs.WordLemmas.{unbuilt_plan, words_unbuilt}
+use Rattle.wfc_task.proofs.CallerLemmas.{goes_device, goes_quiet, goes_told, unbuilt_plan, words_unbuilt}
 use Rattle.wfc_cli.specs.Choosers.{kinds_of}
 use Rattle.wfc_cli.specs.ErrorLine.{command_status}
 use Rattle.wfc_cli.specs.Reply.{Reply, CutsOff, Delivers, IsDelivered, Takes, TakesWhole, said_of, verdict_status}

@@ -1,10 +1,10 @@
 -- What `upgrade` answers, and what the relation of a call says of it in the subject's words.
-use Rattle.std.proofs.Common.{◌≡◌, ℕ, ◌<◌, ◌≤◌, ◌^◌, ◌⊎◌, inl, inr, true, List, Option, None, Some, Result, Ok, Err, ap, sym, ◌∙◌, subst, refl, arith}
+use Rattle.std.proofs.Common.{◌≡◌, ℕ, ◌<◌, ◌^◌, ◌⊎◌, inl, inr, true, List, Option, None, Some, Result, Ok, Err, ap, sym, ◌∙◌, subst, refl, arith}
 use Rattle.wfc_outside.specs.Folder.{File, FolderView}
 use Rattle.wfc_outside.specs.Gives.{Gives}
 use Rattle.wfc_outside.specs.Sink.{SinkView}
 use Rattle.wfc_choose.specs.Pick.{Rule}
-use Rattle.wfc_problem.specs.Network.{Network, IsProblem, values}
+use Rattle.wfc_problem.specs.Network.{Network, values}
 use Rattle.wfc_problem.proofs.CallerLemmas.{few_cells, few_values}
 use Rattle.wfc_proof.specs.Heads.{IsShape}
 use Rattle.wfc_proof.specs.Proof.{Proof}
@@ -20,16 +20,12 @@ use Rattle.wfc_check.specs.declared.fault.CheckFault.TheVariants.{NoMemory}
 use Rattle.wfc_check.proofs.ExactLemmas.{accepted_refutation, refutation_accepted, refutation_none}
 use Rattle.wfc_words.specs.RequestView.{RequestView}
 use Rattle.wfc_words.specs.declared.kinds.CommandKind.TheVariants as commands
-use Rattle.wfc_words.proofs.RangeLemmas.{asked-in_range}
-use Rattle.wfc_task.specs.Asked.{IsSampleAsked}
 use Rattle.wfc_task.specs.Built.{is_built}
 use Rattle.wfc_task.specs.Checking.{shape_of}
-use Rattle.wfc_task.specs.Fault.{status_of}
 use Rattle.wfc_task.specs.Plan.{Goes}
 use Rattle.wfc_task.specs.Task as tasks
 use Rattle.wfc_task.specs.Task.{Task, plan_by}
 use Rattle.wfc_task.specs.UpgradeGiven.{IsUpgradeTask}
-use Rattle.wfc_task.specs.declared.fault.Fault.{Fault}
 use Rattle.wfc_task.proofs.CallerLemmas.{upgrade_given}
 use Rattle.wfc_cli.specs.Answer.{Devices, IsAnswer}
 use Rattle.wfc_cli.specs.Answers.{Answers}
@@ -44,8 +40,8 @@ use Rattle.wfc_cli.specs.declared.reply.Stop.TheVariants.{Cut, Unanswered}
 use Rattle.wfc_cli.specs.declared.reply.Verdict.{Verdict}
 use Rattle.wfc_cli.specs.declared.reply.Verdict.TheVariants as verdict
 use Rattle.wfc_cli.proofs.CommandLemmas.{CameTo, whole, cut, none, came_to, planned}
-use Rattle.wfc_cli.proofs.EndLemmas.{output_asked, put_cut, put_short, put_whole, sample_asked}
-use Rattle.wfc_cli.proofs.PictureLemmas.{asked_problem, asked_shape, no_picture}
+use Rattle.wfc_cli.proofs.EndLemmas.{put_cut, put_short, put_whole}
+use Rattle.wfc_cli.proofs.MapLemmas.{TakesSides, IsBridged, command_bridged, command_shape, no_legal}
 use Rattle.wfc_cli.proofs.TheoremLemmas.{verdict_apart}
 
 -- ---- the fault of a text
@@ -99,26 +95,20 @@ upgrade_ended rules asked before after old new P bytes ended built is goes upgra
 
 -- what is known of the work of an `upgrade`
 record IsKnown (asked : RequestView) (files : List File) (work : UpgradeWork asked files) : Type 0 where
-  asks : IsSampleAsked asked
-  problem : IsProblem work.P
+  bridge : IsBridged asked.source asked files work.P work.task.posed
   shape : IsShape (shape_of asked)
 
 known : (words : List (List ℕ)) (before : Devices) (asked : RequestView) (files : List File) → IsCommand commands.Upgrade words before asked files → (work : UpgradeWork asked files) → IsKnown asked files work
 known words before asked files is work =
-    let range = asked-in_range words asked is.given.spelled in
-    let asks = sample_asked asked commands.Upgrade range is.built is.command_is refl refl in
-    record {
-      asks = asks;
-      problem = asked_problem asked files work.task.kind work.task.patterns work.task.palette work.P asks work.task.sample work.task.problem;
-      shape = asked_shape asked asks (output_asked asked commands.Upgrade range is.command_is refl refl);
-    }
+    let sides : TakesSides commands.Upgrade = record { model = refl; width = refl; height = refl } in
+    record { bridge = command_bridged commands.Upgrade words before asked files work.P work.task.posed sides is; shape = command_shape commands.Upgrade words before asked files sides is }
 
 -- its text keeps the proof
 keeps : (asked : RequestView) (files : List File) (work : UpgradeWork asked files) → IsKnown asked files work → (format : Format) (proof : Proof) → IsTextOf work.P (shape_of asked) format proof work.bytes
     → IsTextOf work.P (shape_of asked) Two proof (same_proof_text asked work.P work.bytes)
 keeps asked files work sure format proof text =
-    let cells : work.P.cells < 2 ^ 32 = omega (arith, few_cells work.P sure.problem) in
-    let all_values : values work.P < 2 ^ 32 = omega (arith, few_values work.P sure.problem) in
+    let cells : work.P.cells < 2 ^ 32 = omega (arith, few_cells work.P sure.bridge.problem) in
+    let all_values : values work.P < 2 ^ 32 = omega (arith, few_values work.P sure.bridge.problem) in
     proof_kept work.P (shape_of asked) format proof work.bytes sure.shape cells all_values text
 
 -- without a fault it was accepted
@@ -127,7 +117,7 @@ accepted (Ok unit) is = refl
 accepted (Err fault) is = absurd (cc)
 
 is_refutation : (asked : RequestView) (files : List File) (work : UpgradeWork asked files) → IsKnown asked files work → first_fault asked work.P work.bytes ≡ None → IsRefutation work.P (shape_of asked) work.bytes
-is_refutation asked files work sure found = accepted_refutation work.P sure.problem (shape_of asked) work.bytes (accepted (checked work.P (shape_of asked) work.bytes) found)
+is_refutation asked files work sure found = accepted_refutation work.P sure.bridge.problem (shape_of asked) work.bytes (accepted (checked work.P (shape_of asked) work.bytes) found)
 
 -- what `upgrade` answered
 record HasUpgraded (asked : RequestView) (files : List File) (answered : Answered) : Type 0 where
@@ -153,7 +143,7 @@ upgrades_refutation rules words before after status answer asked files is low = 
             same,
             record {
               refutation = refutation;
-              none = no_picture asked files work.task.kind work.task.patterns work.task.palette work.P sure.asks work.task.sample work.task.problem (refutation_none work.P sure.problem (shape_of asked) work.bytes refutation);
+              none = no_legal asked files work.P work.task.posed sure.bridge (refutation_none work.P sure.bridge.problem (shape_of asked) work.bytes refutation);
               same_proof = keeps asked files work sure;
               written = takes;
             },
@@ -166,7 +156,7 @@ upgrades_refutation rules words before after status answer asked files is low = 
             same,
             record {
               none = λ refuted.
-                  let other : None ≡ Some fault = sym (ap fault_in (refutation_accepted work.P sure.problem (shape_of asked) sure.shape work.bytes refuted)) ∙ found in
+                  let other : None ≡ Some fault = sym (ap fault_in (refutation_accepted work.P sure.bridge.problem (shape_of asked) sure.shape work.bytes refuted)) ∙ found in
                   cc (other);
               same = takes;
             },

@@ -1,12 +1,12 @@
 -- Steps that are made, and the blocks that are put.
-use Rattle.std.proofs.Common.{◌≡◌, ℕ, zero, suc, ◌+◌, ◌-◌, ◌<◌, ◌≤◌, ◌⊎◌, inl, inr, true, false, List, [], ◌∷◌, ◌++◌, length, map, take, drop, get_or, Option, Some, None, Result, Ok, Err, ap, sym, ◌∙◌, subst, refl, arith, length-append, append_assoc, append-nil, length-take, if◌then◌else◌}
+use Rattle.std.proofs.Common.{◌≡◌, ℕ, ◌+◌, ◌-◌, ◌<◌, ◌≤◌, inl, inr, true, false, List, [], ◌∷◌, ◌++◌, length, map, take, drop, get_or, Some, None, Result, ap, sym, ◌∙◌, subst, refl, arith, length-append, append_assoc, append-nil, length-take, if◌then◌else◌}
 use Rattle.std.proofs.lemmas.Bool.{false_from_ne_true, false≢true, cases_lt}
 use Rattle.std.proofs.lemmas.List.{drop_all, drop_more, get_or_default, take_more}
 use Rattle.std.proofs.Math.Seq.{take-append-add}
 use Rattle.wfc_outside.specs.Sink.{SinkView, after_bytes, IsFaultAfterFront, Puts}
 use Rattle.wfc_outside.specs.declared.SinkFault.{SinkFault}
 use Rattle.wfc_outside.proofs.CallerLemmas.{fault_out, puts_none, puts_on}
-use Rattle.wfc_domains.specs.Store.{StoreView, IsAssumed, IsOpened, IsSound, all_but_last, left_of, without_last}
+use Rattle.wfc_domains.specs.Store.{StoreView, IsAssumed, IsOpened, IsSound, left_of, without_last}
 use Rattle.wfc_domains.specs.declared.Verdict.{Verdict}
 use Rattle.wfc_domains.specs.declared.Verdict.TheVariants.{Alive, Dead}
 use Rattle.wfc_problem.specs.Domains.{Test}
@@ -15,7 +15,6 @@ use Rattle.wfc_problem.specs.Rounds.{greatest}
 use Rattle.wfc_problem.specs.Sizes.{is_dead}
 use Rattle.wfc_problem.specs.declared.Literal.{Literal}
 use Rattle.wfc_problem.proofs.CallerLemmas.{dead_iff, greatest_base, greatest_is, greatest_lower}
-use Rattle.wfc_pins.specs.declared.steps.Step.{Step}
 use Rattle.wfc_pins.specs.declared.steps.Step.TheVariants.{Assume, Undo}
 use Rattle.wfc_pins.specs.declared.steps.StepLine.{StepLine}
 use Rattle.wfc_search.proofs.CallerLemmas.{alive_alive, alive_left, dead_dead}

@@ -1,5 +1,5 @@
 -- What a call of the program may answer, and why.
-use Rattle.std.specs.Prelude.{◌≡◌, ◌⊎◌, ℕ, List, Some, Result, Ok, Err}
+use Rattle.std.specs.Prelude.{◌≡◌, ◌⊎◌, ℕ, List, Result, Ok, Err}
 use Rattle.wfc_outside.specs.Folder.{FolderView}
 use Rattle.wfc_outside.specs.Sink.{SinkView}
 use Rattle.wfc_choose.specs.Pick.{Rule}

@@ -1,5 +1,5 @@
 -- The answer of each command to its task.
-use Rattle.std.specs.Prelude.{◌≡◌, ℕ, ◌-◌, true, List, [], ◌∷◌, ◌++◌, length, map, codes, decimal, take, Option, None, Some, Result, Ok, Err, if◌then◌else◌}
+use Rattle.std.specs.Prelude.{◌≡◌, ℕ, ◌-◌, true, List, [], ◌∷◌, ◌++◌, length, map, codes, decimal, take, Option, None, Some, if◌then◌else◌}
 use Rattle.wfc_problem.specs.Domains.{Test}
 use Rattle.wfc_problem.specs.Network.{Network, values}
 use Rattle.wfc_problem.specs.Rounds.{greatest}
@@ -10,7 +10,6 @@ use Rattle.wfc_pattern.specs.Patterns.{PatternsView}
 use Rattle.wfc_pins.specs.declared.steps.Step.{Step}
 use Rattle.wfc_pins.specs.declared.steps.Step.TheVariants.{Assume, Undo}
 use Rattle.wfc_pins.specs.declared.steps.StepLine.{StepLine}
-use Rattle.wfc_overlap.specs.Sample.{Output, output_with}
 use Rattle.wfc_overlap.specs.Bridge.{picture_of}
 use Rattle.wfc_check.specs.declared.fault.CheckFault.{CheckFault}
 use Rattle.wfc_choose.specs.Pick.{Rule}
@@ -21,11 +20,17 @@ use Rattle.wfc_search.specs.declared.Outcome.{Outcome}
 use Rattle.wfc_search.specs.declared.Outcome.TheVariants as outcome
 use Rattle.wfc_render.specs.Block.{domain_text}
 use Rattle.wfc_render.specs.Learned.{learned_text}
+use Rattle.wfc_render.specs.LearnedTiles.{learned_tiles_text}
 use Rattle.wfc_render.specs.Map.{map_text}
+use Rattle.wfc_render.specs.Tiled.{tile_text}
 use Rattle.wfc_render.specs.declared.form.Layout.{Layout}
+use Rattle.wfc_tiled.specs.Mask.{MaskView}
+use Rattle.wfc_tiled.specs.Maps.{tile_map}
+use Rattle.wfc_tileset.specs.Tiles.{TileSetView}
 use Rattle.wfc_words.specs.RequestView.{RequestView}
-use Rattle.wfc_task.specs.Task.{Task, learn, fill, domains, demo, refute, check, upgrade}
+use Rattle.wfc_task.specs.Task.{Task, learn, learn_tiles, fill, fill_tiles, domains, demo, refute, check, upgrade}
 use Rattle.wfc_cli.specs.Choosers.{chosen}
+use Rattle.wfc_cli.specs.Maps.{output_of}
 use Rattle.wfc_cli.specs.Refuting.{RefutesBy}
 use Rattle.wfc_cli.specs.Reply.{Answered, done_with}
 use Rattle.wfc_cli.specs.Runs.{end_of}
@@ -35,30 +40,33 @@ use Rattle.wfc_cli.specs.declared.runs.End.TheVariants as held
 use Rattle.wfc_cli.specs.declared.reply.Verdict.{Verdict}
 use Rattle.wfc_cli.specs.declared.reply.Verdict.TheVariants.{Done, NoMap, Spent, Dead, Unaccepted}
 
--- the output that a request asks for
-abbrev pub output_of : RequestView → Output
-output_of asked = output_with asked.width asked.height asked.wrap_out
-
 -- how a command ends whose run ends so
 abbrev pub verdict_of : ℕ → Outcome → Verdict
 verdict_of budget outcome.Map = Done
 verdict_of budget outcome.NoMap = NoMap
 verdict_of budget outcome.Spent = Spent budget
 
--- the text of the map that a run ended with
-abbrev pub found_text : RequestView → PatternsView → List Symbol → Layout → Network → State → List ℕ
-found_text asked patterns palette layout P s = map_text layout palette (picture_of patterns (output_of asked) (assignment_of P s.standing))
+-- the text of the picture that an assignment of patterns paints
+abbrev pub picture_text : RequestView → PatternsView → List Symbol → Layout → List ℕ → List ℕ
+picture_text asked patterns palette layout a = map_text layout palette (picture_of patterns (output_of asked) a)
 
--- what `fill` writes of an end: the map, or nothing
-abbrev pub fill_text : RequestView → PatternsView → List Symbol → Layout → Network → Outcome × State → Option (List ℕ)
-fill_text asked patterns palette layout P (outcome.Map, s) = Some (found_text asked patterns palette layout P s)
-fill_text asked patterns palette layout P (_, s) = None
+-- the text of the map that an assignment of variants makes
+abbrev pub tiles_text : TileSetView → MaskView → Layout → List ℕ → List ℕ
+tiles_text set mask layout a = tile_text layout set (tile_map mask a)
 
--- the answer of `fill`, where its run has this end
-abbrev pub fill_answer : RequestView → PatternsView → List Symbol → Layout → Network → Option (Outcome × State) → Option Answered
-fill_answer asked patterns palette layout P None = None
-fill_answer asked patterns palette layout P (Some end) =
-    Some (record { verdict = verdict_of asked.budget end.0; text = fill_text asked patterns palette layout P end; whole = true })
+-- what `fill` writes of an end, where this is the text of an assignment: that of the map that was found, or nothing
+abbrev pub fill_text : (List ℕ → List ℕ) → Network → Outcome × State → Option (List ℕ)
+fill_text text P (outcome.Map, s) = Some (text (assignment_of P s.standing))
+fill_text text P (_, s) = None
+
+-- the answer of `fill` with this budget, where its run has this end
+abbrev pub fill_answer : (List ℕ → List ℕ) → ℕ → Network → Option (Outcome × State) → Option Answered
+fill_answer text budget P None = None
+fill_answer text budget P (Some end) = Some (record { verdict = verdict_of budget end.0; text = fill_text text P end; whole = true })
+
+-- the answer of `fill` by the rules of the choosers
+abbrev pub fill_by : List Rule → RequestView → (List ℕ → List ℕ) → Network → Option Answered
+fill_by rules asked text P = fill_answer text asked.budget P (end_of rules asked.rule P asked.budget asked.seed)
 
 -- the status that a run which ends so has
 abbrev pub outcome_status : Outcome → ℕ
@@ -131,7 +139,9 @@ check_answer (Some fault) = record { verdict = Unaccepted fault; text = None; wh
 -- the one answer to a task that has one, where these are the rules of the choosers
 abbrev pub answer_of : List Rule → RequestView → Task → Option Answered
 answer_of rules asked (learn patterns palette) = Some (done_with (learned_text patterns palette))
-answer_of rules asked (fill patterns palette layout P) = fill_answer asked patterns palette layout P (end_of rules asked.rule P asked.budget asked.seed)
+answer_of rules asked (learn_tiles set) = Some (done_with (learned_tiles_text set))
+answer_of rules asked (fill patterns palette layout P) = fill_by rules asked (picture_text asked patterns palette layout) P
+answer_of rules asked (fill_tiles set mask layout P) = fill_by rules asked (tiles_text set mask layout) P
 answer_of rules asked (domains P steps) = Some (domains_answer P steps)
 answer_of rules asked (refute P) = None
 answer_of rules asked (check found) = Some (check_answer found)
@@ -141,7 +151,9 @@ answer_of rules asked (demo patterns P) = demo_answer patterns P (end_of rules F
 -- an answer to a task, where these are the rules of the choosers: of a refutation the lines of a run, and else the one there is
 abbrev pub Answers : List Rule → RequestView → Task → Answered → Type 0
 Answers rules asked (learn patterns palette) answered = answer_of rules asked (learn patterns palette) ≡ Some answered
+Answers rules asked (learn_tiles set) answered = answer_of rules asked (learn_tiles set) ≡ Some answered
 Answers rules asked (fill patterns palette layout P) answered = answer_of rules asked (fill patterns palette layout P) ≡ Some answered
+Answers rules asked (fill_tiles set mask layout P) answered = answer_of rules asked (fill_tiles set mask layout P) ≡ Some answered
 Answers rules asked (domains P steps) answered = answer_of rules asked (domains P steps) ≡ Some answered
 Answers rules asked (refute P) answered = RefutesBy (chosen asked.rule rules) asked P answered
 Answers rules asked (check found) answered = answer_of rules asked (check found) ≡ Some answered

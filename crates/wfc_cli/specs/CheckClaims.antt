@@ -2,7 +2,6 @@
 use Rattle.std.specs.Prelude.{◌≡◌, ℕ, ◌≤◌, ◌⊎◌, List}
 use Rattle.wfc_outside.specs.Folder.{File}
 use Rattle.wfc_outside.specs.Sink.{after_bytes, after_finish}
-use Rattle.wfc_model.specs.Legal.{IsLegalPicture}
 use Rattle.wfc_model.specs.Raster.{Raster}
 use Rattle.wfc_check.specs.Text.{IsRefutation}
 use Rattle.wfc_words.specs.RequestView.{RequestView}
@@ -11,20 +10,17 @@ use Rattle.wfc_task.specs.CheckGiven.{IsCheckWork}
 use Rattle.wfc_task.specs.Checking.{shape_of}
 use Rattle.wfc_cli.specs.Answer.{Devices}
 use Rattle.wfc_cli.specs.Answers.{accepted_text}
-use Rattle.wfc_cli.specs.Claims.{IsCommand, rules_of}
-
--- a picture of palette numbers of the size asked for, each of whose windows is learned from the sample, and which the pins and bans of the pins file meet
-abbrev pub IsLegalFor : {files : List File} (asked : RequestView) → IsCheckWork asked files → Raster → Type 0
-IsLegalFor asked work m = IsLegalPicture work.sample.picture (rules_of asked) work.problem.pins asked.width asked.height m
+use Rattle.wfc_cli.specs.Claims.{IsCommand}
+use Rattle.wfc_cli.specs.Maps.{IsLegal}
 
 -- the file's bytes are a refutation of the problem and of the shape asked for
 abbrev pub IsRefuted : {files : List File} (asked : RequestView) → IsCheckWork asked files → Type 0
 IsRefuted asked work = IsRefutation work.P (shape_of asked) work.bytes
 
--- the file is a refutation, so no picture is legal, and that it is accepted was written
+-- the file is a refutation, so no map is legal, and that it is accepted was written
 pub record Accepts {files : List File} (asked : RequestView) (work : IsCheckWork asked files) (before after : Devices) : Type 0 where
   pub refutation : IsRefuted asked work
-  pub none : (m : Raster) → IsLegalFor asked work m → ⊥
+  pub none : (m : Raster) → IsLegal asked files work.P work.posed m → ⊥
   pub written : after.out ≡ after_finish (after_bytes before.out accepted_text)
 
 -- the file is no refutation, and nothing was written

@@ -1,11 +1,13 @@
 pub mod ErrorLine
 pub mod Choosers
+pub mod Maps
 pub mod Runs
 pub mod Reply
 pub mod ReplyView
 pub mod Refuting
 pub mod Upgrading
 pub mod Answers
+pub mod Held
 pub mod Walk
 pub mod Answer
 pub mod Ending

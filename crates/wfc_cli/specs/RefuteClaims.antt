@@ -2,7 +2,6 @@
 use Rattle.std.specs.Prelude.{◌≡◌, ℕ, ◌+◌, ◌≤◌, ◌⊎◌, List, length, take, Some}
 use Rattle.wfc_outside.specs.Folder.{File}
 use Rattle.wfc_outside.specs.Sink.{after_bytes, after_finish, IsFaultAfterFront}
-use Rattle.wfc_model.specs.Legal.{IsLegalPicture}
 use Rattle.wfc_model.specs.Raster.{Raster}
 use Rattle.wfc_choose.specs.Pick.{Rule}
 use Rattle.wfc_problem.specs.Network.{Network}
@@ -22,7 +21,8 @@ use Rattle.wfc_task.specs.Checking.{shape_of}
 use Rattle.wfc_task.specs.RefuteGiven.{IsRefuteTask}
 use Rattle.wfc_cli.specs.Answer.{Devices}
 use Rattle.wfc_cli.specs.Choosers.{chosen, kinds_of}
-use Rattle.wfc_cli.specs.Claims.{IsCommand, rules_of}
+use Rattle.wfc_cli.specs.Claims.{IsCommand}
+use Rattle.wfc_cli.specs.Maps.{IsLegal}
 use Rattle.wfc_cli.specs.Refuting.{IsBegunBy, IsToldBy, refutation_text}
 use Rattle.wfc_cli.specs.Runs.{seeded}
 
@@ -32,11 +32,6 @@ pub record RefuteWork (rules : List Rule) (asked : RequestView) (files : List Fi
   pub task : IsRefuteTask (kinds_of rules) asked files P
   pub rule : Rule
   pub first : chosen asked.rule rules ≡ Some rule
-
--- a picture of palette numbers of the size asked for, each of whose windows is learned from the sample, and which the pins and bans
--- of the pins file meet
-abbrev pub IsLegalOf : {rules : List Rule} {files : List File} (asked : RequestView) → RefuteWork rules asked files → Raster → Type 0
-IsLegalOf asked work m = IsLegalPicture work.task.sample.picture (rules_of asked) work.task.problem.pins asked.width asked.height m
 
 -- the status of a run that ends so: where there is no map, a refutation was written
 abbrev pub refute_status : Outcome → ℕ
@@ -63,7 +58,7 @@ IsRunText P shape outcome.Spent bytes = IsJournalText P shape Out bytes
 
 -- the text of the lines of a run was written, and finished; they try what the run chooses, in order, and name as many empty cells
 -- as it has dead states;
--- without a map it is the text of a proof, and no picture is legal; a spent budget is below the volume
+-- without a map it is the text of a proof, and no map is legal; a spent budget is below the volume
 pub record WritesRun {rules : List Rule} {files : List File} (asked : RequestView) (work : RefuteWork rules asked files)
     (before after : Devices) (status : ℕ) : Type 0 where
   pub outcome : Outcome
@@ -73,7 +68,7 @@ pub record WritesRun {rules : List Rule} {files : List File} (asked : RequestVie
   pub text : IsRunText work.P (shape_of asked) outcome (refutation_text asked work.P lines)
   pub same_status : status ≡ refute_status outcome
   pub written : after.out ≡ after_finish (after_bytes before.out (refutation_text asked work.P lines))
-  pub none : status ≡ 0 → (m : Raster) → IsLegalOf asked work m → ⊥
+  pub none : status ≡ 0 → (m : Raster) → IsLegal asked files work.P work.task.posed m → ⊥
   pub spent : status ≡ 2 → asked.budget + 1 ≤ volume_of work.P
 
 -- statuses 0, 1 and 2 of `refute`

@@ -6,6 +6,7 @@ use Rattle.rand_core.specs.Stream.{Stream}
 use Rattle.rand_pcg.specs.Pcg.{pcg64, pcg64_of_seed}
 use Rattle.wfc_choose.specs.Pick.{Rule}
 use Rattle.wfc_choose.specs.declared.RuleKind.{RuleKind}
+use Rattle.wfc_problem.specs.Assignment.{IsLegalAssignment}
 use Rattle.wfc_problem.specs.Network.{Network}
 use Rattle.wfc_problem.specs.declared.Literal.{Literal}
 use Rattle.wfc_search.specs.Run.{State, outcome_of}
@@ -36,6 +37,12 @@ IsHeld P standing outcome.Map (Map assignment) = assignment.items ≡ assignment
 IsHeld P standing outcome.NoMap NoMap = Unit {0}
 IsHeld P standing outcome.Spent Spent = Unit {0}
 IsHeld P standing _ _ = ⊥
+
+-- the assignment that is held, if one is, is legal
+abbrev pub IsLegalEnd : Network → End → Type 0
+IsLegalEnd P (Map assignment) = IsLegalAssignment P assignment.items
+IsLegalEnd P NoMap = Unit {0}
+IsLegalEnd P Spent = Unit {0}
 
 -- the run of the problem with this rule, budget and seed came to this
 pub record IsRan (P : Network) (rule : Rule) (budget seed : ℕ) (ran : Ran) : Type 0 where

@@ -1,8 +1,7 @@
 -- The words of the main theorem on a call of the program.
-use Rattle.std.specs.Prelude.{◌≡◌, ◌≢◌, ℕ, ◌⊎◌, ◌≤◌, false, List, Some, Result, Ok, Err, IsErr}
+use Rattle.std.specs.Prelude.{◌≡◌, ℕ, ◌⊎◌, false, List, Some, Result, Ok, Err, IsErr}
 use Rattle.wfc_outside.specs.Count.{HasRisen}
 use Rattle.wfc_outside.specs.Folder.{File, FolderView, IsMissing, IsFaultOf}
-use Rattle.wfc_outside.specs.Sink.{SinkView}
 use Rattle.wfc_choose.specs.Pick.{Rule}
 use Rattle.wfc_words.specs.Request.{request_of}
 use Rattle.wfc_words.specs.RequestView.{RequestView}

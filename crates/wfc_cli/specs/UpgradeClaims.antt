@@ -2,7 +2,6 @@
 use Rattle.std.specs.Prelude.{◌≡◌, ℕ, ◌≤◌, ◌⊎◌, List}
 use Rattle.wfc_outside.specs.Folder.{File}
 use Rattle.wfc_outside.specs.Sink.{after_bytes, after_finish, IsFaultAfterFront}
-use Rattle.wfc_model.specs.Legal.{IsLegalPicture}
 use Rattle.wfc_model.specs.Raster.{Raster}
 use Rattle.wfc_problem.specs.Network.{Network}
 use Rattle.wfc_proof.specs.Proof.{Proof}
@@ -15,7 +14,8 @@ use Rattle.wfc_words.specs.declared.kinds.CommandKind.TheVariants as commands
 use Rattle.wfc_task.specs.Checking.{shape_of}
 use Rattle.wfc_task.specs.UpgradeGiven.{IsUpgradeTask}
 use Rattle.wfc_cli.specs.Answer.{Devices}
-use Rattle.wfc_cli.specs.Claims.{IsCommand, rules_of}
+use Rattle.wfc_cli.specs.Claims.{IsCommand}
+use Rattle.wfc_cli.specs.Maps.{IsLegal}
 use Rattle.wfc_cli.specs.Upgrading.{same_proof_text}
 
 -- what `upgrade` works on over these files: the problem, and the bytes of the file
@@ -23,10 +23,6 @@ pub record UpgradeWork (asked : RequestView) (files : List File) : Type 0 where
   pub P : Network
   pub bytes : List ℕ
   pub task : IsUpgradeTask asked files P bytes
-
--- a picture of palette numbers of the size asked for, each of whose windows is learned from the sample, and which the pins and bans of the pins file meet
-abbrev pub IsLegalBy : {files : List File} (asked : RequestView) → UpgradeWork asked files → Raster → Type 0
-IsLegalBy asked work m = IsLegalPicture work.task.sample.picture (rules_of asked) work.task.problem.pins asked.width asked.height m
 
 -- the file's bytes are a refutation of the problem and of the shape asked for
 abbrev pub IsUpgradable : {files : List File} (asked : RequestView) → UpgradeWork asked files → Type 0
@@ -37,10 +33,10 @@ abbrev pub KeepsProof : {files : List File} (asked : RequestView) → UpgradeWor
 KeepsProof asked work =
     (format : Format) (proof : Proof) → IsTextOf work.P (shape_of asked) format proof work.bytes → IsTextOf work.P (shape_of asked) Two proof (same_proof_text asked work.P work.bytes)
 
--- the file is a refutation, so no picture is legal, and its proof was written in format 2
+-- the file is a refutation, so no map is legal, and its proof was written in format 2
 pub record WritesUpgraded {files : List File} (asked : RequestView) (work : UpgradeWork asked files) (before after : Devices) : Type 0 where
   pub refutation : IsUpgradable asked work
-  pub none : (m : Raster) → IsLegalBy asked work m → ⊥
+  pub none : (m : Raster) → IsLegal asked files work.P work.task.posed m → ⊥
   pub same_proof : KeepsProof asked work
   pub written : after.out ≡ after_finish (after_bytes before.out (same_proof_text asked work.P work.bytes))
 

@@ -1,14 +1,22 @@
 //! Laws of the definitions, each a function with no body whose contract is the law. They run nothing.
 
-ghost use Rattle.std.specs.Prelude.{◌≡◌, ◌∷◌, [], None, Some, codes};
+ghost use Rattle.std.specs.Prelude.{◌≡◌, ◌∷◌, [], List, None, Some, codes, ℕ};
+ghost use Rattle.wfc_outside.specs.Folder.{File};
+ghost use Rattle.wfc_model.specs.Raster.{Raster};
 ghost use Rattle.wfc_choose.specs.declared.RuleKind.TheVariants as rules;
 ghost use Rattle.wfc_pins.specs.declared.steps.Step.TheVariants.{Assume, Undo};
+ghost use Rattle.wfc_problem.specs.Assignment.{IsLegalAssignment};
+ghost use Rattle.wfc_problem.specs.Network.{Network};
 ghost use Rattle.wfc_problem.specs.declared.Literal.TheVariants.{Is, Not};
 ghost use Rattle.wfc_proof.specs.declared.Line.TheVariants.{Empty, End, Remove, Span, Try};
 ghost use Rattle.wfc_proof.specs.declared.heads.Format.TheVariants.{One, Two};
 ghost use Rattle.wfc_search.specs.declared.Outcome.TheVariants as outcomes;
+ghost use Rattle.wfc_task.specs.Asked.{IsOutputAsked, IsSourceAsked};
+ghost use Rattle.wfc_task.specs.Posed.{Posed};
+ghost use Rattle.wfc_words.specs.RequestView.{RequestView};
 ghost use Rattle.wfc_cli.specs.Answers.{demo_text, outcome_status, standings};
 ghost use Rattle.wfc_cli.specs.Choosers.{chosen};
+ghost use Rattle.wfc_cli.specs.Maps.{IsLegal, map_of};
 ghost use Rattle.wfc_cli.specs.RefuteClaims.{refute_status};
 ghost use Rattle.wfc_cli.specs.Refuting.{lines_in, refute_verdict, written_format};
 ghost use Rattle.wfc_cli.specs.Reply.{verdict_status};
@@ -58,4 +66,13 @@ pub fn first_rules_are_chosen()
     ensures first { chosen rules.Fewest (record { kind = rules.Ranked; ranks = 5 ∷ [] } ∷ record { kind = rules.Fewest; ranks = 1 ∷ [] }
         ∷ record { kind = rules.Fewest; ranks = 2 ∷ [] } ∷ []) ≡ Some (record { kind = rules.Fewest; ranks = 1 ∷ [] }) }
     ensures none { chosen rules.Scanline (record { kind = rules.Fewest; ranks = [] } ∷ []) ≡ None }
+{}
+
+/// A legal assignment of the problem of a request makes a legal map, and where there is a legal map there is a legal
+/// assignment, whatever the map is made of.
+pub fn maps_are_assignments()
+    ensures made { (asked : RequestView) (files : List File) (P : Network) (posed : Posed asked files P) (a : List ℕ) → IsSourceAsked asked →
+        IsOutputAsked asked → IsLegalAssignment P a → IsLegal asked files P posed (map_of asked files P posed a) }
+    ensures there { (asked : RequestView) (files : List File) (P : Network) (posed : Posed asked files P) (m : Raster) → IsSourceAsked asked →
+        IsOutputAsked asked → IsLegal asked files P posed m → (a : List ℕ) × IsLegalAssignment P a }
 {}

@@ -3,14 +3,16 @@
 ghost use Rattle.std.specs.Prelude.{◌≡◌};
 ghost use Rattle.wfc_lines.specs.Line.{line};
 ghost use Rattle.wfc_outside.specs.Sink.{Puts};
-ghost use Rattle.wfc_cli.specs.ErrorLine.{fault_text, name_of, refusal_text};
+ghost use Rattle.wfc_cli.specs.ErrorLine.{fault_text, grid_text, name_of, picture_text, refusal_text, unread_text};
 
+use wfc_grid::GridFault;
 use wfc_lines::{
-    build, chooser, command, grid, learn, no_memory, palette, pins, ppm, range, reading, render,
-    steps,
+    build, chooser, command, grid, learn, mask, mask_grid, no_memory, palette, pins, ppm, range,
+    reading, render, steps, tiles,
 };
 use wfc_outside::{ReadFault, Sink, SinkFault};
 use wfc_task::{Fault, Refusal, Source};
+use wfc_tileset::TileFault;
 use wfc_words::{CommandFault, Request};
 
 /// Tells the line of a fault.
@@ -22,8 +24,53 @@ pub(crate) fn tell_fault<E: Sink>(
     ensures told { Puts (E.seen err.old) (E.seen err.new) (line (fault_text request.now fault)) result }
 {
     match fault {
-        Fault::Unread { source, fault } => reading(err, fault, name(request, source)),
+        Fault::Unread { source, fault } => unread(err, source, fault, name(request, source)),
         Fault::Refused { refusal } => tell_refusal(err, request, refusal),
+    }
+}
+
+/// Tells why a file isn't read.
+fn unread<E: Sink>(
+    err: &mut E,
+    source: Source,
+    fault: ReadFault,
+    file: &str,
+) -> Result<(), SinkFault>
+    ensures told { Puts (E.seen err.old) (E.seen err.new)
+        (line (unread_text source fault file.now)) result }
+{
+    match source {
+        Source::Picture { tile } => picture(err, tile, fault, file),
+        _ => reading(err, fault, file),
+    }
+}
+
+/// Tells why the picture of a tile isn't read.
+fn picture<E: Sink>(err: &mut E, tile: u32, fault: ReadFault, file: &str) -> Result<(), SinkFault>
+    ensures told { Puts (E.seen err.old) (E.seen err.new)
+        (line (picture_text tile fault file.now)) result }
+{
+    match fault {
+        ReadFault::Missing => tiles(err, TileFault::Missing { tile }, file),
+        ReadFault::Failed => tiles(err, TileFault::Failed { tile }, file),
+        ReadFault::TooLong => tiles(err, TileFault::BadPicture { tile }, file),
+        ReadFault::NoMemory => tiles(err, TileFault::NoMemory, file),
+    }
+}
+
+/// Tells why a file is no grid.
+fn not_grid<E: Sink>(
+    err: &mut E,
+    source: Source,
+    fault: GridFault,
+    file: &str,
+) -> Result<(), SinkFault>
+    ensures told { Puts (E.seen err.old) (E.seen err.new)
+        (line (grid_text source fault file.now)) result }
+{
+    match source {
+        Source::Mask => mask_grid(err, fault, file),
+        _ => grid(err, fault, file),
     }
 }
 
@@ -36,6 +83,8 @@ pub(crate) fn name(request: &Request, source: Source) -> &str
         Source::Pins => request.pins().unwrap_or(""),
         Source::Steps => request.steps().unwrap_or(""),
         Source::Refutation => request.refutation().unwrap_or(""),
+        Source::Picture { .. } => request.file(),
+        Source::Mask => request.mask().unwrap_or(""),
     }
 }
 
@@ -45,7 +94,7 @@ fn tell_refusal<E: Sink>(err: &mut E, request: &Request, refusal: Refusal) -> Re
     match refusal {
         Refusal::NotBuilt => command(err, CommandFault::Refused),
         Refusal::Chooser { rule } => chooser(err, rule),
-        Refusal::Grid { source, fault } => grid(err, fault, name(request, source)),
+        Refusal::Grid { source, fault } => not_grid(err, source, fault, name(request, source)),
         Refusal::Ppm { source, fault } => ppm(err, fault, name(request, source)),
         Refusal::Colours { fault } => palette(err, fault, name(request, Source::Sample)),
         Refusal::Learn { fault } => learn(err, fault, name(request, Source::Sample)),
@@ -56,5 +105,7 @@ fn tell_refusal<E: Sink>(err: &mut E, request: &Request, refusal: Refusal) -> Re
         Refusal::Range { fault } => range(err, fault, name(request, Source::Steps)),
         Refusal::TooLong { source } => reading(err, ReadFault::TooLong, name(request, source)),
         Refusal::NoMemory => no_memory(err),
+        Refusal::Tiles { fault } => tiles(err, fault, name(request, Source::Sample)),
+        Refusal::Mask { fault } => mask(err, fault, name(request, Source::Mask)),
     }
 }

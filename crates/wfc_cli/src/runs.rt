@@ -3,7 +3,7 @@
 ghost use Rattle.std.specs.Prelude.{◌≡◌, ◌<◌, IfOk, Some};
 ghost use Rattle.wfc_search.specs.Search.{IsReady, assignment_of};
 ghost use Rattle.wfc_search.specs.Shown.{shown};
-ghost use Rattle.wfc_cli.specs.Runs.{IsHeld, IsRan};
+ghost use Rattle.wfc_cli.specs.Runs.{IsHeld, IsLegalEnd, IsRan};
 
 use rand_core::SeedableRng;
 use rand_pcg::Pcg64;
@@ -45,6 +45,7 @@ pub(crate) fn run(
     seed: u64,
 ) -> Result<Ran, NoMemory>
     ensures ran { IfOk result (IsRan problem.now (told chooser).rule budget seed) }
+    ensures legal { IfOk result (λ ran. IsLegalEnd problem.now ran.end) }
 {
     run_counted::<Brand>(alloc, problem, chooser, budget, seed, Blank::new(1))
 }
@@ -62,6 +63,7 @@ fn run_counted<L: Ledger>(
     requires parts { blank.parts ≡ L.parts }
     requires some { 0 < blank.parts }
     ensures ran { IfOk result (IsRan problem.now (told chooser).rule budget seed) }
+    ensures legal { IfOk result (λ ran. IsLegalEnd problem.now ran.end) }
 {
     let Ok(store) = Ac4::open(alloc, problem, problem.depth()) else {
         return Err(NoMemory);

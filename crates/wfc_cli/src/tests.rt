@@ -5,6 +5,7 @@ ghost use Rattle.std.specs.Prelude.{◌≤◌};
 mod devices;
 mod proofs;
 mod rows;
+mod tiles;
 
 use crate::run;
 use std::alloc::{AllocError, Global};
@@ -76,12 +77,22 @@ pub fn folder_of(alloc: Global, piece: usize) -> Result<MemoryFolder, AllocError
     requires some { 1 ≤ piece }
 {
     let mut folder = MemoryFolder::new(alloc, piece);
-    for (name, text) in FILES {
+    add_all(alloc, &mut folder, &FILES)?;
+    add_all(alloc, &mut folder, &tiles::FILES)?;
+    Ok(folder)
+}
+
+fn add_all(
+    alloc: Global,
+    folder: &mut MemoryFolder,
+    files: &[(&'static str, &'static str)],
+) -> Result<(), AllocError> {
+    for (name, text) in files {
         let name = String::from_str(alloc, name)?;
         let bytes = Vec::from_slice(alloc, text.as_bytes())?;
         folder.add(name, bytes).map_err(|_| AllocError)?;
     }
-    Ok(folder)
+    Ok(())
 }
 
 /// A sink with room enough that never fails.
@@ -131,5 +142,22 @@ pub fn check<F: Folder>(
     assert_eq!(rt; got, status, "{line}");
     assert_eq!(rt; out.bytes(), answer.as_bytes(), "{line}");
     assert_eq!(rt; err.bytes(), told.as_bytes(), "{line}");
+    Ok(())
+}
+
+/// Runs rows over devices that give and take so many bytes at a time.
+pub fn check_in_pieces(
+    rt: &(impl Abort + AllocGlobal),
+    piece: usize,
+    rows: &[Row],
+) -> Result<(), Fail>
+    requires some { 1 ≤ piece }
+{
+    for row in rows {
+        let mut folder = folder_of(rt.alloc(), piece)?;
+        let out = sink_of(rt.alloc(), piece)?;
+        let err = sink_of(rt.alloc(), piece)?;
+        check(rt, *row, &mut folder, out, err)?;
+    }
     Ok(())
 }

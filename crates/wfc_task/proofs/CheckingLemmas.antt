@@ -11,16 +11,16 @@ use Rattle.wfc_words.specs.RequestView.{RequestView}
 use Rattle.wfc_task.specs.Checking.{shape_of, verdict_in, judged, refutation_name, refutation_plan, found_in}
 use Rattle.wfc_task.specs.CheckGiven.{IsCheckTask}
 use Rattle.wfc_task.specs.Plan.{Goes, Plan, step, done, outcome, after_reading, reading_of}
-use Rattle.wfc_task.specs.Task.{Task, check, check_plan, problem_plan, sample_plan}
-use Rattle.wfc_task.specs.declared.task.Taught.{Taught}
+use Rattle.wfc_task.specs.Posed.{posed_plan}
+use Rattle.wfc_task.specs.Task.{Task, check, check_plan}
 use Rattle.wfc_task.specs.declared.fault.Fault.{Fault}
 use Rattle.wfc_task.specs.declared.fault.Fault.TheVariants.{Refused}
-use Rattle.wfc_task.specs.declared.fault.Refusal.{Refusal}
 use Rattle.wfc_task.specs.declared.fault.Refusal.TheVariants as refusals
 use Rattle.wfc_task.specs.declared.fault.Source.TheVariants.{Refutation}
-use Rattle.wfc_task.proofs.GivenLemmas.{done_is, given_problem, given_sample, ok_step, problem_given, sample_given, step_ok}
+use Rattle.wfc_task.proofs.GivenLemmas.{done_is, ok_step, step_ok}
 use Rattle.wfc_task.proofs.PlanLemmas.{refused, goes_read, goes_step, outcome_on, outcome_parts}
-use Rattle.wfc_task.proofs.TaskLemmas.{behind_checked_lesson, behind_checked_problem}
+use Rattle.wfc_task.proofs.PosedLemmas.{given_posed, posed_given}
+use Rattle.wfc_task.proofs.TaskLemmas.{behind_checked_problem}
 
 -- the answer to the bytes of a file
 of_file : (asked : RequestView) (P : Network) (old new : FolderView) (answer : Result (Unit {0}) CheckFault) → IsOfFile P (shape_of asked) (refutation_name asked) old new answer
@@ -63,33 +63,15 @@ there_refutation asked P files bytes found there is =
 -- what `check` comes to
 pub check_given : (asked : RequestView) (files : List File) (task : Task) → outcome (check_plan asked) files ≡ Ok task → (found : Option CheckFault) × (check found ≡ task) × IsCheckTask asked files found
 check_given asked files task is =
-    let known = outcome_parts (sample_plan asked) (behind_checked_lesson asked) files task is in
-    let made = outcome_parts (problem_plan asked known.0) (behind_checked_problem asked) files task known.2 in
+    let made = outcome_parts (posed_plan asked) (behind_checked_problem asked) files task is in
     let said = outcome_parts (refutation_plan asked made.0) (λ found. let end : Plan Task = done (check found) in end) files task made.2 in
-    let there = refutation_there asked made.0 files said.0 said.1 in (
-      said.0,
-      done_is _ task files said.2,
-      record {
-        work = record {
-          kind = known.0.kind;
-          patterns = known.0.patterns;
-          palette = known.0.palette;
-          sample = sample_given asked files known.0 known.1;
-          P = made.0;
-          problem = problem_given asked files known.0 made.0 made.1;
-          bytes = there.0;
-          there = there.1;
-        };
-        answer = there.2;
-      },
-    )
+    let there = refutation_there asked made.0 files said.0 said.1 in
+    (said.0, done_is _ task files said.2, record { work = record { P = made.0; posed = posed_given asked files made.0 made.1; bytes = there.0; there = there.1 }; answer = there.2 })
 
 pub given_check : (asked : RequestView) (files : List File) (found : Option CheckFault) → IsCheckTask asked files found → outcome (check_plan asked) files ≡ Ok (check found)
 given_check asked files found task =
     let work = task.work in
-    let lesson : Taught = record { kind = work.kind; palette = work.palette; patterns = work.patterns } in
-    outcome_on (sample_plan asked) (behind_checked_lesson asked) files lesson (given_sample asked files work.kind work.patterns work.palette work.sample)
-    ∙ outcome_on (problem_plan asked lesson) (behind_checked_problem asked) files work.P (given_problem asked files lesson work.P work.problem)
+    outcome_on (posed_plan asked) (behind_checked_problem asked) files work.P (given_posed asked files work.P work.posed)
     ∙ outcome_on (refutation_plan asked work.P) (λ found. let end : Plan Task = done (check found) in end) files found (there_refutation asked work.P files work.bytes found work.there task.answer)
 
 -- the same of a call that was given this shape and this name

@@ -36,8 +36,6 @@ use Rattle.wfc_overlap.specs.Built.{built, pins_in, texts_of}
 use Rattle.wfc_overlap.specs.Sample.{Output, output_with, problem_of_sample}
 use Rattle.wfc_choose.specs.declared.RuleKind.{RuleKind}
 use Rattle.wfc_choose.specs.declared.RuleKind.TheVariants.{Scanline, Fewest, Ranked}
-use Rattle.wfc_render.specs.Layout.{layout_of}
-use Rattle.wfc_render.specs.declared.form.Layout.{Layout}
 use Rattle.wfc_words.specs.RequestView.{RequestView}
 use Rattle.wfc_task.specs.declared.fault.Source.{Source}
 use Rattle.wfc_task.specs.declared.fault.Source.TheVariants.{Sample, Pins, Steps}
@@ -47,18 +45,19 @@ use Rattle.wfc_task.specs.declared.fault.Refusal.TheVariants as refusals
 use Rattle.wfc_task.specs.declared.task.Taught.{Taught}
 use Rattle.wfc_task.specs.Built.{is_picture_name, side_of}
 use Rattle.wfc_task.specs.Demo.{demo_patterns, demo_problem}
-use Rattle.wfc_task.specs.Given.{IsFile, IsSample, IsSampleFile, IsTaught, Shows, ShowsGrid, ShowsPpm, HoldsPins, HoldsSteps, IsProblemOf, IsFillTask, IsDomainsTask}
+use Rattle.wfc_task.specs.Given.{IsFile, IsSample, IsSampleFile, Shows, ShowsGrid, ShowsPpm, HoldsPins, HoldsSteps, IsProblemOf}
 use Rattle.wfc_task.specs.Plan.{Plan, done, step, and_then, most_bytes, reading_of, after_reading, outcome}
 use Rattle.wfc_task.specs.Sampled.{SampledView, of_grid, of_ppm}
-use Rattle.wfc_task.specs.Steps.{chosen, coloured, fitting, grid_in, laid, or_refuse, posed, same_rule, sampled_in, shown_in, steps_in, taught, unless_out}
+use Rattle.wfc_task.specs.Steps.{chosen, coloured, fitting, or_refuse, posed, same_rule, sampled_in, shown_in, steps_in, taught, unless_out}
 use Rattle.wfc_task.specs.Steps.{pins_in as lines_in}
-use Rattle.wfc_task.specs.Task.{Task, learn, fill, domains, demo, file_plan, picture_plan, sample_plan, sampled_plan, pins_plan, problem_plan, steps_plan, learn_plan, fill_plan, domains_plan, demo_plan}
+use Rattle.wfc_task.specs.SamplePlans.{file_plan, picture_plan, sample_plan, sampled_plan, pins_plan, problem_plan, steps_plan}
+use Rattle.wfc_task.specs.Task.{Task, demo, demo_plan}
 use Rattle.wfc_task.specs.Asked.{IsSampleAsked}
 use Rattle.wfc_task.specs.Filling.{IsLesson, IsNumbered, IsSampled}
 use Rattle.wfc_task.proofs.FillingLemmas.{built_is, grid_sampled, ppm_sampled, lesson_of, numbered_sample, unrefused}
 use Rattle.wfc_task.proofs.StepLemmas.{made_small}
 use Rattle.wfc_task.proofs.PlanLemmas.{outcome_on, outcome_parts}
-use Rattle.wfc_task.proofs.TaskLemmas.{behind_lesson, behind_layout, behind_picture, behind_problem, behind_sample, behind_sampled}
+use Rattle.wfc_task.proofs.TaskLemmas.{behind_picture, behind_sampled}
 
 -- a step that comes to a value, and a value that a step comes to
 pub step_ok : {T : Type 0} (result : Result T Refusal) (files : List File) (value : T) → outcome (step result) files ≡ Ok value → result ≡ Ok value
@@ -73,7 +72,7 @@ pub done_is : {T : Type 0} (value wanted : T) (files : List File) → outcome (d
 done_is value wanted files is = cc
 
 -- a call whose fault is refused
-ok_refused : {T E : Type 0} (refusal : E → Refusal) (result : Result T E) (value : T) → result ≡ Ok value → or_refuse refusal result ≡ Ok value
+pub ok_refused : {T E : Type 0} (refusal : E → Refusal) (result : Result T E) (value : T) → result ≡ Ok value → or_refuse refusal result ≡ Ok value
 ok_refused refusal result value is = ap (or_refuse refusal) is
 
 -- files
@@ -185,13 +184,13 @@ sample_lesson asked files kind patterns palette asks sample =
     (ok_refused refusals.Learn (patterns_of sample.picture (side_of asked.source) asked.symmetry asked.wrap_in) patterns sample.learned)
 
 -- pins and steps
-pins_given : (name : Option (List ℕ)) (files : List File) (lines : List PinView) → outcome (pins_plan name) files ≡ Ok lines → HoldsPins files name lines
+pub pins_given : (name : Option (List ℕ)) (files : List File) (lines : List PinView) → outcome (pins_plan name) files ≡ Ok lines → HoldsPins files name lines
 pins_given None files lines is = done_is [] lines files is
 pins_given (Some name) files lines is =
     let parts = outcome_parts (file_plan Pins name) (λ bytes. step (lines_in bytes)) files lines is in
     (parts.0, file_given Pins name files parts.0 parts.1, unrefused refusals.Pins (pins_of parts.0) lines (step_ok (lines_in parts.0) files lines parts.2))
 
-given_pins : (name : Option (List ℕ)) (files : List File) (lines : List PinView) → HoldsPins files name lines → outcome (pins_plan name) files ≡ Ok lines
+pub given_pins : (name : Option (List ℕ)) (files : List File) (lines : List PinView) → HoldsPins files name lines → outcome (pins_plan name) files ≡ Ok lines
 given_pins None files lines held = ap (λ lines. let end : Result (List PinView) Fault = Ok lines in end) held
 given_pins (Some name) files lines held =
     outcome_on (file_plan Pins name) (λ bytes. step (lines_in bytes)) files held.0 (given_file Pins name files held.0 held.1)
@@ -201,7 +200,7 @@ in_problem : (P : Network) (steps kept : List StepLine) (fault : Option RangeFau
 in_problem P steps kept None is = (refl, cc)
 in_problem P steps kept (Some fault) is = absurd (cc)
 
-steps_given : (name : Option (List ℕ)) (P : Network) (files : List File) (steps : List StepLine) → outcome (steps_plan name P) files ≡ Ok steps → HoldsSteps files name steps × (range_fault P steps ≡ None)
+pub steps_given : (name : Option (List ℕ)) (P : Network) (files : List File) (steps : List StepLine) → outcome (steps_plan name P) files ≡ Ok steps → HoldsSteps files name steps × (range_fault P steps ≡ None)
 steps_given None P files steps is = let same : [] ≡ steps = done_is [] steps files is in (same, subst (λ steps. range_fault P steps ≡ None) same refl)
 steps_given (Some name) P files steps is =
     let parts = outcome_parts (file_plan Steps name) (λ bytes. and_then (step (steps_in bytes)) (λ steps. step (fitting P steps))) files steps is in
@@ -210,7 +209,7 @@ steps_given (Some name) P files steps is =
     let steps_are = unrefused refusals.Steps (steps_of parts.0) said.0 (step_ok (steps_in parts.0) files said.0 said.1) in
     ((parts.0, file_given Steps name files parts.0 parts.1, subst (λ steps. steps_of parts.0 ≡ Ok steps) fits.1 steps_are), subst (λ steps. range_fault P steps ≡ None) fits.1 fits.0)
 
-given_steps : (name : Option (List ℕ)) (P : Network) (files : List File) (steps : List StepLine) → HoldsSteps files name steps → range_fault P steps ≡ None → outcome (steps_plan name P) files ≡ Ok steps
+pub given_steps : (name : Option (List ℕ)) (P : Network) (files : List File) (steps : List StepLine) → HoldsSteps files name steps → range_fault P steps ≡ None → outcome (steps_plan name P) files ≡ Ok steps
 given_steps None P files steps held inside = ap (λ steps. let end : Result (List StepLine) Fault = Ok steps in end) held
 given_steps (Some name) P files steps held inside =
     outcome_on (file_plan Steps name) (λ bytes. and_then (step (steps_in bytes)) (λ steps. step (fitting P steps))) files held.0 (given_file Steps name files held.0 held.1)
@@ -267,78 +266,6 @@ chooser_given kinds rule value is = by_test (list_any (same_rule rule) kinds) re
 
 pub given_chooser : (kinds : List RuleKind) (rule : RuleKind) → Contains kinds rule → chosen kinds rule ≡ Ok tt
 given_chooser kinds rule there = rw (Contains_any (same_rule rule) kinds rule there (own_kind rule)) refl
-
--- what `learn` comes to, whatever it is
-
-pub learn_given : (asked : RequestView) (files : List File) (task : Task) → outcome (learn_plan asked) files ≡ Ok task
-    → (patterns : PatternsView) × (palette : List Symbol) × (learn patterns palette ≡ task) × IsTaught asked files patterns palette
-learn_given asked files task is =
-    let known = outcome_parts (sample_plan asked) (λ (lesson : Taught). let end : Plan Task = done (learn lesson.patterns lesson.palette) in end) files task is in
-    (known.0.patterns, known.0.palette, done_is _ task files known.2, (known.0.kind, sample_given asked files known.0 known.1))
-
-pub given_learn : (asked : RequestView) (files : List File) (patterns : PatternsView) (palette : List Symbol) → IsTaught asked files patterns palette → outcome (learn_plan asked) files ≡ Ok (learn patterns palette)
-given_learn asked files patterns palette sample =
-    outcome_on (sample_plan asked) (λ (lesson : Taught). let end : Plan Task = done (learn lesson.patterns lesson.palette) in end) files (record { kind = sample.0; palette = palette; patterns = patterns }) (given_sample asked files sample.0 patterns palette sample.1)
-
--- what `fill` comes to
-pub fill_given : (kinds : List RuleKind) (asked : RequestView) (files : List File) (task : Task) → outcome (fill_plan kinds asked) files ≡ Ok task
-    → (patterns : PatternsView) × (palette : List Symbol) × (layout : Layout) × (P : Network) × (fill patterns palette layout P ≡ task) × IsFillTask kinds asked files patterns palette layout P
-fill_given kinds asked files task is =
-    let found = outcome_parts (step (chosen kinds asked.rule)) (λ _. and_then (sample_plan asked) (behind_sample asked)) files task is in
-    let known = outcome_parts (sample_plan asked) (behind_sample asked) files task found.2 in
-    let written = outcome_parts (step (laid known.0.kind asked)) (behind_layout asked known.0) files task known.2 in
-    let made = outcome_parts (problem_plan asked known.0) (λ P. let end : Plan Task = done (fill known.0.patterns known.0.palette written.0 P) in end) files task written.2 in (
-      known.0.patterns,
-      known.0.palette,
-      written.0,
-      made.0,
-      done_is _ task files made.2,
-      record {
-        chooser = chooser_given kinds asked.rule found.0 (step_ok (chosen kinds asked.rule) files found.0 found.1);
-        kind = known.0.kind;
-        sample = sample_given asked files known.0 known.1;
-        written = unrefused refusals.Render (layout_of known.0.kind asked.form asked.width asked.height 1) written.0 (step_ok (laid known.0.kind asked) files written.0 written.1);
-        problem = problem_given asked files known.0 made.0 made.1;
-      },
-    )
-
-pub given_fill : (kinds : List RuleKind) (asked : RequestView) (files : List File) (patterns : PatternsView) (palette : List Symbol) (layout : Layout) (P : Network)
-    → IsFillTask kinds asked files patterns palette layout P → outcome (fill_plan kinds asked) files ≡ Ok (fill patterns palette layout P)
-given_fill kinds asked files patterns palette layout P task =
-    let lesson : Taught = record { kind = task.kind; palette = palette; patterns = patterns } in
-    outcome_on (step (chosen kinds asked.rule)) (λ _. and_then (sample_plan asked) (behind_sample asked)) files tt (ok_step (chosen kinds asked.rule) files tt (given_chooser kinds asked.rule task.chooser))
-    ∙ outcome_on (sample_plan asked) (behind_sample asked) files lesson (given_sample asked files task.kind patterns palette task.sample)
-    ∙ outcome_on (step (laid task.kind asked)) (behind_layout asked lesson) files layout (ok_step (laid task.kind asked) files layout (ok_refused refusals.Render (layout_of task.kind asked.form asked.width asked.height 1) layout task.written))
-    ∙ outcome_on (problem_plan asked lesson) (λ P. let end : Plan Task = done (fill patterns palette layout P) in end) files P (given_problem asked files lesson P task.problem)
-
--- what `domains` comes to
-pub domains_given : (asked : RequestView) (files : List File) (task : Task) → outcome (domains_plan asked) files ≡ Ok task
-    → (P : Network) × (steps : List StepLine) × (domains P steps ≡ task) × IsDomainsTask asked files P steps
-domains_given asked files task is =
-    let known = outcome_parts (sample_plan asked) (behind_lesson asked) files task is in
-    let made = outcome_parts (problem_plan asked known.0) (behind_problem asked) files task known.2 in
-    let said = outcome_parts (steps_plan asked.steps made.0) (λ steps. let end : Plan Task = done (domains made.0 steps) in end) files task made.2 in
-    let held = steps_given asked.steps made.0 files said.0 said.1 in (
-      made.0,
-      said.0,
-      done_is _ task files said.2,
-      record {
-        kind = known.0.kind;
-        patterns = known.0.patterns;
-        palette = known.0.palette;
-        sample = sample_given asked files known.0 known.1;
-        problem = problem_given asked files known.0 made.0 made.1;
-        held = held.0;
-        inside = held.1;
-      },
-    )
-
-pub given_domains : (asked : RequestView) (files : List File) (P : Network) (steps : List StepLine) → IsDomainsTask asked files P steps → outcome (domains_plan asked) files ≡ Ok (domains P steps)
-given_domains asked files P steps task =
-    let lesson : Taught = record { kind = task.kind; palette = task.palette; patterns = task.patterns } in
-    outcome_on (sample_plan asked) (behind_lesson asked) files lesson (given_sample asked files task.kind task.patterns task.palette task.sample)
-    ∙ outcome_on (problem_plan asked lesson) (behind_problem asked) files P (given_problem asked files lesson P task.problem)
-    ∙ outcome_on (steps_plan asked.steps P) (λ steps. let end : Plan Task = done (domains P steps) in end) files steps (given_steps asked.steps P files steps task.held task.inside)
 
 -- what `demo` comes to
 pub given_demo : (kinds : List RuleKind) (asked : RequestView) (files : List File) → Contains kinds Fewest → outcome (demo_plan kinds asked) files ≡ Ok (demo (demo_patterns asked.number) (demo_problem asked.number))

@@ -5,9 +5,17 @@ pub mod DemoLemmas
 pub mod TaskLemmas
 pub mod FillingLemmas
 pub mod GivenLemmas
+pub mod TilingLemmas
+pub mod TileTaskLemmas
+pub mod PictureLemmas
+pub mod TileGivenLemmas
+pub mod PosedLemmas
+pub mod TaskGivenLemmas
 pub mod RefutingLemmas
 pub mod UpgradingLemmas
 pub mod CheckingLemmas
+pub mod TileWordLemmas
+pub mod CommandWordLemmas
 pub mod RequestLemmas
 pub mod CountLemmas
 pub mod CallerLemmas

@@ -16,7 +16,8 @@ use Rattle.wfc_task.specs.Plan.{Plan, Goes, GivesStep, done, step, and_then}
 use Rattle.wfc_task.specs.Sampled.{SampledView}
 use Rattle.wfc_task.specs.Checking.{refutation_plan}
 use Rattle.wfc_task.specs.Steps.{chosen, coloured, laid, taught}
-use Rattle.wfc_task.specs.Task.{Task, fill, domains, check, sample_plan, problem_plan, steps_plan, fill_plan}
+use Rattle.wfc_task.specs.SamplePlans.{problem_plan, steps_plan}
+use Rattle.wfc_task.specs.Task.{Task, fill, domains, check}
 use Rattle.wfc_task.proofs.PlanLemmas.{refused, goes_step, goes_on, goes_out}
 
 -- a step behind a plan that came to something, as the last
@@ -35,7 +36,7 @@ pub step_on : {A B : Type 0} (wanted : Result A Refusal) (next : A → Plan B) (
     → GivesStep wanted (Ok value) → Goes (next value) before after result → Goes (and_then (step wanted) next) before after result
 step_on wanted next before after value result gives rest = goes_on (step wanted) next before before after value result (goes_step wanted (Ok value) before gives) rest
 
--- what follows what a sample shows, what follows its picture, and what follows a sample in `fill` and in `domains`
+-- what follows what a sample shows, what follows its picture, what follows a sample in `fill`, and what follows a problem in `domains`
 abbrev pub behind_sampled : SampledView → Plan (Kind × Raster × List Symbol)
 behind_sampled sampled = and_then (step (coloured sampled)) (λ made. done (sampled.kind, made.0, made.1))
 
@@ -51,18 +52,12 @@ behind_sample asked lesson = and_then (step (laid lesson.kind asked)) (behind_la
 abbrev pub behind_problem : RequestView → Network → Plan Task
 behind_problem asked P = and_then (steps_plan asked.steps P) (λ steps. done (domains P steps))
 
-abbrev pub behind_lesson : RequestView → Taught → Plan Task
-behind_lesson asked lesson = and_then (problem_plan asked lesson) (behind_problem asked)
-
--- what follows a problem and a sample in `check`
+-- what follows a problem in `check`
 abbrev pub behind_checked_problem : RequestView → Network → Plan Task
 behind_checked_problem asked P = and_then (refutation_plan asked P) (λ found. done (check found))
 
-abbrev pub behind_checked_lesson : RequestView → Taught → Plan Task
-behind_checked_lesson asked lesson = and_then (problem_plan asked lesson) (behind_checked_problem asked)
-
--- a chooser that is there, and what follows in `fill`
-pub behind_chooser : (kinds : List RuleKind) (asked : RequestView) (rule : RuleKind) (before after : FolderView) (given : Unit {0}) (result : Result Task Fault)
-    → Ok given ≡ chosen kinds rule → rule ≡ asked.rule → Goes (and_then (sample_plan asked) (behind_sample asked)) before after result → Goes (fill_plan kinds asked) before after result
-behind_chooser kinds asked rule before after given result there same rest =
-    step_on (chosen kinds asked.rule) (λ _. and_then (sample_plan asked) (behind_sample asked)) before after given result (inl (there ∙ ap (chosen kinds) same)) rest
+-- a chooser that is there, and what follows
+pub behind_chooser : {T : Type 0} (kinds : List RuleKind) (wanted rule : RuleKind) (plan : Plan T) (before after : FolderView) (given : Unit {0}) (result : Result T Fault)
+    → Ok given ≡ chosen kinds rule → rule ≡ wanted → Goes plan before after result → Goes (and_then (step (chosen kinds wanted)) (λ _. plan)) before after result
+behind_chooser kinds wanted rule plan before after given result there same rest =
+    step_on (chosen kinds wanted) (λ _. plan) before after given result (inl (there ∙ ap (chosen kinds) same)) rest

@@ -35,27 +35,16 @@ use Rattle.wfc_pins.specs.declared.steps.StepFault.TheVariants as steps
 use Rattle.wfc_pins.specs.declared.steps.RangeFault.{RangeFault}
 use Rattle.wfc_overlap.specs.Built.{built}
 use Rattle.wfc_overlap.specs.Sample.{output_with}
-use Rattle.wfc_check.specs.Text.{checked}
-use Rattle.wfc_check.specs.declared.fault.CheckFault.{CheckFault}
-use Rattle.wfc_check.specs.declared.fault.CheckFault.TheVariants as checks
 use Rattle.wfc_choose.specs.declared.RuleKind.{RuleKind}
-use Rattle.wfc_choose.specs.declared.RuleKind.TheVariants as rules
-use Rattle.wfc_render.specs.Layout.{layout_of}
 use Rattle.wfc_words.specs.RequestView.{RequestView}
-use Rattle.wfc_words.specs.declared.kinds.CommandKind.{CommandKind}
-use Rattle.wfc_words.specs.declared.kinds.CommandKind.TheVariants as commands
 use Rattle.wfc_task.specs.declared.fault.Source.TheVariants.{Sample}
-use Rattle.wfc_task.specs.declared.fault.Refusal.TheVariants.{NotBuilt, Chooser, Grid, Ppm, Colours, Learn, Render, Pins, Build, Steps}
+use Rattle.wfc_task.specs.declared.fault.Refusal.TheVariants.{Chooser, Grid, Ppm, Colours, Learn, Pins, Build, Steps}
 use Rattle.wfc_task.specs.declared.task.Taught.{Taught}
-use Rattle.wfc_task.specs.Built.{is_built, is_built_by, is_picture_name, side_of}
-use Rattle.wfc_task.specs.Checking.{refutation_plan, shape_of, verdict_in}
-use Rattle.wfc_task.specs.Demo.{demo_patterns, demo_problem}
+use Rattle.wfc_task.specs.Built.{is_picture_name, side_of}
 use Rattle.wfc_task.specs.Sampled.{of_grid, of_ppm}
-use Rattle.wfc_task.specs.Steps.{chosen, coloured, fitting, laid, or_refuse, posed, same_rule, shown_in, steps_in, taught, unless_out}
-use Rattle.wfc_task.specs.Task.{Task, learn, fill, domains, demo, refute, check, upgrade, picture_plan, sample_plan, sampled_plan, pins_plan, problem_plan, steps_plan, learn_plan, fill_plan, domains_plan, demo_plan, refute_plan, check_plan, refutation_file_plan, upgrade_plan, plan_by, plan_of}
-use Rattle.wfc_task.proofs.RefutingLemmas.{behind_refuted}
-use Rattle.wfc_task.proofs.UpgradingLemmas.{behind_upgraded_lesson, behind_upgraded_problem}
-use Rattle.wfc_task.proofs.TaskLemmas.{behind_checked_lesson, behind_checked_problem, behind_lesson, behind_layout, behind_picture, behind_problem, behind_sample, behind_sampled}
+use Rattle.wfc_task.specs.Steps.{chosen, coloured, fitting, or_refuse, posed, same_rule, shown_in, steps_in, taught, unless_out}
+use Rattle.wfc_task.specs.SamplePlans.{picture_plan, sample_plan, sampled_plan, pins_plan, problem_plan, steps_plan}
+use Rattle.wfc_task.proofs.TaskLemmas.{behind_picture, behind_sampled}
 use Rattle.wfc_task.specs.declared.fault.Source.{Source}
 use Rattle.wfc_task.specs.declared.fault.Fault.{Fault}
 use Rattle.wfc_task.specs.declared.fault.Fault.TheVariants.{Unread, Refused}
@@ -112,12 +101,12 @@ never_step (Ok value) never = tt
 never_step (Err refusal) never = never refusal refl
 
 -- the same of a step that refuses the faults of another call
-never_refused : {T E : Type 0} (refusal : E → Refusal) (result : Result T E) → ((fault : E) → NotWords (refusal fault)) → NeverWords (step (or_refuse refusal result))
+pub never_refused : {T E : Type 0} (refusal : E → Refusal) (result : Result T E) → ((fault : E) → NotWords (refusal fault)) → NeverWords (step (or_refuse refusal result))
 never_refused refusal (Ok value) never = tt
 never_refused refusal (Err fault) never = never fault
 
 -- the classes of faults
-grids_never : (source : Source) (fault : GridFault) → NotWords (Grid source fault)
+pub grids_never : (source : Source) (fault : GridFault) → NotWords (Grid source fault)
 grids_never source grids.Empty words = cc
 grids_never source (grids.Ragged line) words = cc
 grids_never source (grids.BadByte line column) words = cc
@@ -148,7 +137,7 @@ pins_never : (fault : PinFault) → NotWords (Pins fault)
 pins_never (pins.BadLine line) words = cc
 pins_never pins.NoMemory words = cc
 
-builds_never : (fault : BuildFault) → NotWords (Build fault)
+pub builds_never : (fault : BuildFault) → NotWords (Build fault)
 builds_never builds.SizeBelowN words = cc
 builds_never (builds.PinOutside line) words = cc
 builds_never (builds.UnknownSymbol line) words = cc
@@ -162,7 +151,7 @@ steps_never (steps.NothingToUndo line) words = cc
 steps_never steps.NoMemory words = cc
 
 -- the plans that are shared
-chosen_never : (kinds : List RuleKind) (rule : RuleKind) → NeverWords (step (chosen kinds rule))
+pub chosen_never : (kinds : List RuleKind) (rule : RuleKind) → NeverWords (step (chosen kinds rule))
 chosen_never kinds rule = by_test (list_any (same_rule rule) kinds)
   where
     by_test : (there : Bool) → NeverWords (step (let result : Result (Unit {0}) Refusal = if there then Ok tt else Err (Chooser rule) in result))
@@ -184,7 +173,7 @@ sampled_never asked = λ bytes. by_name (is_picture_name asked.file) bytes
     by_name true bytes = by_ppm (ppm_of bytes)
     by_name false bytes = by_grid (grid_of bytes)
 
-sample_never : (asked : RequestView) → NeverWords (sample_plan asked)
+pub sample_never : (asked : RequestView) → NeverWords (sample_plan asked)
 sample_never asked =
     never_then (picture_plan asked) (behind_picture asked)
     (never_then (sampled_plan asked) behind_sampled (sampled_never asked) (λ sampled.
@@ -192,90 +181,19 @@ sample_never asked =
     (λ made. never_then (step (taught asked made.1)) (λ patterns. let end : Plan Taught = done (record { kind = made.0; palette = made.2; patterns = patterns }) in end)
     (never_refused Learn (patterns_of made.1 (side_of asked.source) asked.symmetry asked.wrap_in) lessons_never) (λ patterns. tt))
 
-pins_plan_never : (name : Option (List ℕ)) → NeverWords (pins_plan name)
+pub pins_plan_never : (name : Option (List ℕ)) → NeverWords (pins_plan name)
 pins_plan_never None = tt
 pins_plan_never (Some name) = λ bytes. never_refused Pins (pins_of bytes) pins_never
 
-problem_never : (asked : RequestView) (lesson : Taught) → NeverWords (problem_plan asked lesson)
+pub problem_never : (asked : RequestView) (lesson : Taught) → NeverWords (problem_plan asked lesson)
 problem_never asked lesson =
     never_then (pins_plan asked.pins) (λ lines. step (posed asked lesson.patterns lesson.palette lines)) (pins_plan_never asked.pins)
     (λ lines. never_refused Build (built lesson.patterns lesson.palette (output_with asked.width asked.height asked.wrap_out) lines) builds_never)
 
-steps_plan_never : (name : Option (List ℕ)) (P : Network) → NeverWords (steps_plan name P)
+pub steps_plan_never : (name : Option (List ℕ)) (P : Network) → NeverWords (steps_plan name P)
 steps_plan_never None P = tt
 steps_plan_never (Some name) P = λ bytes. never_then (step (steps_in bytes)) (λ steps. step (fitting P steps)) (never_refused Steps (steps_of bytes) steps_never) (λ steps. by_fault steps (range_fault P steps))
   where
     by_fault : (steps : List StepLine) (fault : Option RangeFault) → NeverWords (step (unless_out steps fault))
     by_fault steps None = tt
     by_fault steps (Some fault) = λ words. cc
-
--- each command
-learn_never : (asked : RequestView) → NeverWords (learn_plan asked)
-learn_never asked = never_then (sample_plan asked) (λ lesson. let end : Plan Task = done (learn lesson.patterns lesson.palette) in end) (sample_never asked) (λ lesson. tt)
-
-fill_never : (kinds : List RuleKind) (asked : RequestView) → NeverWords (fill_plan kinds asked)
-fill_never kinds asked =
-    never_then (step (chosen kinds asked.rule)) (λ _. and_then (sample_plan asked) (behind_sample asked)) (chosen_never kinds asked.rule) (λ _.
-    never_then (sample_plan asked) (behind_sample asked) (sample_never asked) (λ lesson.
-    never_then (step (laid lesson.kind asked)) (behind_layout asked lesson) (never_refused Render (layout_of lesson.kind asked.form asked.width asked.height 1) (λ fault words. cc)) (λ layout.
-    never_then (problem_plan asked lesson) (λ P. let end : Plan Task = done (fill lesson.patterns lesson.palette layout P) in end) (problem_never asked lesson) (λ P. tt))))
-
-domains_never : (asked : RequestView) → NeverWords (domains_plan asked)
-domains_never asked =
-    never_then (sample_plan asked) (behind_lesson asked) (sample_never asked) (λ lesson.
-    never_then (problem_plan asked lesson) (behind_problem asked) (problem_never asked lesson) (λ P.
-    never_then (steps_plan asked.steps P) (λ steps. let end : Plan Task = done (domains P steps) in end) (steps_plan_never asked.steps P) (λ steps. tt)))
-
-demo_never : (kinds : List RuleKind) (asked : RequestView) → NeverWords (demo_plan kinds asked)
-demo_never kinds asked = never_then (step (chosen kinds rules.Fewest)) (λ _. let end : Plan Task = done (demo (demo_patterns asked.number) (demo_problem asked.number)) in end) (chosen_never kinds rules.Fewest) (λ _. tt)
-
-refute_never : (kinds : List RuleKind) (asked : RequestView) → NeverWords (refute_plan kinds asked)
-refute_never kinds asked =
-    never_then (step (chosen kinds asked.rule)) (λ _. and_then (sample_plan asked) (behind_refuted asked)) (chosen_never kinds asked.rule) (λ _.
-    never_then (sample_plan asked) (behind_refuted asked) (sample_never asked) (λ lesson.
-    never_then (problem_plan asked lesson) (λ P. let end : Plan Task = done (refute P) in end) (problem_never asked lesson) (λ P. tt)))
-
-check_never : (asked : RequestView) → NeverWords (check_plan asked)
-check_never asked =
-    never_then (sample_plan asked) (behind_checked_lesson asked) (sample_never asked) (λ lesson.
-    never_then (problem_plan asked lesson) (behind_checked_problem asked) (problem_never asked lesson) (λ P.
-    never_then (refutation_plan asked P) (λ found. let end : Plan Task = done (check found) in end) (λ text. judged_never (checked P (shape_of asked) text)) (λ found. tt)))
-  where
-    judged_never : (answer : Result (Unit {0}) CheckFault) → NeverWords (step (verdict_in answer))
-    judged_never (Ok accepted) = tt
-    judged_never (Err (checks.Rejected line reject)) = tt
-    judged_never (Err (checks.BadLine line)) = tt
-    judged_never (Err (checks.HeaderDiffers cells values)) = tt
-    judged_never (Err checks.NotEnded) = tt
-    judged_never (Err checks.Missing) = tt
-    judged_never (Err checks.Failed) = tt
-    judged_never (Err checks.TooLong) = λ words. cc
-    judged_never (Err checks.NoMemory) = tt
-    judged_never (Err (checks.OptionsDiffer found)) = tt
-
-upgrade_never : (asked : RequestView) → NeverWords (upgrade_plan asked)
-upgrade_never asked =
-    never_then (sample_plan asked) (behind_upgraded_lesson asked) (sample_never asked) (λ lesson.
-    never_then (problem_plan asked lesson) (behind_upgraded_problem asked) (problem_never asked lesson) (λ P.
-    never_then (refutation_file_plan asked) (λ bytes. let end : Plan Task = done (upgrade P bytes) in end) (λ bytes. tt) (λ bytes. tt)))
-
--- a request that isn't answered is refused at once
-pub unbuilt_plan : (kinds : List RuleKind) (asked : RequestView) → is_built asked ≡ false → plan_of kinds asked ≡ refuse NotBuilt
-unbuilt_plan kinds asked unbuilt = rw unbuilt refl
-
--- the status of the words comes of such a request alone
-pub words_unbuilt : (kinds : List RuleKind) (asked : RequestView) (before after : FolderView) (fault : Fault) → Goes (plan_of kinds asked) before after (Err fault) → status_of fault ≡ 3 → is_built asked ≡ false
-words_unbuilt kinds asked before after fault goes three = by_test (is_built asked) refl goes
-  where
-    by_command : (command : CommandKind) → is_built_by command asked ≡ true → NeverWords (plan_by command kinds asked)
-    by_command commands.Learn is = learn_never asked
-    by_command commands.Fill is = fill_never kinds asked
-    by_command commands.Domains is = domains_never asked
-    by_command commands.Demo is = demo_never kinds asked
-    by_command commands.Refute is = refute_never kinds asked
-    by_command commands.Check is = check_never asked
-    by_command commands.Upgrade is = upgrade_never asked
-
-    by_test : (built : Bool) → is_built asked ≡ built → Goes (if built then plan_by asked.command kinds asked else refuse NotBuilt) before after (Err fault) → is_built asked ≡ false
-    by_test false is goes = is
-    by_test true is goes = absurd (never_3 (plan_by asked.command kinds asked) before after fault (by_command asked.command is) goes three)

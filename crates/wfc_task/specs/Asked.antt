@@ -1,6 +1,8 @@
 -- What a request has to say, so that a sample can be learned from and a map made.
 use Rattle.std.specs.Prelude.{◌<◌, ◌≤◌}
 use Rattle.wfc_words.specs.RequestView.{RequestView}
+use Rattle.wfc_words.specs.declared.kinds.SourceModel.{SourceModel}
+use Rattle.wfc_words.specs.declared.kinds.SourceModel.TheVariants.{Overlap, Tiles}
 use Rattle.wfc_task.specs.Built.{side_of}
 
 -- a window has a side of 1 to 6, and one to eight of its images are learned
@@ -9,6 +11,14 @@ pub record IsSampleAsked (asked : RequestView) : Type 0 where
   pub small_side : side_of asked.source ≤ 6
   pub some_image : 0 < asked.symmetry
   pub eight_images : asked.symmetry ≤ 8
+
+-- what is asked of a sample's windows, by what the map is made of: of tiles nothing
+abbrev pub AskedBy : SourceModel → RequestView → Type 0
+AskedBy (Overlap n) asked = IsSampleAsked asked
+AskedBy Tiles asked = Unit {0}
+
+abbrev pub IsSourceAsked : RequestView → Type 0
+IsSourceAsked asked = AskedBy asked.source asked
 
 -- the sides of the map are 1 to 4,096
 pub record IsOutputAsked (asked : RequestView) : Type 0 where

@@ -1,23 +1,16 @@
 -- The task of `check` over files that are told, in the subject's words.
 use Rattle.std.specs.Prelude.{◌≡◌, ℕ, List, Option, Some, Ok}
 use Rattle.wfc_outside.specs.Folder.{File, file_of}
-use Rattle.wfc_picture.specs.declared.symbol.Kind.{Kind}
-use Rattle.wfc_picture.specs.declared.symbol.Symbol.{Symbol}
-use Rattle.wfc_pattern.specs.Patterns.{PatternsView}
 use Rattle.wfc_problem.specs.Network.{Network}
 use Rattle.wfc_check.specs.declared.fault.CheckFault.{CheckFault}
 use Rattle.wfc_words.specs.RequestView.{RequestView}
 use Rattle.wfc_task.specs.Checking.{judged, refutation_name}
-use Rattle.wfc_task.specs.Given.{IsSample, IsProblemOf}
+use Rattle.wfc_task.specs.Posed.{Posed}
 
--- the sample teaches these patterns, the problem is that of the request, and the refutation has these bytes
+-- the problem is that of the request, and the refutation has these bytes
 pub record IsCheckWork (asked : RequestView) (files : List File) : Type 0 where
-  pub kind : Kind
-  pub patterns : PatternsView
-  pub palette : List Symbol
-  pub sample : IsSample asked files kind patterns palette
   pub P : Network
-  pub problem : IsProblemOf asked files patterns palette P
+  pub posed : Posed asked files P
   pub bytes : List ℕ
   pub there : file_of files (refutation_name asked) ≡ Some bytes
 

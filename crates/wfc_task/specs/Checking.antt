@@ -1,5 +1,5 @@
 -- What the check of a refutation is held to, and what it comes to.
-use Rattle.std.specs.Prelude.{ℕ, List, [], Option, None, Some, Result, Ok, Err, unwrap_or}
+use Rattle.std.specs.Prelude.{ℕ, false, List, [], Option, None, Some, Result, Ok, Err, unwrap_or}
 use Rattle.wfc_outside.specs.declared.whole.ReadFault.TheVariants as reading
 use Rattle.wfc_problem.specs.Network.{Network}
 use Rattle.wfc_proof.specs.declared.heads.Shape.{Shape}
@@ -7,7 +7,8 @@ use Rattle.wfc_check.specs.Text.{checked}
 use Rattle.wfc_check.specs.declared.fault.CheckFault.{CheckFault}
 use Rattle.wfc_check.specs.declared.fault.CheckFault.TheVariants as faults
 use Rattle.wfc_words.specs.RequestView.{RequestView}
-use Rattle.wfc_task.specs.Built.{side_of}
+use Rattle.wfc_words.specs.declared.kinds.SourceModel.{SourceModel}
+use Rattle.wfc_words.specs.declared.kinds.SourceModel.TheVariants.{Overlap, Tiles}
 use Rattle.wfc_task.specs.Plan.{Plan, read, step}
 use Rattle.wfc_task.specs.declared.fault.Fault.{Fault}
 use Rattle.wfc_task.specs.declared.fault.Fault.TheVariants.{Unread, Refused}
@@ -15,10 +16,10 @@ use Rattle.wfc_task.specs.declared.fault.Refusal.{Refusal}
 use Rattle.wfc_task.specs.declared.fault.Refusal.TheVariants as refusals
 use Rattle.wfc_task.specs.declared.fault.Source.TheVariants.{Refutation}
 
--- the shape of a request, whose map has two dimensions
-abbrev pub shape_of : RequestView → Shape
-shape_of asked = record {
-  n = side_of asked.source;
+-- the shape of a request, whose map has two dimensions; of tiles no windows, images and edges of a sample are told
+abbrev pub shape_by : SourceModel → RequestView → Shape
+shape_by (Overlap n) asked = record {
+  n = n;
   width = asked.width;
   height = asked.height;
   depth = 1;
@@ -26,6 +27,18 @@ shape_of asked = record {
   wrap_in = asked.wrap_in;
   wrap_out = asked.wrap_out;
 }
+shape_by Tiles asked = record {
+  n = 0;
+  width = asked.width;
+  height = asked.height;
+  depth = 1;
+  symmetry = 1;
+  wrap_in = false;
+  wrap_out = asked.wrap_out;
+}
+
+abbrev pub shape_of : RequestView → Shape
+shape_of asked = shape_by asked.source asked
 
 -- an answer to a text: no fault, or the fault of a line; a text that is too long is refused
 abbrev pub verdict_in : Result (Unit {0}) CheckFault → Result (Option CheckFault) Refusal

@@ -16,8 +16,12 @@ use Rattle.wfc_pins.specs.declared.fault.BuildFault.{BuildFault}
 use Rattle.wfc_pins.specs.declared.fault.BuildFault.TheVariants as builds
 use Rattle.wfc_pins.specs.declared.steps.StepFault.{StepFault}
 use Rattle.wfc_pins.specs.declared.steps.StepFault.TheVariants as steps
+use Rattle.wfc_tiled.specs.declared.reading.MaskFault.{MaskFault}
+use Rattle.wfc_tiled.specs.declared.reading.MaskFault.TheVariants as masks
+use Rattle.wfc_tileset.specs.declared.fault.TileFault.{TileFault}
+use Rattle.wfc_tileset.specs.declared.fault.TileFault.TheVariants as tiles
 use Rattle.wfc_task.specs.declared.fault.Refusal.{Refusal}
-use Rattle.wfc_task.specs.declared.fault.Refusal.TheVariants.{NotBuilt, Chooser, Grid, Ppm, Colours, Learn, Render, Pins, Build, Steps, Range, TooLong, NoMemory}
+use Rattle.wfc_task.specs.declared.fault.Refusal.TheVariants.{NotBuilt, Chooser, Grid, Ppm, Colours, Learn, Render, Pins, Build, Steps, Range, TooLong, NoMemory, Tiles, Mask}
 use Rattle.wfc_task.specs.declared.fault.Fault.{Fault}
 use Rattle.wfc_task.specs.declared.fault.Fault.TheVariants.{Unread, Refused}
 use Rattle.wfc_task.specs.declared.fault.Class.{Class}
@@ -52,6 +56,14 @@ abbrev pub steps_class : StepFault → Class
 steps_class steps.NoMemory = Memory
 steps_class _ = Input
 
+abbrev pub tiles_class : TileFault → Class
+tiles_class tiles.NoMemory = Memory
+tiles_class _ = Input
+
+abbrev pub mask_class : MaskFault → Class
+mask_class masks.NoMemory = Memory
+mask_class _ = Input
+
 -- the class of a refusal
 abbrev pub class_of : Refusal → Class
 class_of NotBuilt = Words
@@ -67,6 +79,8 @@ class_of (Steps fault) = steps_class fault
 class_of (Range fault) = Input
 class_of (TooLong source) = Input
 class_of NoMemory = Memory
+class_of (Tiles fault) = tiles_class fault
+class_of (Mask fault) = mask_class fault
 
 -- the exit status of a class
 abbrev pub class_status : Class → ℕ

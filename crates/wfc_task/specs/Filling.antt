@@ -1,5 +1,5 @@
 -- What holds of what the code hands on, whatever the files are.
-use Rattle.std.specs.Prelude.{◌≡◌, ℕ, ◌<◌, ◌≤◌, List, length, Ok, All, IsTrue}
+use Rattle.std.specs.Prelude.{◌≡◌, ℕ, ◌<◌, ◌≤◌, List, length, None, Ok, All, IsTrue}
 use Rattle.wfc_model.specs.Legal.{Pin}
 use Rattle.wfc_model.specs.Raster.{Raster, IsFilled, IsRaster, numbers_of}
 use Rattle.wfc_picture.specs.declared.palette.TheConstants.{MAX_PIXELS}
@@ -13,7 +13,13 @@ use Rattle.wfc_words.specs.RequestView.{RequestView}
 use Rattle.wfc_task.specs.Sampled.{SampledView}
 use Rattle.wfc_task.specs.Steps.{laid}
 use Rattle.wfc_task.specs.declared.task.Taught.{Taught}
+use Rattle.wfc_task.specs.declared.task.Filled.{Filled}
+use Rattle.wfc_task.specs.declared.task.Filled.TheVariants as filled
 use Rattle.wfc_task.specs.declared.task.Filling.{Filling}
+use Rattle.wfc_task.specs.declared.task.TileFilling.{TileFilling}
+use Rattle.wfc_task.specs.Tiling.{IsTiled, masked}
+use Rattle.wfc_task.specs.TileSteps.{laid_tiles}
+use Rattle.wfc_tileset.specs.Pictures.{picture_name}
 
 -- the symbols of a palette are some that a sample of this kind can show
 pub record IsShown (kind : Kind) (palette : List Symbol) : Type 0 where
@@ -57,3 +63,14 @@ pub record IsFilling (asked : RequestView) (task : Filling) : Type 0 where
   pub problem : (pins : List Pin) × (task.problem ≡ problem_of_sample task.patterns (output_with asked.width asked.height asked.wrap_out) pins)
   pub shown : IsShown kind task.palette
   pub numbers : All (λ window. All (λ number. number < length task.palette) window) task.patterns.windows
+
+-- what `fill` works on for a tile set: the layout, and the problem of the tile set, whose pictures are all taken, on the mask
+pub record IsTileFilling (asked : RequestView) (task : TileFilling) : Type 0 where
+  pub layout : laid_tiles task.tiles asked ≡ Ok task.layout
+  pub tiled : IsTiled asked task.tiles (masked asked task.mask) task.problem
+  pub pictured : picture_name task.tiles (length task.tiles.pictures) ≡ None
+
+-- by what the map is made of
+abbrev pub IsFillingBy : RequestView → Filled → Type 0
+IsFillingBy asked (filled.Windows made) = IsFilling asked made
+IsFillingBy asked (filled.Tiles made) = IsTileFilling asked made

@@ -15,7 +15,7 @@ use Rattle.wfc_ppm.specs.Ppm.{PpmView}
 use Rattle.wfc_ppm.specs.Reading.{ppm_of}
 use Rattle.wfc_pins.specs.PinView.{PinView}
 use Rattle.wfc_pins.specs.Pins.{pins_of}
-use Rattle.wfc_pins.specs.Steps.{range_fault, steps_of}
+use Rattle.wfc_pins.specs.Steps.{steps_of}
 use Rattle.wfc_pins.specs.declared.steps.StepLine.{StepLine}
 use Rattle.wfc_overlap.specs.Bridge.{IsRoom}
 use Rattle.wfc_overlap.specs.Built.{pins_in, texts_of}
@@ -95,13 +95,3 @@ pub record IsFillTask (kinds : List RuleKind) (asked : RequestView) (files : Lis
   pub sample : IsSample asked files kind patterns palette
   pub written : layout_of kind asked.form asked.width asked.height 1 ≡ Ok layout
   pub problem : IsProblemOf asked files patterns palette P
-
--- the problem is that of the request, and the steps are those of the steps file, each of them in the problem
-pub record IsDomainsTask (asked : RequestView) (files : List File) (P : Network) (steps : List StepLine) : Type 0 where
-  pub kind : Kind
-  pub patterns : PatternsView
-  pub palette : List Symbol
-  pub sample : IsSample asked files kind patterns palette
-  pub problem : IsProblemOf asked files patterns palette P
-  pub held : HoldsSteps files asked.steps steps
-  pub inside : range_fault P steps ≡ None

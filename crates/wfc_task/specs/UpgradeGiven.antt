@@ -1,19 +1,13 @@
 -- The task of `upgrade` over files that are told, in the subject's words.
 use Rattle.std.specs.Prelude.{ℕ, List}
 use Rattle.wfc_outside.specs.Folder.{File}
-use Rattle.wfc_picture.specs.declared.symbol.Kind.{Kind}
-use Rattle.wfc_picture.specs.declared.symbol.Symbol.{Symbol}
-use Rattle.wfc_pattern.specs.Patterns.{PatternsView}
 use Rattle.wfc_problem.specs.Network.{Network}
 use Rattle.wfc_words.specs.RequestView.{RequestView}
 use Rattle.wfc_task.specs.Checking.{refutation_name}
-use Rattle.wfc_task.specs.Given.{IsFile, IsSample, IsProblemOf}
+use Rattle.wfc_task.specs.Given.{IsFile}
+use Rattle.wfc_task.specs.Posed.{Posed}
 
--- the sample teaches these patterns, the problem is that of the request, and the refutation has these bytes, which are no more than a file may have
+-- the problem is that of the request, and the refutation has these bytes, which are no more than a file may have
 pub record IsUpgradeTask (asked : RequestView) (files : List File) (P : Network) (bytes : List ℕ) : Type 0 where
-  pub kind : Kind
-  pub patterns : PatternsView
-  pub palette : List Symbol
-  pub sample : IsSample asked files kind patterns palette
-  pub problem : IsProblemOf asked files patterns palette P
+  pub posed : Posed asked files P
   pub file : IsFile files (refutation_name asked) bytes

@@ -1,11 +1,11 @@
 //! Which requests are answered.
 
 ghost use Rattle.std.specs.Prelude.{◌≡◌};
-ghost use Rattle.wfc_task.specs.Built.{is_built, is_of_windows, is_picture_name, side_of};
+ghost use Rattle.wfc_task.specs.Built.{is_built, is_picture_name, side_of};
 
 use wfc_words::{CommandKind, Request, SourceModel};
 
-/// Whether the request is answered: one for the windows of a sample, or a demonstration.
+/// Whether the request is answered.
 pub fn is_built(request: &Request) -> bool
     ensures value { result ≡ is_built request.now }
 {
@@ -15,18 +15,8 @@ pub fn is_built(request: &Request) -> bool
         | CommandKind::Domains
         | CommandKind::Refute
         | CommandKind::Check
-        | CommandKind::Upgrade => is_of_windows(request.source),
-        CommandKind::Demo => true,
-    }
-}
-
-/// Whether the map is made of windows.
-fn is_of_windows(source: SourceModel) -> bool
-    ensures value { result ≡ is_of_windows source }
-{
-    match source {
-        SourceModel::Overlap { .. } => true,
-        SourceModel::Tiles => false,
+        | CommandKind::Upgrade
+        | CommandKind::Demo => true,
     }
 }
 

@@ -1,23 +1,22 @@
 //! The refutation of a request.
 
 ghost use Rattle.std.specs.Prelude.{◌≡◌};
-ghost use Rattle.wfc_task.specs.Asked.{IsSampleAsked, IsOutputAsked};
-ghost use Rattle.wfc_task.specs.Checking.{found_in, refutation_name, refutation_plan, shape_of};
+ghost use Rattle.wfc_task.specs.Asked.{IsOutputAsked, IsSourceAsked};
+ghost use Rattle.wfc_task.specs.Checking.{found_in, refutation_name, refutation_plan, shape_by, shape_of};
 ghost use Rattle.wfc_task.specs.Made.{check_made};
 ghost use Rattle.wfc_task.specs.Plan.{Goes};
 ghost use Rattle.wfc_task.specs.Task.{check_plan};
 ghost use Rattle.wfc_task.specs.declared.fault.Fault.TheVariants.{Unread};
 ghost use Rattle.wfc_task.specs.declared.fault.Source.TheVariants.{Refutation};
 
-use crate::built::side_of;
 use crate::fault::{Fault, Refusal, Source};
-use crate::files::{problem, sample};
+use crate::posing::posed_problem;
 use std::alloc::Global;
 use wfc_check::{CheckFault, check};
 use wfc_outside::{Folder, ReadFault};
 use wfc_problem::Problem;
 use wfc_proof::Shape;
-use wfc_words::Request;
+use wfc_words::{Request, SourceModel};
 
 /// What `check` comes to: the first fault of the refutation's text, if it has one.
 pub fn check_task<F: Folder>(
@@ -25,13 +24,12 @@ pub fn check_task<F: Folder>(
     request: &Request,
     folder: &mut F,
 ) -> Result<Option<CheckFault>, Fault>
-    requires sample { IsSampleAsked request.now }
+    requires source { IsSourceAsked request.now }
     requires output { IsOutputAsked request.now }
     ensures goes { Goes (check_plan request.now)
         (F.seen folder.old) (F.seen folder.new) (check_made result) }
 {
-    let taught = sample(alloc, request, folder)?;
-    let problem = problem(alloc, request, &taught, folder)?;
+    let problem = posed_problem(alloc, request, folder)?;
     let found = refutation(alloc, request, &problem, folder)?;
     Ok(found)
 }
@@ -61,18 +59,37 @@ pub(crate) fn refutation_name(request: &Request) -> &str
     }
 }
 
-/// The shape of a request.
+/// The shape of a request. That of a tile set has no windows, images and edges of a sample, whatever
+/// the words say.
 pub fn shape(request: &Request) -> Shape
     ensures value { result ≡ shape_of request.now }
 {
-    Shape {
-        n: side_of(request.source),
-        width: request.width,
-        height: request.height,
-        depth: 1,
-        symmetry: request.symmetry,
-        wrap_in: request.wrap_in,
-        wrap_out: request.wrap_out,
+    shape_by(request.source, request)
+}
+
+/// The shape of a request whose map is made of this.
+fn shape_by(source: SourceModel, request: &Request) -> Shape
+    ensures value { result ≡ shape_by source request.now }
+{
+    match source {
+        SourceModel::Overlap { n } => Shape {
+            n,
+            width: request.width,
+            height: request.height,
+            depth: 1,
+            symmetry: request.symmetry,
+            wrap_in: request.wrap_in,
+            wrap_out: request.wrap_out,
+        },
+        SourceModel::Tiles => Shape {
+            n: 0,
+            width: request.width,
+            height: request.height,
+            depth: 1,
+            symmetry: 1,
+            wrap_in: false,
+            wrap_out: request.wrap_out,
+        },
     }
 }
 

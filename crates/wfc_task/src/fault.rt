@@ -10,14 +10,21 @@ use wfc_picture::PaletteFault;
 use wfc_pins::{BuildFault, PinFault, RangeFault, StepFault};
 use wfc_ppm::PpmFault;
 use wfc_render::RenderFault;
+use wfc_tiled::MaskFault;
+use wfc_tileset::TileFault;
 
 /// What a file is to a command.
 #[derive(Clone, Copy, Debug, PartialEq, Eq)]
 pub enum Source {
+    /// What a map is made from: the sample, or the document of a tile set.
     Sample,
     Pins,
     Steps,
     Refutation,
+    /// The picture of a tile.
+    Picture { tile: u32 },
+    /// The holes of a tile map.
+    Mask,
 }
 
 /// What a step refuses that reads nothing.
@@ -49,6 +56,10 @@ pub enum Refusal {
     TooLong { source: Source },
     /// Memory ran out.
     NoMemory,
+    /// A document is no tile set, or a picture is none of its tile.
+    Tiles { fault: TileFault },
+    /// A grid is no mask.
+    Mask { fault: MaskFault },
 }
 
 /// Why a command has no answer.
@@ -93,11 +104,13 @@ impl Refusal {
             Refusal::Render { .. } | Refusal::Range { .. } | Refusal::TooLong { .. } =>
                 Class::Input,
             Refusal::NoMemory => Class::Memory,
+            Refusal::Tiles { fault } => tiles_class(*fault),
+            Refusal::Mask { fault } => mask_class(*fault),
         }
     }
 }
 
-ghost use Rattle.wfc_task.specs.Fault.{build_class, class_status, colours_class, grid_class, learn_class, pins_class, ppm_class, steps_class};
+ghost use Rattle.wfc_task.specs.Fault.{build_class, class_status, colours_class, grid_class, learn_class, mask_class, pins_class, ppm_class, steps_class, tiles_class};
 
 fn grid_class(fault: GridFault) -> Class
     ensures value { result ≡ grid_class fault }
@@ -158,6 +171,24 @@ fn steps_class(fault: StepFault) -> Class
 {
     match fault {
         StepFault::NoMemory => Class::Memory,
+        _ => Class::Input,
+    }
+}
+
+fn tiles_class(fault: TileFault) -> Class
+    ensures value { result ≡ tiles_class fault }
+{
+    match fault {
+        TileFault::NoMemory => Class::Memory,
+        _ => Class::Input,
+    }
+}
+
+fn mask_class(fault: MaskFault) -> Class
+    ensures value { result ≡ mask_class fault }
+{
+    match fault {
+        MaskFault::NoMemory => Class::Memory,
         _ => Class::Input,
     }
 }

@@ -11,7 +11,7 @@ ghost use Rattle.wfc_task.specs.Asked.{IsSampleAsked, IsOutputAsked};
 ghost use Rattle.wfc_task.specs.Filling.{IsLesson, IsNumbered, IsPosed, IsSampled};
 ghost use Rattle.wfc_task.specs.Plan.{Goes};
 ghost use Rattle.wfc_task.specs.Sampled.{sampled_view};
-ghost use Rattle.wfc_task.specs.Task.{file_plan, picture_plan, pins_file_plan, pins_plan, problem_plan, sample_plan, sampled_plan, steps_file_plan, steps_plan};
+ghost use Rattle.wfc_task.specs.SamplePlans.{file_plan, picture_plan, pins_file_plan, pins_plan, problem_plan, sample_plan, sampled_plan, steps_file_plan, steps_plan};
 
 use crate::fault::{Fault, Source};
 use crate::sampled::{Sampled, shown};
@@ -101,7 +101,11 @@ fn pins_file<F: Folder>(alloc: Global, folder: &mut F, name: &str) -> Result<Vec
 }
 
 /// The pins and bans of the pins file, if one is named.
-fn pins<F: Folder>(alloc: Global, folder: &mut F, name: Option<&str>) -> Result<Vec<PinLine>, Fault>
+pub(crate) fn pins<F: Folder>(
+    alloc: Global,
+    folder: &mut F,
+    name: Option<&str>,
+) -> Result<Vec<PinLine>, Fault>
     ensures goes { Goes (pins_plan (option_map (λ text. text.now) name.entry))
         (F.seen folder.old) (F.seen folder.new) (result_map (λ lines. lines.items) result) }
 {

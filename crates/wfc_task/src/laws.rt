@@ -11,35 +11,63 @@ ghost use Rattle.wfc_choose.specs.declared.RuleKind.{RuleKind};
 ghost use Rattle.wfc_choose.specs.declared.RuleKind.TheVariants.{Scanline, Fewest, Ranked};
 ghost use Rattle.wfc_render.specs.declared.form.Layout.{Layout};
 ghost use Rattle.wfc_words.specs.RequestView.{RequestView};
-ghost use Rattle.wfc_task.specs.Built.{is_built, is_picture_name};
+ghost use Rattle.wfc_task.specs.Built.{is_built, is_of_windows, is_picture_name};
 ghost use Rattle.wfc_task.specs.Demo.{demo_patterns, demo_problem, demo_symbol};
 ghost use Rattle.wfc_check.specs.declared.fault.CheckFault.{CheckFault};
 ghost use Rattle.wfc_task.specs.CheckGiven.{IsCheckTask};
 ghost use Rattle.wfc_task.specs.RefuteGiven.{IsRefuteTask};
 ghost use Rattle.wfc_task.specs.UpgradeGiven.{IsUpgradeTask};
-ghost use Rattle.wfc_task.specs.Given.{IsDomainsTask, IsFillTask, IsTaught};
+ghost use Rattle.wfc_task.specs.DomainsGiven.{IsDomainsTask};
+ghost use Rattle.wfc_task.specs.Given.{IsFillTask, IsTaught};
+ghost use Rattle.wfc_task.specs.Posed.{Posed, posed_plan};
+ghost use Rattle.wfc_task.specs.TileGiven.{IsTileFillTask, IsTileSetOf};
+ghost use Rattle.wfc_tiled.specs.Mask.{MaskView};
+ghost use Rattle.wfc_tileset.specs.Tiles.{TileSetView};
 ghost use Rattle.wfc_task.specs.Plan.{outcome, refuse};
 ghost use Rattle.wfc_task.specs.Steps.{chosen};
-ghost use Rattle.wfc_task.specs.Task.{check, check_plan, demo, demo_plan, domains, domains_plan, fill, fill_plan, learn, learn_plan, plan_of, refute, refute_plan, upgrade, upgrade_plan};
+ghost use Rattle.wfc_task.specs.Task.{check, check_plan, demo, demo_plan, domains, domains_plan, fill, fill_plan, fill_tiles, learn, learn_plan, learn_tiles, plan_of, refute, refute_plan, upgrade, upgrade_plan};
 ghost use Rattle.wfc_outside.specs.declared.whole.ReadFault.TheVariants.{Missing};
 ghost use Rattle.wfc_task.specs.declared.fault.Refusal.TheVariants.{NotBuilt, Chooser};
 ghost use Rattle.wfc_task.specs.declared.fault.Fault.TheVariants.{Refused, Unread};
 ghost use Rattle.wfc_task.specs.declared.fault.Source.TheVariants.{Sample};
 
-/// `learn` comes to these patterns and this palette exactly where the file spells a sample that teaches them.
+/// `learn` of a sample comes to these patterns and this palette exactly where the file spells a sample that teaches them.
 pub fn learn_tasks_are_given()
     ensures task { (asked : RequestView) (files : List File) (patterns : PatternsView)
-        (palette : List Symbol) → (outcome (learn_plan asked) files ≡ Ok (learn patterns palette))
+        (palette : List Symbol) → is_of_windows asked.source ≡ true → (outcome (learn_plan asked) files ≡ Ok (learn patterns palette))
         ↔ IsTaught asked files patterns palette }
 {}
 
-/// `fill` comes to this task exactly where a chooser is there, the sample teaches the patterns, the map has the layout,
+/// `learn` of tiles comes to this tile set exactly where the file spells it, with the pictures that it names.
+pub fn learn_tasks_of_tiles_are_given()
+    ensures task { (asked : RequestView) (files : List File) (set : TileSetView) →
+        is_of_windows asked.source ≡ false → (outcome (learn_plan asked) files ≡ Ok (learn_tiles set))
+        ↔ IsTileSetOf asked files set }
+{}
+
+/// `fill` of a sample comes to this task exactly where a chooser is there, the sample teaches the patterns, the map has the layout,
 /// and the problem is that of the patterns, the output and the pins.
 pub fn fill_tasks_are_given()
     ensures task { (kinds : List RuleKind) (asked : RequestView) (files : List File)
         (patterns : PatternsView) (palette : List Symbol) (layout : Layout) (P : Network) →
-        (outcome (fill_plan kinds asked) files ≡ Ok (fill patterns palette layout P))
+        is_of_windows asked.source ≡ true → (outcome (fill_plan kinds asked) files ≡ Ok (fill patterns palette layout P))
         ↔ IsFillTask kinds asked files patterns palette layout P }
+{}
+
+/// `fill` of tiles comes to this task exactly where a chooser is there, the file spells the tile set, the map has the layout,
+/// and the problem is that of the tile set, the mask, the output and the pins.
+pub fn fill_tasks_of_tiles_are_given()
+    ensures task { (kinds : List RuleKind) (asked : RequestView) (files : List File)
+        (set : TileSetView) (mask : MaskView) (layout : Layout) (P : Network) →
+        is_of_windows asked.source ≡ false →
+        (outcome (fill_plan kinds asked) files ≡ Ok (fill_tiles set mask layout P))
+        ↔ IsTileFillTask kinds asked files set mask layout P }
+{}
+
+/// The problem of a request is made exactly where it is that of the files.
+pub fn posed_problems_are_given()
+    ensures problem { (asked : RequestView) (files : List File) (P : Network) →
+        (outcome (posed_plan asked) files ≡ Ok P) ↔ Posed asked files P }
 {}
 
 /// `domains` comes to this task exactly where the problem is that of the request and the steps are those of the file.

@@ -7,17 +7,23 @@ mod demo;
 mod fault;
 mod files;
 pub mod laws;
+mod posing;
 mod refuting;
 mod sampled;
 mod steps;
 mod task;
+mod tile_files;
+mod tile_steps;
 mod upgrading;
 
 pub use built::is_built;
 pub use checking::{check_task, shape};
 pub use fault::{Class, Fault, Refusal, Source};
 pub use refuting::refute_task;
-pub use task::{Demo, Filling, Stepping, Taught, demo_task, domains_task, fill_task, learn_task};
+pub use task::{
+    Demo, Filled, Filling, Learned, Stepping, Taught, TileFilling, demo_task, domains_task,
+    fill_task, learn_task,
+};
 pub use upgrading::{Upgrading, upgrade_task};
 
 #[cfg(test)]

@@ -51,6 +51,7 @@ pub(crate) fn grid(alloc: Global, source: Source, bytes: &[u8]) -> Result<Grid, 
     requires short { length bytes.now ≤ MAX_FILE_BYTES }
     ensures exact { GivesStep (grid_in source bytes.now) result }
     ensures small { IfOk result (λ grid. grid.width * grid.height ≤ MAX_CELLS) }
+    ensures few { IfOk result (λ grid. length grid.bytes ≤ MAX_CELLS) }
 {
     match wfc_grid::read(alloc, bytes) {
         Ok(grid) => Ok(grid),

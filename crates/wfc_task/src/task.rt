@@ -4,16 +4,21 @@ ghost use Rattle.std.specs.Prelude.{◌≡◌, ◌+◌, ◌*◌, ◌≤◌, leng
 ghost use Rattle.wfc_choose.specs.declared.RuleKind.TheVariants.{Fewest};
 ghost use Rattle.wfc_pins.specs.Steps.{IsStepIn};
 ghost use Rattle.wfc_pins.specs.declared.steps.StepLine.{StepLine};
-ghost use Rattle.wfc_task.specs.Asked.{IsSampleAsked, IsOutputAsked};
-ghost use Rattle.wfc_task.specs.Filling.{IsFilling};
+ghost use Rattle.wfc_outside.specs.Gives.{result_map};
+ghost use Rattle.wfc_task.specs.Asked.{AskedBy, IsOutputAsked, IsSampleAsked, IsSourceAsked};
+ghost use Rattle.wfc_task.specs.Filling.{IsFilling, IsFillingBy, IsTileFilling};
 ghost use Rattle.wfc_task.specs.Plan.{Goes};
-ghost use Rattle.wfc_task.specs.Task.{demo_plan, domains_plan, fill_plan, learn_plan};
+ghost use Rattle.wfc_task.specs.Task.{demo_plan, domains_plan, fill, fill_plan, fill_plan_by, fill_sample_plan, fill_tiles, fill_tiles_plan, learn_plan, learn_plan_by};
+ghost use Rattle.wfc_task.specs.Tiling.{masked};
 ghost use Rattle.wfc_task.specs.Made.{demo_made, domains_made, fill_made, learn_made};
 
 use crate::demo::demo;
 use crate::fault::Fault;
 use crate::files::{problem, sample, steps};
+use crate::posing::posed_problem;
 use crate::steps::{chosen, laid};
+use crate::tile_files::{tile_set, tiled_problem};
+use crate::tile_steps::laid_tiles;
 use std::alloc::Global;
 use wfc_choose::RuleKind;
 use wfc_outside::{Folder, MAX_FILE_BYTES};
@@ -22,7 +27,9 @@ use wfc_picture::{Kind, Palette};
 use wfc_pins::StepLine;
 use wfc_problem::Problem;
 use wfc_render::Layout;
-use wfc_words::Request;
+use wfc_tiled::Mask;
+use wfc_tileset::TileSet;
+use wfc_words::{Request, SourceModel};
 
 /// What a sample teaches, the palette of its numbers, and how a map of it is written.
 #[derive(Drop)]
@@ -41,6 +48,32 @@ pub struct Filling {
     pub problem: Problem,
 }
 
+/// What `fill` works on for a tile set.
+#[derive(Drop)]
+pub struct TileFilling {
+    pub tiles: TileSet,
+    /// The mask, where one is named.
+    pub mask: Option<Mask>,
+    pub layout: Layout,
+    pub problem: Problem,
+}
+
+/// What `learn` writes.
+#[derive(Drop)]
+pub enum Learned {
+    /// What the windows of a sample teach.
+    Windows(Taught),
+    /// A tile set.
+    Tiles(TileSet),
+}
+
+/// What `fill` works on.
+#[derive(Drop)]
+pub enum Filled {
+    Windows(Filling),
+    Tiles(TileFilling),
+}
+
 /// What `domains` works on.
 #[derive(Drop)]
 pub struct Stepping {
@@ -55,36 +88,87 @@ pub struct Demo {
     pub problem: Problem,
 }
 
-/// What `learn` writes: what the sample teaches.
+/// What `learn` writes: what the sample teaches, or the tile set.
 pub fn learn_task<F: Folder>(
     alloc: Global,
     request: &Request,
     folder: &mut F,
-) -> Result<Taught, Fault>
-    requires sample { IsSampleAsked request.now }
+) -> Result<Learned, Fault>
+    requires source { IsSourceAsked request.now }
     ensures goes { Goes (learn_plan request.now)
         (F.seen folder.old) (F.seen folder.new) (learn_made result) }
 {
-    let taught = sample(alloc, request, folder)?;
-    Ok(taught)
+    learn_by(alloc, request.source, request, folder)
 }
 
-/// What `fill` runs on. The chooser is looked for before the sample is read, and the layout is looked at before the pins
+/// The same for a map that is made of this.
+fn learn_by<F: Folder>(
+    alloc: Global,
+    source: SourceModel,
+    request: &Request,
+    folder: &mut F,
+) -> Result<Learned, Fault>
+    requires source { AskedBy source request.now }
+    ensures goes { Goes (learn_plan_by source request.now)
+        (F.seen folder.old) (F.seen folder.new) (learn_made result) }
+{
+    match source {
+        SourceModel::Overlap { .. } => Ok(Learned::Windows(sample(alloc, request, folder)?)),
+        SourceModel::Tiles => Ok(Learned::Tiles(tile_set(alloc, request, folder)?)),
+    }
+}
+
+/// What `fill` runs on. The chooser is looked for before anything is read, and the layout is looked at before the pins
 /// file is.
 pub fn fill_task<F: Folder>(
     alloc: Global,
     request: &Request,
     kinds: &[RuleKind],
     folder: &mut F,
+) -> Result<Filled, Fault>
+    requires source { IsSourceAsked request.now }
+    requires output { IsOutputAsked request.now }
+    ensures goes { Goes (fill_plan kinds.now request.now)
+        (F.seen folder.old) (F.seen folder.new) (fill_made request.now result) }
+    ensures chooser { OnOk result (Contains kinds.now request.now.rule) }
+    ensures filling { IfOk result (IsFillingBy request.now) }
+{
+    chosen(kinds, request.rule)?;
+    let filled = fill_by(alloc, request.source, request, folder)?;
+    Ok(filled)
+}
+
+/// The same for a map that is made of this.
+fn fill_by<F: Folder>(
+    alloc: Global,
+    source: SourceModel,
+    request: &Request,
+    folder: &mut F,
+) -> Result<Filled, Fault>
+    requires source { AskedBy source request.now }
+    requires output { IsOutputAsked request.now }
+    ensures goes { Goes (fill_plan_by source request.now)
+        (F.seen folder.old) (F.seen folder.new) (fill_made request.now result) }
+    ensures filling { IfOk result (IsFillingBy request.now) }
+{
+    match source {
+        SourceModel::Overlap { .. } => Ok(Filled::Windows(sample_filling(alloc, request, folder)?)),
+        SourceModel::Tiles => Ok(Filled::Tiles(tile_filling(alloc, request, folder)?)),
+    }
+}
+
+/// What `fill` runs on for a sample.
+fn sample_filling<F: Folder>(
+    alloc: Global,
+    request: &Request,
+    folder: &mut F,
 ) -> Result<Filling, Fault>
     requires sample { IsSampleAsked request.now }
     requires output { IsOutputAsked request.now }
-    ensures goes { Goes (fill_plan kinds.now request.now)
-        (F.seen folder.old) (F.seen folder.new) (fill_made result) }
-    ensures chooser { OnOk result (Contains kinds.now request.now.rule) }
+    ensures goes { Goes (fill_sample_plan request.now) (F.seen folder.old) (F.seen folder.new)
+        (result_map (λ made. fill made.patterns made.palette made.layout made.problem) result) }
     ensures filling { IfOk result (IsFilling request.now) }
 {
-    chosen(kinds, request.rule)?;
     let taught = sample(alloc, request, folder)?;
     let layout = laid(taught.kind, request)?;
     let problem = problem(alloc, request, &taught, folder)?;
@@ -96,13 +180,35 @@ pub fn fill_task<F: Folder>(
     })
 }
 
+/// What `fill` runs on for a tile set.
+fn tile_filling<F: Folder>(
+    alloc: Global,
+    request: &Request,
+    folder: &mut F,
+) -> Result<TileFilling, Fault>
+    requires output { IsOutputAsked request.now }
+    ensures goes { Goes (fill_tiles_plan request.now) (F.seen folder.old) (F.seen folder.new)
+        (result_map (λ made. fill_tiles made.tiles (masked request.now made.mask) made.layout made.problem) result) }
+    ensures filling { IfOk result (IsTileFilling request.now) }
+{
+    let tiles = tile_set(alloc, request, folder)?;
+    let layout = laid_tiles(&tiles, request)?;
+    let (mask, problem) = tiled_problem(alloc, request, &tiles, folder)?;
+    Ok(TileFilling {
+        tiles,
+        mask,
+        layout,
+        problem,
+    })
+}
+
 /// What `domains` goes through: the problem, and steps that are all in it.
 pub fn domains_task<F: Folder>(
     alloc: Global,
     request: &Request,
     folder: &mut F,
 ) -> Result<Stepping, Fault>
-    requires sample { IsSampleAsked request.now }
+    requires source { IsSourceAsked request.now }
     requires output { IsOutputAsked request.now }
     ensures goes { Goes (domains_plan request.now)
         (F.seen folder.old) (F.seen folder.new) (domains_made result) }
@@ -110,8 +216,7 @@ pub fn domains_task<F: Folder>(
         (line : StepLine). IsStepIn task.problem line.step) task.steps.items) }
     ensures few { IfOk result (λ task. length task.steps.items ≤ MAX_FILE_BYTES + 1) }
 {
-    let taught = sample(alloc, request, folder)?;
-    let problem = problem(alloc, request, &taught, folder)?;
+    let problem = posed_problem(alloc, request, folder)?;
     let steps = steps(alloc, folder, request.steps(), &problem)?;
     Ok(Stepping { problem, steps })
 }

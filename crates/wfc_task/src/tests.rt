@@ -1,12 +1,16 @@
 //! Tasks by tables: what they come to, and their first faults.
 
-ghost use Rattle.wfc_task.specs.Asked.{IsOutputAsked, IsSampleAsked};
+mod tiles;
+
+ghost use Rattle.std.specs.Bool.{OnTrue};
+ghost use Rattle.wfc_task.specs.Asked.{IsOutputAsked, IsSourceAsked};
 
 use crate::{
-    Fault, Refusal, Source, demo_task, domains_task, fill_task, learn_task, refute_task,
-    upgrade_task,
+    Fault, Filled, Learned, Refusal, Source, check_task, demo_task, domains_task, fill_task,
+    learn_task, refute_task, upgrade_task,
 };
 use std::alloc::Global;
+use std::process::Abort;
 use std::test::Fail;
 use wfc_choose::RuleKind;
 use wfc_grid::GridFault;
@@ -15,19 +19,21 @@ use wfc_pattern::{LearnFault, Patterns};
 use wfc_pins::{BuildFault, PinFault, RangeFault, StepFault};
 use wfc_problem::Problem;
 use wfc_render::{Form, RenderFault};
+use wfc_tileset::TileSet;
 use wfc_words::{CommandKind, Request, SourceModel};
 
 /// What is asked for.
 #[derive(Clone, Copy)]
 struct Row {
     file: &'static str,
-    n: u32,
+    source: SourceModel,
     width: u32,
     height: u32,
     symmetry: u8,
     wrap_in: bool,
     wrap_out: bool,
     pins: Option<&'static str>,
+    mask: Option<&'static str>,
     /// The file of the steps, or of the refutation.
     steps: Option<&'static str>,
     rule: RuleKind,
@@ -38,20 +44,21 @@ struct Row {
 /// The checkers of two by two, windows of two by two, and a map of two by two.
 const CHECKERS: Row = Row {
     file: "chk.txt",
-    n: 2,
+    source: SourceModel::Overlap { n: 2 },
     width: 2,
     height: 2,
     symmetry: 1,
     wrap_in: false,
     wrap_out: false,
     pins: None,
+    mask: None,
     steps: None,
     rule: RuleKind::Fewest,
     form: None,
     number: 0,
 };
 
-const FILES: [(&str, &[u8]); 12] = [
+const FILES: [(&str, &[u8]); 13] = [
     ("chk.txt", b"ab\nba\n"),
     ("a.txt", b"a"),
     ("e.txt", b""),
@@ -64,18 +71,32 @@ const FILES: [(&str, &[u8]); 12] = [
     ("u.txt", b"undo\n"),
     ("c.txt", b"choose 3 0\n"),
     ("w.txt", b"choose\n"),
+    (
+        "x.txt",
+        b"wfc-refutation 1\ncells 2 values 1\nr 0 0 2\nx 0\nq\n",
+    ),
 ];
 
 /// A folder with these files that gives three bytes a call.
 fn folder(alloc: Global) -> Result<MemoryFolder, Fail> {
     let mut folder = MemoryFolder::new(alloc, 3);
-    for (name, bytes) in FILES {
+    add_all(alloc, &mut folder, &FILES)?;
+    add_all(alloc, &mut folder, &tiles::FILES)?;
+    Ok(folder)
+}
+
+fn add_all(
+    alloc: Global,
+    folder: &mut MemoryFolder,
+    files: &[(&'static str, &'static [u8])],
+) -> Result<(), Fail> {
+    for (name, bytes) in files {
         folder.add(
             String::from_str(alloc, name)?,
             Vec::from_slice(alloc, bytes)?,
         )?;
     }
-    Ok(folder)
+    Ok(())
 }
 
 fn text(alloc: Global, name: Option<&str>) -> Result<Option<String>, Fail> {
@@ -85,20 +106,54 @@ fn text(alloc: Global, name: Option<&str>) -> Result<Option<String>, Fail> {
     }
 }
 
-/// What a task comes to: how many patterns there are and the weight of the first, how many colours, cells and steps.
+/// What a task comes to: how many patterns there are and the weight of the first, how many colours, cells and steps. Of a tile
+/// set these are variants and pictures.
 type Sizes = (u16, u32, u32, u32, usize);
 
 fn sizes(patterns: &Patterns, colours: u32, cells: u32, steps: usize) -> Sizes {
     (patterns.count(), patterns.weight(0), colours, cells, steps)
 }
 
-/// Runs the task of a command.
-fn run(alloc: Global, command: CommandKind, row: Row) -> Result<Result<Sizes, Fault>, Fail> {
-    let mut folder = folder(alloc)?;
-    let request = Request {
+/// The same of tiles: how many variants there are, the weight of the first, how many pictures, and how many cells.
+fn tile_sizes(tiles: &TileSet, cells: u32) -> Sizes {
+    (
+        tiles.variants(),
+        first_weight(tiles),
+        tiles.pictures(),
+        cells,
+        0,
+    )
+}
+
+/// The weight of the first variant, if there is one.
+fn first_weight(tiles: &TileSet) -> u32 {
+    if tiles.variants() == 0 {
+        0
+    } else {
+        tiles.weight(0)
+    }
+}
+
+fn learned_sizes(task: &Learned) -> Sizes {
+    match task {
+        Learned::Windows(taught) => sizes(&taught.patterns, taught.palette.len(), 0, 0),
+        Learned::Tiles(tiles) => tile_sizes(tiles, 0),
+    }
+}
+
+fn filled_sizes(task: &Filled) -> Sizes {
+    match task {
+        Filled::Windows(made) => sizes(&made.patterns, made.palette.len(), made.problem.cells(), 0),
+        Filled::Tiles(made) => tile_sizes(&made.tiles, made.problem.cells()),
+    }
+}
+
+/// The request of a row.
+fn request_of(alloc: Global, command: CommandKind, row: Row) -> Result<Request, Fail> {
+    Ok(Request {
         command,
         file: String::from_str(alloc, row.file)?,
-        source: SourceModel::Overlap { n: row.n },
+        source: row.source,
         width: row.width,
         height: row.height,
         symmetry: row.symmetry,
@@ -113,14 +168,47 @@ fn run(alloc: Global, command: CommandKind, row: Row) -> Result<Result<Sizes, Fa
         form: row.form,
         number: row.number,
         format: 2,
-        mask: None,
-    };
-    if row.n < 1 || row.n > 6 || row.symmetry < 1 || row.symmetry > 8 {
-        return Ok(Err(refused(Refusal::NotBuilt)));
+        mask: text(alloc, row.mask)?,
+    })
+}
+
+/// Whether what the map is made of is in its ranges.
+fn is_source_asked(request: &Request) -> bool
+    ensures source { OnTrue result (IsSourceAsked request.now) }
+{
+    match request.source {
+        SourceModel::Overlap { n } => {
+            if n < 1 || n > 6 {
+                return false;
+            }
+            if request.symmetry < 1 || request.symmetry > 8 {
+                return false;
+            }
+            true
+        }
+        SourceModel::Tiles => true,
     }
-    if row.width < 1 || row.width > 4096 || row.height < 1 || row.height > 4096 {
-        return Ok(Err(refused(Refusal::NotBuilt)));
-    }
+}
+
+/// Whether the sides of the map are in their ranges.
+fn is_output_asked(request: &Request) -> bool
+    ensures output { OnTrue result (IsOutputAsked request.now) }
+{
+    let some = request.width >= 1 && request.height >= 1;
+    some && request.width <= 4096 && request.height <= 4096
+}
+
+/// Runs the task of a command.
+fn run(
+    rt: &impl Abort,
+    alloc: Global,
+    command: CommandKind,
+    row: Row,
+) -> Result<Result<Sizes, Fault>, Fail> {
+    let mut folder = folder(alloc)?;
+    let request = request_of(alloc, command, row)?;
+    assert!(rt; is_source_asked(&request));
+    assert!(rt; is_output_asked(&request));
     Ok(task(alloc, command, &request, &mut folder))
 }
 
@@ -131,20 +219,13 @@ fn task(
     request: &Request,
     folder: &mut MemoryFolder,
 ) -> Result<Sizes, Fault>
-    requires sample { IsSampleAsked request.now }
+    requires source { IsSourceAsked request.now }
     requires output { IsOutputAsked request.now }
 {
     let kinds = [RuleKind::Scanline, RuleKind::Fewest];
     match command {
-        CommandKind::Learn => {
-            let task = learn_task(alloc, request, folder)?;
-            Ok(sizes(&task.patterns, task.palette.len(), 0, 0))
-        }
-        CommandKind::Fill => {
-            let task = fill_task(alloc, request, &kinds, folder)?;
-            let cells = task.problem.cells();
-            Ok(sizes(&task.patterns, task.palette.len(), cells, 0))
-        }
+        CommandKind::Learn => Ok(learned_sizes(&learn_task(alloc, request, folder)?)),
+        CommandKind::Fill => Ok(filled_sizes(&fill_task(alloc, request, &kinds, folder)?)),
         CommandKind::Domains => {
             let task = domains_task(alloc, request, folder)?;
             let values = task.problem.values();
@@ -163,7 +244,10 @@ fn task(
             let bytes = task.refutation.len();
             Ok((task.problem.values(), 0, 0, task.problem.cells(), bytes))
         }
-        CommandKind::Check => Err(refused(Refusal::NotBuilt)),
+        CommandKind::Check => {
+            let found = check_task(alloc, request, folder)?;
+            Ok((0, 0, 0, 0, if found.is_none() { 1 } else { 0 }))
+        }
     }
 }
 
@@ -177,7 +261,7 @@ fn comes_to_tasks(rt: HostRuntime) -> Result<(), Fail> {
         wrap_in: true,
         ..CHECKERS
     };
-    let cases: [(CommandKind, Row, Sizes); 11] = [
+    let cases: [(CommandKind, Row, Sizes); 13] = [
         (CommandKind::Fill, CHECKERS, (1, 1, 2, 1, 0)),
         (
             CommandKind::Fill,
@@ -213,6 +297,16 @@ fn comes_to_tasks(rt: HostRuntime) -> Result<(), Fail> {
         (CommandKind::Domains, CHECKERS, (1, 0, 0, 1, 0)),
         (CommandKind::Refute, CHECKERS, (1, 0, 0, 1, 0)),
         (CommandKind::Upgrade, stepped("s.txt"), (2, 0, 0, 3, 32)),
+        (CommandKind::Check, stepped("s.txt"), (0, 0, 0, 0, 0)),
+        (
+            CommandKind::Check,
+            Row {
+                width: 3,
+                steps: Some("x.txt"),
+                ..CHECKERS
+            },
+            (0, 0, 0, 0, 1),
+        ),
         (CommandKind::Learn, wrapped, (2, 2, 2, 0, 0)),
         (
             CommandKind::Learn,
@@ -233,7 +327,7 @@ fn comes_to_tasks(rt: HostRuntime) -> Result<(), Fail> {
         ),
     ];
     for (command, row, wanted) in cases {
-        assert_eq!(rt; run(rt.alloc(), command, row)?, Ok(wanted));
+        assert_eq!(rt; run(&rt, rt.alloc(), command, row)?, Ok(wanted));
     }
     Ok(())
 }
@@ -243,10 +337,6 @@ fn faulty() -> [(CommandKind, Row, Fault); 20] {
     let fill = CommandKind::Fill;
     let learn = CommandKind::Learn;
     let domains = CommandKind::Domains;
-    let missing = |source| Fault::Unread {
-        source,
-        fault: ReadFault::Missing,
-    };
     [
         (
             fill,
@@ -285,7 +375,7 @@ fn faulty() -> [(CommandKind, Row, Fault); 20] {
         (
             fill,
             Row {
-                n: 1,
+                source: SourceModel::Overlap { n: 1 },
                 width: 4096,
                 height: 2049,
                 ..sampled("a.txt")
@@ -367,6 +457,13 @@ fn faulty() -> [(CommandKind, Row, Fault); 20] {
     ]
 }
 
+fn missing(source: Source) -> Fault {
+    Fault::Unread {
+        source,
+        fault: ReadFault::Missing,
+    }
+}
+
 fn build(fault: BuildFault) -> Fault {
     refused(Refusal::Build { fault })
 }
@@ -410,7 +507,7 @@ fn sampled(file: &'static str) -> Row {
 #[test]
 fn refuses_by_the_first_fault(rt: HostRuntime) -> Result<(), Fail> {
     for (command, row, fault) in faulty() {
-        assert_eq!(rt; run(rt.alloc(), command, row)?, Err(fault));
+        assert_eq!(rt; run(&rt, rt.alloc(), command, row)?, Err(fault));
     }
     Ok(())
 }

@@ -2,14 +2,15 @@
 
 ghost use Rattle.std.specs.Prelude.{◌≤◌, length, IfOk};
 ghost use Rattle.wfc_outside.specs.Gives.{result_map};
-ghost use Rattle.wfc_task.specs.Asked.{IsOutputAsked, IsSampleAsked};
+ghost use Rattle.wfc_task.specs.Asked.{IsOutputAsked, IsSourceAsked};
 ghost use Rattle.wfc_task.specs.Made.{upgrade_made};
 ghost use Rattle.wfc_task.specs.Plan.{Goes};
 ghost use Rattle.wfc_task.specs.Task.{refutation_file_plan, upgrade_plan};
 
 use crate::checking::refutation_name;
 use crate::fault::{Fault, Source};
-use crate::files::{file, problem, sample};
+use crate::files::file;
+use crate::posing::posed_problem;
 use std::alloc::Global;
 use wfc_outside::{Folder, MAX_FILE_BYTES};
 use wfc_problem::Problem;
@@ -29,14 +30,13 @@ pub fn upgrade_task<F: Folder>(
     request: &Request,
     folder: &mut F,
 ) -> Result<Upgrading, Fault>
-    requires sample { IsSampleAsked request.now }
+    requires source { IsSourceAsked request.now }
     requires output { IsOutputAsked request.now }
     ensures goes { Goes (upgrade_plan request.now)
         (F.seen folder.old) (F.seen folder.new) (upgrade_made result) }
     ensures short { IfOk result (λ made. length made.refutation.items ≤ MAX_FILE_BYTES) }
 {
-    let taught = sample(alloc, request, folder)?;
-    let problem = problem(alloc, request, &taught, folder)?;
+    let problem = posed_problem(alloc, request, folder)?;
     let refutation = refutation_file(alloc, request, folder)?;
     Ok(Upgrading {
         problem,

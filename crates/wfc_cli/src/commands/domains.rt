@@ -11,7 +11,7 @@ ghost use Rattle.wfc_problem.specs.Domains.{IsLiteralIn};
 ghost use Rattle.wfc_problem.specs.Network.{values};
 ghost use Rattle.wfc_problem.specs.declared.Literal.{Literal};
 ghost use Rattle.wfc_render.specs.Block.{block_text};
-ghost use Rattle.wfc_task.specs.Asked.{IsOutputAsked, IsSampleAsked};
+ghost use Rattle.wfc_task.specs.Asked.{IsOutputAsked, IsSourceAsked};
 ghost use Rattle.wfc_task.specs.Built.{is_built};
 ghost use Rattle.wfc_words.specs.declared.kinds.CommandKind.TheVariants as commands;
 ghost use Rattle.wfc_cli.specs.Answers.{after_step, root_verdict, shown, steps_text};
@@ -40,7 +40,7 @@ pub(super) fn domains<F: Folder, O: Sink>(
 ) -> Result<Verdict, Stop>
     requires domains { request.now.command ≡ commands.Domains }
     requires built { is_built request.now ≡ true }
-    requires sample { IsSampleAsked request.now }
+    requires source { IsSourceAsked request.now }
     requires output { IsOutputAsked request.now }
     ensures ends { (rules : List Rule) → EndsPut rules request.now (F.seen folder.old) (F.seen folder.new) (O.seen out.old) (O.seen out.new) result }
 {

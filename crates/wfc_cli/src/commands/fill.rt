@@ -1,19 +1,19 @@
 //! The command `fill`: the map that a run ends in.
 
 ghost use Rattle.std.specs.Prelude.{◌≡◌, true, IfOk, Contains, Some, map};
-ghost use Rattle.wfc_overlap.specs.Bridge.{picture_of};
 ghost use Rattle.wfc_problem.specs.Assignment.{IsLegalAssignment};
-ghost use Rattle.wfc_render.specs.Map.{map_text};
-ghost use Rattle.wfc_task.specs.Asked.{IsOutputAsked, IsSampleAsked};
+ghost use Rattle.wfc_task.specs.Asked.{IsOutputAsked, IsSourceAsked};
 ghost use Rattle.wfc_task.specs.Built.{is_built};
-ghost use Rattle.wfc_task.specs.Filling.{IsFilling};
+ghost use Rattle.wfc_task.specs.Filling.{IsFilling, IsFillingBy, IsTileFilling};
+ghost use Rattle.wfc_task.specs.Tiling.{masked};
+ghost use Rattle.wfc_tiled.specs.Maps.{tile_map};
 ghost use Rattle.wfc_words.specs.declared.kinds.CommandKind.TheVariants.{Fill};
 ghost use Rattle.wfc_cli.specs.Answer.{Ends};
-ghost use Rattle.wfc_cli.specs.Answers.{fill_answer, output_of};
+ghost use Rattle.wfc_cli.specs.Answers.{fill_by, picture_text, tiles_text};
 ghost use Rattle.wfc_cli.specs.Choosers.{kinds_of};
+ghost use Rattle.wfc_cli.specs.Held.{problem_in, text_in};
 ghost use Rattle.wfc_cli.specs.Reply.{done_with};
 ghost use Rattle.wfc_cli.specs.ReplyView.{answer_view, reply_view};
-ghost use Rattle.wfc_cli.specs.Runs.{end_of};
 
 use crate::choosers::{first_of, kinds};
 use crate::reply::{Answer, Verdict, exhausted};
@@ -22,8 +22,11 @@ use std::alloc::Global;
 use wfc_choose::Chooser;
 use wfc_outside::{Folder, NoMemory};
 use wfc_overlap::picture_of;
-use wfc_render::picture_bytes;
-use wfc_task::{Fault, Filling, fill_task};
+use wfc_picture::Picture;
+use wfc_problem::Problem;
+use wfc_render::{picture_bytes, tile_bytes};
+use wfc_task::{Fault, Filled, Filling, TileFilling, fill_task};
+use wfc_tiled::{tiles_of, tiles_of_masked};
 use wfc_words::Request;
 
 /// Reads the files, and answers the text of the map in which the run ends.
@@ -35,7 +38,7 @@ pub(super) fn fill<F: Folder>(
 ) -> Result<Answer, Fault>
     requires fill { request.now.command ≡ Fill }
     requires built { is_built request.now ≡ true }
-    requires sample { IsSampleAsked request.now }
+    requires source { IsSourceAsked request.now }
     requires output { IsOutputAsked request.now }
     ensures ends { Ends (map (λ chooser. (told chooser).rule) choosers.items) request.now
         (F.seen folder.old) (F.seen folder.new) (reply_view result) }
@@ -44,8 +47,8 @@ pub(super) fn fill<F: Folder>(
         Ok(kinds) => kinds,
         Err(cause) => return Err(exhausted(cause)),
     };
-    let filling = fill_task(alloc, request, &kinds, folder)?;
-    match answer(alloc, request, choosers, &filling) {
+    let filled = fill_task(alloc, request, &kinds, folder)?;
+    match answer(alloc, request, choosers, &filled) {
         Ok(answer) => Ok(answer),
         Err(cause) => Err(exhausted(cause)),
     }
@@ -56,25 +59,19 @@ fn answer(
     alloc: Global,
     request: &Request,
     choosers: Vec<Box<dyn Chooser>>,
-    filling: &Filling,
+    filled: &Filled,
 ) -> Result<Answer, NoMemory>
     requires chooser { Contains (kinds_of (map (λ chooser. (told chooser).rule) choosers.items)) request.now.rule }
     requires output { IsOutputAsked request.now }
-    requires filling { IsFilling request.now filling.now }
-    ensures answers { IfOk result (λ answer. fill_answer request.now filling.now.patterns filling.now.palette filling.now.layout filling.now.problem
-        (end_of (map (λ chooser. (told chooser).rule) choosers.items) request.now.rule filling.now.problem request.now.budget request.now.seed)
-        ≡ Some (answer_view answer)) }
+    requires filling { IsFillingBy request.now filled.now }
+    ensures answers { IfOk result (λ answer. fill_by (map (λ chooser. (told chooser).rule) choosers.items) request.now
+        (text_in request.now filled.now) (problem_in filled.now) ≡ Some (answer_view answer)) }
 {
     let chooser = first_of(choosers, request.rule);
-    let ran = run(
-        alloc,
-        &filling.problem,
-        chooser,
-        request.budget,
-        request.seed,
-    )?;
+    let problem = problem_in(filled);
+    let ran = run(alloc, problem, chooser, request.budget, request.seed)?;
     match ran.end {
-        End::Map { assignment } => found(alloc, request, filling, &assignment),
+        End::Map { assignment } => found(alloc, request, filled, &assignment),
         End::NoMap => Ok(Answer {
             verdict: Verdict::NoMap,
             text: None,
@@ -88,18 +85,50 @@ fn answer(
     }
 }
 
-/// The text of the map that an assignment paints.
+/// The problem that `fill` runs on.
+fn problem_in(filled: &Filled) -> &Problem
+    ensures value { result.now ≡ problem_in filled.now }
+{
+    match filled {
+        Filled::Windows(filling) => &filling.problem,
+        Filled::Tiles(filling) => &filling.problem,
+    }
+}
+
+/// The answer with the map that an assignment makes.
 fn found(
+    alloc: Global,
+    request: &Request,
+    filled: &Filled,
+    assignment: &[u16],
+) -> Result<Answer, NoMemory>
+    requires output { IsOutputAsked request.now }
+    requires filling { IsFillingBy request.now filled.now }
+    requires legal { IsLegalAssignment (problem_in filled.now) assignment.now }
+    ensures text { IfOk result (λ answer. answer_view answer ≡ done_with (text_in request.now filled.now assignment.now)) }
+{
+    let text = match filled {
+        Filled::Windows(filling) => picture_text(alloc, request, filling, assignment)?,
+        Filled::Tiles(filling) => tiles_text(alloc, request, filling, assignment)?,
+    };
+    Ok(Answer {
+        verdict: Verdict::Done,
+        text: Some(text),
+    })
+}
+
+/// The text of the picture that an assignment of patterns paints.
+fn picture_text(
     alloc: Global,
     request: &Request,
     filling: &Filling,
     assignment: &[u16],
-) -> Result<Answer, NoMemory>
+) -> Result<Vec<u8>, NoMemory>
     requires output { IsOutputAsked request.now }
     requires filling { IsFilling request.now filling.now }
     requires legal { IsLegalAssignment filling.now.problem assignment.now }
-    ensures text { IfOk result (λ answer. answer_view answer ≡ done_with (map_text filling.now.layout filling.now.palette
-        (picture_of filling.now.patterns (output_of request.now) assignment.now))) }
+    ensures text { IfOk result (λ text. text.items
+        ≡ picture_text request.now filling.now.patterns filling.now.palette filling.now.layout assignment.now) }
 {
     let picture = picture_of(
         alloc,
@@ -109,9 +138,41 @@ fn found(
         request.wrap_out,
         assignment,
     )?;
-    let text = picture_bytes(alloc, &filling.layout, &filling.palette, &picture)?;
-    Ok(Answer {
-        verdict: Verdict::Done,
-        text: Some(text),
-    })
+    picture_bytes(alloc, &filling.layout, &filling.palette, &picture)
+}
+
+/// The text of the map that an assignment of variants makes.
+fn tiles_text(
+    alloc: Global,
+    request: &Request,
+    filling: &TileFilling,
+    assignment: &[u16],
+) -> Result<Vec<u8>, NoMemory>
+    requires output { IsOutputAsked request.now }
+    requires filling { IsTileFilling request.now filling.now }
+    requires legal { IsLegalAssignment filling.now.problem assignment.now }
+    ensures text { IfOk result (λ text. text.items
+        ≡ tiles_text filling.now.tiles (masked request.now filling.now.mask) filling.now.layout assignment.now) }
+{
+    let _read = (filling.tiles.kind(), filling.problem.cells());
+    let map = tiles_in(alloc, request, filling, assignment)?;
+    tile_bytes(alloc, &filling.layout, &filling.tiles, &map)
+}
+
+/// The map that an assignment of variants makes, with the holes of the mask.
+fn tiles_in(
+    alloc: Global,
+    request: &Request,
+    filling: &TileFilling,
+    assignment: &[u16],
+) -> Result<Picture, NoMemory>
+    requires output { IsOutputAsked request.now }
+    requires filling { IsTileFilling request.now filling.now }
+    requires legal { IsLegalAssignment filling.now.problem assignment.now }
+    ensures map { IfOk result (λ map. map ≡ tile_map (masked request.now filling.now.mask) assignment.now) }
+{
+    match &filling.mask {
+        Some(mask) => tiles_of_masked(alloc, mask, assignment),
+        None => tiles_of(alloc, request.width, request.height, assignment),
+    }
 }

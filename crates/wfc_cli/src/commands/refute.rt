@@ -8,7 +8,7 @@ ghost use Rattle.wfc_proof.specs.Telling.{IsBare};
 ghost use Rattle.wfc_proof.specs.declared.heads.Format.TheVariants.{One, Two};
 ghost use Rattle.wfc_search.specs.Search.{IsGoing, IsReady};
 ghost use Rattle.wfc_search.specs.Shown.{shown};
-ghost use Rattle.wfc_task.specs.Asked.{IsOutputAsked, IsSampleAsked};
+ghost use Rattle.wfc_task.specs.Asked.{IsOutputAsked, IsSourceAsked};
 ghost use Rattle.wfc_task.specs.Built.{is_built, side_of};
 ghost use Rattle.wfc_task.specs.Checking.{shape_of};
 ghost use Rattle.wfc_words.specs.declared.kinds.CommandKind.TheVariants as commands;
@@ -42,7 +42,7 @@ pub(super) fn refute<F: Folder, O: Sink>(
 ) -> Result<Verdict, Stop>
     requires refute { request.now.command ≡ commands.Refute }
     requires built { is_built request.now ≡ true }
-    requires sample { IsSampleAsked request.now }
+    requires source { IsSourceAsked request.now }
     requires output { IsOutputAsked request.now }
     ensures ends { EndsPut (map (λ chooser. (told chooser).rule) choosers.items) request.now
         (F.seen folder.old) (F.seen folder.new) (O.seen out.old) (O.seen out.new) result }

@@ -5,7 +5,7 @@ ghost use Rattle.wfc_choose.specs.Pick.{Rule};
 ghost use Rattle.wfc_check.specs.Text.{checked, IsRefutation};
 ghost use Rattle.wfc_proof.specs.ProofText.{IsProofText};
 ghost use Rattle.wfc_proof.specs.Upgrade.{upgraded_text};
-ghost use Rattle.wfc_task.specs.Asked.{IsOutputAsked, IsSampleAsked};
+ghost use Rattle.wfc_task.specs.Asked.{IsOutputAsked, IsSourceAsked};
 ghost use Rattle.wfc_task.specs.Built.{is_built, side_of};
 ghost use Rattle.wfc_words.specs.declared.kinds.CommandKind.TheVariants as commands;
 ghost use Rattle.wfc_cli.specs.Ending.{EndsPut};
@@ -30,7 +30,7 @@ pub(super) fn upgrade<F: Folder, O: Sink>(
 ) -> Result<Verdict, Stop>
     requires upgrade { request.now.command ≡ commands.Upgrade }
     requires built { is_built request.now ≡ true }
-    requires sample { IsSampleAsked request.now }
+    requires source { IsSourceAsked request.now }
     requires output { IsOutputAsked request.now }
     ensures ends { (rules : List Rule) → EndsPut rules request.now (F.seen folder.old) (F.seen folder.new) (O.seen out.old) (O.seen out.new) result }
 {

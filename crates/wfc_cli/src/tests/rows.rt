@@ -1,7 +1,6 @@
 //! The rows of each command.
 
-use super::{Row, check, folder_of, sink_of};
-use std::process::Abort;
+use super::{Row, check_in_pieces};
 use std::test::Fail;
 
 static FILL: [Row; 35] = [
@@ -147,13 +146,18 @@ static FILL: [Row; 35] = [
     ("fill chk.txt 2 2", 3, "", "wfc: command refused\n"),
     ("paint chk.txt", 3, "", "wfc: command refused\n"),
     ("", 3, "", "wfc: command refused\n"),
-    // What isn't built yet.
-    ("fill chk.txt tiles 2 2", 3, "", "wfc: command refused\n"),
+    // A sample is no tile set.
+    (
+        "fill chk.txt tiles 2 2",
+        4,
+        "",
+        "wfc: tiles Toml file=chk.txt\n",
+    ),
     (
         "upgrade chk.txt tiles 3 2 one.ref",
-        3,
+        4,
         "",
-        "wfc: command refused\n",
+        "wfc: tiles Toml file=chk.txt\n",
     ),
 ];
 
@@ -473,21 +477,6 @@ static DEMO: [Row; 3] = [
     ),
     ("demo 1000001", 3, "", "wfc: command value NUMBER\n"),
 ];
-
-/// Runs rows over devices that give and take so many bytes at a time.
-fn check_in_pieces(rt: &(impl Abort + AllocGlobal), piece: usize, rows: &[Row]) -> Result<(), Fail>
-    requires some { 1 ≤ piece }
-{
-    for row in rows {
-        let mut folder = folder_of(rt.alloc(), piece)?;
-        let out = sink_of(rt.alloc(), piece)?;
-        let err = sink_of(rt.alloc(), piece)?;
-        check(rt, *row, &mut folder, out, err)?;
-    }
-    Ok(())
-}
-
-ghost use Rattle.std.specs.Prelude.{◌≤◌};
 
 #[test]
 fn commands_answer(rt: HostRuntime) -> Result<(), Fail> {

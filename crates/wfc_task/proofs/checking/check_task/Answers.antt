@@ -3,25 +3,17 @@ use Rattle.std.proofs.lemmas.Result.{err_from_is_err_and}
 use Rattle.wfc_check.specs.declared.fault.CheckFault.{CheckFault}
 use Rattle.wfc_task.specs.Checking.{refutation_plan}
 use Rattle.wfc_task.specs.Plan.{Plan, done}
-use Rattle.wfc_task.specs.Task.{Task, check, problem_plan, sample_plan}
+use Rattle.wfc_task.specs.Posed.{posed_plan}
+use Rattle.wfc_task.specs.Task.{Task, check}
 use Rattle.wfc_task.proofs.PlanLemmas.{goes_done, goes_on, goes_out}
-use Rattle.wfc_task.proofs.TaskLemmas.{behind_checked_lesson, behind_checked_problem}
+use Rattle.wfc_task.proofs.TaskLemmas.{behind_checked_problem}
 use Rattle.wfc_task.proofs.checking.check_task.Goals as goal
-
-pub returns-in_err-taught : goal.returns-in_err-taught
-returns-in_err-taught g c =
-    let p = err_from_is_err_and c.from_residual.result c.from_residual.ensures.1 in
-    let asked = c.args.request.now in
-    record { goes = rw (p.1, p.2) (goes_out (sample_plan asked) (behind_checked_lesson asked) _ _ _ c.in_err-taught.ensures.goes) }
 
 pub returns-in_err-problem : goal.returns-in_err-problem
 returns-in_err-problem g c =
-    let p = err_from_is_err_and c.from_residual-in_err-problem.result c.from_residual-in_err-problem.ensures.1 in
+    let p = err_from_is_err_and c.from_residual.result c.from_residual.ensures.1 in
     let asked = c.args.request.now in
-    record {
-      goes = rw (p.1, p.2) (goes_on (sample_plan asked) (behind_checked_lesson asked) _ _ _ _ _ c.in_ok-taught.ensures.goes
-          (goes_out (problem_plan asked c.in_ok-taught.taught) (behind_checked_problem asked) _ _ _ c.in_err-problem.ensures.goes));
-    }
+    record { goes = rw (p.1, p.2) (goes_out (posed_plan asked) (behind_checked_problem asked) _ _ _ c.in_err-problem.ensures.goes) }
 
 pub returns-in_err-found : goal.returns-in_err-found
 returns-in_err-found g c =
@@ -29,9 +21,8 @@ returns-in_err-found g c =
     let asked = c.args.request.now in
     let P = c.in_ok-problem.problem in
     record {
-      goes = rw (p.1, p.2) (goes_on (sample_plan asked) (behind_checked_lesson asked) _ _ _ _ _ c.in_ok-taught.ensures.goes
-          (goes_on (problem_plan asked c.in_ok-taught.taught) (behind_checked_problem asked) _ _ _ _ _ c.in_ok-problem.ensures.goes
-          (goes_out (refutation_plan asked P) (λ (found : Option CheckFault). let end : Plan Task = done (check found) in end) _ _ _ c.in_err-found.ensures.goes)));
+      goes = rw (p.1, p.2) (goes_on (posed_plan asked) (behind_checked_problem asked) _ _ _ _ _ c.in_ok-problem.ensures.goes
+          (goes_out (refutation_plan asked P) (λ (found : Option CheckFault). let end : Plan Task = done (check found) in end) _ _ _ c.in_err-found.ensures.goes));
     }
 
 pub returns : goal.returns
@@ -39,7 +30,6 @@ returns g c =
     let asked = c.args.request.now in
     let P = c.in_ok-problem.problem in
     record {
-      goes = goes_on (sample_plan asked) (behind_checked_lesson asked) _ _ _ _ _ c.in_ok-taught.ensures.goes
-          (goes_on (problem_plan asked c.in_ok-taught.taught) (behind_checked_problem asked) _ _ _ _ _ c.in_ok-problem.ensures.goes
-          (goes_on (refutation_plan asked P) (λ (found : Option CheckFault). let end : Plan Task = done (check found) in end) _ _ _ _ _ c.in_ok-found.ensures.goes goes_done));
+      goes = goes_on (posed_plan asked) (behind_checked_problem asked) _ _ _ _ _ c.in_ok-problem.ensures.goes
+          (goes_on (refutation_plan asked P) (λ (found : Option CheckFault). let end : Plan Task = done (check found) in end) _ _ _ _ _ c.in_ok-found.ensures.goes goes_done);
     }

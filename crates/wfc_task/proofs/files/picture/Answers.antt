@@ -1,7 +1,7 @@
 use Rattle.std.proofs.lemmas.Result.{err_from_is_err_and}
 use Rattle.wfc_task.specs.Sampled.{sampled_view}
 use Rattle.wfc_task.specs.Steps.{coloured}
-use Rattle.wfc_task.specs.Task.{sampled_plan}
+use Rattle.wfc_task.specs.SamplePlans.{sampled_plan}
 use Rattle.wfc_task.proofs.PlanLemmas.{goes_done, goes_on, goes_out}
 use Rattle.wfc_task.proofs.TaskLemmas.{behind_sampled, step_on, step_out}
 use Rattle.wfc_task.proofs.files.picture.Goals as goal

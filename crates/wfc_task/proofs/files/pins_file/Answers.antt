@@ -1,7 +1,7 @@
 use Rattle.std.proofs.lemmas.Result.{err_from_is_err_and}
 use Rattle.wfc_task.specs.declared.fault.Source.TheVariants.{Pins}
 use Rattle.wfc_task.specs.Steps.{pins_in}
-use Rattle.wfc_task.specs.Task.{file_plan}
+use Rattle.wfc_task.specs.SamplePlans.{file_plan}
 use Rattle.wfc_task.proofs.TaskLemmas.{then_step}
 use Rattle.wfc_task.proofs.files.pins_file.Goals as goal
 

@@ -1,6 +1,6 @@
 use Rattle.std.proofs.lemmas.Result.{err_from_is_err_and}
 use Rattle.wfc_task.specs.Steps.{posed}
-use Rattle.wfc_task.specs.Task.{pins_plan}
+use Rattle.wfc_task.specs.SamplePlans.{pins_plan}
 use Rattle.wfc_task.proofs.TaskLemmas.{then_step}
 use Rattle.wfc_task.proofs.files.problem.Goals as goal
 

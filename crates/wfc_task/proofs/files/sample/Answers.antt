@@ -1,6 +1,6 @@
 use Rattle.std.proofs.lemmas.Result.{err_from_is_err_and}
 use Rattle.wfc_task.specs.Steps.{taught}
-use Rattle.wfc_task.specs.Task.{picture_plan}
+use Rattle.wfc_task.specs.SamplePlans.{picture_plan}
 use Rattle.wfc_task.proofs.PlanLemmas.{goes_done, goes_on, goes_out}
 use Rattle.wfc_task.proofs.TaskLemmas.{behind_picture, step_on, step_out}
 use Rattle.wfc_task.proofs.FillingLemmas.{lesson_of, step_is}

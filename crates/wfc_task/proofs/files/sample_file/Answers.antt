@@ -2,7 +2,7 @@ use Rattle.std.proofs.lemmas.Result.{err_from_is_err_and}
 use Rattle.wfc_task.specs.declared.fault.Source.TheVariants.{Sample}
 use Rattle.wfc_task.specs.Plan.{step}
 use Rattle.wfc_task.specs.Steps.{sampled_in}
-use Rattle.wfc_task.specs.Task.{file_plan}
+use Rattle.wfc_task.specs.SamplePlans.{file_plan}
 use Rattle.wfc_task.proofs.PlanLemmas.{goes_out}
 use Rattle.wfc_task.proofs.TaskLemmas.{then_step}
 use Rattle.wfc_task.proofs.files.sample_file.Goals as goal

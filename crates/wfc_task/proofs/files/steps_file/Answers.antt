@@ -4,7 +4,7 @@ use Rattle.wfc_pins.specs.declared.steps.StepLine.{StepLine}
 use Rattle.wfc_task.specs.declared.fault.Source.TheVariants.{Steps}
 use Rattle.wfc_task.specs.Plan.{and_then, step}
 use Rattle.wfc_task.specs.Steps.{fitting, steps_in}
-use Rattle.wfc_task.specs.Task.{file_plan}
+use Rattle.wfc_task.specs.SamplePlans.{file_plan}
 use Rattle.wfc_task.proofs.PlanLemmas.{goes_on}
 use Rattle.wfc_task.proofs.TaskLemmas.{step_out}
 use Rattle.wfc_task.proofs.files.steps_file.Goals as goal

@@ -5,20 +5,20 @@ use Rattle.wfc_problem.specs.Network.{Network}
 use Rattle.wfc_render.specs.declared.form.Layout.{Layout}
 use Rattle.wfc_task.specs.Given.{IsFillTask}
 use Rattle.wfc_task.specs.Task.{fill}
-use Rattle.wfc_task.proofs.GivenLemmas.{fill_given, given_fill}
+use Rattle.wfc_task.proofs.TaskGivenLemmas.{fill_given, given_fill}
 use Rattle.wfc_task.proofs.laws.fill_tasks_are_given.Goals as goal
 
 pub returns : goal.returns
 returns c = record {
-  task = λ kinds asked files patterns palette layout P. (
+  task = λ kinds asked files patterns palette layout P windows. (
     λ is.
-        let given = fill_given kinds asked files (fill patterns palette layout P) is in
+        let given = fill_given kinds asked files (fill patterns palette layout P) windows is in
         let same : given.0 ≡ patterns = cc (given.4) in
         let symbols : given.1 ≡ palette = cc (given.4) in
         let written : given.2 ≡ layout = cc (given.4) in
         let problem : given.3 ≡ P = cc (given.4) in
         subst (λ (p : PatternsView). IsFillTask kinds asked files p palette layout P) same (subst (λ (s : List Symbol). IsFillTask kinds asked files given.0 s layout P) symbols
         (subst (λ (l : Layout). IsFillTask kinds asked files given.0 given.1 l P) written (subst (λ (q : Network). IsFillTask kinds asked files given.0 given.1 given.2 q) problem given.5))),
-    given_fill kinds asked files patterns palette layout P,
+    given_fill kinds asked files patterns palette layout P windows,
   );
 }

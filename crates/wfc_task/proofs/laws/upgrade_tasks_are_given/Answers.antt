@@ -1,4 +1,4 @@
-use Rattle.std.proofs.Common.{◌≡◌, ℕ, List, ap, sym, subst}
+use Rattle.std.proofs.Common.{◌≡◌, ℕ, List, subst}
 use Rattle.wfc_problem.specs.Network.{Network}
 use Rattle.wfc_task.specs.Task.{upgrade}
 use Rattle.wfc_task.specs.UpgradeGiven.{IsUpgradeTask}

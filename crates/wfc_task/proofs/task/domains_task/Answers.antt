@@ -2,37 +2,30 @@ use Rattle.std.proofs.Common.{List}
 use Rattle.std.proofs.lemmas.Result.{err_from_is_err_and}
 use Rattle.wfc_pins.specs.declared.steps.StepLine.{StepLine}
 use Rattle.wfc_task.specs.Plan.{Plan, done}
-use Rattle.wfc_task.specs.Task.{Task, domains, problem_plan, sample_plan, steps_plan}
+use Rattle.wfc_task.specs.Posed.{posed_plan}
+use Rattle.wfc_task.specs.SamplePlans.{steps_plan}
+use Rattle.wfc_task.specs.Task.{Task, domains}
 use Rattle.wfc_task.proofs.PlanLemmas.{goes_done, goes_on, goes_out}
-use Rattle.wfc_task.proofs.TaskLemmas.{behind_lesson, behind_problem}
+use Rattle.wfc_task.proofs.TaskLemmas.{behind_problem}
 use Rattle.wfc_task.proofs.task.domains_task.Goals as goal
-
-pub returns-in_err-taught-clause-goes : goal.returns-in_err-taught-clause-goes
-returns-in_err-taught-clause-goes g c =
-    let p = err_from_is_err_and c.from_residual.result c.from_residual.ensures.1 in
-    let asked = c.args.request.now in
-    rw (p.1, p.2) (goes_out (sample_plan asked) (behind_lesson asked) _ _ _ c.in_err-taught.ensures.goes)
 
 pub returns-in_err-problem-clause-goes : goal.returns-in_err-problem-clause-goes
 returns-in_err-problem-clause-goes g c =
-    let p = err_from_is_err_and c.from_residual-in_err-problem.result c.from_residual-in_err-problem.ensures.1 in
+    let p = err_from_is_err_and c.from_residual.result c.from_residual.ensures.1 in
     let asked = c.args.request.now in
-    rw (p.1, p.2) (goes_on (sample_plan asked) (behind_lesson asked) _ _ _ _ _ c.in_ok-taught.ensures.goes
-    (goes_out (problem_plan asked c.in_ok-taught.taught) (behind_problem asked) _ _ _ c.in_err-problem.ensures.goes))
+    rw (p.1, p.2) (goes_out (posed_plan asked) (behind_problem asked) _ _ _ c.in_err-problem.ensures.goes)
 
 pub returns-in_err-steps-clause-goes : goal.returns-in_err-steps-clause-goes
 returns-in_err-steps-clause-goes g c =
     let p = err_from_is_err_and c.from_residual-in_err-steps.result c.from_residual-in_err-steps.ensures.1 in
     let asked = c.args.request.now in
     let P = c.in_ok-problem.problem in
-    rw (p.1, p.2) (goes_on (sample_plan asked) (behind_lesson asked) _ _ _ _ _ c.in_ok-taught.ensures.goes
-    (goes_on (problem_plan asked c.in_ok-taught.taught) (behind_problem asked) _ _ _ _ _ c.in_ok-problem.ensures.goes
-    (goes_out (steps_plan asked.steps P) (λ (steps : List StepLine). let end : Plan Task = done (domains P steps) in end) _ _ _ (rw c.steps.ensures.value at c.in_err-steps.ensures.goes))))
+    rw (p.1, p.2) (goes_on (posed_plan asked) (behind_problem asked) _ _ _ _ _ c.in_ok-problem.ensures.goes
+    (goes_out (steps_plan asked.steps P) (λ (steps : List StepLine). let end : Plan Task = done (domains P steps) in end) _ _ _ (rw c.steps.ensures.value at c.in_err-steps.ensures.goes)))
 
 pub returns-clause-goes : goal.returns-clause-goes
 returns-clause-goes g c =
     let asked = c.args.request.now in
     let P = c.in_ok-problem.problem in
-    goes_on (sample_plan asked) (behind_lesson asked) _ _ _ _ _ c.in_ok-taught.ensures.goes
-    (goes_on (problem_plan asked c.in_ok-taught.taught) (behind_problem asked) _ _ _ _ _ c.in_ok-problem.ensures.goes
-    (goes_on (steps_plan asked.steps P) (λ (steps : List StepLine). let end : Plan Task = done (domains P steps) in end) _ _ _ _ _ (rw c.steps.ensures.value at c.in_ok-steps.ensures.goes) goes_done))
+    goes_on (posed_plan asked) (behind_problem asked) _ _ _ _ _ c.in_ok-problem.ensures.goes
+    (goes_on (steps_plan asked.steps P) (λ (steps : List StepLine). let end : Plan Task = done (domains P steps) in end) _ _ _ _ _ (rw c.steps.ensures.value at c.in_ok-steps.ensures.goes) goes_done)

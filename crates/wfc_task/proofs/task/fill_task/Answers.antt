@@ -1,41 +1,19 @@
-use Rattle.std.proofs.Common.{ap, inl}
+use Rattle.std.proofs.Common.{ap}
 use Rattle.std.proofs.lemmas.Result.{err_from_is_err_and}
-use Rattle.wfc_problem.specs.Network.{Network}
 use Rattle.wfc_words.specs.RequestView.{RequestView}
-use Rattle.wfc_task.specs.Plan.{Plan, done}
-use Rattle.wfc_task.specs.Steps.{laid}
-use Rattle.wfc_task.specs.Task.{Task, fill, problem_plan, sample_plan}
-use Rattle.wfc_task.proofs.PlanLemmas.{goes_done, goes_on, goes_out}
-use Rattle.wfc_task.proofs.TaskLemmas.{behind_chooser, behind_layout, behind_sample, step_on, step_out}
+use Rattle.wfc_task.specs.Task.{fill_plan_by}
+use Rattle.wfc_task.proofs.TaskLemmas.{behind_chooser}
 use Rattle.wfc_task.proofs.task.fill_task.Goals as goal
 
-pub returns-in_err-taught-clause-goes : goal.returns-in_err-taught-clause-goes
-returns-in_err-taught-clause-goes g c =
-    let p = err_from_is_err_and c.from_residual-in_err-taught.result c.from_residual-in_err-taught.ensures.1 in
+pub returns-in_err-filled-clause-goes : goal.returns-in_err-filled-clause-goes
+returns-in_err-filled-clause-goes g c =
+    let p = err_from_is_err_and c.from_residual-in_err-filled.result c.from_residual-in_err-filled.ensures.1 in
     let asked = c.args.request.now in
-    rw (p.1, p.2) (behind_chooser c.args.kinds.now asked c.request.inside.rule _ _ _ _ c.in_ok-chosen.ensures.exact (ap (λ (r : RequestView). r.rule) c.request.view_is)
-    (goes_out (sample_plan asked) (behind_sample asked) _ _ _ c.in_err-taught.ensures.goes))
-
-pub returns-in_err-layout-clause-goes : goal.returns-in_err-layout-clause-goes
-returns-in_err-layout-clause-goes g c =
-    let p = err_from_is_err_and c.from_residual-in_err-layout.result c.from_residual-in_err-layout.ensures.1 in
-    let asked = c.args.request.now in
-    rw (p.1, p.2) (behind_chooser c.args.kinds.now asked c.request.inside.rule _ _ _ _ c.in_ok-chosen.ensures.exact (ap (λ (r : RequestView). r.rule) c.request.view_is)
-    (goes_on (sample_plan asked) (behind_sample asked) _ _ _ _ _ c.in_ok-taught.ensures.goes (step_out (laid c.in_ok-taught.taught.kind asked) (behind_layout asked c.in_ok-taught.taught) _ _ (inl c.in_err-layout.ensures.exact))))
-
-pub returns-in_err-problem-clause-goes : goal.returns-in_err-problem-clause-goes
-returns-in_err-problem-clause-goes g c =
-    let p = err_from_is_err_and c.from_residual-in_err-problem.result c.from_residual-in_err-problem.ensures.1 in
-    let asked = c.args.request.now in
-    let lesson = c.in_ok-taught.taught in
-    rw (p.1, p.2) (behind_chooser c.args.kinds.now asked c.request.inside.rule _ _ _ _ c.in_ok-chosen.ensures.exact (ap (λ (r : RequestView). r.rule) c.request.view_is)
-    (goes_on (sample_plan asked) (behind_sample asked) _ _ _ _ _ c.in_ok-taught.ensures.goes (step_on (laid c.in_ok-taught.taught.kind asked) (behind_layout asked lesson) _ _ _ _ (inl c.in_ok-layout.ensures.exact)
-    (goes_out (problem_plan asked lesson) (λ (P : Network). let end : Plan Task = done (fill lesson.patterns lesson.palette c.in_ok-layout.layout P) in end) _ _ _ c.in_err-problem.ensures.goes))))
+    rw (p.1, p.2) (behind_chooser c.args.kinds.now asked.rule c.request.inside.rule (fill_plan_by asked.source asked) _ _ _ _ c.in_ok-chosen.ensures.exact (ap (λ (r : RequestView). r.rule) c.request.view_is)
+    (rw (ap (λ (r : RequestView). r.source) c.request.view_is) at c.in_err-filled.ensures.goes))
 
 pub returns-clause-goes : goal.returns-clause-goes
 returns-clause-goes g c =
     let asked = c.args.request.now in
-    let lesson = c.in_ok-taught.taught in
-    behind_chooser c.args.kinds.now asked c.request.inside.rule _ _ _ _ c.in_ok-chosen.ensures.exact (ap (λ (r : RequestView). r.rule) c.request.view_is)
-    (goes_on (sample_plan asked) (behind_sample asked) _ _ _ _ _ c.in_ok-taught.ensures.goes (step_on (laid c.in_ok-taught.taught.kind asked) (behind_layout asked lesson) _ _ _ _ (inl c.in_ok-layout.ensures.exact)
-    (goes_on (problem_plan asked lesson) (λ (P : Network). let end : Plan Task = done (fill lesson.patterns lesson.palette c.in_ok-layout.layout P) in end) _ _ _ _ _ c.in_ok-problem.ensures.goes goes_done)))
+    behind_chooser c.args.kinds.now asked.rule c.request.inside.rule (fill_plan_by asked.source asked) _ _ _ _ c.in_ok-chosen.ensures.exact (ap (λ (r : RequestView). r.rule) c.request.view_is)
+    (rw (ap (λ (r : RequestView). r.source) c.request.view_is) at c.in_ok-filled.ensures.goes)

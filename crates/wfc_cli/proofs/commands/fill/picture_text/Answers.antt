@@ -2,8 +2,8 @@ use Rattle.std.proofs.Common.{◌∙◌, ap}
 use Rattle.wfc_overlap.specs.Bridge.{picture_of}
 use Rattle.wfc_words.specs.RequestView.{RequestView}
 use Rattle.wfc_cli.proofs.FillLemmas.{each_pattern, picture_written}
-use Rattle.wfc_cli.specs.Answers.{output_of}
-use Rattle.wfc_cli.proofs.commands.fill.found.Goals as goal
+use Rattle.wfc_cli.specs.Maps.{output_of}
+use Rattle.wfc_cli.proofs.commands.fill.picture_text.Goals as goal
 
 pub picture_of-requires-clause-values : goal.picture_of-requires-clause-values
 picture_of-requires-clause-values c =

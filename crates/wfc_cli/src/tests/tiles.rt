@@ -1,0 +1,398 @@
+//! The rows of each command for tile sets and for maps with holes.
+
+use super::{Row, check_in_pieces};
+use std::test::Fail;
+
+/// A straight line that may go on to the right, two corners that meet, a dot of colours, and documents with a fault; then
+/// pictures, pins, masks, steps and refutations.
+pub(super) const FILES: [(&str, &str); 26] = [
+    (
+        "lines.toml",
+        "[[tile]]\nname = \"line\"\nclass = \"I\"\n\n[[pair]]\nleft = \"line 0\"\nright = \"line 0\"\n",
+    ),
+    (
+        "corner.toml",
+        "[[tile]]\nname = \"corner\"\nclass = \"L\"\npicture = \"corner.txt\"\n\n[[pair]]\nleft = \"corner 1\"\nright = \"corner 2\"\n",
+    ),
+    ("corner.txt", "#.\n..\n"),
+    (
+        "dot.toml",
+        "tile = [{name = 'dot', class = 'X', weight = 9, picture = 'dot.ppm'}]\n",
+    ),
+    ("dot.ppm", "P3\n1 1\n255\n1 2 3\n"),
+    (
+        "lost.toml",
+        "tile = [{name = 'a', class = 'X', picture = 'corner.txt'}, {name = 'b', class = 'X', picture = 'none.txt'}]\n",
+    ),
+    (
+        "f.toml",
+        "[[tile]]\nname = \"f\"\nclass = \"F\"\n\n[[pair]]\nleft = \"f 8\"\nright = \"f\"\n",
+    ),
+    ("empty.toml", ""),
+    ("cut.toml", "x =\n"),
+    ("number.toml", "tile = 3\n"),
+    ("nameless.toml", "[[tile]]\n"),
+    ("corner.pins", "pin 0 0 corner/1\npin 1 0 corner/2\n"),
+    ("first.pins", "pin 0 0 corner/0\n"),
+    ("line.pins", "pin 0 0 line/0\npin 2 0 line/1\n"),
+    ("hole.pins", "pin 1 0 line/0\n"),
+    ("other.pins", "pin 0 0 line/2\n"),
+    ("m.txt", ".#.\n"),
+    ("half.txt", ".#\n"),
+    ("bend.txt", "..\n.#\n"),
+    ("odd.txt", ".x.\n"),
+    ("holes.txt", "###\n"),
+    ("ragged.txt", "..\n.\n"),
+    ("one.steps", "choose 1 1\n"),
+    (
+        "square.ref",
+        "wfc-refutation 1\ncells 4 values 2\nr 0 0 1\nr 0 1 2\nx 0\nq\n",
+    ),
+    (
+        "square_2.ref",
+        "wfc-refutation 2\ncells 4 values 2\nfor 0 2 2 1 1 0 0\nr 0 0 0 1\nr 0 1 1 2\nx 0\nq\n",
+    ),
+    (
+        "bend.ref",
+        "wfc-refutation 1\ncells 3 values 2\nr 0 0 1\nr 0 1 2\nx 0\nq\n",
+    ),
+];
+
+static LEARN: [Row; 7] = [
+    (
+        "learn lines.toml tiles",
+        0,
+        "tiles 1\nvariants 2\n0 1: line/0\n1 1: line/1\nacross 1\n0 0\ndown 1\n1 1\n",
+        "",
+    ),
+    (
+        "learn dot.toml tiles --symmetry 8 --wrap-in",
+        0,
+        "tiles 1\nvariants 1\n0 9: dot/0\nacross 0\ndown 0\n",
+        "",
+    ),
+    (
+        "learn f.toml tiles",
+        4,
+        "",
+        "wfc: tiles BadTurn pair=0 file=f.toml\n",
+    ),
+    (
+        "learn empty.toml tiles",
+        4,
+        "",
+        "wfc: tiles NoTiles file=empty.toml\n",
+    ),
+    (
+        "learn cut.toml tiles",
+        4,
+        "",
+        "wfc: tiles Toml file=cut.toml\n",
+    ),
+    (
+        "learn number.toml tiles",
+        4,
+        "",
+        "wfc: tiles WrongKind top key=tile file=number.toml\n",
+    ),
+    (
+        "learn nameless.toml tiles",
+        4,
+        "",
+        "wfc: tiles MissingKey tile=0 key=name file=nameless.toml\n",
+    ),
+];
+
+static FILL: [Row; 16] = [
+    ("fill lines.toml tiles 3 1", 0, "0 0 0\n", ""),
+    // Images and edges of a sample have no effect, but their values are held to their ranges.
+    (
+        "fill lines.toml tiles 3 1 --symmetry 8 --wrap-in",
+        0,
+        "0 0 0\n",
+        "",
+    ),
+    (
+        "fill lines.toml tiles 3 1 --symmetry 9",
+        3,
+        "",
+        "wfc: command value symmetry\n",
+    ),
+    ("fill lines.toml tiles 2 2", 1, "", "wfc: no map\n"),
+    (
+        "fill corner.toml tiles 2 1 --pins corner.pins",
+        0,
+        "....\n#..#\n",
+        "",
+    ),
+    (
+        "fill corner.toml tiles 2 1 --pins corner.pins --form cells",
+        0,
+        "1 2\n",
+        "",
+    ),
+    (
+        "fill dot.toml tiles 1 1 --form p3",
+        0,
+        "P3\n1 1\n255\n1 2 3\n",
+        "",
+    ),
+    (
+        "fill none.toml tiles 3 1 --rule ranked",
+        7,
+        "",
+        "wfc: chooser missing rule=ranked\n",
+    ),
+    (
+        "fill none.toml tiles 3 1",
+        5,
+        "",
+        "wfc: device Missing file=none.toml\n",
+    ),
+    // The pictures are read before the layout is looked at, and the layout is looked at before the pins file is read.
+    (
+        "fill lost.toml tiles 2 1 --form p6",
+        5,
+        "",
+        "wfc: device Missing tile=1 file=lost.toml\n",
+    ),
+    (
+        "fill corner.toml tiles 2 1 --form p6 --pins none.pins",
+        4,
+        "",
+        "wfc: render FormDiffers\n",
+    ),
+    (
+        "fill lines.toml tiles 3 1 --pins none.pins --mask none.txt",
+        5,
+        "",
+        "wfc: device Missing file=none.pins\n",
+    ),
+    (
+        "fill lines.toml tiles 3 1 --pins line.pins",
+        1,
+        "",
+        "wfc: no map\n",
+    ),
+    (
+        "fill lines.toml tiles 3 1 --pins other.pins",
+        4,
+        "",
+        "wfc: build UnknownSymbol line=1 file=other.pins\n",
+    ),
+    (
+        "fill lines.toml tiles 4096 1025 --pins other.pins",
+        4,
+        "",
+        "wfc: build TooLarge product=8396800\n",
+    ),
+    (
+        "fill lines.toml tiles 4097 1",
+        3,
+        "",
+        "wfc: command value WIDTH\n",
+    ),
+];
+
+static HOLES: [Row; 12] = [
+    (
+        "fill lines.toml tiles 3 1 --mask m.txt --pins line.pins",
+        0,
+        "0 - 1\n",
+        "",
+    ),
+    (
+        "fill corner.toml tiles 2 1 --mask half.txt --pins first.pins",
+        0,
+        "#.  \n..  \n",
+        "",
+    ),
+    (
+        "fill dot.toml tiles 2 1 --mask half.txt --form p3",
+        0,
+        "P3\n2 1\n255\n1 2 3\n0 0 0\n",
+        "",
+    ),
+    (
+        "fill lines.toml tiles 2 2 --mask bend.txt",
+        1,
+        "",
+        "wfc: no map\n",
+    ),
+    (
+        "fill lines.toml tiles 3 1 --mask m.txt --pins hole.pins",
+        4,
+        "",
+        "wfc: build PinInHole line=1 file=hole.pins\n",
+    ),
+    (
+        "fill lines.toml tiles 3 1 --mask half.txt",
+        4,
+        "",
+        "wfc: mask SizeDiffers width=2 height=1 file=half.txt\n",
+    ),
+    (
+        "fill lines.toml tiles 3 1 --mask odd.txt",
+        4,
+        "",
+        "wfc: mask BadSymbol line=1 column=2 file=odd.txt\n",
+    ),
+    (
+        "fill lines.toml tiles 3 1 --mask holes.txt",
+        4,
+        "",
+        "wfc: mask AllHoles file=holes.txt\n",
+    ),
+    (
+        "fill lines.toml tiles 3 1 --mask ragged.txt --pins other.pins",
+        4,
+        "",
+        "wfc: mask Ragged line=2 file=ragged.txt\n",
+    ),
+    (
+        "fill lines.toml tiles 3 1 --mask none.txt --pins other.pins",
+        5,
+        "",
+        "wfc: device Missing file=none.txt\n",
+    ),
+    (
+        "fill lines.toml tiles 4096 1025 --mask m.txt",
+        4,
+        "",
+        "wfc: mask SizeDiffers width=3 height=1 file=m.txt\n",
+    ),
+    (
+        "fill chk.txt 2 3 1 --mask m.txt",
+        3,
+        "",
+        "wfc: command value mask\n",
+    ),
+];
+
+static DOMAINS: [Row; 4] = [
+    (
+        "domains lines.toml tiles 3 1",
+        0,
+        "step 0\n0: 0\n1: 0\n2: 0\n",
+        "",
+    ),
+    (
+        "domains lines.toml tiles 3 1 --mask m.txt",
+        0,
+        "step 0\n0: 0 1\n1: 0 1\n",
+        "",
+    ),
+    (
+        "domains lines.toml tiles 3 1 --mask m.txt --steps one.steps",
+        0,
+        "step 0\n0: 0 1\n1: 0 1\nstep 1\n0: 0 1\n1: 1\n",
+        "",
+    ),
+    (
+        "domains lines.toml tiles 2 2",
+        1,
+        "step 0\ndead\n",
+        "wfc: no consistent domains\n",
+    ),
+];
+
+static REFUTE: [Row; 4] = [
+    (
+        "refute lines.toml tiles 2 2 --symmetry 8 --wrap-in",
+        0,
+        "wfc-refutation 2\ncells 4 values 2\nfor 0 2 2 1 1 0 0\nr 0 0 0 1\nr 0 1 1 2\nx 0\nq\n",
+        "",
+    ),
+    (
+        "refute lines.toml tiles 2 2 --format 1",
+        0,
+        "wfc-refutation 1\ncells 4 values 2\nr 0 0 1\nr 0 1 2\nx 0\nq\n",
+        "",
+    ),
+    (
+        "refute lines.toml tiles 2 2 --mask bend.txt",
+        0,
+        "wfc-refutation 2\ncells 3 values 2\nfor 0 2 2 1 1 0 0\nr 0 0 0 1\nr 0 1 1 2\nx 0\nq\n",
+        "",
+    ),
+    (
+        "refute lines.toml tiles 3 1",
+        1,
+        "wfc-refutation 2\ncells 3 values 2\nfor 0 3 1 1 1 0 0\nr 0 1 1 2\nr 1 1 1 0\nr 2 1 1 0\ns\n",
+        "wfc: map exists\n",
+    ),
+];
+
+static CHECK: [Row; 6] = [
+    (
+        "check lines.toml tiles 2 2 square.ref",
+        0,
+        "accepted\n",
+        "",
+    ),
+    (
+        "check lines.toml tiles 2 2 square_2.ref --symmetry 8 --wrap-in",
+        0,
+        "accepted\n",
+        "",
+    ),
+    (
+        "check lines.toml tiles 2 2 square_2.ref --wrap-out",
+        1,
+        "",
+        "wfc: check OptionsDiffer n=0 width=2 height=2 depth=1 symmetry=1 wrap_in=0 wrap_out=0 file=square_2.ref\n",
+    ),
+    (
+        "check lines.toml tiles 2 2 bend.ref --mask bend.txt",
+        0,
+        "accepted\n",
+        "",
+    ),
+    (
+        "check lines.toml tiles 2 2 square.ref --mask bend.txt",
+        1,
+        "",
+        "wfc: check HeaderDiffers cells=4 values=2 file=square.ref\n",
+    ),
+    (
+        "check lines.toml tiles 2 2 none.ref --pins other.pins",
+        4,
+        "",
+        "wfc: build UnknownSymbol line=1 file=other.pins\n",
+    ),
+];
+
+static UPGRADE: [Row; 3] = [
+    (
+        "upgrade lines.toml tiles 2 2 square.ref --symmetry 8 --wrap-in",
+        0,
+        "wfc-refutation 2\ncells 4 values 2\nfor 0 2 2 1 1 0 0\nr 0 0 0 1\nr 0 1 1 2\nx 0\nq\n",
+        "",
+    ),
+    (
+        "upgrade lines.toml tiles 2 2 bend.ref --mask bend.txt",
+        0,
+        "wfc-refutation 2\ncells 3 values 2\nfor 0 2 2 1 1 0 0\nr 0 0 0 1\nr 0 1 1 2\nx 0\nq\n",
+        "",
+    ),
+    (
+        "upgrade lines.toml tiles 2 2 none.ref",
+        5,
+        "",
+        "wfc: device Missing file=none.ref\n",
+    ),
+];
+
+#[test]
+fn commands_take_tiles(rt: HostRuntime) -> Result<(), Fail> {
+    check_in_pieces(&rt, 7, &LEARN)?;
+    check_in_pieces(&rt, 1, &FILL)?;
+    check_in_pieces(&rt, 64, &FILL)?;
+    check_in_pieces(&rt, 3, &HOLES)?;
+    check_in_pieces(&rt, 5, &DOMAINS)?;
+    check_in_pieces(&rt, 64, &REFUTE)?;
+    check_in_pieces(&rt, 1, &CHECK)?;
+    check_in_pieces(&rt, 64, &CHECK)?;
+    check_in_pieces(&rt, 1, &UPGRADE)?;
+    check_in_pieces(&rt, 64, &UPGRADE)
+}

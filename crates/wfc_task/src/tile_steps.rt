@@ -1,0 +1,114 @@
+//! The steps of tasks on tile sets that read no file.
+
+ghost use Rattle.std.specs.Prelude.{◌≡◌, ◌≤◌, length, IfOk, IsSome};
+ghost use Rattle.wfc_outside.specs.Gives.{Gives, result_map};
+ghost use Rattle.wfc_tiled.specs.Built.{built};
+ghost use Rattle.wfc_tileset.specs.Pictures.{picture_name};
+ghost use Rattle.wfc_task.specs.Asked.{IsOutputAsked};
+ghost use Rattle.wfc_task.specs.Plan.{GivesStep};
+ghost use Rattle.wfc_task.specs.Tiling.{HasSides, IsTiled, masked};
+ghost use Rattle.wfc_task.specs.TileSteps.{document_in, laid_tiles, mask_in, pictured, posed_tiles};
+
+use crate::fault::Refusal;
+use std::alloc::Global;
+use wfc_grid::{Grid, MAX_CELLS};
+use wfc_outside::MAX_FILE_BYTES;
+use wfc_pins::{BuildFault, PinLine};
+use wfc_problem::Problem;
+use wfc_render::{Layout, layout};
+use wfc_tiled::{Mask, build, build_masked, mask};
+use wfc_tileset::{TileSet, read};
+use wfc_words::Request;
+
+/// The tile set that a document spells, whose pictures are named and not read.
+pub(crate) fn document(alloc: Global, bytes: &[u8]) -> Result<TileSet, Refusal>
+    requires short { length bytes.now ≤ MAX_FILE_BYTES }
+    ensures exact { GivesStep (document_in bytes.now) result }
+{
+    match read(alloc, bytes) {
+        Ok(tiles) => Ok(tiles),
+        Err(fault) => Err(Refusal::Tiles { fault }),
+    }
+}
+
+/// Takes the picture of the next tile.
+pub(crate) fn take_picture(alloc: Global, tiles: &mut TileSet, bytes: &[u8]) -> Result<(), Refusal>
+    requires named { IsSome (picture_name tiles.old (length tiles.old.pictures)) }
+    ensures exact { GivesStep (pictured tiles.old bytes.now) (result_map (λ _. tiles.new) result) }
+{
+    match tiles.take_picture(alloc, bytes) {
+        Ok(()) => Ok(()),
+        Err(fault) => Err(Refusal::Tiles { fault }),
+    }
+}
+
+/// How the map of a tile set is written.
+pub(crate) fn laid_tiles(tiles: &TileSet, request: &Request) -> Result<Layout, Refusal>
+    requires output { IsOutputAsked request.now }
+    ensures exact { result ≡ laid_tiles tiles.now request.now }
+{
+    let kind = tiles.kind();
+    let side = tiles.side();
+    match layout(kind, request.form, request.width, request.height, side) {
+        Ok(layout) => Ok(layout),
+        Err(fault) => Err(Refusal::Render { fault }),
+    }
+}
+
+/// The mask that a grid spells for the map asked for.
+pub(crate) fn mask_in(alloc: Global, request: &Request, grid: &Grid) -> Result<Mask, Refusal>
+    requires output { IsOutputAsked request.now }
+    requires few { length grid.now.bytes ≤ MAX_CELLS }
+    ensures exact { GivesStep (mask_in request.now grid.now) result }
+    ensures sides { IfOk result (HasSides request.now) }
+{
+    match mask(alloc, grid, request.width, request.height) {
+        Ok(mask) => Ok(mask),
+        Err(fault) => Err(Refusal::Mask { fault }),
+    }
+}
+
+/// The problem of a tile set, a mask, if there is one, and the lines of a pins file.
+pub(crate) fn posed_tiles(
+    alloc: Global,
+    request: &Request,
+    tiles: &TileSet,
+    mask: &Option<Mask>,
+    lines: &[PinLine],
+) -> Result<Problem, Refusal>
+    requires output { IsOutputAsked request.now }
+    requires sides { HasSides request.now (masked request.now mask.now) }
+    ensures exact { GivesStep
+        (posed_tiles request.now tiles.now (masked request.now mask.now) lines.now) result }
+    ensures tiled { IfOk result (IsTiled request.now tiles.now (masked request.now mask.now)) }
+{
+    match built(alloc, request, tiles, mask, lines) {
+        Ok(problem) => Ok(problem),
+        Err(fault) => Err(Refusal::Build { fault }),
+    }
+}
+
+/// The same, with the faults as they are.
+fn built(
+    alloc: Global,
+    request: &Request,
+    tiles: &TileSet,
+    mask: &Option<Mask>,
+    lines: &[PinLine],
+) -> Result<Problem, BuildFault>
+    requires output { IsOutputAsked request.now }
+    ensures exact { Gives BuildFault.NoMemory (λ problem. problem) result
+        (built tiles.now (masked request.now mask.now) request.now.wrap_out lines.now) }
+{
+    match mask {
+        Some(mask) => build_masked(alloc, tiles, mask, request.wrap_out, lines),
+        None => build(
+            alloc,
+            tiles,
+            request.width,
+            request.height,
+            request.wrap_out,
+            lines,
+        ),
+    }
+}
