@@ -1,5 +1,5 @@
 """Makes the pictures of this folder anew: runs each command of COMMANDS in the top folder, and writes its map as a PNG
-picture, each pixel eight by eight.
+picture, whose pixels are as large as fit into a width of 512.
 
     python3 docs/gallery/make.py [PROGRAM]
 """
@@ -12,7 +12,7 @@ import zlib
 
 HERE = pathlib.Path(__file__).parent
 TOP = HERE.parent.parent
-SCALE = 8
+WIDTH = 512
 
 COMMANDS = {
     "village": "fill examples/village.ppm 3 64 40 --symmetry 2 --wrap-in --seed 3",
@@ -21,6 +21,8 @@ COMMANDS = {
     "circuit": "fill examples/circuit.ppm 3 64 40 --symmetry 8 --seed 1",
     "skyline": "fill examples/skyline.ppm 3 64 40 --symmetry 2 --seed 4",
     "platforms": "fill examples/platforms.ppm 3 64 40 --symmetry 2 --pins examples/platforms.pins --seed 1",
+    "roads": "fill examples/roads.toml tiles 28 16",
+    "coast": "fill examples/coast.toml tiles 62 30 --mask examples/coast.mask --seed 3",
 }
 
 
@@ -38,11 +40,12 @@ def chunk(kind, data):
 
 def png(width, height, pixels):
     """The same picture as a PNG file, enlarged."""
+    scale = WIDTH // width
     rows = b""
     for y in range(height):
-        row = b"".join(pixels[3 * (y * width + x) :][:3] * SCALE for x in range(width))
-        rows += (b"\0" + row) * SCALE
-    head = struct.pack(">IIBBBBB", width * SCALE, height * SCALE, 8, 2, 0, 0, 0)
+        row = b"".join(pixels[3 * (y * width + x) :][:3] * scale for x in range(width))
+        rows += (b"\0" + row) * scale
+    head = struct.pack(">IIBBBBB", width * scale, height * scale, 8, 2, 0, 0, 0)
     return b"\x89PNG\r\n\x1a\n" + chunk(b"IHDR", head) + chunk(b"IDAT", zlib.compress(rows, 9)) + chunk(b"IEND", b"")
 
 
