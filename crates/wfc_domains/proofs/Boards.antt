@@ -283,6 +283,10 @@ log-few b t =
 pub board-inside : (b : Board) → IsTraced b → (c v : ℕ) (cause : Cause) → c < b.problem.now.cells → v < values b.problem.now → IsCauseBelow b.problem.now.dirs cause → IsInside b.trail.extent c v cause
 board-inside b t c v cause hc hv hd = subst (λ e. IsInside e c v cause) (sym t.extent) (record { cell_in = hc; value_in = hv; cause_in = hd })
 
+-- the log's values are those of the domains
+pub board-values : (b : Board) → IsTraced b → b.trail.extent.values ≡ b.domains.values
+board-values b t = ap (λ e. e.values) t.extent ∙ sym t.same_values
+
 -- a value that stands is one of the problem
 pub stands-in : (b : Board) → IsTraced b → (c v : ℕ) → IsTrue (has b.domains c v) → (c < b.problem.now.cells) × (v < values b.problem.now)
 stands-in b t c v stands = without-in b.problem.now t.problem b.trail.removals c v (ap (λ f. f c v) (sym t.stands) ∙ stands)

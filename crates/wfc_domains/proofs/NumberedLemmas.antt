@@ -1,14 +1,15 @@
 -- Removals as numbers, and back.
-use Rattle.std.proofs.Common.{◌≡◌, ◌≢◌, ℕ, zero, suc, ◌+◌, ◌*◌, ◌/◌, ◌%◌, ◌<◌, List, [], ◌∷◌, ◌++◌, length, take, drop, refl, sym, ◌∙◌, ap, subst, arith}
-use Rattle.std.specs.Prelude.{slice_get, Some, All}
+use Rattle.std.proofs.Common.{◌≡◌, ◌≢◌, ◌≤◌, ◌^◌, ◌⊎◌, inl, inr, ℕ, zero, suc, ◌+◌, ◌*◌, ◌/◌, ◌%◌, ◌<◌, List, [], ◌∷◌, ◌++◌, length, take, drop, refl, sym, ◌∙◌, ap, subst, arith}
+use Rattle.std.specs.Prelude.{slice_get, slice_index, Some, All}
 use Rattle.std.proofs.lemmas.Bool.{cond-true, cond-false, eq-eqb, ne_eqb}
 use Rattle.std.proofs.lemmas.List.{get_or_append_left, get_or-append-add, length-append, nil_from_length}
 use Rattle.std.proofs.lemmas.Nat.{mul-add-lt, div-mul-add, mod-mul-add}
+use Rattle.std.proofs.Math.Nat.{mod-eq_of_lt, div-add-mod, mul-le-mul_left}
 use Rattle.wfc_domains.specs.declared.Cause.{Cause}
 use Rattle.wfc_domains.specs.declared.Cause.TheVariants.{Assumed, Arc}
 use Rattle.wfc_domains.specs.declared.Removal.{Removal}
-use Rattle.wfc_domains.specs.Log.{Extent, IsCauseBelow, IsInside}
-use Rattle.wfc_domains.specs.Numbered.{cause_number, numbered_cause, removal_number, numbered_removal, numbered_removals}
+use Rattle.wfc_domains.specs.Log.{Extent, IsCauseBelow, IsInside, IsLogged}
+use Rattle.wfc_domains.specs.Numbered.{cause_number, numbered_cause, place_count, place_number, placed_removal, removal_number, numbered_removal, number_from, numbered_removals}
 
 -- a cause's number is one of those of causes
 pub cause-few : (k : ℕ) (c : Cause) → IsCauseBelow k c → cause_number k c < k + 1
@@ -20,15 +21,15 @@ pub cause-back : (k : ℕ) (c : Cause) → IsCauseBelow k c → numbered_cause k
 cause-back k Assumed h = cond-true _ _ _ (eq-eqb k k refl)
 cause-back k (Arc d) h = let ne : d ≢ k = omega arith in cond-false _ _ _ (ne_eqb d k ne)
 
--- a removal's number is one of those of removals
-pub number-few : (e : Extent) (r : Removal) → IsInside e r.cell r.value r.cause → removal_number e r < (e.cells * e.values) * (e.dirs + 1)
-number-few e r h =
+-- the number of a removal's cell, value and cause is one of those that there are
+pub place-few : (e : Extent) (r : Removal) → IsInside e r.cell r.value r.cause → place_number e r < place_count e
+place-few e r h =
     let pair : r.cell * e.values + r.value < e.cells * e.values = omega (arith, mul-add-lt r.cell e.values r.value e.cells h.cell_in h.value_in) in
     omega (arith, mul-add-lt (r.cell * e.values + r.value) (e.dirs + 1) (cause_number e.dirs r.cause) (e.cells * e.values) pair (cause-few e.dirs r.cause h.cause_in))
 
 -- and tells the removal
-pub number-back : (e : Extent) (r : Removal) → IsInside e r.cell r.value r.cause → numbered_removal e (removal_number e r) r.before ≡ r
-number-back e r h = λ i. record { cell = cell i; value = value i; before = r.before; cause = cause i }
+pub place-back : (e : Extent) (r : Removal) → IsInside e r.cell r.value r.cause → placed_removal e (place_number e r) r.before ≡ r
+place-back e r h = λ i. record { cell = cell i; value = value i; before = r.before; cause = cause i }
   where
     k : ℕ
     k = e.dirs + 1
@@ -39,44 +40,84 @@ number-back e r h = λ i. record { cell = cell i; value = value i; before = r.be
     p : ℕ
     p = r.cell * e.values + r.value
 
-    pair : removal_number e r / k ≡ p
+    pair : place_number e r / k ≡ p
     pair = div-mul-add p k x (cause-few e.dirs r.cause h.cause_in)
 
-    cell : removal_number e r / k / e.values ≡ r.cell
+    cell : place_number e r / k / e.values ≡ r.cell
     cell = ap (λ n. n / e.values) pair ∙ div-mul-add r.cell e.values r.value h.value_in
 
-    value : removal_number e r / k % e.values ≡ r.value
+    value : place_number e r / k % e.values ≡ r.value
     value = ap (λ n. n % e.values) pair ∙ mod-mul-add r.cell e.values r.value h.value_in
 
-    cause : numbered_cause e.dirs (removal_number e r % k) ≡ r.cause
+    cause : numbered_cause e.dirs (place_number e r % k) ≡ r.cause
     cause = ap (numbered_cause e.dirs) (mod-mul-add p k x (cause-few e.dirs r.cause h.cause_in)) ∙ cause-back e.dirs r.cause h.cause_in
 
--- as many removals as numbers
-pub numbered-length : (e : Extent) (ns bs : List ℕ) → length bs ≡ length ns → length (numbered_removals e ns bs) ≡ length ns
-numbered-length e [] bs h = refl
-numbered-length e (n ∷ ns) [] h = absurd (omega (arith, h))
-numbered-length e (n ∷ ns) (b ∷ bs) h = ap suc (numbered-length e ns bs (omega (arith, h)))
+-- a removal's number is one of those of removals
+pub number-few : (e : Extent) (r : Removal) → IsLogged e r → removal_number e r < place_count e * (e.values + 1)
+number-few e r h =
+    let m = place_count e in
+    omega (arith, place-few e r h.inside, mul-le-mul_left m h.before_in)
 
--- one number more
-pub numbered-push : (e : Extent) (ns bs : List ℕ) (n b : ℕ) → length bs ≡ length ns → numbered_removals e (ns ++ n ∷ []) (bs ++ b ∷ []) ≡ numbered_removals e ns bs ++ numbered_removal e n b ∷ []
-numbered-push e [] [] n b h = refl
-numbered-push e [] (y ∷ bs) n b h = absurd (omega (arith, h))
-numbered-push e (x ∷ ns) [] n b h = absurd (omega (arith, h))
-numbered-push e (x ∷ ns) (y ∷ bs) n b h = ap (λ rs. numbered_removal e x y ∷ rs) (numbered-push e ns bs n b (omega (arith, h)))
+-- and tells the removal
+pub number-back : (e : Extent) (r : Removal) → e.values < 65536 → IsLogged e r → numbered_removal e (removal_number e r) ≡ r
+number-back e r small h =
+    let few = place-few e r h.inside in
+    let place = mod-mul-add r.before (place_count e) (place_number e r) few in
+    let before = ap (λ n. n % 65536) (div-mul-add r.before (place_count e) (place_number e r) few) ∙ mod-eq_of_lt (omega (arith, h.before_in, small)) in
+    ap (λ n. placed_removal e n (removal_number e r / place_count e % 65536)) place ∙ ap (placed_removal e (place_number e r)) before ∙ place-back e r h.inside
+
+-- numbers of five bytes are enough for a problem
+pub number-limit : (p d v : ℕ) → 0 < p → p ≤ 8388608 → (d ≡ 4) ⊎ (d ≡ 6) → v ≤ 4096 → (0 < p * (d + 1)) × (p * (d + 1) ≤ 2 ^ 32) × (p * (d + 1) * (v + 1) ≤ 2 ^ 40)
+number-limit p d v some few dirs small =
+    let times : (k : ℕ) → d ≡ k → p * (d + 1) ≡ p * (k + 1) = λ k e. ap (λ n. p * (n + 1)) e in
+    let bounds : (0 < p * (d + 1)) × (p * (d + 1) ≤ 58720256) = elim dirs [
+      | inl four ↦ let e = times 4 four in (omega (arith, e, some), omega (arith, e, few))
+      | inr six ↦ let e = times 6 six in (omega (arith, e, some), omega (arith, e, few))
+    ] in
+    let v_few : v + 1 ≤ 4097 = omega (arith, small) in
+    (bounds.0, omega (arith, bounds.1), omega (arith, bounds.1, mul-le-mul_left (p * (d + 1)) v_few))
+
+-- a number from its two parts
+pub number-parts : (n : ℕ) → number_from (n % 4294967296) (n / 4294967296) ≡ n
+number-parts n = div-add-mod n 4294967296
+
+-- as many removals as numbers
+pub numbered-length : (e : Extent) (ns hs : List ℕ) → length (numbered_removals e ns hs) ≡ length ns
+numbered-length e [] hs = refl
+numbered-length e (n ∷ ns) [] = ap suc (numbered-length e ns [])
+numbered-length e (n ∷ ns) (h ∷ hs) = ap suc (numbered-length e ns hs)
+
+-- one number more, with no high parts
+pub numbered-push_low : (e : Extent) (ns : List ℕ) (n : ℕ) → numbered_removals e (ns ++ n ∷ []) [] ≡ numbered_removals e ns [] ++ numbered_removal e (number_from n 0) ∷ []
+numbered-push_low e [] n = refl
+numbered-push_low e (x ∷ ns) n = ap (λ rs. numbered_removal e (number_from x 0) ∷ rs) (numbered-push_low e ns n)
+
+-- one number more, where each has a high part
+pub numbered-push : (e : Extent) (ns hs : List ℕ) (n h : ℕ) → length hs ≡ length ns → numbered_removals e (ns ++ n ∷ []) (hs ++ h ∷ []) ≡ numbered_removals e ns hs ++ numbered_removal e (number_from n h) ∷ []
+numbered-push e [] [] n h l = refl
+numbered-push e [] (y ∷ hs) n h l = absurd (omega (arith, l))
+numbered-push e (x ∷ ns) [] n h l = absurd (omega (arith, l))
+numbered-push e (x ∷ ns) (y ∷ hs) n h l = ap (λ rs. numbered_removal e (number_from x y) ∷ rs) (numbered-push e ns hs n h (omega (arith, l)))
+
+-- nothing of nothing
+take-none : (k : ℕ) → take {A = ℕ} k [] ≡ []
+take-none zero = refl
+take-none (suc k) = refl
 
 -- the first numbers
-pub numbered-take : (e : Extent) (k : ℕ) (ns bs : List ℕ) → numbered_removals e (take k ns) (take k bs) ≡ take k (numbered_removals e ns bs)
-numbered-take e zero ns bs = refl
-numbered-take e (suc k) [] bs = refl
-numbered-take e (suc k) (n ∷ ns) [] = refl
-numbered-take e (suc k) (n ∷ ns) (b ∷ bs) = ap (λ rs. numbered_removal e n b ∷ rs) (numbered-take e k ns bs)
+pub numbered-take : (e : Extent) (k : ℕ) (ns hs : List ℕ) → numbered_removals e (take k ns) (take k hs) ≡ take k (numbered_removals e ns hs)
+numbered-take e zero ns hs = refl
+numbered-take e (suc k) [] hs = refl
+numbered-take e (suc k) (n ∷ ns) [] = ap (λ rs. numbered_removal e (number_from n 0) ∷ rs) (ap (numbered_removals e (take k ns)) (sym (take-none k)) ∙ numbered-take e k ns [])
+numbered-take e (suc k) (n ∷ ns) (h ∷ hs) = ap (λ rs. numbered_removal e (number_from n h) ∷ rs) (numbered-take e k ns hs)
 
 -- the number at an index
-pub numbered-at : (e : Extent) (ns bs : List ℕ) (i n b : ℕ) → slice_get ns i ≡ Some n → slice_get bs i ≡ Some b → slice_get (numbered_removals e ns bs) i ≡ Some (numbered_removal e n b)
-numbered-at e [] bs i n b h k = cc
-numbered-at e (x ∷ ns) [] i n b h k = cc
-numbered-at e (x ∷ ns) (y ∷ bs) zero n b h k = let p : x ≡ n = cc in let q : y ≡ b = cc in ap (λ z. Some (numbered_removal e z y)) p ∙ ap (λ z. Some (numbered_removal e n z)) q
-numbered-at e (x ∷ ns) (y ∷ bs) (suc i) n b h k = numbered-at e ns bs i n b h k
+pub numbered-at : (e : Extent) (ns hs : List ℕ) (i n : ℕ) → slice_get ns i ≡ Some n → slice_get (numbered_removals e ns hs) i ≡ Some (numbered_removal e (number_from n (slice_index hs i)))
+numbered-at e [] hs i n l = cc
+numbered-at e (x ∷ ns) [] zero n l = let p : x ≡ n = cc in ap (λ z. Some (numbered_removal e (number_from z 0))) p
+numbered-at e (x ∷ ns) [] (suc i) n l = numbered-at e ns [] i n l
+numbered-at e (x ∷ ns) (y ∷ hs) zero n l = let p : x ≡ n = cc in ap (λ z. Some (numbered_removal e (number_from z y))) p
+numbered-at e (x ∷ ns) (y ∷ hs) (suc i) n l = numbered-at e ns hs i n l
 
 -- a list with its last element
 pub split-last : {X : Type 0} (xs : List X) (n : ℕ) (x : X) → slice_get xs n ≡ Some x → length xs ≡ n + 1 → xs ≡ take n xs ++ x ∷ []

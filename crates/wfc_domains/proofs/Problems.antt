@@ -1,5 +1,5 @@
 -- What a problem gives, one fact a lemma: the only file here that reads the facts of a problem.
-use Rattle.std.proofs.Common.{◌≡◌, ℕ, zero, suc, ◌+◌, ◌*◌, ◌<◌, ◌≤◌, List, [], ◌∷◌, ◌++◌, length, get_or, arith, Option, Some, None, true, false, sym, ◌∙◌, ap, inl, inr}
+use Rattle.std.proofs.Common.{◌≡◌, ℕ, zero, suc, ◌*◌, ◌<◌, ◌≤◌, List, [], ◌∷◌, ◌++◌, length, get_or, arith, Option, Some, None, true, false, sym, ◌∙◌, ap, inl, inr}
 use Rattle.std.specs.Prelude.{Contains, IsTrue, ◌↔◌, count_by}
 use Rattle.std.proofs.lemmas.List.Sums.{count_by-le-length, length-filter}
 use Rattle.std.proofs.lemmas.Bool.{false_from_ne_true, false≢true, cases_lt}

@@ -1,5 +1,5 @@
 -- The log of removals, and the levels of literals, as contracts see them.
-use Rattle.std.specs.Prelude.{ℕ, ◌<◌, List}
+use Rattle.std.specs.Prelude.{ℕ, ◌<◌, ◌≤◌, List}
 use Rattle.wfc_problem.specs.Network.{Network, values}
 use Rattle.wfc_problem.specs.declared.Literal.{Literal}
 use Rattle.wfc_domains.specs.declared.Cause.{Cause}
@@ -26,6 +26,11 @@ pub record IsInside (e : Extent) (cell value : ℕ) (cause : Cause) : Type 0 whe
   pub cell_in : cell < e.cells
   pub value_in : value < e.values
   pub cause_in : IsCauseBelow e.dirs cause
+
+-- there are such a cell, such a value and such a cause, and no more values stood before the removal than there are
+pub record IsLogged (e : Extent) (r : Removal) : Type 0 where
+  pub inside : IsInside e r.cell r.value r.cause
+  pub before_in : r.before ≤ e.values
 
 -- what was removed, the oldest first, how many of these are of earlier levels than the last, how many removals there is
 -- room for, and the cells, values and directions that there are

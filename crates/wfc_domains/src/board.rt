@@ -66,6 +66,7 @@ impl<'p> Board<'p> {
         requires alive { self.old.verdict ≡ Alive }
         requires room { length self.old.trail.removals < self.old.trail.room }
         requires inside { IsInside self.old.trail.extent cell value cause }
+        requires same_values { self.old.trail.extent.values ≡ self.old.domains.values }
         ensures removed { Loses self.old self.new cell value cause }
     {
         let before = self.domains.size(cell);

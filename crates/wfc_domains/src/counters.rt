@@ -362,7 +362,7 @@ fn copy_row(parts: &mut Vec<u8>, start: usize, row: usize, dest: usize)
 
 /// The part at a place, 0 where there is none.
 #[inline]
-fn part_at(parts: &[u8], place: usize) -> u8
+pub(crate) fn part_at(parts: &[u8], place: usize) -> u8
     ensures value { result ≡ slice_index parts.now place }
 {
     match parts.get(place) {

@@ -1,24 +1,33 @@
-//! Removals of earlier levels, in six bytes each.
+//! Removals of earlier levels, in four or five bytes each.
 
 ghost use Rattle.std.specs.Prelude.{◌≡◌, ℕ, ◌+◌, ◌*◌, ◌<◌, ◌≤◌, ◌^◌, ◌++◌, ◌∷◌, [], length, take, drop, slice_get, Some, IfOk, All, vec_len, vec_capacity};
-ghost use Rattle.wfc_domains.specs.Log.{Extent, IsCauseBelow, IsInside, extent_of};
-ghost use Rattle.wfc_domains.specs.Numbered.{Earlier, cause_number, numbered_cause, numbered_removal, removal_number};
+ghost use Rattle.wfc_domains.specs.Log.{Extent, IsCauseBelow, IsInside, IsLogged, extent_of};
+ghost use Rattle.wfc_domains.specs.Numbered.{Earlier, cause_number, numbered_cause, numbered_removal, place_count, place_number, placed_removal, removal_number};
 
+use crate::counters::part_at;
 use crate::{Cause, Removal};
 use std::alloc::Global;
 use std::marker::Model;
 use wfc_outside::NoMemory;
 use wfc_problem::Problem;
 
-/// Removals, each kept as its number among all that there can be and how many values stood before it.
+/// How many numbers the low part of a number tells apart.
+const LOWS: u64 = 4_294_967_296;
+
+/// How many sizes of a cell are told apart.
+const SIZES: u64 = 65_536;
+
+/// Removals, each kept as one number, which tells all of it. A number takes four bytes, and a fifth only where the
+/// numbers that there can be are too many for four.
 #[derive(Drop)]
 pub struct Older {
     room: usize,
     cells: u32,
     values: u16,
     dirs: u8,
-    numbers: Vec<u32>,
-    befores: Vec<u16>,
+    wide: bool,
+    lows: Vec<u32>,
+    highs: Vec<u8>,
 }
 
 impl Model for Older {
@@ -55,28 +64,50 @@ fn numbered_cause(number: u8, dirs: u8) -> Cause
     }
 }
 
-/// The number of a removal among all that there can be.
+/// How many cells, values and causes there are, one with the other.
 #[inline]
-fn removal_number(removal: Removal, cells: u32, values: u16, dirs: u8) -> u32
+fn place_count(cells: u32, values: u16, dirs: u8) -> u64
+    requires few { (cells * values) * (dirs + 1) ≤ 2 ^ 32 }
+    ensures value { result ≡ place_count (record { cells = cells; values = values; dirs = dirs }) }
+{
+    u64::from(cells) * u64::from(values) * (u64::from(dirs) + 1)
+}
+
+/// The number of a removal's cell, value and cause among all that there can be.
+#[inline]
+fn place_number(removal: Removal, cells: u32, values: u16, dirs: u8) -> u32
     requires inside { IsInside (record { cells = cells; values = values; dirs = dirs }) removal.cell
         removal.value removal.cause }
     requires few { (cells * values) * (dirs + 1) ≤ 2 ^ 32 }
-    ensures value { result ≡ removal_number (record { cells = cells; values = values; dirs = dirs })
+    ensures value { result ≡ place_number (record { cells = cells; values = values; dirs = dirs })
         removal }
 {
     let pair = removal.cell * u32::from(values) + u32::from(removal.value);
     pair * (u32::from(dirs) + 1) + u32::from(cause_number(removal.cause, dirs))
 }
 
-/// The removal with a number.
+/// The number of a removal among all that there can be.
 #[inline]
-fn numbered_removal(number: u32, before: u16, cells: u32, values: u16, dirs: u8) -> Removal
-    requires some_value { 0 < values }
-    ensures value { result ≡ numbered_removal (record { cells = cells; values = values; dirs = dirs })
-        number before }
+fn removal_number(removal: Removal, cells: u32, values: u16, dirs: u8) -> u64
+    requires logged { IsLogged (record { cells = cells; values = values; dirs = dirs }) removal }
+    requires few_places { (cells * values) * (dirs + 1) ≤ 2 ^ 32 }
+    requires few { (cells * values) * (dirs + 1) * (values + 1) ≤ 2 ^ 40 }
+    ensures value { result ≡ removal_number (record { cells = cells; values = values; dirs = dirs })
+        removal }
 {
-    let pair = number / (u32::from(dirs) + 1);
-    let cause = number % (u32::from(dirs) + 1);
+    let place = place_number(removal, cells, values, dirs);
+    u64::from(removal.before) * place_count(cells, values, dirs) + u64::from(place)
+}
+
+/// The removal with this number of its cell, value and cause.
+#[inline]
+fn placed_removal(place: u32, before: u16, cells: u32, values: u16, dirs: u8) -> Removal
+    requires some_value { 0 < values }
+    ensures value { result ≡ placed_removal (record { cells = cells; values = values; dirs = dirs })
+        place before }
+{
+    let pair = place / (u32::from(dirs) + 1);
+    let cause = place % (u32::from(dirs) + 1);
     Removal {
         cell: pair / u32::from(values),
         value: (pair % u32::from(values)) as u16,
@@ -85,10 +116,25 @@ fn numbered_removal(number: u32, before: u16, cells: u32, values: u16, dirs: u8)
     }
 }
 
+/// The removal with a number.
+#[inline]
+fn numbered_removal(number: u64, cells: u32, values: u16, dirs: u8) -> Removal
+    requires some_value { 0 < values }
+    requires some_place { 0 < (cells * values) * (dirs + 1) }
+    requires few_places { (cells * values) * (dirs + 1) ≤ 2 ^ 32 }
+    ensures value { result ≡ numbered_removal (record { cells = cells; values = values; dirs = dirs })
+        number }
+{
+    let places = place_count(cells, values, dirs);
+    let place = (number % places) as u32;
+    let before = (number / places % SIZES) as u16;
+    placed_removal(place, before, cells, values, dirs)
+}
+
 /// Adds removals.
 pub fn add_all(older: &mut Older, removals: &[Removal])
     requires room { length older.old.removals + length removals.now ≤ older.old.room }
-    requires inside { All (λ r. IsInside older.old.extent r.cell r.value r.cause) removals.now }
+    requires logged { All (IsLogged older.old.extent) removals.now }
     ensures more { older.new ≡ record older.old { removals = older.old.removals ++ removals.now } }
 {
     for removal in removals {
@@ -114,13 +160,17 @@ impl Older {
         ensures ok { IfOk result (λ older. older
             ≡ record { room = room; extent = extent_of problem.now; removals = [] }) }
     {
+        let (cells, values, dirs) = (problem.cells(), problem.values(), problem.dirs());
+        let wide = place_count(cells, values, dirs) * (u64::from(values) + 1) > LOWS;
+        let high_room = if wide { room } else { 0 };
         Ok(Older {
             room,
-            cells: problem.cells(),
-            values: problem.values(),
-            dirs: problem.dirs(),
-            numbers: Vec::with_capacity(alloc, room)?,
-            befores: Vec::with_capacity(alloc, room)?,
+            cells,
+            values,
+            dirs,
+            wide,
+            lows: Vec::with_capacity(alloc, room)?,
+            highs: Vec::with_capacity(alloc, high_room)?,
         })
     }
 
@@ -129,7 +179,7 @@ impl Older {
     pub fn len(&self) -> usize
         ensures value { result ≡ length self.now.removals }
     {
-        self.numbers.len()
+        self.lows.len()
     }
 
     /// The removal at an index.
@@ -138,25 +188,23 @@ impl Older {
         requires index_in { index < length self.now.removals }
         ensures value { slice_get self.now.removals index ≡ Some result }
     {
-        numbered_removal(
-            self.numbers[index],
-            self.befores[index],
-            self.cells,
-            self.values,
-            self.dirs,
-        )
+        let high = u64::from(part_at(&self.highs, index));
+        let number = LOWS * high + u64::from(self.lows[index]);
+        numbered_removal(number, self.cells, self.values, self.dirs)
     }
 
     /// One more.
     #[inline]
     pub fn push(&mut self, removal: Removal)
         requires room { length self.old.removals < self.old.room }
-        requires inside { IsInside self.old.extent removal.cell removal.value removal.cause }
+        requires logged { IsLogged self.old.extent removal }
         ensures more { self.new ≡ record self.old { removals = self.old.removals ++ removal ∷ [] } }
     {
         let number = removal_number(removal, self.cells, self.values, self.dirs);
-        self.numbers.push_reserved(number);
-        self.befores.push_reserved(removal.before);
+        self.lows.push_reserved((number % LOWS) as u32);
+        if self.wide {
+            self.highs.push_reserved((number / LOWS) as u8);
+        }
     }
 
     /// Keeps so many.
@@ -164,7 +212,7 @@ impl Older {
     pub fn truncate(&mut self, keep: usize)
         ensures front { self.new ≡ record self.old { removals = take keep self.old.removals } }
     {
-        self.numbers.truncate(keep);
-        self.befores.truncate(keep);
+        self.lows.truncate(keep);
+        self.highs.truncate(keep);
     }
 }

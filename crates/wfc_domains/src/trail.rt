@@ -1,7 +1,7 @@
 //! The log of removals, with room for a fixed number of them.
 
 ghost use Rattle.std.specs.Prelude.{◌≡◌, ◌+◌, ◌-◌, ◌<◌, ◌≤◌, ◌++◌, ◌∷◌, [], length, drop, slice_get, Some, IfOk};
-ghost use Rattle.wfc_domains.specs.Log.{Log, extent_of, IsInside};
+ghost use Rattle.wfc_domains.specs.Log.{Log, extent_of, IsLogged};
 
 use crate::Removal;
 use crate::older::{Older, add_all, copy_from};
@@ -83,7 +83,7 @@ impl Trail {
     #[inline]
     pub fn push(&mut self, removal: Removal)
         requires room { length self.old.removals < self.old.room }
-        requires inside { IsInside self.old.extent removal.cell removal.value removal.cause }
+        requires logged { IsLogged self.old.extent removal }
         ensures more { self.new ≡ record self.old { removals = self.old.removals ++ removal ∷ [] } }
     {
         self.recent.push_reserved(removal);

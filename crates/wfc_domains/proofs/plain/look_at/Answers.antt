@@ -1,6 +1,6 @@
 use Rattle.std.proofs.Common.{sym, ◌∙◌}
 use Rattle.std.proofs.lemmas.Bool.{true≢false}
-use Rattle.wfc_domains.proofs.Boards.{board-room, board-inside}
+use Rattle.wfc_domains.proofs.Boards.{board-room, board-inside, board-values}
 use Rattle.wfc_domains.proofs.Sweeps.{lost-swept, swept-lost, first-lost, swept-next}
 use Rattle.wfc_domains.proofs.plain.look_at.Goals as goal
 use Rattle.wfc_domains.proofs.plain.look_at.Goals.{else-is_alive-via-then-is_alive+else-has, else-is_alive-via-else-is_alive}
@@ -38,3 +38,6 @@ returns-else-is_alive-clause-swept c = λ start h.
 
 pub remove-requires-clause-inside : goal.remove-requires-clause-inside
 remove-requires-clause-inside c = board-inside c.args.board.now c.requires.board.traced _ _ _ c.requires.cell_in c.requires.value_in c.in-Some.ensures.some.dir_in
+
+pub remove-requires-clause-same_values : goal.remove-requires-clause-same_values
+remove-requires-clause-same_values c = board-values c.args.board.now c.requires.board.traced

@@ -2,7 +2,7 @@ use Rattle.std.proofs.Common.{sym, ◌∙◌, ap, arith}
 use Rattle.std.proofs.lemmas.Bool.{true≢false}
 use Rattle.wfc_problem.specs.Network.{values}
 use Rattle.wfc_domains.specs.declared.board.Board.{Board}
-use Rattle.wfc_domains.proofs.Boards.{board-room, board-inside, lost-gone}
+use Rattle.wfc_domains.proofs.Boards.{board-room, board-inside, board-values, lost-gone}
 use Rattle.wfc_ac4.proofs.Opening.{scanned-removed, scanned-next}
 use Rattle.wfc_ac4.proofs.flight.Flight.look_at.Goals as goal
 use Rattle.wfc_ac4.proofs.flight.Flight.look_at.Goals.{else-is_alive-via-then-is_alive+else-has, else-is_alive-via-else-is_alive}
@@ -35,3 +35,6 @@ returns-else-is_alive-clause-scanned c =
       | else-is_alive-via-then-is_alive+else-has w ↦ absurd (true≢false (sym t ∙ sym w.has.ensures.value ∙ w.if-has.false))
       | else-is_alive-via-else-is_alive w ↦ absurd (true≢false (sym (c.is_alive.ensures.value.1 alive) ∙ w.if-is_alive.false))
     ])
+
+pub remove-requires-clause-same_values : goal.remove-requires-clause-same_values
+remove-requires-clause-same_values c = board-values c.args.self.now.board c.requires.scanned.board.traced

@@ -2,7 +2,7 @@ use Rattle.std.proofs.Common.{◌+◌, refl, sym, ◌∙◌, ap, subst, arith, l
 use Rattle.std.proofs.lemmas.Bool.{true≢false}
 use Rattle.wfc_problem.specs.Network.{Network}
 use Rattle.wfc_domains.specs.Board.{Grows}
-use Rattle.wfc_domains.proofs.Boards.{lost-gone, board-inside, board-room, grows-more, grows-lost, grows-none}
+use Rattle.wfc_domains.proofs.Boards.{lost-gone, board-inside, board-values, board-room, grows-more, grows-lost, grows-none}
 use Rattle.wfc_ac4.specs.Links.{link_places}
 use Rattle.wfc_ac4.proofs.Steps.{working-marked, step_removed, step_lowered, working-range}
 use Rattle.wfc_ac4.proofs.LinkLemmas.{is_link, link_at, link_skipped, link-none, length-some, all_links, whole-cost}
@@ -116,3 +116,6 @@ pub returns-clause-steps : goal.returns-clause-steps
 returns-clause-steps g c =
     let h = c.loop-link.invariant in
     omega (arith, h.steps, whole-cost c.args.self.now.board.problem.now c.args.cell c.args.value c.loop-link.link-index c.args.links.now c.requires.links c.loop-link-test.false)
+
+pub remove-requires-clause-same_values : goal.remove-requires-clause-same_values
+remove-requires-clause-same_values g c = board-values c.loop-link.self.board c.loop-link.invariant.working.board.traced

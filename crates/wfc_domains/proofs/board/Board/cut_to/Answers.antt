@@ -3,7 +3,7 @@ use Rattle.std.proofs.lemmas.Bool.{true≢false, cases_eq, false_from_ne_true}
 use Rattle.wfc_problem.specs.Domains.{leaves_all}
 use Rattle.wfc_domains.specs.Domains.{has}
 use Rattle.wfc_domains.specs.Board.{IsBoard, Grows}
-use Rattle.wfc_domains.proofs.Boards.{board-room, board-lost, board-inside, lost-gone, lost-stays, stands-in, grows-more, grows-lost}
+use Rattle.wfc_domains.proofs.Boards.{board-room, board-lost, board-inside, board-values, lost-gone, lost-stays, stands-in, grows-more, grows-lost}
 use Rattle.wfc_domains.proofs.board.Board.cut_to.Goals as goal
 use Rattle.wfc_domains.proofs.board.Board.cut_to.Goals.{then-is_other, else-is_other}
 
@@ -46,3 +46,6 @@ remove-requires-clause-inside c =
     let t = c.loop-other.invariant.board.traced in
     let range = stands-in c.loop-other.self t c.args.cell c.loop-other.other (c.is_other.ensures.value.0 c.if-is_other.true).2 in
     board-inside c.loop-other.self t _ _ _ range.0 range.1 tt
+
+pub remove-requires-clause-same_values : goal.remove-requires-clause-same_values
+remove-requires-clause-same_values c = board-values c.loop-other.self c.loop-other.invariant.board.traced

@@ -1,8 +1,7 @@
-use Rattle.std.proofs.Common.{◌≡◌, ◌+◌, ◌-◌, ◌*◌, ◌/◌, ◌%◌, ◌<◌, ◌≤◌, length, get_or, set, sym, ◌∙◌, ap, arith, inl, inr}
+use Rattle.std.proofs.Common.{◌≡◌, ◌+◌, ◌-◌, ◌%◌, ◌<◌, length, get_or, set, sym, ◌∙◌, ap, arith}
 use Rattle.wfc_domains.specs.Halves.{entry_from, entries_from, limit_from}
-use Rattle.std.specs.Prelude.{slice_index}
 use Rattle.std.proofs.lemmas.List.{get_or_read}
-use Rattle.wfc_domains.proofs.HalfLemmas.{halves-length, halves-at, halves-both, half-rest, half-count, half-borrow, half-carry, large-there, limit-set, limit-some, limit-none, bytes-set}
+use Rattle.wfc_domains.proofs.HalfLemmas.{halves-length, halves-at, halves-both, half-rest, half-count, half-borrow, large-there, limit-set}
 use Rattle.wfc_domains.proofs.counters.Counters.borrow.Goals as goal
 
 pub index-small-requires : goal.index-small-requires

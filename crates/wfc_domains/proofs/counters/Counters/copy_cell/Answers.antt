@@ -1,4 +1,4 @@
-use Rattle.std.proofs.Common.{◌≡◌, ◌+◌, ◌*◌, ◌<◌, ◌≤◌, length, ap, sym, ◌∙◌, arith, inl, inr}
+use Rattle.std.proofs.Common.{◌≡◌, length, sym, ◌∙◌, arith, inl, inr}
 use Rattle.wfc_domains.proofs.Loading.{row-in, copied-row, bytes-copied, row_none}
 use Rattle.wfc_domains.proofs.counters.Counters.copy_cell.Goals as goal
 

@@ -1,5 +1,4 @@
-use Rattle.std.proofs.Common.{◌≡◌, ◌%◌, ◌<◌, get_or, length, ap, arith}
-use Rattle.wfc_domains.specs.Halves.{entry_from, entries_from, limit_from}
+use Rattle.std.proofs.Common.{◌%◌, ◌<◌, get_or, length, ap, arith}
 use Rattle.wfc_domains.specs.Counters.{place_in}
 use Rattle.wfc_domains.proofs.Places.{place_in-lt}
 use Rattle.wfc_domains.proofs.Loading.{row-positive}

@@ -1,9 +1,7 @@
-use Rattle.std.proofs.Common.{◌≡◌, ℕ, ◌+◌, ◌*◌, ◌<◌, ◌≤◌, length, replicate, ap, subst, sym, ◌∙◌, arith, inl, inr}
+use Rattle.std.proofs.Common.{◌*◌, ◌<◌, length, replicate, ap, ◌∙◌, arith, inl, inr}
 use Rattle.std.proofs.lemmas.List.{length-replicate}
-use Rattle.wfc_problem.specs.Network.{values, supports_of}
-use Rattle.wfc_domains.specs.Counters.{FitsTable, counters_of}
+use Rattle.wfc_problem.specs.Network.{values}
 use Rattle.wfc_domains.specs.Halves.{entries_from, limit_from}
-use Rattle.wfc_domains.proofs.Places.{place_in-lt}
 use Rattle.wfc_domains.proofs.Problems.{supports-short, some_places}
 use Rattle.wfc_domains.proofs.HalfLemmas.{halves-zero, halves-length, limit-some, limit-none}
 use Rattle.wfc_domains.proofs.counters.Counters.new.Goals as goal

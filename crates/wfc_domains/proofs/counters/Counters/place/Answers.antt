@@ -1,5 +1,4 @@
-use Rattle.std.proofs.Common.{◌≡◌, ◌+◌, ◌*◌, ◌<◌, arith, length}
-use Rattle.wfc_domains.specs.Halves.{entries_from}
+use Rattle.std.proofs.Common.{arith, length}
 use Rattle.wfc_domains.proofs.Places.{place_in-lt}
 use Rattle.wfc_domains.proofs.Marking.{row_few}
 use Rattle.wfc_domains.proofs.HalfLemmas.{halves-length}

@@ -1,4 +1,4 @@
-use Rattle.std.proofs.Common.{◌≡◌, ◌+◌, ◌-◌, ◌*◌, ◌/◌, ◌%◌, ◌<◌, ◌≤◌, length, get_or, set, sym, ◌∙◌, ap, arith, inl, inr}
+use Rattle.std.proofs.Common.{◌≡◌, ◌/◌, ◌%◌, ◌<◌, ◌≤◌, length, get_or, set, ◌∙◌, ap, arith, inl, inr}
 use Rattle.wfc_domains.specs.Halves.{entry_from, entries_from, limit_from}
 use Rattle.std.proofs.lemmas.List.{get_or_past}
 use Rattle.wfc_domains.proofs.HalfLemmas.{halves-length, halves-both, halves-set, half-of, limit-set, limit-none}

@@ -1,7 +1,6 @@
-use Rattle.std.proofs.Common.{◌≡◌, ◌+◌, ◌*◌, ◌%◌, ◌<◌, length, get_or, set, sym, ◌∙◌, ap, arith}
+use Rattle.std.proofs.Common.{◌≡◌, ◌%◌, ◌<◌, length, get_or, set, sym, ◌∙◌, ap, arith}
 use Rattle.wfc_domains.specs.Halves.{entry_from, entries_from, limit_from}
 use Rattle.std.proofs.lemmas.List.{get_or_read}
-use Rattle.wfc_domains.specs.Counters.{Table, place_in}
 use Rattle.wfc_domains.proofs.HalfLemmas.{halves-length, halves-at, halves-set, half-plain}
 use Rattle.wfc_domains.proofs.counters.Counters.unmark_side.Goals as goal
 

@@ -1,10 +1,8 @@
-use Rattle.std.proofs.Common.{◌≡◌, ◌+◌, ◌-◌, ◌*◌, ◌%◌, ◌<◌, length, get_or, set, refl, sym, ◌∙◌, ap, arith}
+use Rattle.std.proofs.Common.{◌≡◌, ◌+◌, ◌%◌, ◌<◌, length, get_or, set, sym, ◌∙◌, ap, arith}
 use Rattle.wfc_domains.specs.Halves.{entry_from, entries_from, limit_from}
-use Rattle.std.proofs.lemmas.Bool.{true≢false, eqb-true, eq-eqb}
 use Rattle.std.proofs.lemmas.List.{get_or_read}
 use Rattle.std.proofs.Math.Nat.{mod-lt}
-use Rattle.wfc_domains.specs.Counters.{place_in}
-use Rattle.wfc_domains.proofs.HalfLemmas.{halves-length, halves-at, halves-set, half-rest, half-count, half-less, half-more, half-one}
+use Rattle.wfc_domains.proofs.HalfLemmas.{halves-length, halves-at, halves-set, half-rest, half-more}
 use Rattle.wfc_domains.proofs.counters.Counters.up.Goals as goal
 
 pub carry-requires-clause-full : goal.carry-requires-clause-full

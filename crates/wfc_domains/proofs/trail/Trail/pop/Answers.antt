@@ -1,8 +1,7 @@
-use Rattle.std.proofs.Common.{◌≡◌, ◌∷◌, ◌++◌, [], sym, subst, ◌∙◌, ap, arith, length}
+use Rattle.std.proofs.Common.{◌++◌, sym, subst, ◌∙◌, ap, arith}
 use Rattle.std.specs.Prelude.{All}
 use Rattle.std.proofs.lemmas.List.{append_assoc}
-use Rattle.wfc_domains.specs.declared.Removal.{Removal}
-use Rattle.wfc_domains.specs.Log.{IsInside}
+use Rattle.wfc_domains.specs.Log.{IsLogged}
 use Rattle.wfc_domains.proofs.NumberedLemmas.{all-front}
 use Rattle.wfc_domains.proofs.trail.Trail.pop.Goals as goal
 
@@ -17,5 +16,5 @@ invariant_of-self c =
       fits = omega (arith, h.fits, c.pop.ensures.len);
       older_room = h.older_room;
       recent_room = omega (arith, h.recent_room, c.pop.ensures.capacity);
-      inside = all-front (λ (r : Removal). IsInside a.older.extent r.cell r.value r.cause) (xs ++ ys) _ (subst (All (λ (r : Removal). IsInside a.older.extent r.cell r.value r.cause)) split h.inside);
+      logged = all-front (IsLogged a.older.extent) (xs ++ ys) _ (subst (All (IsLogged a.older.extent)) split h.logged);
     }

@@ -1,9 +1,8 @@
-use Rattle.std.proofs.Common.{◌≡◌, ◌∷◌, ◌++◌, [], sym, subst, ◌∙◌, ap, arith, length}
+use Rattle.std.proofs.Common.{◌∷◌, ◌++◌, [], sym, subst, ◌∙◌, ap, arith}
 use Rattle.std.specs.Prelude.{All}
 use Rattle.std.proofs.lemmas.List.{append_assoc, length-append}
 use Rattle.std.proofs.lemmas.List.Elements.{All-push}
-use Rattle.wfc_domains.specs.declared.Removal.{Removal}
-use Rattle.wfc_domains.specs.Log.{IsInside}
+use Rattle.wfc_domains.specs.Log.{IsLogged}
 use Rattle.wfc_domains.proofs.trail.Trail.push.Goals as goal
 
 pub invariant_of-self : goal.invariant_of-self
@@ -11,7 +10,7 @@ invariant_of-self c =
     let a = c.self.inside in
     let h = c.self.invariant in
     let room = rw (← c.self.view_is) at c.requires.room in
-    let inside = rw (← c.self.view_is) at c.requires.inside in
+    let logged = rw (← c.self.view_is) at c.requires.logged in
     let xs = a.older.removals in
     let ys = a.recent.items in
     let more = append_assoc xs ys (c.args.removal ∷ []) ∙ ap (λ zs. xs ++ zs) (sym c.push_reserved.ensures.items) in
@@ -19,5 +18,5 @@ invariant_of-self c =
       fits = omega (arith, room, c.push_reserved.ensures.len, length-append xs ys, a.recent.ok.0);
       older_room = h.older_room;
       recent_room = omega (arith, h.recent_room, c.push_reserved.ensures.capacity);
-      inside = subst (All (λ (r : Removal). IsInside a.older.extent r.cell r.value r.cause)) more (All-push (λ (r : Removal). IsInside a.older.extent r.cell r.value r.cause) (xs ++ ys) c.args.removal h.inside inside);
+      logged = subst (All (IsLogged a.older.extent)) more (All-push (IsLogged a.older.extent) (xs ++ ys) c.args.removal h.logged logged);
     }
