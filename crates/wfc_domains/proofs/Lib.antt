@@ -1,3 +1,4 @@
+pub mod BitLemmas
 pub mod Rows
 pub mod Problems
 pub mod Places

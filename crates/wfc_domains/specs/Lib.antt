@@ -2,6 +2,7 @@ pub mod Domains
 pub mod Counters
 pub mod Halves
 pub mod Parts
+pub mod Bits
 pub mod Sized
 pub mod Removals
 pub mod Store

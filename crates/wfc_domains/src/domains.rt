@@ -1,22 +1,23 @@
 //! Domains: which values stand at each cell.
 
-ghost use Rattle.std.specs.Prelude.{◌≡◌, ℕ, ◌*◌, ◌<◌, ◌≤◌, ◌^◌, All, IsTrue, IsFalse, IfOk, count_by, length, slice_index, vec_len};
+ghost use Rattle.std.specs.Prelude.{◌≡◌, ℕ, ◌+◌, ◌*◌, ◌<◌, ◌≤◌, ◌^◌, All, IsTrue, IsFalse, IfOk, count_by, length, slice_index, vec_len};
 ghost use Rattle.wfc_problem.specs.Network.{row_of};
 ghost use Rattle.wfc_problem.specs.declared.TheConstants.{MAX_VALUES};
 ghost use Rattle.wfc_domains.specs.declared.Verdict.TheVariants.{Alive, Dead};
 ghost use Rattle.wfc_domains.specs.Domains.{has, size_of, IsLess, IsFirstEmpty, base_of};
 
 use crate::Verdict;
+use crate::bits::Bits;
 use std::alloc::{AllocError, Global};
 use std::marker::Model;
 use wfc_outside::NoMemory;
 use wfc_problem::Problem;
 
-/// The values that stand at each cell, one flag for each pair, and how many they are.
+/// The values that stand at each cell, one bit for each pair, and how many they are.
 #[derive(Drop)]
 pub struct Domains {
     values: u16,
-    flags: Vec<bool>,
+    flags: Bits,
     sizes: Vec<u16>,
 }
 
@@ -27,9 +28,9 @@ impl Model for Domains {
 
     ghost Value = { Flags };
 
-    ghost view = { λ a. record { cells = length a.sizes.items; values = a.values; flags = a.flags.items } };
+    ghost view = { λ a. record { cells = length a.sizes.items; values = a.values; flags = a.flags } };
 
-    ghost invariant = { λ a. AreSizes a.values a.flags.items a.sizes.items };
+    ghost invariant = { λ a. AreSizes a.values a.flags a.sizes.items };
 }
 
 impl Domains {
@@ -38,13 +39,24 @@ impl Domains {
         ensures ok { IfOk result (λ domains. domains ≡ base_of problem.now) }
     {
         let values = problem.values();
-        let flags = Vec::from_slice(alloc, problem.base())?;
-        let sizes = sizes_of(alloc, &flags, problem.cells(), values)?;
+        let flags = Bits::from_slice(alloc, problem.base())?;
+        let sizes = sizes_of(alloc, problem.base(), problem.cells(), values)?;
         Ok(Domains {
             values,
             flags,
             sizes,
         })
+    }
+
+    /// Where the flag of a value at a cell stands.
+    #[inline]
+    fn place(&self, cell: u32, value: u16) -> usize
+        requires cell_in { cell < self.now.cells }
+        requires value_in { value < self.now.values }
+        ensures value { result ≡ cell * self.now.values + value }
+        ensures inside { result < length self.now.flags }
+    {
+        cell as usize * self.values as usize + value as usize
     }
 
     /// Whether `value` stands at `cell`.
@@ -54,7 +66,7 @@ impl Domains {
         requires value_in { value < self.now.values }
         ensures value { result ≡ has self.now cell value }
     {
-        self.flags[cell as usize * self.values as usize + value as usize]
+        self.flags.get(self.place(cell, value))
     }
 
     /// How many values stand at `cell`.
@@ -110,7 +122,8 @@ impl Domains {
         requires stands { IsTrue (has self.old cell value) }
         ensures less { IsLess self.old self.new cell value }
     {
-        self.flags[cell as usize * self.values as usize + value as usize] = false;
+        let place = self.place(cell, value);
+        self.flags.clear(place);
         self.sizes[cell as usize] -= 1;
     }
 
@@ -122,7 +135,8 @@ impl Domains {
         requires gone { IsFalse (has self.old cell value) }
         ensures less { IsLess self.new self.old cell value }
     {
-        self.flags[cell as usize * self.values as usize + value as usize] = true;
+        let place = self.place(cell, value);
+        self.flags.set(place);
         self.sizes[cell as usize] += 1;
     }
 }
