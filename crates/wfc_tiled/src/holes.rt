@@ -109,7 +109,7 @@ impl Mask {
     }
 }
 
-/// Where a number stands among rising numbers.
+/// Where a number stands among rising numbers: in its own place, where all before it are among them.
 #[inline]
 fn place_in(numbers: &[u32], number: u32) -> Option<u32>
     requires rising { IsStrictlyIncreasing numbers.now }
@@ -117,6 +117,10 @@ fn place_in(numbers: &[u32], number: u32) -> Option<u32>
     ensures value { result ≡ position (nat_eq number) numbers.now }
     ensures within { IfSome result (λ at. at < length numbers.now) }
 {
+    let own = number as usize;
+    if own < numbers.len() && numbers[own] == number {
+        return Some(number);
+    }
     match numbers.binary_search(&number) {
         Ok(at) => Some(at as u32),
         Err(_) => None,
