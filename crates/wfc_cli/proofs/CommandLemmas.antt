@@ -184,7 +184,7 @@ known : (rules : List Rule) (words : List (List ℕ)) (before : Devices) (asked 
 known rules words before asked files is work = command_bridged commands.Fill words before asked files work.P work.posed sides_of_fill is
 
 -- the rule by which a run went
-ran_by : (rules : List Rule) (kind : RuleKind) (P : Network) (budget seed : ℕ) (end : Outcome × State) → end_of rules kind P budget seed ≡ Some end → (rule : Rule) × (outcome_of P rule budget (seeded seed) ≡ Some end)
+pub ran_by : (rules : List Rule) (kind : RuleKind) (P : Network) (budget seed : ℕ) (end : Outcome × State) → end_of rules kind P budget seed ≡ Some end → (rule : Rule) × (outcome_of P rule budget (seeded seed) ≡ Some end)
 ran_by rules kind P budget seed end is = by_rule (chosen kind rules) is
   where
     by_rule : (found : Option Rule) → end_by found P budget seed ≡ Some end → (rule : Rule) × (outcome_of P rule budget (seeded seed) ≡ Some end)

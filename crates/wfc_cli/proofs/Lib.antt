@@ -7,6 +7,7 @@ pub mod EndLemmas
 pub mod MapLemmas
 pub mod TheoremLemmas
 pub mod CommandLemmas
+pub mod DemoLemmas
 pub mod CheckLemmas
 pub mod RefuteLemmas
 pub mod RunTextLemmas

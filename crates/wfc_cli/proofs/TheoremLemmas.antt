@@ -222,13 +222,14 @@ is_device_fault rules words before after status answer five = elim (answer.answe
     by_fault asked fault is (of_task six) = absurd (omega (arith, six, is))
 
     by_reply : (asked : RequestView) (reply : Reply) → Ends rules asked before.folder after.folder reply → Delivers (said_of asked reply) before.out after.out before.err after.err status
-        → IsFileFault rules asked before.folder after.folder ⊎ HasRisen before.out.faults after.out.faults
+        → (IsFileFault rules asked before.folder after.folder × (after.out ≡ before.out)) ⊎ HasRisen before.out.faults after.out.faults
     by_reply asked (Ok answered) ends (inl delivered) = absurd (verdict_apart answered.verdict 5 (omega arith) (sym delivered.same_status ∙ five))
-    by_reply asked (Err fault) ends (inl delivered) = inl (by_fault asked fault (sym delivered.same_status ∙ five) (fault_from rules asked before.folder after.folder fault ends))
+    by_reply asked (Err fault) ends (inl delivered) = inl (by_fault asked fault (sym delivered.same_status ∙ five) (fault_from rules asked before.folder after.folder fault ends), delivered.taken)
     by_reply asked reply ends (inr cut) = inr (cut_counted (said_of asked reply).text before.out after.out cut.front)
 
     by_request : (request : Result RequestView CommandFault) → AnswersAsked rules request before after status
-        → (asked : RequestView) × (request ≡ Ok asked) × (IsFileFault rules asked before.folder after.folder ⊎ HasRisen before.out.faults after.out.faults)
+        → (asked : RequestView) × (request ≡ Ok asked)
+        × ((IsFileFault rules asked before.folder after.folder × (after.out ≡ before.out)) ⊎ HasRisen before.out.faults after.out.faults)
     by_request (Ok asked) answer = (asked, refl, by_reply asked answer.reply answer.ends answer.delivers)
     by_request (Err fault) answer = absurd (command_not_5 fault before after status answer five)
 

@@ -13,6 +13,7 @@ pub mod Answer
 pub mod Ending
 pub mod Theorem
 pub mod Claims
+pub mod DemoClaims
 pub mod CheckClaims
 pub mod RefuteClaims
 pub mod UpgradeClaims

@@ -36,10 +36,11 @@ abbrev pub IsFileFault : List Rule → RequestView → FolderView → FolderView
 IsFileFault rules asked before after =
     (name : List ℕ) × Asks (plan_of (kinds_of rules) asked) name × (IsMissing before after name ⊎ IsFaultOf before after name)
 
--- a file of the request, or the sink of the answer, is at fault
+-- a file of the request is at fault, and the sink of the answer is as before, or a fault of that sink was counted
 abbrev pub IsDeviceFault : List Rule → List (List ℕ) → Devices → Devices → Type 0
 IsDeviceFault rules words before after =
-    (asked : RequestView) × (request_of words ≡ Ok asked) × (IsFileFault rules asked before.folder after.folder ⊎ HasRisen before.out.faults after.out.faults)
+    (asked : RequestView) × (request_of words ≡ Ok asked)
+    × ((IsFileFault rules asked before.folder after.folder × (after.out ≡ before.out)) ⊎ HasRisen before.out.faults after.out.faults)
 
 -- no fault of a file that the request may read, or of the sink of the answer, was counted
 pub record NoneCounted (rules : List Rule) (asked : RequestView) (before after : Devices) : Type 0 where
