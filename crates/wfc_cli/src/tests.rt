@@ -3,6 +3,7 @@
 ghost use Rattle.std.specs.Prelude.{◌≤◌};
 
 mod devices;
+mod hostile;
 mod proofs;
 mod rows;
 mod tiles;

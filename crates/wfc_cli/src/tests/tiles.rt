@@ -324,12 +324,7 @@ static REFUTE: [Row; 4] = [
 ];
 
 static CHECK: [Row; 6] = [
-    (
-        "check lines.toml tiles 2 2 square.ref",
-        0,
-        "accepted\n",
-        "",
-    ),
+    ("check lines.toml tiles 2 2 square.ref", 0, "accepted\n", ""),
     (
         "check lines.toml tiles 2 2 square_2.ref --symmetry 8 --wrap-in",
         0,

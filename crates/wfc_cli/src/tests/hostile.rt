@@ -1,0 +1,212 @@
+//! Devices that fail at each of their calls in turn, and pieces of one byte.
+
+ghost use Rattle.std.specs.Prelude.{◌≤◌};
+
+use super::{check, folder_of, status_of};
+use std::alloc::{AllocError, Global};
+use std::process::Abort;
+use std::test::Fail;
+use wfc_outside::{MemoryFolder, MemorySink};
+
+/// More calls than any line makes.
+const MOST_CALLS: u64 = 200;
+
+const GRID: &str = "fill chk.txt 2 2 2";
+
+const PICTURE: &str = "fill one.ppm 1 2 1";
+
+const REFUTATION: &str = "check chk.txt 2 3 2 one.ref";
+
+const TILES: &str = "fill corner.toml tiles 2 1 --pins corner.pins";
+
+/// A town of 16 by 16, which is filled without a retraction.
+const TOWN: &str = "fill streets.txt 3 48 48 --symmetry 8 --wrap-in --seed 1 --budget 0";
+
+const BLOCK: &str = "################\n#...#...#...#...\n#...#...#...#...\n#...#...#...#...\n";
+
+const BLOCKS: usize = 4;
+
+/// The files of the tests, and the town.
+fn folder_with_town(alloc: Global, piece: usize) -> Result<MemoryFolder, AllocError>
+    requires some { 1 ≤ piece }
+{
+    let mut folder = folder_of(alloc, piece)?;
+    let mut town = Vec::new(alloc);
+    for _ in 0..BLOCKS {
+        town.extend_from_slice(BLOCK.as_bytes())?;
+    }
+    let name = String::from_str(alloc, "streets.txt")?;
+    folder.add(name, town).map_err(|_| AllocError)?;
+    Ok(folder)
+}
+
+/// A sink with room for each answer and line of these tests.
+fn sink_with_room(alloc: Global, piece: usize) -> Result<MemorySink, AllocError>
+    requires some { 1 ≤ piece }
+{
+    MemorySink::new(alloc, piece, 3000).map_err(|_| AllocError)
+}
+
+/// What a line writes over devices that give and take so many bytes at a time: its status is 0, and nothing is told.
+fn whole(rt: &(impl Abort + AllocGlobal), line: &str, piece: usize) -> Result<MemorySink, Fail>
+    requires some { 1 ≤ piece }
+{
+    let mut folder = folder_with_town(rt.alloc(), piece)?;
+    let mut out = sink_with_room(rt.alloc(), piece)?;
+    let mut err = sink_with_room(rt.alloc(), piece)?;
+    let status = status_of(rt.alloc(), line, &mut folder, &mut out, &mut err)?;
+    assert_eq!(rt; status, 0, "{line}");
+    assert_eq!(rt; err.bytes().len(), 0, "{line}");
+    Ok(out)
+}
+
+/// Each call of `read_at` fails in turn, where each gives five bytes: with status 5, and nothing is written. Behind so
+/// many calls there is none left to fail.
+fn check_reads(rt: &(impl Abort + AllocGlobal), line: &str, calls: u64) -> Result<(), Fail> {
+    let answer = whole(rt, line, 4000)?;
+    for call in 1..MOST_CALLS {
+        let mut folder = folder_with_town(rt.alloc(), 5)?;
+        folder.fail_at(call)?;
+        let mut out = sink_with_room(rt.alloc(), 100)?;
+        let mut err = sink_with_room(rt.alloc(), 100)?;
+        let status = status_of(rt.alloc(), line, &mut folder, &mut out, &mut err)?;
+        if status == 0 {
+            assert_eq!(rt; call - 1, calls, "{line}");
+            assert_eq!(rt; out.bytes(), answer.bytes(), "{line}");
+            return Ok(());
+        }
+        assert_eq!(rt; status, 5, "{line}");
+        assert_eq!(rt; out.bytes().len(), 0, "{line}");
+        assert!(rt; err.bytes().starts_with(b"wfc: device Failed "), "{line}");
+        assert!(rt;
+            err.bytes() != b"wfc: device Failed out\n".as_slice(),
+            "{line}"
+        );
+    }
+    fail(rt, line)
+}
+
+/// Each call of `write` of the output fails in turn, where each takes so many bytes: with status 5, and what it took is
+/// a front of the answer. Behind so many calls there is none left to fail.
+fn check_writes(
+    rt: &(impl Abort + AllocGlobal),
+    line: &str,
+    piece: usize,
+    calls: u64,
+) -> Result<(), Fail>
+    requires some { 1 ≤ piece }
+{
+    let answer = whole(rt, line, 4000)?;
+    for call in 1..MOST_CALLS {
+        let mut folder = folder_with_town(rt.alloc(), 100)?;
+        let mut out = sink_with_room(rt.alloc(), piece)?;
+        out.fail_at(call)?;
+        let mut err = sink_with_room(rt.alloc(), 100)?;
+        let status = status_of(rt.alloc(), line, &mut folder, &mut out, &mut err)?;
+        if status == 0 {
+            assert_eq!(rt; call - 1, calls, "{line}");
+            assert_eq!(rt; out.bytes(), answer.bytes(), "{line}");
+            return Ok(());
+        }
+        let taken = (call - 1).saturating_mul(piece as u64);
+        assert_eq!(rt; status, 5, "{line}");
+        assert_eq!(rt; out.bytes().len() as u64, taken, "{line}");
+        assert!(rt; answer.bytes().starts_with(out.bytes()), "{line}");
+        assert_eq!(rt;
+            err.bytes(),
+            b"wfc: device Failed out\n".as_slice(),
+            "{line}"
+        );
+    }
+    fail(rt, line)
+}
+
+/// Fails the test of a line that has more calls than any.
+fn fail(rt: &(impl Abort + AllocGlobal), line: &str) -> Result<(), Fail> {
+    assert!(rt; false, "{line}");
+    Ok(())
+}
+
+/// A line writes so many bytes, and the same ones over devices that give and take one at a time.
+fn check_bytes(rt: &(impl Abort + AllocGlobal), line: &str, count: usize) -> Result<(), Fail> {
+    let answer = whole(rt, line, 4000)?;
+    assert_eq!(rt; answer.bytes().len(), count, "{line}");
+    let same = whole(rt, line, 1)?;
+    assert_eq!(rt; same.bytes(), answer.bytes(), "{line}");
+    Ok(())
+}
+
+/// Each file is read up to its end: a call for each five bytes, and one more.
+#[test]
+fn each_read_fails(rt: HostRuntime) -> Result<(), Fail> {
+    check_reads(&rt, GRID, 3)?;
+    check_reads(&rt, PICTURE, 5)?;
+    check_reads(&rt, TILES, 34)?;
+    check_reads(&rt, REFUTATION, 14)?;
+    check_reads(&rt, TOWN, 56)
+}
+
+#[test]
+fn each_write_fails(rt: HostRuntime) -> Result<(), Fail> {
+    check_writes(&rt, GRID, 2, 3)?;
+    check_writes(&rt, PICTURE, 3, 6)?;
+    check_writes(&rt, TILES, 3, 4)?;
+    check_writes(&rt, REFUTATION, 2, 5)?;
+    check_writes(&rt, TOWN, 240, 10)
+}
+
+#[test]
+fn pieces_of_one_byte_change_nothing(rt: HostRuntime) -> Result<(), Fail> {
+    check_bytes(&rt, GRID, 6)?;
+    check_bytes(&rt, PICTURE, 17)?;
+    check_bytes(&rt, TILES, 10)?;
+    check_bytes(&rt, REFUTATION, 9)?;
+    check_bytes(&rt, TOWN, 2352)
+}
+
+/// An output with room for 100 bytes has these of a town.
+#[test]
+fn a_full_output_has_a_front(rt: HostRuntime) -> Result<(), Fail> {
+    let answer = whole(&rt, TOWN, 4000)?;
+    let mut folder = folder_with_town(rt.alloc(), 100)?;
+    let mut out = MemorySink::new(rt.alloc(), 4000, 100)?;
+    let mut err = sink_with_room(rt.alloc(), 100)?;
+    let status = status_of(rt.alloc(), TOWN, &mut folder, &mut out, &mut err)?;
+    assert_eq!(rt; status, 5);
+    assert_eq!(rt; out.bytes().len(), 100);
+    assert!(rt; answer.bytes().starts_with(out.bytes()));
+    assert_eq!(rt; err.bytes(), b"wfc: device Failed out\n".as_slice());
+    Ok(())
+}
+
+/// The whole answer was taken, and then finishing failed.
+#[test]
+fn finishing_fails(rt: HostRuntime) -> Result<(), Fail> {
+    let mut folder = folder_of(rt.alloc(), 100)?;
+    let mut out = sink_with_room(rt.alloc(), 100)?;
+    out.fail_finish();
+    let err = sink_with_room(rt.alloc(), 100)?;
+    let row = (
+        "fill chk.txt 2 2 2",
+        5,
+        "ab\nba\n",
+        "wfc: device Failed out\n",
+    );
+    check(&rt, row, &mut folder, out, err)
+}
+
+/// An error stream that fails at its first call changes neither the status nor the output.
+#[test]
+fn an_error_stream_fails_at_once(rt: HostRuntime) -> Result<(), Fail> {
+    let mut folder = folder_of(rt.alloc(), 100)?;
+    let out = sink_with_room(rt.alloc(), 100)?;
+    let mut err = sink_with_room(rt.alloc(), 100)?;
+    err.fail_at(1)?;
+    check(
+        &rt,
+        ("fill chk.txt 2 3 2", 1, "", ""),
+        &mut folder,
+        out,
+        err,
+    )
+}
