@@ -76,7 +76,7 @@ checks_refutation rules words before after status answer asked files is low = by
 
     by_end : CameTo rules asked files before after status → (work : IsCheckWork asked files) × (((status ≡ 0) × Accepts asked work before after) ⊎ ((status ≡ 1) × Refuses asked work before after))
     by_end (whole answered has same takes) =
-        let given = check_given asked files has.task (planned rules asked files commands.Check has.task is.built is.command_is has.is) in
+        let given = check_given asked files has.task (planned rules asked files commands.Check has.task is.command_is has.is) in
         let answers : Some (check_answer given.0) ≡ Some answered = subst (λ task. Answers rules asked task answered) (sym given.1) has.answers in
         let is_answer : check_answer given.0 ≡ answered = cc (answers) in
         by_found given.0 given.2 (same ∙ sym (ap (λ (a : Answered). verdict_status a.verdict) is_answer)) (taken given.0 (subst (λ (a : Answered). TakesWhole a.whole a.text before.out after.out) (sym is_answer) takes))

@@ -26,7 +26,7 @@ use Rattle.wfc_words.specs.declared.kinds.CommandKind.{CommandKind}
 use Rattle.wfc_words.specs.declared.kinds.CommandKind.TheVariants as commands
 use Rattle.wfc_words.specs.declared.kinds.SourceModel.{SourceModel}
 use Rattle.wfc_words.specs.declared.kinds.SourceModel.TheVariants.{Overlap, Tiles}
-use Rattle.wfc_task.specs.Built.{is_built, is_of_windows}
+use Rattle.wfc_task.specs.Sources.{is_of_windows}
 use Rattle.wfc_task.specs.Plan.{Plan, outcome}
 use Rattle.wfc_task.specs.Task.{Task, fill, fill_plan, fill_tiles, demo, learn_plan, plan_by}
 use Rattle.wfc_task.specs.declared.fault.Fault.{Fault}
@@ -47,7 +47,7 @@ use Rattle.wfc_cli.specs.Reply.{Answered, CutsOff, Delivers, Reply, Takes, Takes
 use Rattle.wfc_cli.specs.Runs.{end_by, end_of, seeded}
 use Rattle.wfc_cli.specs.Theorem.{task_of}
 use Rattle.wfc_cli.specs.declared.reply.Verdict.TheVariants as verdict
-use Rattle.wfc_cli.proofs.EndLemmas.{built_plan}
+use Rattle.wfc_cli.proofs.EndLemmas.{command_plan}
 use Rattle.wfc_cli.proofs.MapLemmas.{TakesSides, IsBridged, command_bridged, no_legal}
 use Rattle.wfc_cli.proofs.TheoremLemmas.{IsToldCall, ToldReply, fault_between, told, short, told_call, verdict_apart}
 
@@ -90,9 +90,9 @@ came_to rules command words before after status answer asked files given = by_ca
     by_call (told reply replied delivers) = by_reply reply replied delivers
 
 -- the outcome of the plan of its command
-pub planned : (rules : List Rule) (asked : RequestView) (files : List File) (command : CommandKind) (task : Task) → is_built asked ≡ true → asked.command ≡ command → task_of rules asked files ≡ Ok task
+pub planned : (rules : List Rule) (asked : RequestView) (files : List File) (command : CommandKind) (task : Task) → asked.command ≡ command → task_of rules asked files ≡ Ok task
     → outcome (plan_by command (kinds_of rules) asked) files ≡ Ok task
-planned rules asked files command task built is comes = ap (λ (plan : Plan Task). outcome plan files) (built_plan rules asked command built is) ∙ comes
+planned rules asked files command task is comes = ap (λ (plan : Plan Task). outcome plan files) (command_plan rules asked command is) ∙ comes
 
 -- ---- `learn`
 
@@ -118,7 +118,7 @@ writes_learned rules words before after status answer asked files is low = by_en
   where
     by_end : CameTo rules asked files before after status → (status ≡ 0) × (text : List ℕ) × IsRules asked files text × (after.out ≡ after_finish (after_bytes before.out text))
     by_end (whole answered has same takes) =
-        let learned = has_learned asked.source rules asked files has.task answered refl (planned rules asked files commands.Learn has.task is.built is.command_is has.is) has.answers in (
+        let learned = has_learned asked.source rules asked files has.task answered refl (planned rules asked files commands.Learn has.task is.command_is has.is) has.answers in (
           same ∙ sym (ap (λ (a : Answered). verdict_status a.verdict) learned.is),
           learned.text,
           learned.rules,
@@ -201,7 +201,7 @@ record HasFilled (rules : List Rule) (asked : RequestView) (files : List File) (
 fill_answered : (rules : List Rule) (words : List (List ℕ)) (before : Devices) (asked : RequestView) (files : List File) (answered : Answered) → IsCommand commands.Fill words before asked files → HasAnswered rules asked files answered
     → HasFilled rules asked files answered
 fill_answered rules words before asked files answered is has =
-    let made = has_fill_task asked.source rules asked files has.task refl (planned rules asked files commands.Fill has.task is.built is.command_is has.is) in
+    let made = has_fill_task asked.source rules asked files has.task refl (planned rules asked files commands.Fill has.task is.command_is has.is) in
     let answers = fill_answers asked.source rules asked files made.P made.posed made.layout answered (subst (λ task. Answers rules asked task answered) (sym made.same) has.answers) in
     by_end (record { chooser = made.chooser; P = made.P; posed = made.posed; layout = made.layout; laid = made.laid }) (end_of rules asked.rule made.P asked.budget asked.seed) refl answers
   where
@@ -318,7 +318,7 @@ writes_domains rules words before after status answer asked files is low = by_en
         → (P : Network) × (steps : List StepLine) × IsDomainsTask asked files P steps × (after.out ≡ after_finish (after_bytes before.out (steps_text P steps)))
         × (((status ≡ 0) × (is_dead P (greatest P []) ≡ false)) ⊎ ((status ≡ 1) × (is_dead P (greatest P []) ≡ true)))
     by_end (whole answered has same takes) =
-        let given = domains_given asked files has.task (planned rules asked files commands.Domains has.task is.built is.command_is has.is) in
+        let given = domains_given asked files has.task (planned rules asked files commands.Domains has.task is.command_is has.is) in
         let answers : Some (domains_answer given.0 given.1) ≡ Some answered = subst (λ task. Answers rules asked task answered) (sym given.2) has.answers in
         let is_answer : domains_answer given.0 given.1 ≡ answered = cc (answers) in (
           given.0,
@@ -369,7 +369,7 @@ writes_demo rules words before after status answer asked files is low = by_end (
         → (end : Outcome × State) × (end_of rules Fewest P demo_budget asked.number ≡ Some end) × (status ≡ outcome_status end.0)
         × (after.out ≡ after_finish (after_bytes before.out (demo_text (length patterns.windows) P.cells end.1.retractions status)))
     by_end (whole answered has same takes) =
-        let given = demo_given (kinds_of rules) asked files has.task (planned rules asked files commands.Demo has.task is.built is.command_is has.is) in
+        let given = demo_given (kinds_of rules) asked files has.task (planned rules asked files commands.Demo has.task is.command_is has.is) in
         by_answer answered same takes (end_of rules Fewest P demo_budget asked.number) refl (subst (λ task. Answers rules asked task answered) (sym given) has.answers)
     by_end (cut answered has five front) = absurd (omega (arith, five, low))
     by_end (none high same) = absurd (omega (arith, high, low))

@@ -10,14 +10,12 @@ use Rattle.std.specs.Prelude.{codes}
 use Rattle.wfc_words.specs.Commands.{takes_word}
 use Rattle.wfc_words.specs.InRange.{IsInRange}
 use Rattle.wfc_task.specs.Asked.{IsOutputAsked, IsSourceAsked}
-use Rattle.wfc_task.specs.Built.{is_built}
-use Rattle.wfc_task.proofs.CallerLemmas.{source_asked as source_in_range, output_asked as output_in_range, unbuilt_plan}
+use Rattle.wfc_task.proofs.CallerLemmas.{source_asked as source_in_range, output_asked as output_in_range}
 use Rattle.wfc_task.specs.Fault.{status_of}
-use Rattle.wfc_task.specs.Plan.{Goes, Plan, refuse}
+use Rattle.wfc_task.specs.Plan.{Goes, Plan}
 use Rattle.wfc_task.specs.Task.{Task, plan_by, plan_of}
 use Rattle.wfc_task.specs.declared.fault.Fault.{Fault}
 use Rattle.wfc_task.specs.declared.fault.Fault.TheVariants.{Refused}
-use Rattle.wfc_task.specs.declared.fault.Refusal.TheVariants.{NotBuilt}
 use Rattle.wfc_words.specs.Request.{request_of}
 use Rattle.wfc_words.specs.declared.fault.CommandFault.{CommandFault}
 use Rattle.wfc_words.specs.declared.fault.CommandFault.TheVariants.{NoMemory}
@@ -31,77 +29,65 @@ use Rattle.wfc_cli.specs.declared.reply.Verdict.{Verdict}
 use Rattle.wfc_cli.specs.declared.reply.Stop.{Stop}
 use Rattle.wfc_cli.specs.declared.reply.Stop.TheVariants.{Cut, Unanswered}
 
--- the plan of a request that is built is that of its command
-pub built_plan : (rules : List Rule) (asked : RequestView) (command : CommandKind) → is_built asked ≡ true → asked.command ≡ command → plan_by command (kinds_of rules) asked ≡ plan_of (kinds_of rules) asked
-built_plan rules asked command built is =
-    ap (λ command. plan_by command (kinds_of rules) asked) (sym is)
-    ∙ sym (ap (λ b. if b then plan_by asked.command (kinds_of rules) asked else refuse NotBuilt) built)
+-- the plan of a request is that of its command
+pub command_plan : (rules : List Rule) (asked : RequestView) (command : CommandKind) → asked.command ≡ command → plan_by command (kinds_of rules) asked ≡ plan_of (kinds_of rules) asked
+command_plan rules asked command is = ap (λ command. plan_by command (kinds_of rules) asked) (sym is)
 
 -- a command ends as its plan does, and then with its reply
-pub ends_by : (rules : List Rule) (asked : RequestView) (command : CommandKind) (before after : FolderView) (ended : Result Task Fault) (reply : Reply) → is_built asked ≡ true → asked.command ≡ command
+pub ends_by : (rules : List Rule) (asked : RequestView) (command : CommandKind) (before after : FolderView) (ended : Result Task Fault) (reply : Reply) → asked.command ≡ command
     → Goes (plan_by command (kinds_of rules) asked) before after ended → Replied rules asked ended reply → Ends rules asked before after reply
-ends_by rules asked command before after ended reply built is goes replied =
-    record { ended = ended; goes = subst (λ (plan : Plan Task). Goes plan before after ended) (built_plan rules asked command built is) goes; replied = replied }
+ends_by rules asked command before after ended reply is goes replied =
+    record { ended = ended; goes = subst (λ (plan : Plan Task). Goes plan before after ended) (command_plan rules asked command is) goes; replied = replied }
 
 -- the same of a command that was given the kinds of its choosers
-pub ends_with : (rules : List Rule) (asked : RequestView) (command : CommandKind) (kinds : List RuleKind) (before after : FolderView) (ended : Result Task Fault) (reply : Reply) → is_built asked ≡ true → asked.command ≡ command
+pub ends_with : (rules : List Rule) (asked : RequestView) (command : CommandKind) (kinds : List RuleKind) (before after : FolderView) (ended : Result Task Fault) (reply : Reply) → asked.command ≡ command
     → kinds ≡ kinds_of rules → Goes (plan_by command kinds asked) before after ended → Replied rules asked ended reply → Ends rules asked before after reply
-ends_with rules asked command kinds before after ended reply built is same goes replied =
-    ends_by rules asked command before after ended reply built is (subst (λ kinds. Goes (plan_by command kinds asked) before after ended) same goes) replied
+ends_with rules asked command kinds before after ended reply is same goes replied =
+    ends_by rules asked command before after ended reply is (subst (λ kinds. Goes (plan_by command kinds asked) before after ended) same goes) replied
 
 -- a command for which there is no memory
 pub ends_short : (rules : List Rule) (asked : RequestView) (folder : FolderView) (fault : Fault) → status_of fault ≡ 6 → Ends rules asked folder folder (Err fault)
 ends_short rules asked folder fault six = record { ended = Err fault; goes = inr (refl, (fault, six, refl)); replied = refl }
 
--- what isn't built is refused
-pub ends_unbuilt : (rules : List Rule) (asked : RequestView) (folder : FolderView) (sink : SinkView) → is_built asked ≡ false → EndsPut rules asked folder folder sink sink (Err (Unanswered (Refused NotBuilt)))
-ends_unbuilt rules asked folder sink unbuilt =
-    let ended : Result Task Fault = Err (Refused NotBuilt) in
-    record {
-      reply = Err (Refused NotBuilt);
-      ends = record { ended = ended; goes = subst (λ (plan : Plan Task). Goes plan folder folder ended) (sym (unbuilt_plan (kinds_of rules) asked unbuilt)) (inl (refl, refl)); replied = refl };
-      leaves = (refl, refl);
-    }
-
 -- a command that puts its text itself: its plan ended with a fault, and nothing was put
-pub put_none : (rules : List Rule) (asked : RequestView) (command : CommandKind) (before after : FolderView) (sink : SinkView) (fault : Fault) → is_built asked ≡ true → asked.command ≡ command
+pub put_none : (rules : List Rule) (asked : RequestView) (command : CommandKind) (before after : FolderView) (sink : SinkView) (fault : Fault) → asked.command ≡ command
     → Goes (plan_by command (kinds_of rules) asked) before after (Err fault) → EndsPut rules asked before after sink sink (Err (Unanswered fault))
-put_none rules asked command before after sink fault built is goes =
-    record { reply = Err fault; ends = ends_by rules asked command before after (Err fault) (Err fault) built is goes refl; leaves = (refl, refl) }
+put_none rules asked command before after sink fault is goes =
+    record { reply = Err fault; ends = ends_by rules asked command before after (Err fault) (Err fault) is goes refl; leaves = (refl, refl) }
 
 -- its plan came to a task, and then memory ran out before anything was put
-pub put_short : (rules : List Rule) (asked : RequestView) (command : CommandKind) (before after : FolderView) (sink : SinkView) (task : Task) (fault : Fault) → is_built asked ≡ true → asked.command ≡ command
+pub put_short : (rules : List Rule) (asked : RequestView) (command : CommandKind) (before after : FolderView) (sink : SinkView) (task : Task) (fault : Fault) → asked.command ≡ command
     → Goes (plan_by command (kinds_of rules) asked) before after (Ok task) → status_of fault ≡ 6 → EndsPut rules asked before after sink sink (Err (Unanswered fault))
-put_short rules asked command before after sink task fault built is goes short =
-    record { reply = Err fault; ends = ends_by rules asked command before after (Ok task) (Err fault) built is goes short; leaves = (refl, refl) }
+put_short rules asked command before after sink task fault is goes short =
+    record { reply = Err fault; ends = ends_by rules asked command before after (Ok task) (Err fault) is goes short; leaves = (refl, refl) }
 
 -- the whole text of an answer was put
-pub put_whole : (rules : List Rule) (asked : RequestView) (command : CommandKind) (before after : FolderView) (old new : SinkView) (task : Task) (verdict : Verdict) (text : Option (List ℕ)) → is_built asked ≡ true → asked.command ≡ command
+pub put_whole : (rules : List Rule) (asked : RequestView) (command : CommandKind) (before after : FolderView) (old new : SinkView) (task : Task) (verdict : Verdict) (text : Option (List ℕ)) → asked.command ≡ command
     → Goes (plan_by command (kinds_of rules) asked) before after (Ok task) → Replies rules asked task (Ok (record { verdict = verdict; text = text; whole = true })) → Takes text old new → EndsPut rules asked before after old new (Ok verdict)
-put_whole rules asked command before after old new task verdict text built is goes replied takes =
+put_whole rules asked command before after old new task verdict text is goes replied takes =
     record {
       reply = Ok (record { verdict = verdict; text = text; whole = true });
-      ends = ends_by rules asked command before after (Ok task) (Ok (record { verdict = verdict; text = text; whole = true })) built is goes replied;
+      ends = ends_by rules asked command before after (Ok task) (Ok (record { verdict = verdict; text = text; whole = true })) is goes replied;
       leaves = (refl, takes);
     }
 
 -- a front of it was put
-pub put_cut : (rules : List Rule) (asked : RequestView) (command : CommandKind) (before after : FolderView) (old new : SinkView) (task : Task) (verdict : Verdict) (text : Option (List ℕ)) → is_built asked ≡ true → asked.command ≡ command
+pub put_cut : (rules : List Rule) (asked : RequestView) (command : CommandKind) (before after : FolderView) (old new : SinkView) (task : Task) (verdict : Verdict) (text : Option (List ℕ)) → asked.command ≡ command
     → Goes (plan_by command (kinds_of rules) asked) before after (Ok task) → Replies rules asked task (Ok (record { verdict = verdict; text = text; whole = true })) → CutsOff text old new → EndsPut rules asked before after old new (Err Cut)
-put_cut rules asked command before after old new task verdict text built is goes replied cut =
+put_cut rules asked command before after old new task verdict text is goes replied cut =
     record {
       reply = Ok (record { verdict = verdict; text = text; whole = true });
-      ends = ends_by rules asked command before after (Ok task) (Ok (record { verdict = verdict; text = text; whole = true })) built is goes replied;
+      ends = ends_by rules asked command before after (Ok task) (Ok (record { verdict = verdict; text = text; whole = true })) is goes replied;
       leaves = cut;
     }
 
 -- a front of a text that isn't a whole answer was put
-pub put_front : (rules : List Rule) (asked : RequestView) (command : CommandKind) (before after : FolderView) (old new : SinkView) (task : Task) (verdict : Verdict) (text : Option (List ℕ)) → is_built asked ≡ true → asked.command ≡ command
+pub put_front : (rules : List Rule) (asked : RequestView) (command : CommandKind) (before after : FolderView) (old new : SinkView) (task : Task) (verdict : Verdict) (text : Option (List ℕ)) → asked.command ≡ command
     → Goes (plan_by command (kinds_of rules) asked) before after (Ok task) → Replies rules asked task (Ok (record { verdict = verdict; text = text; whole = false })) → CutsOff text old new → EndsPut rules asked before after old new (Err Cut)
-put_front rules asked command before after old new task verdict text built is goes replied cut =
+put_front rules asked command before after old new task verdict text is goes replied cut =
     record {
       reply = Ok (record { verdict = verdict; text = text; whole = false });
-      ends = ends_by rules asked command before after (Ok task) (Ok (record { verdict = verdict; text = text; whole = false })) built is goes replied;
+      ends = ends_by rules asked command before after (Ok task) (Ok (record { verdict = verdict; text = text; whole = false })) is goes replied;
       leaves = cut;
     }
 

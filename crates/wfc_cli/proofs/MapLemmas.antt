@@ -34,7 +34,7 @@ use Rattle.wfc_words.specs.declared.kinds.SourceModel.{SourceModel}
 use Rattle.wfc_words.specs.declared.kinds.SourceModel.TheVariants.{Overlap, Tiles}
 use Rattle.wfc_words.proofs.RangeLemmas.{asked-in_range}
 use Rattle.wfc_task.specs.Asked.{AskedBy, IsOutputAsked, IsSourceAsked}
-use Rattle.wfc_task.specs.Built.{side_of}
+use Rattle.wfc_task.specs.Sources.{side_of}
 use Rattle.wfc_task.specs.Checking.{shape_by, shape_of}
 use Rattle.wfc_task.specs.Posed.{OfTiles, Posed, PosedBy}
 use Rattle.wfc_task.specs.TileGiven.{HoldsPicture, HoldsPictures, IsTileSetOf}

@@ -34,7 +34,6 @@ use Rattle.wfc_search.proofs.Counts.{run_counts}
 use Rattle.wfc_search.proofs.Proved.{run_proved}
 use Rattle.wfc_words.specs.RequestView.{RequestView}
 use Rattle.wfc_words.specs.declared.kinds.CommandKind.TheVariants as commands
-use Rattle.wfc_task.specs.Built.{is_built}
 use Rattle.wfc_task.specs.Checking.{shape_of}
 use Rattle.wfc_task.specs.Fault.{status_of}
 use Rattle.wfc_task.specs.Plan.{Goes}
@@ -289,41 +288,41 @@ whole_text rules asked P rule o old mid found put =
 pub refute_short : (rules : List Rule) (asked : RequestView) (folder : FolderView) (sink : SinkView) (fault : Fault) → status_of fault ≡ 6 → EndsPut rules asked folder folder sink sink (Err (Unanswered fault))
 refute_short rules asked folder sink fault six = record { reply = Err fault; ends = ends_short rules asked folder fault six; leaves = (refl, refl) }
 
-pub refute_none : (rules : List Rule) (asked : RequestView) (kinds : List RuleKind) (before after : FolderView) (sink : SinkView) (fault : Fault) → is_built asked ≡ true → asked.command ≡ commands.Refute → kinds ≡ kinds_of rules
+pub refute_none : (rules : List Rule) (asked : RequestView) (kinds : List RuleKind) (before after : FolderView) (sink : SinkView) (fault : Fault) → asked.command ≡ commands.Refute → kinds ≡ kinds_of rules
     → Goes (plan_by commands.Refute kinds asked) before after (Err fault) → EndsPut rules asked before after sink sink (Err (Unanswered fault))
-refute_none rules asked kinds before after sink fault built is same goes =
-    put_none rules asked commands.Refute before after sink fault built is
+refute_none rules asked kinds before after sink fault is same goes =
+    put_none rules asked commands.Refute before after sink fault is
     (subst (λ (ks : List RuleKind). let end : Result Task Fault = Err fault in Goes (plan_by commands.Refute ks asked) before after end) same goes)
 
-pub refute_stopped : (rules : List Rule) (asked : RequestView) (kinds : List RuleKind) (before after : FolderView) (old new : SinkView) (P : Network) (rule : Rule) (kind : RuleKind) (stop : Stop) → is_built asked ≡ true → asked.command ≡ commands.Refute
+pub refute_stopped : (rules : List Rule) (asked : RequestView) (kinds : List RuleKind) (before after : FolderView) (old new : SinkView) (P : Network) (rule : Rule) (kind : RuleKind) (stop : Stop) → asked.command ≡ commands.Refute
     → kinds ≡ kinds_of rules → Goes (plan_by commands.Refute kinds asked) before after (Ok (tasks.refute P)) → kind ≡ asked.rule → chosen kind rules ≡ Some rule → Refutes rule asked P old new (Err stop)
     → EndsPut rules asked before after old new (Err stop)
-refute_stopped rules asked kinds before after old new P rule kind stop built is same goes of_kind found refutes = by_stop stop refutes
+refute_stopped rules asked kinds before after old new P rule kind stop is same goes of_kind found refutes = by_stop stop refutes
   where
     by_stop : (stop : Stop) → Refutes rule asked P old new (Err stop) → EndsPut rules asked before after old new (Err stop)
     by_stop Cut parted =
         let text : Option (List ℕ) = Some (refutation_text asked P (take parted.count parted.lines)) in
-        put_front rules asked commands.Refute before after old new (tasks.refute P) verdict.Done text built is (goes_by rules asked kinds before after (tasks.refute P) same goes)
+        put_front rules asked commands.Refute before after old new (tasks.refute P) verdict.Done text is (goes_by rules asked kinds before after (tasks.refute P) same goes)
         (subst (λ (r : Option Rule). RefutesBy r asked P (record { verdict = verdict.Done; text = text; whole = false })) (sym (ap (λ (k : RuleKind). chosen k rules) (sym of_kind) ∙ found))
         (inr (record { lines = parted.lines; begun = parted.begun; count = parted.count; within = parted.within; front = refl; text = refl })))
         parted.fault
     by_stop (Unanswered fault) short =
         subst (λ (n : SinkView). EndsPut rules asked before after old n (Err (Unanswered fault))) (sym short.1)
-        (put_short rules asked commands.Refute before after old (tasks.refute P) fault built is (goes_by rules asked kinds before after (tasks.refute P) same goes) short.0)
+        (put_short rules asked commands.Refute before after old (tasks.refute P) fault is (goes_by rules asked kinds before after (tasks.refute P) same goes) short.0)
 
-pub refute_done : (rules : List Rule) (asked : RequestView) (kinds : List RuleKind) (before after : FolderView) (old mid new : SinkView) (P : Network) (rule : Rule) (kind : RuleKind) (o : Outcome) (ended : Verdict) → is_built asked ≡ true
+pub refute_done : (rules : List Rule) (asked : RequestView) (kinds : List RuleKind) (before after : FolderView) (old mid new : SinkView) (P : Network) (rule : Rule) (kind : RuleKind) (o : Outcome) (ended : Verdict)
     → asked.command ≡ commands.Refute → kinds ≡ kinds_of rules → Goes (plan_by commands.Refute kinds asked) before after (Ok (tasks.refute P)) → kind ≡ asked.rule → chosen kind rules ≡ Some rule → Refutes rule asked P old mid (Ok o)
     → new ≡ after_finish mid → ended ≡ refute_verdict asked.budget o → EndsPut rules asked before after old new (Ok ended)
-refute_done rules asked kinds before after old mid new P rule kind o ended built is same goes of_kind found put finished ends =
+refute_done rules asked kinds before after old mid new P rule kind o ended is same goes of_kind found put finished ends =
     subst (λ (v : Verdict). EndsPut rules asked before after old new (Ok v)) (sym ends)
-    (put_whole rules asked commands.Refute before after old new (tasks.refute P) (refute_verdict asked.budget o) (Some (refutation_text asked P put.lines)) built is
+    (put_whole rules asked commands.Refute before after old new (tasks.refute P) (refute_verdict asked.budget o) (Some (refutation_text asked P put.lines)) is
     (goes_by rules asked kinds before after (tasks.refute P) same goes) (whole_text rules asked P rule o old mid (ap (λ (k : RuleKind). chosen k rules) (sym of_kind) ∙ found) put) (finished ∙ ap after_finish put.put))
 
-pub refute_unfinished : (rules : List Rule) (asked : RequestView) (kinds : List RuleKind) (before after : FolderView) (old mid new : SinkView) (P : Network) (rule : Rule) (kind : RuleKind) (o : Outcome) → is_built asked ≡ true
+pub refute_unfinished : (rules : List Rule) (asked : RequestView) (kinds : List RuleKind) (before after : FolderView) (old mid new : SinkView) (P : Network) (rule : Rule) (kind : RuleKind) (o : Outcome)
     → asked.command ≡ commands.Refute → kinds ≡ kinds_of rules → Goes (plan_by commands.Refute kinds asked) before after (Ok (tasks.refute P)) → kind ≡ asked.rule → chosen kind rules ≡ Some rule → Refutes rule asked P old mid (Ok o)
     → IsFault mid new → EndsPut rules asked before after old new (Err Cut)
-refute_unfinished rules asked kinds before after old mid new P rule kind o built is same goes of_kind found put fault =
-    put_cut rules asked commands.Refute before after old new (tasks.refute P) (refute_verdict asked.budget o) (Some (refutation_text asked P put.lines)) built is
+refute_unfinished rules asked kinds before after old mid new P rule kind o is same goes of_kind found put fault =
+    put_cut rules asked commands.Refute before after old new (tasks.refute P) (refute_verdict asked.budget o) (Some (refutation_text asked P put.lines)) is
     (goes_by rules asked kinds before after (tasks.refute P) same goes) (whole_text rules asked P rule o old mid (ap (λ (k : RuleKind). chosen k rules) (sym of_kind) ∙ found) put) (fault_behind old mid new (refutation_text asked P put.lines) put.put fault)
 
 -- ---- the claims
@@ -414,7 +413,7 @@ writes_refutation rules words before after status answer asked files is low = by
 
     by_end : CameTo rules asked files before after status → (work : RefuteWork rules asked files) × WritesRun asked work before after status
     by_end (whole answered has same takes) =
-        let given = refute_given (kinds_of rules) asked files has.task (planned rules asked files commands.Refute has.task is.built is.command_is has.is) in
+        let given = refute_given (kinds_of rules) asked files has.task (planned rules asked files commands.Refute has.task is.command_is has.is) in
         let refuted = has_refuted rules words before asked files has.task answered is given.0 given.1 given.2 has.answers in
         by_answer answered refuted.work same takes refuted.is
     by_end (cut answered has five front) = absurd (omega (arith, five, low))
@@ -444,7 +443,7 @@ writes_run_front rules words before after status answer asked files is five = by
     by_end : CameTo rules asked files before after status → (after.out ≡ before.out) ⊎ ((work : RefuteWork rules asked files) × IsRunFront asked work before after)
     by_end (whole answered has same takes) = absurd (verdict_apart answered.verdict 5 (omega arith) (sym same ∙ five))
     by_end (cut answered has _ front) =
-        let given = refute_given (kinds_of rules) asked files has.task (planned rules asked files commands.Refute has.task is.built is.command_is has.is) in
+        let given = refute_given (kinds_of rules) asked files has.task (planned rules asked files commands.Refute has.task is.command_is has.is) in
         let refuted = has_refuted rules words before asked files has.task answered is given.0 given.1 given.2 has.answers in
         inr (refuted.work, by_answer answered refuted.work front refuted.is)
     by_end (none high same) = inl same

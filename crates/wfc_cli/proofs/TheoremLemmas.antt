@@ -11,16 +11,14 @@ use Rattle.wfc_words.specs.Request.{request_of}
 use Rattle.wfc_words.specs.RequestView.{RequestView}
 use Rattle.wfc_words.specs.declared.fault.CommandFault.{CommandFault}
 use Rattle.wfc_words.specs.declared.fault.CommandFault.TheVariants as words_fault
-use Rattle.wfc_task.specs.Built.{is_built}
 use Rattle.wfc_task.specs.Fault.{class_of, class_status, reading_status, status_of}
 use Rattle.wfc_task.specs.Plan.{Goes, IsHindered, IsShort, Plan, ToldEnd, refuse}
 use Rattle.wfc_task.specs.Task.{Task, plan_of}
 use Rattle.wfc_task.specs.declared.fault.Fault.{Fault}
 use Rattle.wfc_task.specs.declared.fault.Fault.TheVariants.{Unread, Refused}
-use Rattle.wfc_task.specs.declared.fault.Refusal.TheVariants.{NotBuilt}
 use Rattle.wfc_task.specs.declared.fault.Class.{Class}
-use Rattle.wfc_task.specs.declared.fault.Class.TheVariants.{Words, Input, Memory, NoChooser}
-use Rattle.wfc_task.proofs.CallerLemmas.{goes_device, goes_quiet, goes_told, unbuilt_plan, words_unbuilt}
+use Rattle.wfc_task.specs.declared.fault.Class.TheVariants.{Input, Memory, NoChooser}
+use Rattle.wfc_task.proofs.CallerLemmas.{goes_device, goes_quiet, goes_told, never_3}
 use Rattle.wfc_cli.specs.Choosers.{kinds_of}
 use Rattle.wfc_cli.specs.ErrorLine.{command_status}
 use Rattle.wfc_cli.specs.Reply.{Reply, CutsOff, Delivers, IsDelivered, Takes, TakesWhole, said_of, verdict_status}
@@ -54,7 +52,6 @@ fault_between (Unread source fault) = by_reading fault
 fault_between (Refused refusal) = by_class (class_of refusal)
   where
     by_class : (class : Class) → (3 ≤ class_status class) × (class_status class ≤ 7)
-    by_class Words = (omega arith, omega arith)
     by_class Input = (omega arith, omega arith)
     by_class Memory = (omega arith, omega arith)
     by_class NoChooser = (omega arith, omega arith)
@@ -91,18 +88,14 @@ fault_from rules asked before after fault ends = by_end ends.ended ends.goes end
 refused_status : (fault : CommandFault) (before after : Devices) (status : ℕ) → IsRefusedCall fault before after status → (status ≡ command_status fault) × (after.out ≡ before.out)
 refused_status fault before after status call = elim (call.delivers) [ inl delivered ↦ (delivered.same_status, delivered.taken) | inr cut ↦ absurd (cut.front) ]
 
--- a call for a request ends with the status of other words only where it asks for what isn't built
-only_unbuilt : (rules : List Rule) (asked : RequestView) (before after : Devices) (status : ℕ) → IsAnswerTo rules asked before after status → status ≡ 3 → is_built asked ≡ false
-only_unbuilt rules asked before after status answer three = by_reply answer.reply answer.ends answer.delivers
+-- a call for a request never ends with the status of other words
+never_other : (rules : List Rule) (asked : RequestView) (before after : Devices) (status : ℕ) → IsAnswerTo rules asked before after status → status ≡ 3 → ⊥
+never_other rules asked before after status answer three = by_reply answer.reply answer.delivers
   where
-    by_fault : (fault : Fault) → status_of fault ≡ 3 → FaultOf rules asked before.folder after.folder fault → is_built asked ≡ false
-    by_fault fault is (of_plan goes) = words_unbuilt (kinds_of rules) asked before.folder after.folder fault goes is
-    by_fault fault is (of_task six) = absurd (omega (arith, six, is))
-
-    by_reply : (reply : Reply) → Ends rules asked before.folder after.folder reply → Delivers (said_of asked reply) before.out after.out before.err after.err status → is_built asked ≡ false
-    by_reply (Ok answered) ends (inl delivered) = absurd (verdict_apart answered.verdict 3 (omega arith) (sym delivered.same_status ∙ three))
-    by_reply (Err fault) ends (inl delivered) = by_fault fault (sym delivered.same_status ∙ three) (fault_from rules asked before.folder after.folder fault ends)
-    by_reply reply ends (inr cut) = absurd (omega (arith, cut.five, three))
+    by_reply : (reply : Reply) → Delivers (said_of asked reply) before.out after.out before.err after.err status → ⊥
+    by_reply (Ok answered) (inl delivered) = verdict_apart answered.verdict 3 (omega arith) (sym delivered.same_status ∙ three)
+    by_reply (Err fault) (inl delivered) = never_3 fault (sym delivered.same_status ∙ three)
+    by_reply reply (inr cut) = omega (arith, cut.five, three)
 
 -- status 3 comes only where the words are no command
 pub is_no_command : (rules : List Rule) (words : List (List ℕ)) (before after : Devices) (status : ℕ) → IsAnswer rules words before after status → status ≡ 3 → IsNoCommand words
@@ -112,27 +105,13 @@ is_no_command rules words before after status answer three = elim (answer.answer
 ]
   where
     by_request : (request : Result RequestView CommandFault) → request_of words ≡ request → AnswersAsked rules request before after status → IsNoCommand words
-    by_request (Ok asked) is answer = inr (asked, is, only_unbuilt rules asked before after status answer three)
-    by_request (Err fault) is answer = inl (ap (λ r. r) (cc (is)))
-
--- what isn't built is refused, or memory runs out
-unbuilt_3 : (rules : List Rule) (asked : RequestView) (before after : Devices) (status : ℕ) → IsAnswerTo rules asked before after status → is_built asked ≡ false → (status ≡ 3) ⊎ (status ≡ 6)
-unbuilt_3 rules asked before after status answer unbuilt = by_end answer.ends.ended (subst (λ (plan : Plan Task). Goes plan before.folder after.folder answer.ends.ended) (unbuilt_plan (kinds_of rules) asked unbuilt) answer.ends.goes) answer.ends.replied
-  where
-    by_status : (fault : Fault) → answer.reply ≡ Err fault → (status_of fault ≡ 3) ⊎ (status_of fault ≡ 6) → (status ≡ 3) ⊎ (status ≡ 6)
-    by_status fault is low = elim (subst (λ r. Delivers (said_of asked r) before.out after.out before.err after.err status) is answer.delivers) [
-      | inl delivered ↦ elim low [ inl three ↦ inl (delivered.same_status ∙ three) | inr six ↦ inr (delivered.same_status ∙ six) ]
-      | inr cut ↦ absurd cut.front
-    ]
-
-    by_end : (ended : Result Task Fault) → Goes (refuse NotBuilt) before.folder after.folder ended → Replied rules asked ended answer.reply → (status ≡ 3) ⊎ (status ≡ 6)
-    by_end ended (inl refused) replied = by_status (Refused NotBuilt) (replied_fault rules asked ended answer.reply (Refused NotBuilt) refused.1 replied) (inl refl)
-    by_end ended (inr (same, (fault, six, is))) replied = by_status fault (replied_fault rules asked ended answer.reply fault is replied) (inr six)
+    by_request (Ok asked) is answer = absurd (never_other rules asked before after status answer three)
+    by_request (Err fault) is answer = subst IsErr (sym is) refl
 
 -- words that are no command are answered with status 3, or memory runs out
 pub no_command_is_3 : (rules : List Rule) (words : List (List ℕ)) (before after : Devices) (status : ℕ) → IsAnswer rules words before after status → IsNoCommand words → (status ≡ 3) ⊎ (status ≡ 6)
 no_command_is_3 rules words before after status answer none = elim (answer.answers) [
-  | inl to ↦ by_none to none
+  | inl to ↦ by_request (request_of words) to none
   | inr short ↦ inr (refused_status words_fault.NoMemory before after status short).0
 ]
   where
@@ -142,10 +121,6 @@ no_command_is_3 rules words before after status answer none = elim (answer.answe
       | inl three ↦ inl ((refused_status fault before after status answer).0 ∙ three)
       | inr six ↦ inr ((refused_status fault before after status answer).0 ∙ six)
     ]
-
-    by_none : AnswersAsked rules (request_of words) before after status → IsNoCommand words → (status ≡ 3) ⊎ (status ≡ 6)
-    by_none to (inl no_request) = by_request (request_of words) to no_request
-    by_none to (inr (asked, spelled, unbuilt)) = unbuilt_3 rules asked before after status (subst (λ request. AnswersAsked rules request before after status) spelled to) unbuilt
 
 -- what is taken whole is taken
 taken_whole : (whole : Bool) (text : Option (List ℕ)) (old new : SinkView) → TakesWhole whole text old new → Takes text old new

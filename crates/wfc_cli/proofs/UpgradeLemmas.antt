@@ -20,7 +20,6 @@ use Rattle.wfc_check.specs.declared.fault.CheckFault.TheVariants.{NoMemory}
 use Rattle.wfc_check.proofs.ExactLemmas.{accepted_refutation, refutation_accepted, refutation_none}
 use Rattle.wfc_words.specs.RequestView.{RequestView}
 use Rattle.wfc_words.specs.declared.kinds.CommandKind.TheVariants as commands
-use Rattle.wfc_task.specs.Built.{is_built}
 use Rattle.wfc_task.specs.Checking.{shape_of}
 use Rattle.wfc_task.specs.Plan.{Goes}
 use Rattle.wfc_task.specs.Task as tasks
@@ -75,21 +74,21 @@ answer_is : (asked : RequestView) (P : Network) (bytes : List ℕ) (found : Opti
 answer_is asked P bytes None = refl
 answer_is asked P bytes (Some fault) = refl
 
-pub upgrade_ended : (rules : List Rule) (asked : RequestView) (before after : FolderView) (old new : SinkView) (P : Network) (bytes : List ℕ) (ended : Result Verdict Stop) → is_built asked ≡ true → asked.command ≡ commands.Upgrade
+pub upgrade_ended : (rules : List Rule) (asked : RequestView) (before after : FolderView) (old new : SinkView) (P : Network) (bytes : List ℕ) (ended : Result Verdict Stop) → asked.command ≡ commands.Upgrade
     → Goes (plan_by commands.Upgrade (kinds_of rules) asked) before after (Ok (tasks.upgrade P bytes)) → Upgrades asked P bytes old new ended → EndsPut rules asked before after old new ended
-upgrade_ended rules asked before after old new P bytes ended built is goes upgrades = by_end ended upgrades
+upgrade_ended rules asked before after old new P bytes ended is goes upgrades = by_end ended upgrades
   where
     by_end : (ended : Result Verdict Stop) → Answering (upgrade_answer asked P bytes (first_fault asked P bytes)) old new ended → EndsPut rules asked before after old new ended
     by_end (Ok said) put =
         subst (λ (v : Verdict). EndsPut rules asked before after old new (Ok v)) (sym put.0)
-        (put_whole rules asked commands.Upgrade before after old new (tasks.upgrade P bytes) (upgrade_answer asked P bytes (first_fault asked P bytes)).verdict (upgrade_answer asked P bytes (first_fault asked P bytes)).text built is goes
+        (put_whole rules asked commands.Upgrade before after old new (tasks.upgrade P bytes) (upgrade_answer asked P bytes (first_fault asked P bytes)).verdict (upgrade_answer asked P bytes (first_fault asked P bytes)).text is goes
         (ap (λ (a : Answered). Some a) (sym (answer_is asked P bytes (first_fault asked P bytes)))) put.1)
     by_end (Err Cut) parted =
-        put_cut rules asked commands.Upgrade before after old new (tasks.upgrade P bytes) (upgrade_answer asked P bytes (first_fault asked P bytes)).verdict (upgrade_answer asked P bytes (first_fault asked P bytes)).text built is goes
+        put_cut rules asked commands.Upgrade before after old new (tasks.upgrade P bytes) (upgrade_answer asked P bytes (first_fault asked P bytes)).verdict (upgrade_answer asked P bytes (first_fault asked P bytes)).text is goes
         (ap (λ (a : Answered). Some a) (sym (answer_is asked P bytes (first_fault asked P bytes)))) parted
     by_end (Err (Unanswered fault)) short =
         subst (λ (n : SinkView). EndsPut rules asked before after old n (Err (Unanswered fault))) (sym short.1)
-        (put_short rules asked commands.Upgrade before after old (tasks.upgrade P bytes) fault built is goes short.0)
+        (put_short rules asked commands.Upgrade before after old (tasks.upgrade P bytes) fault is goes short.0)
 
 -- ---- the claims
 
@@ -170,7 +169,7 @@ upgrades_refutation rules words before after status answer asked files is low = 
 
     by_end : CameTo rules asked files before after status → (work : UpgradeWork asked files) × (((status ≡ 0) × WritesUpgraded asked work before after) ⊎ ((status ≡ 1) × KeepsOld asked work before after))
     by_end (whole answered has same takes) =
-        let given = upgrade_given asked files has.task (planned rules asked files commands.Upgrade has.task is.built is.command_is has.is) in
+        let given = upgrade_given asked files has.task (planned rules asked files commands.Upgrade has.task is.command_is has.is) in
         let said = has_upgraded rules asked files has.task answered given.0 given.1 given.2 given.3 has.answers in
         let work = said.work in
         by_found work (first_fault asked work.P work.bytes) refl (same ∙ sym (ap (λ (a : Answered). verdict_status a.verdict) said.is))
@@ -191,7 +190,7 @@ upgrades_front rules words before after status answer asked files is five = by_e
     by_end : CameTo rules asked files before after status → (after.out ≡ before.out) ⊎ ((work : UpgradeWork asked files) × WritesUpgradedFront asked work before after)
     by_end (whole answered has same takes) = absurd (verdict_apart answered.verdict 5 (omega arith) (sym same ∙ five))
     by_end (cut answered has _ front) =
-        let given = upgrade_given asked files has.task (planned rules asked files commands.Upgrade has.task is.built is.command_is has.is) in
+        let given = upgrade_given asked files has.task (planned rules asked files commands.Upgrade has.task is.command_is has.is) in
         let said = has_upgraded rules asked files has.task answered given.0 given.1 given.2 given.3 has.answers in
         let work = said.work in
         inr (work, by_found work (first_fault asked work.P work.bytes) refl (subst (λ (a : Answered). CutsOff a.text before.out after.out) (sym said.is) front))

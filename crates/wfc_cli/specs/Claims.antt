@@ -22,7 +22,6 @@ use Rattle.wfc_words.specs.declared.kinds.CommandKind.{CommandKind}
 use Rattle.wfc_words.specs.declared.kinds.CommandKind.TheVariants as commands
 use Rattle.wfc_words.specs.declared.kinds.SourceModel.{SourceModel}
 use Rattle.wfc_words.specs.declared.kinds.SourceModel.TheVariants.{Overlap, Tiles}
-use Rattle.wfc_task.specs.Built.{is_built}
 use Rattle.wfc_task.specs.Demo.{demo_patterns, demo_problem}
 use Rattle.wfc_task.specs.DomainsGiven.{IsDomainsTask}
 use Rattle.wfc_task.specs.Given.{IsTaught}
@@ -37,12 +36,11 @@ use Rattle.wfc_cli.specs.Reply.{Takes}
 use Rattle.wfc_cli.specs.Runs.{end_of}
 use Rattle.wfc_cli.specs.Theorem.{IsGiven}
 
--- the words ask for this command, which is built for what they name, and the folder tells these files
+-- the words ask for this command, and the folder tells these files
 pub record IsCommand (command : CommandKind) (words : List (List ℕ)) (before : Devices)
     (asked : RequestView) (files : List File) : Type 0 where
   pub given : IsGiven words before asked files
   pub command_is : asked.command ≡ command
-  pub built : is_built asked ≡ true
 
 -- ---- `fill`
 

@@ -58,9 +58,8 @@ abbrev pub unread_text : Source → ReadFault → List ℕ → List ℕ
 unread_text (source.Picture tile) fault file = picture_text tile fault file
 unread_text _ fault file = text_of_reading fault file
 
--- the text of a refusal; what isn't built is told as words that are no request
+-- the text of a refusal
 abbrev pub refusal_text : RequestView → Refusal → List ℕ
-refusal_text asked refused.NotBuilt = text_of_command words.Refused
 refusal_text asked (refused.Chooser rule) = text_of_chooser rule
 refusal_text asked (refused.Grid which fault) = grid_text which fault (name_of asked which)
 refusal_text asked (refused.Ppm which fault) = text_of_ppm fault (name_of asked which)

@@ -15,7 +15,7 @@ use Rattle.wfc_tileset.specs.Pictures.{kind_of, side_of}
 use Rattle.wfc_words.specs.RequestView.{RequestView}
 use Rattle.wfc_words.specs.declared.kinds.SourceModel.{SourceModel}
 use Rattle.wfc_words.specs.declared.kinds.SourceModel.TheVariants.{Overlap, Tiles}
-use Rattle.wfc_task.specs.Built as windows
+use Rattle.wfc_task.specs.Sources as windows
 use Rattle.wfc_task.specs.Posed.{Posed, PosedBy}
 
 -- the output that a request asks for

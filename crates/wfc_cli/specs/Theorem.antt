@@ -1,12 +1,11 @@
 -- The words of the main theorem on a call of the program.
-use Rattle.std.specs.Prelude.{◌≡◌, ℕ, ◌⊎◌, false, List, Some, Result, Ok, Err, IsErr}
+use Rattle.std.specs.Prelude.{◌≡◌, ℕ, ◌⊎◌, List, Some, Result, Ok, Err, IsErr}
 use Rattle.wfc_outside.specs.Count.{HasRisen}
 use Rattle.wfc_outside.specs.Folder.{File, FolderView, IsMissing, IsFaultOf}
 use Rattle.wfc_choose.specs.Pick.{Rule}
 use Rattle.wfc_words.specs.Request.{request_of}
 use Rattle.wfc_words.specs.RequestView.{RequestView}
 use Rattle.wfc_task.specs.Fault.{status_of}
-use Rattle.wfc_task.specs.Built.{is_built}
 use Rattle.wfc_task.specs.Plan.{Asks, outcome}
 use Rattle.wfc_task.specs.Task.{Task, plan_of}
 use Rattle.wfc_task.specs.declared.fault.Fault.{Fault}
@@ -19,9 +18,9 @@ pub record IsGiven (words : List (List ℕ)) (before : Devices) (asked : Request
   pub spelled : request_of words ≡ Ok asked
   pub told : before.folder.contents ≡ Some files
 
--- the words are no request, or ask for what isn't built
+-- the words are no request
 abbrev pub IsNoCommand : List (List ℕ) → Type 0
-IsNoCommand words = IsErr (request_of words) ⊎ ((asked : RequestView) × (request_of words ≡ Ok asked) × (is_built asked ≡ false))
+IsNoCommand words = IsErr (request_of words)
 
 -- the task of the request over these files
 abbrev pub task_of : List Rule → RequestView → List File → Result Task Fault

@@ -1,11 +1,8 @@
 //! The commands.
 
-ghost use Rattle.std.specs.Prelude.{◌≡◌, map};
+ghost use Rattle.std.specs.Prelude.{map};
 ghost use Rattle.wfc_words.specs.InRange.{IsInRange};
-ghost use Rattle.wfc_task.specs.declared.fault.Fault.TheVariants.{Refused};
-ghost use Rattle.wfc_task.specs.declared.fault.Refusal.TheVariants.{NotBuilt};
 ghost use Rattle.wfc_cli.specs.Ending.{EndsPut};
-ghost use Rattle.wfc_cli.specs.declared.reply.Stop.TheVariants.{Unanswered};
 
 mod check;
 mod demo;
@@ -27,7 +24,6 @@ use std::alloc::Global;
 use upgrade::upgrade;
 use wfc_choose::Chooser;
 use wfc_outside::{Folder, Sink};
-use wfc_task::{Fault, Refusal, is_built};
 use wfc_words::{CommandKind, Request};
 
 /// Runs the command that is asked for, and puts its text.
@@ -42,9 +38,6 @@ pub(crate) fn run<F: Folder, O: Sink>(
     ensures ends { EndsPut (map (λ chooser. (told chooser).rule) choosers.items) request.now
         (F.seen folder.old) (F.seen folder.new) (O.seen out.old) (O.seen out.new) result }
 {
-    if !is_built(request) {
-        return Err(unbuilt());
-    }
     match request.command {
         CommandKind::Learn => put(out, learn(alloc, request, folder)),
         CommandKind::Fill => put(out, fill(alloc, request, choosers, folder)),
@@ -53,16 +46,5 @@ pub(crate) fn run<F: Folder, O: Sink>(
         CommandKind::Refute => refute(alloc, request, choosers, folder, out),
         CommandKind::Check => put(out, check(alloc, request, folder)),
         CommandKind::Upgrade => upgrade(alloc, request, folder, out),
-    }
-}
-
-/// What isn't built is refused.
-fn unbuilt() -> Stop
-    ensures value { result ≡ Unanswered (Refused NotBuilt) }
-{
-    Stop::Unanswered {
-        fault: Fault::Refused {
-            refusal: Refusal::NotBuilt,
-        },
     }
 }

@@ -92,7 +92,6 @@ fn tell_refusal<E: Sink>(err: &mut E, request: &Request, refusal: Refusal) -> Re
     ensures told { Puts (E.seen err.old) (E.seen err.new) (line (refusal_text request.now refusal)) result }
 {
     match refusal {
-        Refusal::NotBuilt => command(err, CommandFault::Refused),
         Refusal::Chooser { rule } => chooser(err, rule),
         Refusal::Grid { source, fault } => not_grid(err, source, fault, name(request, source)),
         Refusal::Ppm { source, fault } => ppm(err, fault, name(request, source)),

@@ -1,7 +1,6 @@
 -- What callers cite: how calls go by plans, what plans come to where the files are told, and which requests are answered.
 pub use Rattle.wfc_task.proofs.PlanLemmas.{refused, goes_step, goes_same, goes_on, goes_out, goes_done, goes_quiet, goes_device, goes_told, goes_read, outcome_parts, outcome_on}
-pub use Rattle.wfc_task.proofs.WordLemmas.{NotWords, NeverWords, never_then, never_3}
-pub use Rattle.wfc_task.proofs.CommandWordLemmas.{unbuilt_plan, words_unbuilt}
+pub use Rattle.wfc_task.proofs.StatusLemmas.{never_3}
 pub use Rattle.wfc_task.proofs.RequestLemmas.{output_asked, source_asked}
 pub use Rattle.wfc_task.proofs.FillingLemmas.{step_is, unrefused, indexed_is, learned_is, built_is}
 pub use Rattle.wfc_task.proofs.GivenLemmas.{given_demo, chooser_given, given_chooser, sample_lesson}

@@ -41,7 +41,7 @@ use Rattle.wfc_render.specs.Map.{is_of_kind}
 use Rattle.wfc_words.specs.RequestView.{RequestView}
 use Rattle.wfc_task.specs.declared.fault.Refusal.{Refusal}
 use Rattle.wfc_task.specs.Asked.{IsSampleAsked}
-use Rattle.wfc_task.specs.Built.{side_of}
+use Rattle.wfc_task.specs.Sources.{side_of}
 use Rattle.wfc_task.specs.Filling.{IsNumbered, IsLesson, IsPosed, IsSampled}
 use Rattle.wfc_task.specs.Plan.{GivesStep}
 use Rattle.wfc_task.specs.Sampled.{SampledView, colours_of, of_grid, of_ppm, symbols_of}

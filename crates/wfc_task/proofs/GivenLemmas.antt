@@ -43,7 +43,7 @@ use Rattle.wfc_task.specs.declared.fault.Fault.{Fault}
 use Rattle.wfc_task.specs.declared.fault.Refusal.{Refusal}
 use Rattle.wfc_task.specs.declared.fault.Refusal.TheVariants as refusals
 use Rattle.wfc_task.specs.declared.task.Taught.{Taught}
-use Rattle.wfc_task.specs.Built.{is_picture_name, side_of}
+use Rattle.wfc_task.specs.Sources.{is_picture_name, side_of}
 use Rattle.wfc_task.specs.Demo.{demo_patterns, demo_problem}
 use Rattle.wfc_task.specs.Given.{IsFile, IsSample, IsSampleFile, Shows, ShowsGrid, ShowsPpm, HoldsPins, HoldsSteps, IsProblemOf}
 use Rattle.wfc_task.specs.Plan.{Plan, done, step, and_then, most_bytes, reading_of, after_reading, outcome}

@@ -1,5 +1,5 @@
 pub mod PlanLemmas
-pub mod WordLemmas
+pub mod StatusLemmas
 pub mod StepLemmas
 pub mod DemoLemmas
 pub mod TaskLemmas
@@ -14,8 +14,6 @@ pub mod TaskGivenLemmas
 pub mod RefutingLemmas
 pub mod UpgradingLemmas
 pub mod CheckingLemmas
-pub mod TileWordLemmas
-pub mod CommandWordLemmas
 pub mod RequestLemmas
 pub mod CountLemmas
 pub mod CallerLemmas

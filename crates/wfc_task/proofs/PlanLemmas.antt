@@ -10,7 +10,7 @@ use Rattle.wfc_task.specs.declared.fault.Source.{Source}
 use Rattle.wfc_task.specs.declared.fault.Fault.{Fault}
 use Rattle.wfc_task.specs.declared.fault.Fault.TheVariants.{Unread, Refused}
 use Rattle.wfc_task.specs.declared.fault.Refusal.{Refusal}
-use Rattle.wfc_task.specs.declared.fault.Class.TheVariants.{Words, Input, Memory, NoChooser}
+use Rattle.wfc_task.specs.declared.fault.Class.TheVariants.{Input, Memory, NoChooser}
 use Rattle.wfc_task.specs.declared.fault.Class.{Class}
 use Rattle.wfc_task.specs.Fault.{class_of, class_status, status_of}
 use Rattle.wfc_task.specs.Plan.{Plan, done, refuse, read, step, and_then, CausesUnread, IsRead, Follows, IsShort, Goes, GivesStep, reading_of, after_reading, outcome, Asks, ToldEnd}
@@ -103,7 +103,6 @@ pub goes_device : {T : Type 0} (plan : Plan T) (before after : FolderView) (faul
 goes_device plan before after fault (inl follows) five = by_plan plan before after fault follows five
   where
     not_5 : (class : Class) → class_status class ≡ 5 → ⊥
-    not_5 Words is = omega arith
     not_5 Input is = omega arith
     not_5 Memory is = omega arith
     not_5 NoChooser is = omega arith

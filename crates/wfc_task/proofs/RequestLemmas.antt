@@ -7,7 +7,7 @@ use Rattle.wfc_words.specs.RequestView.{RequestView}
 use Rattle.wfc_words.specs.declared.kinds.SourceModel.{SourceModel}
 use Rattle.wfc_words.specs.declared.kinds.SourceModel.TheVariants.{Overlap, Tiles}
 use Rattle.wfc_task.specs.Asked.{AskedBy, IsOutputAsked, IsSourceAsked}
-use Rattle.wfc_task.specs.Built.{side_of}
+use Rattle.wfc_task.specs.Sources.{side_of}
 
 -- a command with a model
 pub source_asked : (asked : RequestView) → IsInRange asked → takes_word asked.command (codes "MODEL") ≡ true → IsSourceAsked asked

@@ -15,7 +15,7 @@ use Rattle.wfc_tileset.specs.Tiles.{TileSetView}
 use Rattle.wfc_words.specs.RequestView.{RequestView}
 use Rattle.wfc_words.specs.declared.kinds.SourceModel.{SourceModel}
 use Rattle.wfc_words.specs.declared.kinds.SourceModel.TheVariants.{Overlap, Tiles}
-use Rattle.wfc_task.specs.Built.{is_of_windows}
+use Rattle.wfc_task.specs.Sources.{is_of_windows}
 use Rattle.wfc_task.specs.DomainsGiven.{IsDomainsTask}
 use Rattle.wfc_task.specs.Given.{IsFillTask, IsTaught}
 use Rattle.wfc_task.specs.Plan.{Plan, done, step, outcome}

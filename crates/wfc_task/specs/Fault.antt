@@ -21,11 +21,11 @@ use Rattle.wfc_tiled.specs.declared.reading.MaskFault.TheVariants as masks
 use Rattle.wfc_tileset.specs.declared.fault.TileFault.{TileFault}
 use Rattle.wfc_tileset.specs.declared.fault.TileFault.TheVariants as tiles
 use Rattle.wfc_task.specs.declared.fault.Refusal.{Refusal}
-use Rattle.wfc_task.specs.declared.fault.Refusal.TheVariants.{NotBuilt, Chooser, Grid, Ppm, Colours, Learn, Render, Pins, Build, Steps, Range, TooLong, NoMemory, Tiles, Mask}
+use Rattle.wfc_task.specs.declared.fault.Refusal.TheVariants.{Chooser, Grid, Ppm, Colours, Learn, Render, Pins, Build, Steps, Range, TooLong, NoMemory, Tiles, Mask}
 use Rattle.wfc_task.specs.declared.fault.Fault.{Fault}
 use Rattle.wfc_task.specs.declared.fault.Fault.TheVariants.{Unread, Refused}
 use Rattle.wfc_task.specs.declared.fault.Class.{Class}
-use Rattle.wfc_task.specs.declared.fault.Class.TheVariants.{Words, Input, Memory, NoChooser}
+use Rattle.wfc_task.specs.declared.fault.Class.TheVariants.{Input, Memory, NoChooser}
 
 -- the class of a fault of each kind: want of memory is the machine's, all else the file's
 abbrev pub grid_class : GridFault → Class
@@ -66,7 +66,6 @@ mask_class _ = Input
 
 -- the class of a refusal
 abbrev pub class_of : Refusal → Class
-class_of NotBuilt = Words
 class_of (Chooser rule) = NoChooser
 class_of (Grid source fault) = grid_class fault
 class_of (Ppm source fault) = ppm_class fault
@@ -84,7 +83,6 @@ class_of (Mask fault) = mask_class fault
 
 -- the exit status of a class
 abbrev pub class_status : Class → ℕ
-class_status Words = 3
 class_status Input = 4
 class_status Memory = 6
 class_status NoChooser = 7

@@ -24,7 +24,7 @@ use Rattle.wfc_choose.specs.declared.RuleKind.{RuleKind}
 use Rattle.wfc_render.specs.Layout.{layout_of}
 use Rattle.wfc_render.specs.declared.form.Layout.{Layout}
 use Rattle.wfc_words.specs.RequestView.{RequestView}
-use Rattle.wfc_task.specs.Built.{is_picture_name, side_of}
+use Rattle.wfc_task.specs.Sources.{is_picture_name, side_of}
 use Rattle.wfc_task.specs.Sampled.{SampledView, of_grid, of_ppm}
 
 -- the file of that name has these bytes, which are no more than a file may have

@@ -1,6 +1,6 @@
 pub mod Fault
 pub mod Plan
-pub mod Built
+pub mod Sources
 pub mod Asked
 pub mod Sampled
 pub mod Steps

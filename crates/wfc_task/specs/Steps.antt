@@ -29,7 +29,7 @@ use Rattle.wfc_task.specs.declared.fault.Source.{Source}
 use Rattle.wfc_task.specs.declared.fault.Source.TheVariants.{Sample}
 use Rattle.wfc_task.specs.declared.fault.Refusal.{Refusal}
 use Rattle.wfc_task.specs.declared.fault.Refusal.TheVariants.{Chooser, Grid, Ppm, Colours, Learn, Render, Pins, Build, Steps, Range}
-use Rattle.wfc_task.specs.Built.{is_picture_name, side_of}
+use Rattle.wfc_task.specs.Sources.{is_picture_name, side_of}
 use Rattle.wfc_task.specs.Sampled.{SampledView, of_grid, of_ppm}
 
 -- a result whose fault is refused

@@ -1,5 +1,5 @@
 -- The task of a request: what is read and refused, in order, and what it comes to.
-use Rattle.std.specs.Prelude.{ℕ, List, Option, if◌then◌else◌}
+use Rattle.std.specs.Prelude.{ℕ, List, Option}
 use Rattle.wfc_picture.specs.declared.symbol.Symbol.{Symbol}
 use Rattle.wfc_pattern.specs.Patterns.{PatternsView}
 use Rattle.wfc_problem.specs.Network.{Network}
@@ -16,11 +16,9 @@ use Rattle.wfc_words.specs.declared.kinds.CommandKind.TheVariants as commands
 use Rattle.wfc_words.specs.declared.kinds.SourceModel.{SourceModel}
 use Rattle.wfc_words.specs.declared.kinds.SourceModel.TheVariants.{Overlap, Tiles}
 use Rattle.wfc_task.specs.declared.fault.Source.TheVariants.{Refutation}
-use Rattle.wfc_task.specs.declared.fault.Refusal.TheVariants.{NotBuilt}
-use Rattle.wfc_task.specs.Built.{is_built}
 use Rattle.wfc_task.specs.Checking.{refutation_name, refutation_plan}
 use Rattle.wfc_task.specs.Demo.{demo_patterns, demo_problem}
-use Rattle.wfc_task.specs.Plan.{Plan, done, refuse, step, and_then}
+use Rattle.wfc_task.specs.Plan.{Plan, done, step, and_then}
 use Rattle.wfc_task.specs.Posed.{posed_plan}
 use Rattle.wfc_task.specs.SamplePlans.{file_plan, problem_plan, sample_plan, steps_plan}
 use Rattle.wfc_task.specs.Steps.{chosen, laid}
@@ -115,7 +113,7 @@ upgrade_plan asked =
     and_then (refutation_file_plan asked) (λ bytes.
     done (upgrade P bytes)))
 
--- the plan of a request that is answered
+-- the plan of a request, by its command
 abbrev pub plan_by : CommandKind → List RuleKind → RequestView → Plan Task
 plan_by commands.Learn kinds asked = learn_plan asked
 plan_by commands.Fill kinds asked = fill_plan kinds asked
@@ -127,4 +125,4 @@ plan_by commands.Upgrade kinds asked = upgrade_plan asked
 
 -- the plan of a request, where these are the kinds of the choosers
 abbrev pub plan_of : List RuleKind → RequestView → Plan Task
-plan_of kinds asked = if is_built asked then plan_by asked.command kinds asked else refuse NotBuilt
+plan_of kinds asked = plan_by asked.command kinds asked

@@ -30,8 +30,6 @@ pub enum Source {
 /// What a step refuses that reads nothing.
 #[derive(Clone, Copy, Debug, PartialEq, Eq)]
 pub enum Refusal {
-    /// The words ask for what this program doesn't do yet.
-    NotBuilt,
     /// No chooser goes by this rule.
     Chooser { rule: RuleKind },
     /// A file spells no grid.
@@ -74,8 +72,6 @@ pub enum Fault {
 /// What refusals of one status have in common.
 #[derive(Clone, Copy, Debug, PartialEq, Eq)]
 pub enum Class {
-    /// The words are at fault.
-    Words,
     /// A file, a size or a limit is at fault.
     Input,
     /// Memory ran out.
@@ -92,7 +88,6 @@ impl Refusal {
         ensures value { result ≡ class_of self.now }
     {
         match self {
-            Refusal::NotBuilt => Class::Words,
             Refusal::Chooser { .. } => Class::NoChooser,
             Refusal::Grid { fault, .. } => grid_class(*fault),
             Refusal::Ppm { fault, .. } => ppm_class(*fault),
@@ -199,7 +194,6 @@ impl Class {
         ensures value { result ≡ class_status self }
     {
         match self {
-            Class::Words => 3,
             Class::Input => 4,
             Class::Memory => 6,
             Class::NoChooser => 7,

@@ -11,7 +11,7 @@ ghost use Rattle.wfc_choose.specs.declared.RuleKind.{RuleKind};
 ghost use Rattle.wfc_choose.specs.declared.RuleKind.TheVariants.{Scanline, Fewest, Ranked};
 ghost use Rattle.wfc_render.specs.declared.form.Layout.{Layout};
 ghost use Rattle.wfc_words.specs.RequestView.{RequestView};
-ghost use Rattle.wfc_task.specs.Built.{is_built, is_of_windows, is_picture_name};
+ghost use Rattle.wfc_task.specs.Sources.{is_of_windows, is_picture_name};
 ghost use Rattle.wfc_task.specs.Demo.{demo_patterns, demo_problem, demo_symbol};
 ghost use Rattle.wfc_check.specs.declared.fault.CheckFault.{CheckFault};
 ghost use Rattle.wfc_task.specs.CheckGiven.{IsCheckTask};
@@ -23,11 +23,11 @@ ghost use Rattle.wfc_task.specs.Posed.{Posed, posed_plan};
 ghost use Rattle.wfc_task.specs.TileGiven.{IsTileFillTask, IsTileSetOf};
 ghost use Rattle.wfc_tiled.specs.Mask.{MaskView};
 ghost use Rattle.wfc_tileset.specs.Tiles.{TileSetView};
-ghost use Rattle.wfc_task.specs.Plan.{outcome, refuse};
+ghost use Rattle.wfc_task.specs.Plan.{outcome};
 ghost use Rattle.wfc_task.specs.Steps.{chosen};
-ghost use Rattle.wfc_task.specs.Task.{check, check_plan, demo, demo_plan, domains, domains_plan, fill, fill_plan, fill_tiles, learn, learn_plan, learn_tiles, plan_of, refute, refute_plan, upgrade, upgrade_plan};
+ghost use Rattle.wfc_task.specs.Task.{check, check_plan, demo, demo_plan, domains, domains_plan, fill, fill_plan, fill_tiles, learn, learn_plan, learn_tiles, refute, refute_plan, upgrade, upgrade_plan};
 ghost use Rattle.wfc_outside.specs.declared.whole.ReadFault.TheVariants.{Missing};
-ghost use Rattle.wfc_task.specs.declared.fault.Refusal.TheVariants.{NotBuilt, Chooser};
+ghost use Rattle.wfc_task.specs.declared.fault.Refusal.TheVariants.{Chooser};
 ghost use Rattle.wfc_task.specs.declared.fault.Fault.TheVariants.{Refused, Unread};
 ghost use Rattle.wfc_task.specs.declared.fault.Source.TheVariants.{Sample};
 
@@ -104,12 +104,6 @@ pub fn demo_tasks_are_given()
     ensures task { (kinds : List RuleKind) (asked : RequestView) (files : List File) →
         Contains kinds Fewest → outcome (demo_plan kinds asked) files
         ≡ Ok (demo (demo_patterns asked.number) (demo_problem asked.number)) }
-{}
-
-/// What isn't built is refused before anything is read.
-pub fn unbuilt_requests_are_refused()
-    ensures refused { (kinds : List RuleKind) (asked : RequestView) → is_built asked ≡ false →
-        plan_of kinds asked ≡ refuse NotBuilt }
 {}
 
 /// Choosers, names of pictures, and the pixels of demonstrations by example.

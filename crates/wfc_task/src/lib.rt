@@ -1,7 +1,6 @@
 //! The task of a request: what is read for it and refused, in order, and what it comes to.
 #![tactic(auto)]
 
-mod built;
 mod checking;
 mod demo;
 mod fault;
@@ -10,13 +9,13 @@ pub mod laws;
 mod posing;
 mod refuting;
 mod sampled;
+mod sources;
 mod steps;
 mod task;
 mod tile_files;
 mod tile_steps;
 mod upgrading;
 
-pub use built::is_built;
 pub use checking::{check_task, shape};
 pub use fault::{Class, Fault, Refusal, Source};
 pub use refuting::refute_task;

@@ -7,8 +7,8 @@ ghost use Rattle.wfc_task.specs.Plan.{GivesStep};
 ghost use Rattle.wfc_task.specs.Sampled.{colours_of, of_grid, of_ppm, sampled_view, symbols_of};
 ghost use Rattle.wfc_task.specs.Steps.{sampled_in};
 
-use crate::built::is_picture_name;
 use crate::fault::{Refusal, Source};
+use crate::sources::is_picture_name;
 use crate::steps::{grid, ppm};
 use std::alloc::Global;
 use wfc_grid::{Grid, MAX_CELLS};

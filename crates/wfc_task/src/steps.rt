@@ -17,9 +17,9 @@ ghost use Rattle.wfc_task.specs.Sampled.{sampled_view};
 ghost use Rattle.wfc_task.specs.Steps.{chosen, coloured, fitting, grid_in, laid, or_refuse, pins_in, posed, ppm_in, same_rule, steps_in, taught};
 ghost use Rattle.wfc_task.specs.declared.fault.Refusal.TheVariants.{Build, Colours, Learn};
 
-use crate::built::side_of;
 use crate::fault::{Refusal, Source};
 use crate::sampled::Sampled;
+use crate::sources::side_of;
 use crate::task::Taught;
 use std::alloc::Global;
 use wfc_choose::RuleKind;

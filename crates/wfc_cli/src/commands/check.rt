@@ -3,7 +3,6 @@
 ghost use Rattle.std.specs.Prelude.{◌≡◌, true, IfOk, List};
 ghost use Rattle.wfc_choose.specs.Pick.{Rule};
 ghost use Rattle.wfc_task.specs.Asked.{IsOutputAsked, IsSourceAsked};
-ghost use Rattle.wfc_task.specs.Built.{is_built};
 ghost use Rattle.wfc_words.specs.declared.kinds.CommandKind.TheVariants.{Check};
 ghost use Rattle.wfc_cli.specs.Answer.{Ends};
 ghost use Rattle.wfc_cli.specs.Answers.{check_answer};
@@ -23,7 +22,6 @@ pub(super) fn check<F: Folder>(
     folder: &mut F,
 ) -> Result<Answer, Fault>
     requires check { request.now.command ≡ Check }
-    requires built { is_built request.now ≡ true }
     requires source { IsSourceAsked request.now }
     requires output { IsOutputAsked request.now }
     ensures ends { (rules : List Rule) → Ends rules request.now (F.seen folder.old) (F.seen folder.new) (reply_view result) }

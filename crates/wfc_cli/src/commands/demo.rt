@@ -2,7 +2,6 @@
 
 ghost use Rattle.std.specs.Prelude.{◌≡◌, ◌++◌, true, IfOk, OnOk, Contains, Some, map};
 ghost use Rattle.wfc_choose.specs.declared.RuleKind.TheVariants.{Fewest};
-ghost use Rattle.wfc_task.specs.Built.{is_built};
 ghost use Rattle.wfc_words.specs.declared.kinds.CommandKind.TheVariants as commands;
 ghost use Rattle.wfc_cli.specs.Answer.{Ends};
 ghost use Rattle.wfc_cli.specs.Answers.{count_line, demo_answer, demo_budget, demo_text, demo_verdict};
@@ -31,7 +30,6 @@ pub(super) fn demo<F: Folder>(
     folder: &mut F,
 ) -> Result<Answer, Fault>
     requires demo { request.now.command ≡ commands.Demo }
-    requires built { is_built request.now ≡ true }
     ensures ends { Ends (map (λ chooser. (told chooser).rule) choosers.items) request.now
         (F.seen folder.old) (F.seen folder.new) (reply_view result) }
 {

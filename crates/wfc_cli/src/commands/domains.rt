@@ -12,7 +12,6 @@ ghost use Rattle.wfc_problem.specs.Network.{values};
 ghost use Rattle.wfc_problem.specs.declared.Literal.{Literal};
 ghost use Rattle.wfc_render.specs.Block.{block_text};
 ghost use Rattle.wfc_task.specs.Asked.{IsOutputAsked, IsSourceAsked};
-ghost use Rattle.wfc_task.specs.Built.{is_built};
 ghost use Rattle.wfc_words.specs.declared.kinds.CommandKind.TheVariants as commands;
 ghost use Rattle.wfc_cli.specs.Answers.{after_step, root_verdict, shown, steps_text};
 ghost use Rattle.wfc_cli.specs.Ending.{EndsPut};
@@ -39,7 +38,6 @@ pub(super) fn domains<F: Folder, O: Sink>(
     out: &mut O,
 ) -> Result<Verdict, Stop>
     requires domains { request.now.command ≡ commands.Domains }
-    requires built { is_built request.now ≡ true }
     requires source { IsSourceAsked request.now }
     requires output { IsOutputAsked request.now }
     ensures ends { (rules : List Rule) → EndsPut rules request.now (F.seen folder.old) (F.seen folder.new) (O.seen out.old) (O.seen out.new) result }

@@ -3,7 +3,6 @@
 ghost use Rattle.std.specs.Prelude.{◌≡◌, true, IfOk, Contains, Some, map};
 ghost use Rattle.wfc_problem.specs.Assignment.{IsLegalAssignment};
 ghost use Rattle.wfc_task.specs.Asked.{IsOutputAsked, IsSourceAsked};
-ghost use Rattle.wfc_task.specs.Built.{is_built};
 ghost use Rattle.wfc_task.specs.Filling.{IsFilling, IsFillingBy, IsTileFilling};
 ghost use Rattle.wfc_task.specs.Tiling.{masked};
 ghost use Rattle.wfc_tiled.specs.Maps.{tile_map};
@@ -37,7 +36,6 @@ pub(super) fn fill<F: Folder>(
     folder: &mut F,
 ) -> Result<Answer, Fault>
     requires fill { request.now.command ≡ Fill }
-    requires built { is_built request.now ≡ true }
     requires source { IsSourceAsked request.now }
     requires output { IsOutputAsked request.now }
     ensures ends { Ends (map (λ chooser. (told chooser).rule) choosers.items) request.now

@@ -3,7 +3,6 @@
 ghost use Rattle.std.specs.Prelude.{◌≡◌, true, IfOk, List};
 ghost use Rattle.wfc_choose.specs.Pick.{Rule};
 ghost use Rattle.wfc_task.specs.Asked.{IsSourceAsked};
-ghost use Rattle.wfc_task.specs.Built.{is_built};
 ghost use Rattle.wfc_words.specs.declared.kinds.CommandKind.TheVariants.{Learn};
 ghost use Rattle.wfc_cli.specs.Answer.{Ends};
 ghost use Rattle.wfc_cli.specs.Held.{rules_text};
@@ -24,7 +23,6 @@ pub(super) fn learn<F: Folder>(
     folder: &mut F,
 ) -> Result<Answer, Fault>
     requires learn { request.now.command ≡ Learn }
-    requires built { is_built request.now ≡ true }
     requires source { IsSourceAsked request.now }
     ensures ends { (rules : List Rule) → Ends rules request.now (F.seen folder.old) (F.seen folder.new) (reply_view result) }
 {

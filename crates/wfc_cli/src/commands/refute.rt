@@ -9,7 +9,7 @@ ghost use Rattle.wfc_proof.specs.declared.heads.Format.TheVariants.{One, Two};
 ghost use Rattle.wfc_search.specs.Search.{IsGoing, IsReady};
 ghost use Rattle.wfc_search.specs.Shown.{shown};
 ghost use Rattle.wfc_task.specs.Asked.{IsOutputAsked, IsSourceAsked};
-ghost use Rattle.wfc_task.specs.Built.{is_built, side_of};
+ghost use Rattle.wfc_task.specs.Sources.{side_of};
 ghost use Rattle.wfc_task.specs.Checking.{shape_of};
 ghost use Rattle.wfc_words.specs.declared.kinds.CommandKind.TheVariants as commands;
 ghost use Rattle.wfc_cli.specs.Ending.{EndsPut};
@@ -41,7 +41,6 @@ pub(super) fn refute<F: Folder, O: Sink>(
     out: &mut O,
 ) -> Result<Verdict, Stop>
     requires refute { request.now.command ≡ commands.Refute }
-    requires built { is_built request.now ≡ true }
     requires source { IsSourceAsked request.now }
     requires output { IsOutputAsked request.now }
     ensures ends { EndsPut (map (λ chooser. (told chooser).rule) choosers.items) request.now

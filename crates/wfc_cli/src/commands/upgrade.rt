@@ -6,7 +6,7 @@ ghost use Rattle.wfc_check.specs.Text.{checked, IsRefutation};
 ghost use Rattle.wfc_proof.specs.ProofText.{IsProofText};
 ghost use Rattle.wfc_proof.specs.Upgrade.{upgraded_text};
 ghost use Rattle.wfc_task.specs.Asked.{IsOutputAsked, IsSourceAsked};
-ghost use Rattle.wfc_task.specs.Built.{is_built, side_of};
+ghost use Rattle.wfc_task.specs.Sources.{side_of};
 ghost use Rattle.wfc_words.specs.declared.kinds.CommandKind.TheVariants as commands;
 ghost use Rattle.wfc_cli.specs.Ending.{EndsPut};
 ghost use Rattle.wfc_cli.specs.Reply.{done_with};
@@ -29,7 +29,6 @@ pub(super) fn upgrade<F: Folder, O: Sink>(
     out: &mut O,
 ) -> Result<Verdict, Stop>
     requires upgrade { request.now.command ≡ commands.Upgrade }
-    requires built { is_built request.now ≡ true }
     requires source { IsSourceAsked request.now }
     requires output { IsOutputAsked request.now }
     ensures ends { (rules : List Rule) → EndsPut rules request.now (F.seen folder.old) (F.seen folder.new) (O.seen out.old) (O.seen out.new) result }

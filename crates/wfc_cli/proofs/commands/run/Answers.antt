@@ -1,11 +1,8 @@
 use Rattle.std.proofs.Common.{sym, ap, ◌∙◌, refl}
 use Rattle.wfc_words.specs.RequestView.{RequestView}
 use Rattle.wfc_words.specs.declared.kinds.CommandKind.TheVariants.{Learn, Fill, Domains, Check, Refute, Upgrade}
-use Rattle.wfc_cli.proofs.EndLemmas.{ends_unbuilt, output_asked, source_asked}
+use Rattle.wfc_cli.proofs.EndLemmas.{output_asked, source_asked}
 use Rattle.wfc_cli.proofs.commands.run.Goals as goal
-
-pub returns-then-not-is_built : goal.returns-then-not-is_built
-returns-then-not-is_built g c = record { ends = rw c.unbuilt.ensures.value (ends_unbuilt _ _ _ _ (sym c.if-not-is_built.ensures.value)) }
 
 pub learn-requires-clause-source : goal.learn-requires-clause-source
 learn-requires-clause-source g c =

@@ -8,14 +8,14 @@ use Rattle.wfc_cli.proofs.commands.check.check.Goals as goal
 pub returns-in_err-found : goal.returns-in_err-found
 returns-in_err-found g c =
     let p = err_from_is_err_and c.from_residual.result c.from_residual.ensures.1 in
-    record { ends = λ rules. rw (p.1, p.2) (ends_by rules c.args.request.now Check _ _ (Err c.in_err-found.field-0.0) _ c.requires.built c.requires.check c.in_err-found.ensures.goes refl) }
+    record { ends = λ rules. rw (p.1, p.2) (ends_by rules c.args.request.now Check _ _ (Err c.in_err-found.field-0.0) _ c.requires.check c.in_err-found.ensures.goes refl) }
 
 pub returns-in-Ok : goal.returns-in-Ok
 returns-in-Ok g c = record {
-  ends = λ rules. ends_by rules c.args.request.now Check _ _ (Ok (task.check c.in_ok-found.found)) _ c.requires.built c.requires.check c.in_ok-found.ensures.goes (ap Some (sym c.in-Ok.ensures.answers));
+  ends = λ rules. ends_by rules c.args.request.now Check _ _ (Ok (task.check c.in_ok-found.found)) _ c.requires.check c.in_ok-found.ensures.goes (ap Some (sym c.in-Ok.ensures.answers));
 }
 
 pub returns-in-Err : goal.returns-in-Err
 returns-in-Err g c = record {
-  ends = λ rules. ends_by rules c.args.request.now Check _ _ (Ok (task.check c.in_ok-found.found)) _ c.requires.built c.requires.check c.in_ok-found.ensures.goes c.exhausted.ensures.short;
+  ends = λ rules. ends_by rules c.args.request.now Check _ _ (Ok (task.check c.in_ok-found.found)) _ c.requires.check c.in_ok-found.ensures.goes c.exhausted.ensures.short;
 }

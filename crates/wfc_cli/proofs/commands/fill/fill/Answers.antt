@@ -12,7 +12,7 @@ pub returns-in-Ok-answer : goal.returns-in-Ok-answer
 returns-in-Ok-answer g c =
     let kinds = c.deref-2.ensures.value ∙ (rw c.deref.ensures.value at c.in-Ok.ensures.value) in
     record {
-      ends = ends_with _ c.args.request.now commands.Fill _ _ _ (Ok (filled_by c.args.request.now c.in_ok-filled.filled)) _ c.requires.built c.requires.fill kinds c.in_ok-filled.ensures.goes
+      ends = ends_with _ c.args.request.now commands.Fill _ _ _ (Ok (filled_by c.args.request.now c.in_ok-filled.filled)) _ c.requires.fill kinds c.in_ok-filled.ensures.goes
           (fill_said _ c.args.request.now c.in_ok-filled.filled _ c.in-Ok-answer.ensures.answers);
     }
 
@@ -20,6 +20,6 @@ pub returns : goal.returns
 returns g c =
     let kinds = c.deref-2.ensures.value ∙ (rw c.deref.ensures.value at c.in-Ok.ensures.value) in
     record {
-      ends = ends_with _ c.args.request.now commands.Fill _ _ _ (Ok (filled_by c.args.request.now c.in_ok-filled.filled)) _ c.requires.built c.requires.fill kinds c.in_ok-filled.ensures.goes
+      ends = ends_with _ c.args.request.now commands.Fill _ _ _ (Ok (filled_by c.args.request.now c.in_ok-filled.filled)) _ c.requires.fill kinds c.in_ok-filled.ensures.goes
           c.exhausted-in-Err-answer.ensures.short;
     }

@@ -7,10 +7,10 @@ use Rattle.wfc_cli.proofs.commands.upgrade.upgrade.Goals as goal
 pub returns-in_err-upgrading : goal.returns-in_err-upgrading
 returns-in_err-upgrading g c =
     let p = err_from_is_err_and c.from_residual.result c.from_residual.ensures.1 in
-    record { ends = λ rules. rw (p.1, p.2) (put_none rules c.args.request.now commands.Upgrade _ _ _ c.in_err-upgrading.field-0.0 c.requires.built c.requires.upgrade c.in_err-upgrading.ensures.goes) }
+    record { ends = λ rules. rw (p.1, p.2) (put_none rules c.args.request.now commands.Upgrade _ _ _ c.in_err-upgrading.field-0.0 c.requires.upgrade c.in_err-upgrading.ensures.goes) }
 
 pub returns : goal.returns
 returns g c = record {
-  ends = λ rules. upgrade_ended rules c.args.request.now _ _ _ _ c.in_ok-upgrading.upgrading.problem c.in_ok-upgrading.upgrading.refutation.items c.upgraded.result c.requires.built c.requires.upgrade
+  ends = λ rules. upgrade_ended rules c.args.request.now _ _ _ _ c.in_ok-upgrading.upgrading.problem c.in_ok-upgrading.upgrading.refutation.items c.upgraded.result c.requires.upgrade
       c.in_ok-upgrading.ensures.goes c.upgraded.ensures.upgrades;
 }
