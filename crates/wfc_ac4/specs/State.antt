@@ -19,12 +19,14 @@ counted b head = without (in_base b.problem.now) (take head b.trail.removals)
 -- the counters are the support counts of E, less what was lowered
 pub record AreLowered (P : Network) (E : Test) (lowered : List ℕ) (T : Table) : Type 0 where
   pub fits : FitsTable P T
-  pub each : (c v d : ℕ) → c < P.cells → v < values P → d < P.dirs → count_of T c v d + times (place P c v d) lowered ≡ support_count P E c v d
+  pub each : (c v d : ℕ) → c < P.cells → v < values P → d < P.dirs
+      → count_of T c v d + times (place P c v d) lowered ≡ support_count P E c v d
 
 -- the counters are the support counts of E, and what was raised
 pub record AreRaised (P : Network) (E : Test) (raised : List ℕ) (T : Table) : Type 0 where
   pub fits : FitsTable P T
-  pub each : (c v d : ℕ) → c < P.cells → v < values P → d < P.dirs → count_of T c v d ≡ support_count P E c v d + times (place P c v d) raised
+  pub each : (c v d : ℕ) → c < P.cells → v < values P → d < P.dirs
+      → count_of T c v d ≡ support_count P E c v d + times (place P c v d) raised
 
 -- marks stand only at values that don't stand
 abbrev pub AreGone : Flags → Table → Type 0
@@ -32,7 +34,9 @@ AreGone D T = (c v d : ℕ) → v < T.values → d < T.dirs → IsMarked T c v d
 
 -- while the board is alive each value that stands has support left in each direction
 abbrev pub HaveSupport : Board → Table → Type 0
-HaveSupport b T = b.verdict ≡ Alive → (c v d n : ℕ) → IsTrue (has b.domains c v) → neighbour b.problem.now c d ≡ Some n → 0 < count_of T c v d
+HaveSupport b T =
+    b.verdict ≡ Alive → (c v d n : ℕ) → IsTrue (has b.domains c v)
+    → neighbour b.problem.now c d ≡ Some n → 0 < count_of T c v d
 
 -- in the midst of working off the removal of v at c, which stands at the head
 pub record IsWorking (b : Board) (T : Table) (head c v : ℕ) (lowered : List ℕ) : Type 0 where
@@ -74,5 +78,7 @@ pub record IsScanned (b : Board) (T : Table) (i : ℕ) : Type 0 where
   pub cut : IsCut b
   pub counters : AreLowered b.problem.now (in_base b.problem.now) [] T
   pub marks : AreGone b.domains T
-  pub supported : b.verdict ≡ Alive → (c v d n : ℕ) → c * values b.problem.now + v < i → IsTrue (has b.domains c v) → neighbour b.problem.now c d ≡ Some n → 0 < count_of T c v d
-  pub first : (r : Removal) → slice_get b.trail.removals 0 ≡ Some r → IsLeastUnsupported b.problem.now (in_base b.problem.now) r
+  pub supported : b.verdict ≡ Alive → (c v d n : ℕ) → c * values b.problem.now + v < i
+      → IsTrue (has b.domains c v) → neighbour b.problem.now c d ≡ Some n → 0 < count_of T c v d
+  pub first : (r : Removal) → slice_get b.trail.removals 0 ≡ Some r
+      → IsLeastUnsupported b.problem.now (in_base b.problem.now) r

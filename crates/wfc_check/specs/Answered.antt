@@ -19,19 +19,23 @@ IsOfText TooLong = ⊤
 IsOfText NoMemory = ⊥
 IsOfText (OptionsDiffer found) = ⊤
 
--- the answer is that to the named file's bytes, or to some bytes where the files aren't told; no count of the folder rose
-pub record IsOfFile (P : Network) (shape : Shape) (name : List ℕ) (old new : FolderView) (answer : Result (Unit {0}) CheckFault) : Type 0 where
+-- the answer is that to the named file's bytes, or to some bytes where the files aren't told; no
+-- count of the folder rose
+pub record IsOfFile (P : Network) (shape : Shape) (name : List ℕ) (old new : FolderView)
+    (answer : Result (Unit {0}) CheckFault) : Type 0 where
   pub same : new ≡ old
   pub bytes : List ℕ
   pub told : IsToldAs old.contents name bytes
   pub is : checked P shape bytes ≡ answer
 
--- what the check of a file answers: a device's fault only where it has its cause, and else what its bytes are answered, unless memory ran out
+-- what the check of a file answers: a device's fault only where it has its cause, and else what its
+-- bytes are answered, unless memory ran out
 abbrev pub Answers : Network → Shape → List ℕ → FolderView → FolderView → Result (Unit {0}) CheckFault → Type 0
 Answers P shape name old new (Ok done) = IsOfFile P shape name old new (Ok done)
 Answers P shape name old new (Err (Rejected line reject)) = IsOfFile P shape name old new (Err (Rejected line reject))
 Answers P shape name old new (Err (BadLine line)) = IsOfFile P shape name old new (Err (BadLine line))
-Answers P shape name old new (Err (HeaderDiffers cells values)) = IsOfFile P shape name old new (Err (HeaderDiffers cells values))
+Answers P shape name old new (Err (HeaderDiffers cells values)) =
+    IsOfFile P shape name old new (Err (HeaderDiffers cells values))
 Answers P shape name old new (Err NotEnded) = IsOfFile P shape name old new (Err NotEnded)
 Answers P shape name old new (Err Missing) = IsMissing old new name
 Answers P shape name old new (Err Failed) = IsFaultOf old new name

@@ -1,4 +1,5 @@
--- What a checker remembers: the values that were taken away and the branches that wait, in the order in which they came.
+-- What a checker remembers: the values that were taken away and the branches that wait, in the
+-- order in which they came.
 use Rattle.std.specs.Prelude.{◌≡◌, ℕ, IsTrue, Bool, true, ◌&&◌, List, [], ◌∷◌, ◌++◌, if◌then◌else◌}
 use Rattle.wfc_problem.specs.Domains.{Test, cut}
 use Rattle.wfc_problem.specs.Network.{Network, in_base}

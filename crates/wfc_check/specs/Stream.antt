@@ -1,4 +1,5 @@
--- What a stream over a folder may still give. Where the files aren't told that may be any bytes behind those that it keeps.
+-- What a stream over a folder may still give. Where the files aren't told that may be any bytes
+-- behind those that it keeps.
 use Rattle.std.specs.Prelude.{◌≡◌, ℕ, ◌+◌, ◌<◌, ◌≤◌, Bool, true, false, List, [], ◌∷◌, ◌++◌, length, take, drop, Option, None, Some}
 use Rattle.wfc_outside.specs.Folder.{File, FolderView, file_of, IsMissing, IsFaultOf}
 use Rattle.wfc_outside.specs.declared.whole.ReadFault.{ReadFault}
@@ -87,7 +88,8 @@ pub record Gathering (old new : StreamView) (before after end : List ℕ) : Type
 
 abbrev pub Gathers : StreamView → StreamView → List ℕ → List ℕ → Bool → Type 0
 Gathers old new before after true = Gathering old new before after (10 ∷ []) × (length after ≤ 64)
-Gathers old new before after false = Gathering old new before after [] × (length before < length after) × (length after ≤ 65)
+Gathers old new before after false =
+    Gathering old new before after [] × (length before < length after) × (length after ≤ 65)
 
 -- the stream gave a line up to its end
 abbrev pub EndsLine : Option (List File) → StreamView → StreamView → List ℕ → LineEnd → Type 0

@@ -54,7 +54,9 @@ behind_numbers One = Proving One
 behind_numbers Two = Shaping
 
 abbrev pub after_numbers : Network → Format → ℕ → Result Numbers LineFault → Result Stage CheckFault
-after_numbers P format number (Ok numbers) = if are_of_problem P numbers then Ok (behind_numbers format) else Err (HeaderDiffers numbers.cells numbers.values)
+after_numbers P format number (Ok numbers) =
+    if are_of_problem P numbers then Ok (behind_numbers format)
+    else Err (HeaderDiffers numbers.cells numbers.values)
 after_numbers P format number (Err fault) = Err (BadLine number)
 
 -- whether two shapes are one
@@ -99,7 +101,9 @@ staged P shape number (Proving format) point line = after_line P number format p
 
 -- where a line leads, unless it is too long
 abbrev pub line_led : Network → Shape → ℕ → Place → List ℕ → Result Place CheckFault
-line_led P shape number at line = if nat_lt MAX_LINE_BYTES (length line) then Err (BadLine number) else staged P shape number at.stage at.point line
+line_led P shape number at line =
+    if nat_lt MAX_LINE_BYTES (length line) then Err (BadLine number)
+    else staged P shape number at.stage at.point line
 
 -- ---- the end of a text
 
@@ -136,15 +140,20 @@ abbrev pub and_read : Result Place CheckFault → (Place → Result (Unit {0}) C
 and_read (Ok at) go_on = go_on at
 and_read (Err fault) go_on = Err fault
 
--- the answer to the parts between line feeds, of which the first has this number, where the text goes on behind them or ends
+-- the answer to the parts between line feeds, of which the first has this number, where the text
+-- goes on behind them or ends
 abbrev pub answer_to_parts : Network → Shape → Bool → ℕ → Place → List (List ℕ) → Result (Unit {0}) CheckFault
 answer_to_parts P shape over number at [] = Err (BadLine number)
 answer_to_parts P shape over number at (last ∷ []) = answer_behind over number at last
-answer_to_parts P shape over number at (line ∷ next ∷ parts) = and_read (line_led P shape number at line) (λ after. answer_to_parts P shape over (number + 1) after (next ∷ parts))
+answer_to_parts P shape over number at (line ∷ next ∷ parts) =
+    and_read (line_led P shape number at line)
+    (λ after. answer_to_parts P shape over (number + 1) after (next ∷ parts))
 
 -- the answer to what is left of a text, of which so many bytes may be read
 abbrev pub answer_from : Network → Shape → ℕ → ℕ → Place → List ℕ → Result (Unit {0}) CheckFault
-answer_from P shape most number at text = answer_to_parts P shape (nat_lt most (length text)) number at (slice_split is_line_feed (take most text))
+answer_from P shape most number at text =
+    answer_to_parts P shape (nat_lt most (length text)) number at
+    (slice_split is_line_feed (take most text))
 
 -- the answer to a whole text: it is accepted, or its first line at fault is named, or it is too long
 unfoldable pub checked : Network → Shape → List ℕ → Result (Unit {0}) CheckFault

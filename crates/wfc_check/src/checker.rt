@@ -73,7 +73,9 @@ impl<'p> Checker<'p> {
     /// one that begins, but for what is taken back, which was paid for when it was taken away.
     pub fn line(&mut self, line: Line) -> Result<Progress, Reject>
         ensures value { result ≡ told (line_step (problem_of self.old) (point_of self.old) line) }
-        ensures next { point_of self.new ≡ led_to (point_of self.old) (line_step (problem_of self.old) (point_of self.old) line) }
+        ensures next { point_of self.new
+            ≡ led_to (point_of self.old)
+            (line_step (problem_of self.old) (point_of self.old) line) }
         ensures same { problem_of self.new ≡ problem_of self.old }
         ensures refused { OnErr result (self.new ≡ self.old) }
     {
@@ -114,7 +116,8 @@ fn take_line(trail: &mut Trail, progress: Progress, line: Line) -> Result<Progre
     requires problem { IsProblem trail.old.problem }
     requires few { progress ≡ Going →
         pairs trail.old.problem (standing trail.old) + length (waits_of trail.old) ≤ depth_of trail.old.problem }
-    ensures taken { IsTaken (line_step trail.old.problem (point_at progress trail.old) line) trail.old trail.new result }
+    ensures taken { IsTaken (line_step trail.old.problem (point_at progress trail.old) line)
+        trail.old trail.new result }
 {
     match progress {
         Progress::Going => open_line(trail, line),
@@ -126,7 +129,8 @@ fn take_line(trail: &mut Trail, progress: Progress, line: Line) -> Result<Progre
 /// A line while a branch is open.
 fn open_line(trail: &mut Trail, line: Line) -> Result<Progress, Reject>
     requires problem { IsProblem trail.old.problem }
-    requires few { pairs trail.old.problem (standing trail.old) + length (waits_of trail.old) ≤ depth_of trail.old.problem }
+    requires few { pairs trail.old.problem (standing trail.old) + length (waits_of trail.old) ≤
+        depth_of trail.old.problem }
     ensures taken { IsTaken (line_step trail.old.problem (point_at Going trail.old) line) trail.old trail.new result }
 {
     match line {

@@ -17,7 +17,8 @@ ghost use Rattle.wfc_check.specs.declared.fault.CheckFault.TheVariants.{Rejected
 pub fn refutations_are_accepted()
     ensures exact { (P : Network) → IsProblem P → (shape : Shape) → IsShape shape → (text : List ℕ) →
         (checked P shape text ≡ Ok tt) ↔ IsRefutation P shape text }
-    ensures sound { (P : Network) → IsProblem P → (shape : Shape) (text : List ℕ) → IsRefutation P shape text → HasNone P }
+    ensures sound { (P : Network) → IsProblem P → (shape : Shape) (text : List ℕ)
+        → IsRefutation P shape text → HasNone P }
     ensures fault { (P : Network) (shape : Shape) (text : List ℕ) (fault : CheckFault) → checked P shape text ≡ Err fault →
         IsOfText fault }
 {}

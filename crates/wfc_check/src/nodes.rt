@@ -171,7 +171,8 @@ pub fn remove_span(
 /// Begins the branch with the value, unless that is refused.
 pub fn split(trail: &mut Trail, cell: u32, value: u16) -> Result<Progress, Reject>
     requires problem { IsProblem trail.old.problem }
-    requires few { pairs trail.old.problem (standing trail.old) + length (waits_of trail.old) ≤ depth_of trail.old.problem }
+    requires few { pairs trail.old.problem (standing trail.old) + length (waits_of trail.old) ≤
+        depth_of trail.old.problem }
     ensures taken { IsTaken (node_step trail.old.problem (point_at Going trail.old) (splits cell value))
         trail.old trail.new result }
 {

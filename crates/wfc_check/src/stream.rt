@@ -60,11 +60,14 @@ impl<'n> Stream<'n> {
 
     /// Reads a piece if none is kept, and says whether there is a byte.
     fn refill<F: Folder>(&mut self, folder: &mut F) -> Result<bool, ReadFault>
-        ensures unread { MatchResult result (λ _. F.seen folder.new ≡ F.seen folder.old) (λ fault. CausesStop self.old.name.now (F.seen folder.old) (F.seen folder.new) fault) }
+        ensures unread { MatchResult result (λ _. F.seen folder.new ≡ F.seen folder.old)
+            (λ fault. CausesStop self.old.name.now (F.seen folder.old) (F.seen folder.new) fault) }
         ensures name { self.new.name ≡ self.old.name }
         ensures some { result ≡ Ok true → self.new.from < self.new.to }
-        ensures steps { result ≡ Ok true → Steps (F.seen folder.old).contents (stream_view self.old) (stream_view self.new) [] }
-        ensures left { result ≡ Ok true → Keeps (F.seen folder.old).contents (stream_view self.old) → HasLeft (F.seen folder.old).contents (stream_view self.new) }
+        ensures steps { result ≡ Ok true
+            → Steps (F.seen folder.old).contents (stream_view self.old) (stream_view self.new) [] }
+        ensures left { result ≡ Ok true → Keeps (F.seen folder.old).contents (stream_view self.old)
+            → HasLeft (F.seen folder.old).contents (stream_view self.new) }
         ensures end { result ≡ Ok false → IsLeft (F.seen folder.old).contents (stream_view self.old) [] }
     {
         if self.from < self.to {
@@ -94,7 +97,8 @@ impl<'n> Stream<'n> {
         requires some { self.old.from < self.old.to }
         requires room { 0 < self.old.room }
         requires short { length line.old.items ≤ LINE }
-        ensures gathered { IfOk result (Gathers (stream_view self.old) (stream_view self.new) line.old.items line.new.items) }
+        ensures gathered { IfOk result
+            (Gathers (stream_view self.old) (stream_view self.new) line.old.items line.new.items) }
         ensures name { self.new.name ≡ self.old.name }
     {
         let kept = (self.to - self.from).min(LINE + 1 - line.len());
@@ -120,7 +124,8 @@ impl<'n> Stream<'n> {
         folder: &mut F,
         line: &mut Vec<u8>,
     ) -> Result<LineEnd, ReadFault>
-        ensures unread { MatchResult result (λ _. F.seen folder.new ≡ F.seen folder.old) (λ fault. CausesStop self.old.name.now (F.seen folder.old) (F.seen folder.new) fault) }
+        ensures unread { MatchResult result (λ _. F.seen folder.new ≡ F.seen folder.old)
+            (λ fault. CausesStop self.old.name.now (F.seen folder.old) (F.seen folder.new) fault) }
         ensures name { self.new.name ≡ self.old.name }
         ensures line { IfOk result (EndsLine (F.seen folder.old).contents (stream_view self.old) (stream_view self.new) line.new.items) }
     {

@@ -114,7 +114,8 @@ impl<'p> Trail<'p> {
     pub fn back(&mut self) -> Option<Entry>
         ensures none { result ≡ None → self.old.entries ≡ [] }
         ensures last { MatchOption result (self.new ≡ self.old) (λ entry. self.old ≡ with_more self.new entry) }
-        ensures stood { MatchOption result (self.new ≡ self.old) (λ entry. IsTrue (standing self.new entry.cell entry.value)) }
+        ensures stood { MatchOption result (self.new ≡ self.old)
+            (λ entry. IsTrue (standing self.new entry.cell entry.value)) }
     {
         let entry = self.entries.pop()?;
         if !entry.waits {

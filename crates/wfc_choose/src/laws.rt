@@ -39,8 +39,10 @@ pub fn draws_are_values()
 pub fn small_picks()
     ensures scanline { picked (record { kind = Scanline; ranks = [] }) (1 ∷ 5 ∷ 0 ∷ 3 ∷ 2 ∷ 2 ∷ []) ≡ Some 1 }
     ensures fewest { picked (record { kind = Fewest; ranks = [] }) (1 ∷ 5 ∷ 0 ∷ 3 ∷ 2 ∷ 2 ∷ []) ≡ Some 4 }
-    ensures ranked { picked (record { kind = Ranked; ranks = 0 ∷ 9 ∷ 0 ∷ 8 ∷ [] }) (1 ∷ 5 ∷ 0 ∷ 3 ∷ 2 ∷ 2 ∷ []) ≡ Some 3 }
-    ensures level { picked (record { kind = Ranked; ranks = 0 ∷ 9 ∷ 0 ∷ 9 ∷ [] }) (1 ∷ 5 ∷ 0 ∷ 3 ∷ 2 ∷ 2 ∷ []) ≡ Some 1 }
+    ensures ranked { picked (record { kind = Ranked; ranks = 0 ∷ 9 ∷ 0 ∷ 8 ∷ [] })
+        (1 ∷ 5 ∷ 0 ∷ 3 ∷ 2 ∷ 2 ∷ []) ≡ Some 3 }
+    ensures level { picked (record { kind = Ranked; ranks = 0 ∷ 9 ∷ 0 ∷ 9 ∷ [] })
+        (1 ∷ 5 ∷ 0 ∷ 3 ∷ 2 ∷ 2 ∷ []) ≡ Some 1 }
     ensures unranked { picked (record { kind = Ranked; ranks = [] }) (1 ∷ 1 ∷ 0 ∷ 3 ∷ 2 ∷ 2 ∷ []) ≡ Some 3 }
     ensures none { picked (record { kind = Fewest; ranks = [] }) (1 ∷ 0 ∷ 1 ∷ []) ≡ None }
     ensures empty { picked (record { kind = Scanline; ranks = [] }) [] ≡ None }

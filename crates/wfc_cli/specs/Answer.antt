@@ -55,6 +55,7 @@ abbrev pub AnswersAsked : List Rule → Result RequestView CommandFault → Devi
 AnswersAsked rules (Ok asked) before after status = IsAnswerTo rules asked before after status
 AnswersAsked rules (Err fault) before after status = IsRefusedCall fault before after status
 
--- what a call with choosers of these rules and these words may do to its devices, and its status; memory may run out over the words
+-- what a call with choosers of these rules and these words may do to its devices, and its status;
+-- memory may run out over the words
 pub record IsAnswer (rules : List Rule) (words : List (List ℕ)) (before after : Devices) (status : ℕ) : Type 0 where
   pub answers : AnswersAsked rules (request_of words) before after status ⊎ IsRefusedCall NoMemory before after status

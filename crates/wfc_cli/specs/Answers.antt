@@ -62,7 +62,8 @@ fill_text text P (_, s) = None
 -- the answer of `fill` with this budget, where its run has this end
 abbrev pub fill_answer : (List ℕ → List ℕ) → ℕ → Network → Option (Outcome × State) → Option Answered
 fill_answer text budget P None = None
-fill_answer text budget P (Some end) = Some (record { verdict = verdict_of budget end.0; text = fill_text text P end; whole = true })
+fill_answer text budget P (Some end) =
+    Some (record { verdict = verdict_of budget end.0; text = fill_text text P end; whole = true })
 
 -- the answer of `fill` by the rules of the choosers
 abbrev pub fill_by : List Rule → RequestView → (List ℕ → List ℕ) → Network → Option Answered
@@ -140,7 +141,8 @@ check_answer (Some fault) = record { verdict = Unaccepted fault; text = None; wh
 abbrev pub answer_of : List Rule → RequestView → Task → Option Answered
 answer_of rules asked (learn patterns palette) = Some (done_with (learned_text patterns palette))
 answer_of rules asked (learn_tiles set) = Some (done_with (learned_tiles_text set))
-answer_of rules asked (fill patterns palette layout P) = fill_by rules asked (picture_text asked patterns palette layout) P
+answer_of rules asked (fill patterns palette layout P) =
+    fill_by rules asked (picture_text asked patterns palette layout) P
 answer_of rules asked (fill_tiles set mask layout P) = fill_by rules asked (tiles_text set mask layout) P
 answer_of rules asked (domains P steps) = Some (domains_answer P steps)
 answer_of rules asked (refute P) = None
@@ -148,12 +150,15 @@ answer_of rules asked (check found) = Some (check_answer found)
 answer_of rules asked (upgrade P bytes) = Some (upgrade_answer asked P bytes (first_fault asked P bytes))
 answer_of rules asked (demo patterns P) = demo_answer patterns P (end_of rules Fewest P demo_budget asked.number)
 
--- an answer to a task, where these are the rules of the choosers: of a refutation the lines of a run, and else the one there is
+-- an answer to a task, where these are the rules of the choosers: of a refutation the lines of a
+-- run, and else the one there is
 abbrev pub Answers : List Rule → RequestView → Task → Answered → Type 0
 Answers rules asked (learn patterns palette) answered = answer_of rules asked (learn patterns palette) ≡ Some answered
 Answers rules asked (learn_tiles set) answered = answer_of rules asked (learn_tiles set) ≡ Some answered
-Answers rules asked (fill patterns palette layout P) answered = answer_of rules asked (fill patterns palette layout P) ≡ Some answered
-Answers rules asked (fill_tiles set mask layout P) answered = answer_of rules asked (fill_tiles set mask layout P) ≡ Some answered
+Answers rules asked (fill patterns palette layout P) answered =
+    answer_of rules asked (fill patterns palette layout P) ≡ Some answered
+Answers rules asked (fill_tiles set mask layout P) answered =
+    answer_of rules asked (fill_tiles set mask layout P) ≡ Some answered
 Answers rules asked (domains P steps) answered = answer_of rules asked (domains P steps) ≡ Some answered
 Answers rules asked (refute P) answered = RefutesBy (chosen asked.rule rules) asked P answered
 Answers rules asked (check found) answered = answer_of rules asked (check found) ≡ Some answered

@@ -18,13 +18,15 @@ abbrev pub IsRefuted : {files : List File} (asked : RequestView) → IsCheckWork
 IsRefuted asked work = IsRefutation work.P (shape_of asked) work.bytes
 
 -- the file is a refutation, so no map is legal, and that it is accepted was written
-pub record Accepts {files : List File} (asked : RequestView) (work : IsCheckWork asked files) (before after : Devices) : Type 0 where
+pub record Accepts {files : List File} (asked : RequestView) (work : IsCheckWork asked files)
+    (before after : Devices) : Type 0 where
   pub refutation : IsRefuted asked work
   pub none : (m : Raster) → IsLegal asked files work.P work.posed m → ⊥
   pub written : after.out ≡ after_finish (after_bytes before.out accepted_text)
 
 -- the file is no refutation, and nothing was written
-pub record Refuses {files : List File} (asked : RequestView) (work : IsCheckWork asked files) (before after : Devices) : Type 0 where
+pub record Refuses {files : List File} (asked : RequestView) (work : IsCheckWork asked files)
+    (before after : Devices) : Type 0 where
   pub none : IsRefuted asked work → ⊥
   pub same : after.out ≡ before.out
 

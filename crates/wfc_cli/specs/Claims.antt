@@ -44,7 +44,8 @@ pub record IsCommand (command : CommandKind) (words : List (List ℕ)) (before :
 
 -- ---- `fill`
 
--- what `fill` works on over these files: a chooser goes by the rule, and the problem and the layout are those of the request
+-- what `fill` works on over these files: a chooser goes by the rule, and the problem and the layout
+-- are those of the request
 pub record FillWork (rules : List Rule) (asked : RequestView) (files : List File) : Type 0 where
   pub chooser : Contains (kinds_of rules) asked.rule
   pub P : Network
@@ -53,15 +54,18 @@ pub record FillWork (rules : List Rule) (asked : RequestView) (files : List File
   pub laid : IsLaid asked files P posed layout
 
 -- the map is one that the request asks for
-abbrev pub IsLegalMap : {rules : List Rule} {files : List File} (asked : RequestView) → FillWork rules asked files → Raster → Type 0
+abbrev pub IsLegalMap : {rules : List Rule} {files : List File} (asked : RequestView)
+    → FillWork rules asked files → Raster → Type 0
 IsLegalMap {files = files} asked work m = IsLegal asked files work.P work.posed m
 
 -- its text
-abbrev pub map_text_of : {rules : List Rule} {files : List File} (asked : RequestView) → FillWork rules asked files → Raster → List ℕ
+abbrev pub map_text_of : {rules : List Rule} {files : List File} (asked : RequestView)
+    → FillWork rules asked files → Raster → List ℕ
 map_text_of {files = files} asked work m = text_of_map asked files work.P work.posed work.layout m
 
 -- the text of the map that an assignment makes
-abbrev pub assignment_text : {rules : List Rule} {files : List File} (asked : RequestView) → FillWork rules asked files → List ℕ → List ℕ
+abbrev pub assignment_text : {rules : List Rule} {files : List File} (asked : RequestView)
+    → FillWork rules asked files → List ℕ → List ℕ
 assignment_text {files = files} asked work a = map_text_of asked work (map_of asked files work.P work.posed a)
 
 -- status 0 of `fill`: the whole text of a legal map was written, and finished
@@ -85,12 +89,14 @@ HasNoMap rules words before after status =
     (asked : RequestView) (files : List File) → IsCommand commands.Fill words before asked files → status ≡ 1
     → (work : FillWork rules asked files) × ((m : Raster) → IsLegalMap asked work m → ⊥) × (after.out ≡ before.out)
 
--- statuses 0, 1 and 2 of `fill`: the run of its problem by the rule, the budget and the seed asked for ends in this order in a map,
+-- statuses 0, 1 and 2 of `fill`: the run of its problem by the rule, the budget and the seed asked
+-- for ends in this order in a map,
 -- in no map, or spent, and what is written is the map of its assignment
 abbrev pub IsAsRun : List Rule → List (List ℕ) → Devices → Devices → ℕ → Type 0
 IsAsRun rules words before after status =
     (asked : RequestView) (files : List File) → IsCommand commands.Fill words before asked files → status ≤ 2
-    → (work : FillWork rules asked files) × (end : Outcome × State) × (end_of rules asked.rule work.P asked.budget asked.seed ≡ Some end)
+    → (work : FillWork rules asked files) × (end : Outcome × State)
+    × (end_of rules asked.rule work.P asked.budget asked.seed ≡ Some end)
     × (status ≡ outcome_status end.0) × Takes (fill_text (assignment_text asked work) work.P end) before.out after.out
 
 -- with status 2 of `fill` the budget is below the volume of the problem
@@ -104,7 +110,8 @@ IsNeverSpent rules words before status =
 -- the text of the rules of a request: what the sample teaches, or what the tile set allows
 abbrev pub IsRulesBy : SourceModel → RequestView → List File → List ℕ → Type 0
 IsRulesBy (Overlap n) asked files text =
-    (patterns : PatternsView) × (palette : List Symbol) × IsTaught asked files patterns palette × (text ≡ learned_text patterns palette)
+    (patterns : PatternsView) × (palette : List Symbol) × IsTaught asked files patterns palette
+    × (text ≡ learned_text patterns palette)
 IsRulesBy Tiles asked files text = (set : TileSetView) × IsTileSetOf asked files set × (text ≡ learned_tiles_text set)
 
 abbrev pub IsRules : RequestView → List File → List ℕ → Type 0
@@ -114,9 +121,11 @@ IsRules asked files text = IsRulesBy asked.source asked files text
 abbrev pub WritesLearned : List (List ℕ) → Devices → Devices → ℕ → Type 0
 WritesLearned words before after status =
     (asked : RequestView) (files : List File) → IsCommand commands.Learn words before asked files → status ≤ 2
-    → (status ≡ 0) × (text : List ℕ) × IsRules asked files text × (after.out ≡ after_finish (after_bytes before.out text))
+    → (status ≡ 0) × (text : List ℕ) × IsRules asked files text
+    × (after.out ≡ after_finish (after_bytes before.out text))
 
--- statuses 0 and 1 of `domains`: the blocks before the first step and after each were written, and the status is 1 exactly where
+-- statuses 0 and 1 of `domains`: the blocks before the first step and after each were written, and
+-- the status is 1 exactly where
 -- the root is dead
 abbrev pub WritesDomains : List (List ℕ) → Devices → Devices → ℕ → Type 0
 WritesDomains words before after status =

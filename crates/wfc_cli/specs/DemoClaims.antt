@@ -23,4 +23,5 @@ IsLegalDemo number m = IsLegalPicture (demo_picture number demo_side) demo_rules
 abbrev pub EndsDemo : List (List ℕ) → Devices → ℕ → Type 0
 EndsDemo words before status =
     (asked : RequestView) (files : List File) → IsCommand commands.Demo words before asked files
-    → (status ≡ 1 → (m : Raster) → IsLegalDemo asked.number m → ⊥) × (status ≡ 2 → demo_budget + 1 ≤ volume_of (demo_problem asked.number))
+    → (status ≡ 1 → (m : Raster) → IsLegalDemo asked.number m → ⊥)
+    × (status ≡ 2 → demo_budget + 1 ≤ volume_of (demo_problem asked.number))

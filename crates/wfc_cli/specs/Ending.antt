@@ -13,15 +13,18 @@ use Rattle.wfc_cli.specs.declared.reply.Verdict.{Verdict}
 use Rattle.wfc_cli.specs.declared.reply.Stop.{Stop}
 use Rattle.wfc_cli.specs.declared.reply.Stop.TheVariants.{Cut, Unanswered}
 
--- what a reply does to the sink of the answer, where the code ends so: with its verdict the whole text, else a front of it, and without an answer nothing
+-- what a reply does to the sink of the answer, where the code ends so: with its verdict the whole
+-- text, else a front of it, and without an answer nothing
 abbrev pub Leaves : Reply → SinkView → SinkView → Result Verdict Stop → Type 0
-Leaves (Ok answered) old new (Ok verdict) = (verdict ≡ answered.verdict) × TakesWhole answered.whole answered.text old new
+Leaves (Ok answered) old new (Ok verdict) =
+    (verdict ≡ answered.verdict) × TakesWhole answered.whole answered.text old new
 Leaves (Ok answered) old new (Err Cut) = CutsOff answered.text old new
 Leaves (Err fault) old new (Err (Unanswered other)) = (other ≡ fault) × (new ≡ old)
 Leaves _ _ _ _ = ⊥
 
 -- a command may end so over this folder and sink
-pub record EndsPut (rules : List Rule) (asked : RequestView) (before after : FolderView) (old new : SinkView) (ended : Result Verdict Stop) : Type 0 where
+pub record EndsPut (rules : List Rule) (asked : RequestView) (before after : FolderView)
+    (old new : SinkView) (ended : Result Verdict Stop) : Type 0 where
   pub reply : Reply
   pub ends : Ends rules asked before after reply
   pub leaves : Leaves reply old new ended
@@ -30,4 +33,5 @@ pub record EndsPut (rules : List Rule) (asked : RequestView) (before after : Fol
 abbrev pub Says : RequestView → Result Verdict Stop → SinkView → SinkView → ℕ → Type 0
 Says asked (Ok verdict) old new status = Tells (verdict_text asked verdict) old new × (status ≡ verdict_status verdict)
 Says asked (Err Cut) old new status = Tells (Some out_failed_text) old new × (status ≡ 5)
-Says asked (Err (Unanswered fault)) old new status = Tells (Some (fault_text asked fault)) old new × (status ≡ status_of fault)
+Says asked (Err (Unanswered fault)) old new status =
+    Tells (Some (fault_text asked fault)) old new × (status ≡ status_of fault)

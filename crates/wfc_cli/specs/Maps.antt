@@ -31,12 +31,15 @@ rules_of asked = record {
   wrap_out = asked.wrap_out;
 }
 
--- of windows: a picture of palette numbers of the size asked for, each of whose windows is learned from the sample; of tiles:
--- a map of variants of that size, whose neighbours are allowed, with the holes of the mask; and of both the pins and bans of
+-- of windows: a picture of palette numbers of the size asked for, each of whose windows is learned
+-- from the sample; of tiles:
+-- a map of variants of that size, whose neighbours are allowed, with the holes of the mask; and of
+-- both the pins and bans of
 -- the pins file hold
 abbrev pub IsLegalBy : (source : SourceModel) (asked : RequestView) (files : List File) (P : Network)
     → PosedBy source asked files P → Raster → Type 0
-IsLegalBy (Overlap n) asked files P of m = IsLegalPicture of.sample.picture (rules_of asked) of.problem.pins asked.width asked.height m
+IsLegalBy (Overlap n) asked files P of m =
+    IsLegalPicture of.sample.picture (rules_of asked) of.problem.pins asked.width asked.height m
 IsLegalBy Tiles asked files P of m = IsLegalTileMap of.set of.mask asked.wrap_out of.problem.pins m
 
 -- the map is one that the request asks for
@@ -58,7 +61,8 @@ abbrev pub map_text_by : (source : SourceModel) (asked : RequestView) (files : L
 map_text_by (Overlap n) asked files P of layout m = map_text layout of.palette m
 map_text_by Tiles asked files P of layout m = tile_text layout of.set m
 
-abbrev pub text_of_map : (asked : RequestView) (files : List File) (P : Network) → Posed asked files P → Layout → Raster → List ℕ
+abbrev pub text_of_map : (asked : RequestView) (files : List File) (P : Network)
+    → Posed asked files P → Layout → Raster → List ℕ
 text_of_map asked files P posed layout m = map_text_by asked.source asked files P posed layout m
 
 -- the layout is that of the request: of windows for the kind of the sample's symbols, of tiles for their pictures

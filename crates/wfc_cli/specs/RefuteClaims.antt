@@ -49,14 +49,16 @@ abbrev pub AreBegunBy : {rules : List Rule} {files : List File} (asked : Request
     → List Line → Type 0
 AreBegunBy asked work lines = IsBegunBy work.rule asked.budget work.P (start (seeded asked.seed)) lines
 
--- what the text of a run is that ends so: without a map that of a proof that closes the base domains; else that of one which
+-- what the text of a run is that ends so: without a map that of a proof that closes the base
+-- domains; else that of one which
 -- follows from them, with the line of the end behind it
 abbrev pub IsRunText : Network → Shape → Outcome → List ℕ → Type 0
 IsRunText P shape outcome.NoMap bytes = IsProofText P shape bytes
 IsRunText P shape outcome.Map bytes = IsJournalText P shape Found bytes
 IsRunText P shape outcome.Spent bytes = IsJournalText P shape Out bytes
 
--- the text of the lines of a run was written, and finished; they try what the run chooses, in order, and name as many empty cells
+-- the text of the lines of a run was written, and finished; they try what the run chooses, in
+-- order, and name as many empty cells
 -- as it has dead states;
 -- without a map it is the text of a proof, and no map is legal; a spent budget is below the volume
 pub record WritesRun {rules : List Rule} {files : List File} (asked : RequestView) (work : RefuteWork rules asked files)
@@ -78,7 +80,8 @@ WritesRefutation rules words before after status =
     → (work : RefuteWork rules asked files) × WritesRun asked work before after status
 
 -- a front was written of the text of all lines of the run, or of its first ones
-pub record IsRunFront {rules : List Rule} {files : List File} (asked : RequestView) (work : RefuteWork rules asked files)
+pub record IsRunFront {rules : List Rule} {files : List File} (asked : RequestView)
+    (work : RefuteWork rules asked files)
     (before after : Devices) : Type 0 where
   pub lines : List Line
   pub told : ((outcome : Outcome) × AreToldBy asked work outcome lines) ⊎ AreBegunBy asked work lines

@@ -37,7 +37,9 @@ lines_in Two lines = in_spans lines
 
 -- the text of these lines, behind the head of the problem and the shape asked for
 abbrev pub refutation_text : RequestView → Network → List Line → List ℕ
-refutation_text asked P lines = head_in (written_format asked.format) P (shape_of asked) ++ text_of (lines_in (written_format asked.format) lines)
+refutation_text asked P lines =
+    head_in (written_format asked.format) P (shape_of asked)
+    ++ text_of (lines_in (written_format asked.format) lines)
 
 -- how `refute` ends whose run ends so
 abbrev pub refute_verdict : ℕ → Outcome → Verdict
@@ -45,8 +47,10 @@ refute_verdict budget outcome.Map = MapExists
 refute_verdict budget outcome.NoMap = Done
 refute_verdict budget outcome.Spent = Spent budget
 
--- the run of the problem by the rule, the budget and the seed has this outcome, and tells these lines from the opening of a store on
-pub record IsToldBy (rule : Rule) (budget : ℕ) (P : Network) (s : State) (outcome : Outcome) (lines : List Line) : Type 0 where
+-- the run of the problem by the rule, the budget and the seed has this outcome, and tells these
+-- lines from the opening of a store on
+pub record IsToldBy (rule : Rule) (budget : ℕ) (P : Network) (s : State) (outcome : Outcome)
+    (lines : List Line) : Type 0 where
   pub first : StoreView
   pub opened : IsStoreAt P s first
   pub tells : TellsRun P rule budget s first outcome lines
@@ -85,13 +89,15 @@ RefutesBy None asked P answered = ⊥
 RefutesBy (Some rule) asked P answered = RefutesWhole rule asked P answered ⊎ RefutesFront rule asked P answered
 
 -- the lines of a run were put in this format
-pub record PutsRun (format : Format) (rule : Rule) (budget : ℕ) (P : Network) (s : State) (outcome : Outcome) (old new : SinkView) : Type 0 where
+pub record PutsRun (format : Format) (rule : Rule) (budget : ℕ) (P : Network) (s : State)
+    (outcome : Outcome) (old new : SinkView) : Type 0 where
   pub lines : List Line
   pub told : IsToldBy rule budget P s outcome lines
   pub put : new ≡ after_bytes old (text_of (lines_in format lines))
 
 -- or a fault came, after a front of the text of its first lines
-pub record CutsRun (format : Format) (rule : Rule) (budget : ℕ) (P : Network) (s : State) (old new : SinkView) : Type 0 where
+pub record CutsRun (format : Format) (rule : Rule) (budget : ℕ) (P : Network) (s : State)
+    (old new : SinkView) : Type 0 where
   pub lines : List Line
   pub begun : IsBegunBy rule budget P s lines
   pub count : ℕ
@@ -100,13 +106,18 @@ pub record CutsRun (format : Format) (rule : Rule) (budget : ℕ) (P : Network) 
 
 -- so from the state that a search is at, with these words to come
 abbrev pub PutsFrom : Format → SearchView → Stream → Outcome → SinkView → SinkView → Type 0
-PutsFrom format s words outcome old new = PutsRun format s.chooser.rule s.course.budget s.problem (state_at s.store s.course 0 words) outcome old new
+PutsFrom format s words outcome old new =
+    PutsRun format s.chooser.rule s.course.budget s.problem
+    (state_at s.store s.course 0 words) outcome old new
 
 abbrev pub CutsFrom : Format → SearchView → Stream → SinkView → SinkView → Type 0
-CutsFrom format s words old new = CutsRun format s.chooser.rule s.course.budget s.problem (state_at s.store s.course 0 words) old new
+CutsFrom format s words old new =
+    CutsRun format s.chooser.rule s.course.budget s.problem
+    (state_at s.store s.course 0 words) old new
 
 -- the head and the lines of the run asked for were put
-pub record PutsRefutation (rule : Rule) (asked : RequestView) (P : Network) (outcome : Outcome) (old new : SinkView) : Type 0 where
+pub record PutsRefutation (rule : Rule) (asked : RequestView) (P : Network) (outcome : Outcome)
+    (old new : SinkView) : Type 0 where
   pub lines : List Line
   pub told : IsToldBy rule asked.budget P (start (seeded asked.seed)) outcome lines
   pub put : new ≡ after_bytes old (refutation_text asked P lines)

@@ -14,7 +14,8 @@ use Rattle.wfc_cli.specs.ErrorLine.{command_status, fault_text, name_of}
 use Rattle.wfc_cli.specs.declared.reply.Verdict.{Verdict}
 use Rattle.wfc_cli.specs.declared.reply.Verdict.TheVariants.{Done, NoMap, Spent, Dead, MapExists, Unaccepted}
 
--- an answer: how the command ended, and the text that it writes, if it writes any; where it isn't the whole, the text is one
+-- an answer: how the command ended, and the text that it writes, if it writes any; where it isn't
+-- the whole, the text is one
 -- of which a sink that failed took a front
 pub record Answered : Type 0 where
   pub verdict : Verdict
@@ -101,4 +102,6 @@ pub record IsCutOff (said : Said) (out_old out_new err_old err_new : SinkView) (
 
 -- what a call does to its streams that says this, and its status
 abbrev pub Delivers : Said → SinkView → SinkView → SinkView → SinkView → ℕ → Type 0
-Delivers said out_old out_new err_old err_new status = IsDelivered said out_old out_new err_old err_new status ⊎ IsCutOff said out_old out_new err_old err_new status
+Delivers said out_old out_new err_old err_new status =
+    IsDelivered said out_old out_new err_old err_new status
+    ⊎ IsCutOff said out_old out_new err_old err_new status

@@ -28,12 +28,14 @@ task_of rules asked files = outcome (plan_of (kinds_of rules) asked) files
 
 -- the first fault of the request over these files has this status
 abbrev pub IsRefusedWith : List Rule → RequestView → List File → ℕ → Type 0
-IsRefusedWith rules asked files status = (fault : Fault) × (task_of rules asked files ≡ Err fault) × (status_of fault ≡ status)
+IsRefusedWith rules asked files status =
+    (fault : Fault) × (task_of rules asked files ≡ Err fault) × (status_of fault ≡ status)
 
 -- a file that the request may read is missing, or a fault of it was counted
 abbrev pub IsFileFault : List Rule → RequestView → FolderView → FolderView → Type 0
 IsFileFault rules asked before after =
-    (name : List ℕ) × Asks (plan_of (kinds_of rules) asked) name × (IsMissing before after name ⊎ IsFaultOf before after name)
+    (name : List ℕ) × Asks (plan_of (kinds_of rules) asked) name
+    × (IsMissing before after name ⊎ IsFaultOf before after name)
 
 -- a file of the request is at fault, and the sink of the answer is as before, or a fault of that sink was counted
 abbrev pub IsDeviceFault : List Rule → List (List ℕ) → Devices → Devices → Type 0
@@ -43,7 +45,8 @@ IsDeviceFault rules words before after =
 
 -- no fault of a file that the request may read, or of the sink of the answer, was counted
 pub record NoneCounted (rules : List Rule) (asked : RequestView) (before after : Devices) : Type 0 where
-  pub files : (name : List ℕ) → Asks (plan_of (kinds_of rules) asked) name → IsFaultOf before.folder after.folder name → ⊥
+  pub files : (name : List ℕ) → Asks (plan_of (kinds_of rules) asked) name
+      → IsFaultOf before.folder after.folder name → ⊥
   pub out : HasRisen before.out.faults after.out.faults → ⊥
 
 -- the folder is as before, and no fault of the sink of the answer was counted
@@ -58,21 +61,26 @@ IsWithoutAnswer status = (status ≡ 3) ⊎ ((status ≡ 4) ⊎ ((status ≡ 6) 
 -- the answer to the task was put whole
 abbrev pub IsAnswered : List Rule → RequestView → Task → Devices → Devices → ℕ → Type 0
 IsAnswered rules asked task before after status =
-    (answered : Answered) × Replies rules asked task (Ok answered) × IsDelivered (said_of asked (Ok answered)) before.out after.out before.err after.err status
+    (answered : Answered) × Replies rules asked task (Ok answered)
+    × IsDelivered (said_of asked (Ok answered)) before.out after.out before.err after.err status
 
 -- where the files are told, the first fault of the task has the status of the call
 abbrev pub HasFirstFault : List Rule → List (List ℕ) → Devices → ℕ → Type 0
 HasFirstFault rules words before status =
-    (asked : RequestView) (files : List File) → IsGiven words before asked files → IsRefusedWith rules asked files status
+    (asked : RequestView) (files : List File) → IsGiven words before asked files
+    → IsRefusedWith rules asked files status
 
--- what holds of the first fault where no fault is counted: the call has its status and writes nothing, or memory ran out
+-- what holds of the first fault where no fault is counted: the call has its status and writes
+-- nothing, or memory ran out
 abbrev pub IsRefusedFirst : List Rule → List (List ℕ) → Devices → Devices → ℕ → Type 0
 IsRefusedFirst rules words before after status =
     (asked : RequestView) (files : List File) → IsGiven words before asked files → NoneCounted rules asked before after
-    → (fault : Fault) → task_of rules asked files ≡ Err fault → ((status ≡ status_of fault) × (after.out ≡ before.out)) ⊎ (status ≡ 6)
+    → (fault : Fault) → task_of rules asked files ≡ Err fault
+    → ((status ≡ status_of fault) × (after.out ≡ before.out)) ⊎ (status ≡ 6)
 
 -- where no fault is counted and there is a task, its answer is put whole, or memory ran out
 abbrev pub IsComplete : List Rule → List (List ℕ) → Devices → Devices → ℕ → Type 0
 IsComplete rules words before after status =
     (asked : RequestView) (files : List File) → IsGiven words before asked files → NoneCounted rules asked before after
-    → (task : Task) → task_of rules asked files ≡ Ok task → IsAnswered rules asked task before after status ⊎ (status ≡ 6)
+    → (task : Task) → task_of rules asked files ≡ Ok task
+    → IsAnswered rules asked task before after status ⊎ (status ≡ 6)

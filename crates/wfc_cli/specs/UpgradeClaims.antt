@@ -31,17 +31,20 @@ IsUpgradable asked work = IsRefutation work.P (shape_of asked) work.bytes
 -- the text in format 2 has each proof that the file's bytes are the text of
 abbrev pub KeepsProof : {files : List File} (asked : RequestView) → UpgradeWork asked files → Type 0
 KeepsProof asked work =
-    (format : Format) (proof : Proof) → IsTextOf work.P (shape_of asked) format proof work.bytes → IsTextOf work.P (shape_of asked) Two proof (same_proof_text asked work.P work.bytes)
+    (format : Format) (proof : Proof) → IsTextOf work.P (shape_of asked) format proof work.bytes
+    → IsTextOf work.P (shape_of asked) Two proof (same_proof_text asked work.P work.bytes)
 
 -- the file is a refutation, so no map is legal, and its proof was written in format 2
-pub record WritesUpgraded {files : List File} (asked : RequestView) (work : UpgradeWork asked files) (before after : Devices) : Type 0 where
+pub record WritesUpgraded {files : List File} (asked : RequestView)
+    (work : UpgradeWork asked files) (before after : Devices) : Type 0 where
   pub refutation : IsUpgradable asked work
   pub none : (m : Raster) → IsLegal asked files work.P work.task.posed m → ⊥
   pub same_proof : KeepsProof asked work
   pub written : after.out ≡ after_finish (after_bytes before.out (same_proof_text asked work.P work.bytes))
 
 -- the file is no refutation, and nothing was written
-pub record KeepsOld {files : List File} (asked : RequestView) (work : UpgradeWork asked files) (before after : Devices) : Type 0 where
+pub record KeepsOld {files : List File} (asked : RequestView) (work : UpgradeWork asked files)
+    (before after : Devices) : Type 0 where
   pub none : IsUpgradable asked work → ⊥
   pub same : after.out ≡ before.out
 
@@ -52,7 +55,8 @@ UpgradesRefutation words before after status =
     → (work : UpgradeWork asked files) × (((status ≡ 0) × WritesUpgraded asked work before after) ⊎ ((status ≡ 1) × KeepsOld asked work before after))
 
 -- the file is a refutation, and a front was written of its proof in format 2
-pub record WritesUpgradedFront {files : List File} (asked : RequestView) (work : UpgradeWork asked files) (before after : Devices) : Type 0 where
+pub record WritesUpgradedFront {files : List File} (asked : RequestView)
+    (work : UpgradeWork asked files) (before after : Devices) : Type 0 where
   pub refutation : IsUpgradable asked work
   pub same_proof : KeepsProof asked work
   pub front : IsFaultAfterFront before.out after.out (same_proof_text asked work.P work.bytes)

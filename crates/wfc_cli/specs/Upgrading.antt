@@ -40,4 +40,5 @@ Answering answered old new (Err (Unanswered fault)) = (status_of fault ≡ 6) ×
 
 -- so of these bytes
 abbrev pub Upgrades : RequestView → Network → List ℕ → SinkView → SinkView → Result Verdict Stop → Type 0
-Upgrades asked P bytes old new ended = Answering (upgrade_answer asked P bytes (first_fault asked P bytes)) old new ended
+Upgrades asked P bytes old new ended =
+    Answering (upgrade_answer asked P bytes (first_fault asked P bytes)) old new ended

@@ -20,7 +20,9 @@ pub record IsWalk (v : StoreView) (beside : ℕ) (standing : List Literal) : Typ
 
 -- a step leads from there to there
 abbrev pub WalksTo : StoreView → ℕ → StoreView → ℕ → Step → Type 0
-WalksTo old before new behind step = (standing : List Literal) → IsWalk old before standing → IsWalk new behind (after_step standing step)
+WalksTo old before new behind step =
+    (standing : List Literal) → IsWalk old before standing
+    → IsWalk new behind (after_step standing step)
 
 -- the literals that stand after steps
 abbrev pub stood : List Literal → List StepLine → List Literal
@@ -29,4 +31,6 @@ stood standing (line ∷ lines) = stood (after_step standing line.step) lines
 
 -- the blocks that are still to be put after so many steps
 abbrev pub left_text : Network → ℕ → ℕ → List StepLine → ℕ → List ℕ
-left_text P values cells lines i = blocks_from (i + 1) (map (shown P) (later (stood [] (take i lines)) (drop i lines))) values cells
+left_text P values cells lines i =
+    blocks_from (i + 1) (map (shown P) (later (stood [] (take i lines)) (drop i lines))) values
+    cells

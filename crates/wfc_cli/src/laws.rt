@@ -25,7 +25,8 @@ ghost use Rattle.wfc_cli.specs.declared.reply.Verdict.TheVariants as verdicts;
 /// What stands before steps and after each, by example: an undo takes the last literal that stands.
 pub fn standings_by_example()
     ensures none { standings [] [] ≡ [] ∷ [] }
-    ensures undone { standings [] (record { line = 1; step = Assume (Is 0 0) } ∷ record { line = 2; step = Assume (Not 2 1) }
+    ensures undone { standings []
+        (record { line = 1; step = Assume (Is 0 0) } ∷ record { line = 2; step = Assume (Not 2 1) }
         ∷ record { line = 5; step = Undo } ∷ []) ≡ [] ∷ (Is 0 0 ∷ []) ∷ (Is 0 0 ∷ Not 2 1 ∷ []) ∷ (Is 0 0 ∷ []) ∷ [] }
     ensures all_undone { standings (Is 7 3 ∷ []) (record { line = 1; step = Undo } ∷ record { line = 2; step = Assume (Is 1 0) } ∷ [])
         ≡ (Is 7 3 ∷ []) ∷ [] ∷ (Is 1 0 ∷ []) ∷ [] }
@@ -52,13 +53,15 @@ pub fn statuses_are()
 pub fn refutations_by_example()
     ensures one { written_format 1 ≡ One }
     ensures two { written_format 2 ≡ Two }
-    ensures plain { lines_in One (Remove 0 0 2 ∷ Remove 0 1 2 ∷ Empty 0 ∷ []) ≡ Remove 0 0 2 ∷ Remove 0 1 2 ∷ Empty 0 ∷ [] }
+    ensures plain { lines_in One (Remove 0 0 2 ∷ Remove 0 1 2 ∷ Empty 0 ∷ [])
+        ≡ Remove 0 0 2 ∷ Remove 0 1 2 ∷ Empty 0 ∷ [] }
     ensures joined { lines_in Two (Try 1 3 ∷ Remove 0 0 2 ∷ Remove 0 1 2 ∷ Remove 0 2 1 ∷ Remove 4 3 1 ∷ Remove 4 5 1 ∷ Empty 0 ∷ End ∷ [])
         ≡ Try 1 3 ∷ Span 0 0 1 2 ∷ Span 0 2 2 1 ∷ Span 4 3 3 1 ∷ Span 4 5 5 1 ∷ Empty 0 ∷ End ∷ [] }
     ensures map { verdict_status (refute_verdict 7 outcomes.Map) ≡ 1 }
     ensures no_map { verdict_status (refute_verdict 7 outcomes.NoMap) ≡ 0 }
     ensures spent { refute_verdict 7 outcomes.Spent ≡ verdicts.Spent 7 }
-    ensures statuses { (refute_status outcomes.NoMap ≡ 0) × (refute_status outcomes.Map ≡ 1) × (refute_status outcomes.Spent ≡ 2) }
+    ensures statuses { (refute_status outcomes.NoMap ≡ 0) × (refute_status outcomes.Map ≡ 1)
+        × (refute_status outcomes.Spent ≡ 2) }
 {}
 
 /// The first rule of a kind is used, by example.

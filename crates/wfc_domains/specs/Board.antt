@@ -103,7 +103,11 @@ pub record Regains (old new : Board) (last : Removal) : Type 0 where
 -- a literal was put on, and what it cuts removed
 pub record IsPut (old new : Board) (literal : Literal) : Type 0 where
   pub problem : new.problem ≡ old.problem
-  pub levels : new.levels ≡ record { standing = old.levels.standing ++ literal ∷ []; marks = old.levels.marks ++ length old.trail.removals ∷ []; spare = old.levels.spare - 1 }
+  pub levels : new.levels ≡ record {
+    standing = old.levels.standing ++ literal ∷ [];
+    marks = old.levels.marks ++ length old.trail.removals ∷ [];
+    spare = old.levels.spare - 1;
+  }
   pub more : List Removal
   pub removals : new.trail.removals ≡ old.trail.removals ++ more
   pub room : new.trail.room ≡ old.trail.room

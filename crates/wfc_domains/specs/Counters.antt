@@ -57,7 +57,8 @@ pub record Marks (old new : Table) (cell value : ℕ) : Type 0 where
   pub same_limit : new.limit ≡ old.limit
   pub same_length : length new.counts ≡ length old.counts
   pub counts : (c v d : ℕ) → count_of new c v d ≡ count_of old c v d
-  pub marks : (c v d : ℕ) → v < old.values → d < old.dirs → IsMarked new c v d → IsMarked old c v d ⊎ ((c ≡ cell) × (v ≡ value))
+  pub marks : (c v d : ℕ) → v < old.values → d < old.dirs → IsMarked new c v d → IsMarked old c v d
+      ⊎ ((c ≡ cell) × (v ≡ value))
 
 -- the marks in the first k directions were taken from the counts of one value at a cell, and nothing else changed
 pub record Unmarks (old new : Table) (cell value k : ℕ) : Type 0 where
@@ -81,7 +82,9 @@ counts_of P D limit = record {
   values = values P;
   dirs = P.dirs;
   limit = limit;
-  counts = map (λ at. support_count P D (at / P.dirs / values P) (at / P.dirs % values P) (at % P.dirs)) (range_with_len 0 (counters_of P));
+  counts =
+      map (λ at. support_count P D (at / P.dirs / values P) (at / P.dirs % values P) (at % P.dirs))
+      (range_with_len 0 (counters_of P));
 }
 
 -- each count is how many supports stand

@@ -7,7 +7,8 @@ use Rattle.wfc_domains.specs.Counters.{Table, FitsTable, entry_of, place}
 -- each counter before the i-th place is the number of supports that stand
 pub record AreLoaded (P : Network) (D : Test) (T : Table) (i : ℕ) : Type 0 where
   pub fits : FitsTable P T
-  pub below : (c v d : ℕ) → c < P.cells → v < values P → d < P.dirs → place P c v d < i → entry_of T c v d ≡ support_count P D c v d
+  pub below : (c v d : ℕ) → c < P.cells → v < values P → d < P.dirs → place P c v d < i
+      → entry_of T c v d ≡ support_count P D c v d
 
 -- all supports stand beside c in the first k directions
 abbrev pub IsSurrounded : Network → Test → ℕ → ℕ → Type 0

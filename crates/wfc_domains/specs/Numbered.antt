@@ -10,7 +10,8 @@ abbrev pub cause_number : ℕ → Cause → ℕ
 cause_number dirs Assumed = dirs
 cause_number dirs (Arc d) = d
 
--- the number of a removal's cell, value and cause among all that there can be: by the cell, then the value, then the cause
+-- the number of a removal's cell, value and cause among all that there can be: by the cell, then
+-- the value, then the cause
 abbrev pub place_number : Extent → Removal → ℕ
 place_number e r = (r.cell * e.values + r.value) * (e.dirs + 1) + cause_number e.dirs r.cause
 

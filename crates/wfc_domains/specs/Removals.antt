@@ -20,7 +20,8 @@ pub record IsUnsupported (P : Network) (D : Test) (c v d : ℕ) : Type 0 where
   pub beside : neighbour P c d ≡ Some next
   pub none : support_count P D c v d ≡ 0
 
--- the cause is true of D: a literal cuts the value; or no literal cuts any value of D, and this one has no support in a direction
+-- the cause is true of D: a literal cuts the value; or no literal cuts any value of D, and this one
+-- has no support in a direction
 abbrev pub IsCause : Network → List Literal → Test → ℕ → ℕ → Cause → Type 0
 IsCause P literals D c v Assumed = IsFalse (leaves_all literals c v)
 IsCause P literals D c v (Arc d) = Within D (base_with P literals) × IsUnsupported P D c v d

@@ -41,7 +41,8 @@ before_of v = without (in_base v.problem) (take (mark_of v.marks) v.removals)
 abbrev pub added_of : StoreView → List Removal
 added_of v = drop (mark_of v.marks) v.removals
 
--- alive: D is the greatest, and no cell is empty. Dead: some cell is empty in the greatest domains, and this one is in D
+-- alive: D is the greatest, and no cell is empty. Dead: some cell is empty in the greatest domains,
+-- and this one is in D
 abbrev pub IsVerdict : Network → List Literal → Test → Verdict → Type 0
 IsVerdict P literals D Alive = IsGreatest P literals D × IsFalse (is_dead P D)
 IsVerdict P literals D (Dead cell) = IsTrue (is_dead P (greatest P literals)) × (cell < P.cells) × IsEmptyAt D cell

@@ -16,15 +16,19 @@ pub record IsFirstUnsupported (P : Network) (D : Test) (c v d : ℕ) : Type 0 wh
   pub dir_in : d < P.dirs
   pub first : (e n : ℕ) → e < d → neighbour P c e ≡ Some n → 0 < support_count P D c v e
 
--- a sweep that began with `start` removals came to the i-th pair: where none was added, the pairs before it have support
+-- a sweep that began with `start` removals came to the i-th pair: where none was added, the pairs
+-- before it have support
 pub record IsSwept (b : Board) (start i : ℕ) : Type 0 where
   pub longer : start ≤ length b.trail.removals
   pub supported : b.verdict ≡ Alive → length b.trail.removals ≡ start → (c v d n : ℕ) → c * values b.problem.now + v < i
-      → IsTrue (has b.domains c v) → neighbour b.problem.now c d ≡ Some n → 0 < support_count b.problem.now (has b.domains) c v d
+      → IsTrue (has b.domains c v) → neighbour b.problem.now c d ≡ Some n
+      → 0 < support_count b.problem.now (has b.domains) c v d
 
 -- the first removal, if there is one, is the least
 abbrev pub FirstIsLeast : Board → Type 0
-FirstIsLeast b = (r : Removal) → slice_get b.trail.removals 0 ≡ Some r → IsLeastUnsupported b.problem.now (in_base b.problem.now) r
+FirstIsLeast b =
+    (r : Removal) → slice_get b.trail.removals 0 ≡ Some r
+    → IsLeastUnsupported b.problem.now (in_base b.problem.now) r
 
 -- a board whose work is done
 pub record IsClosed (b : Board) : Type 0 where

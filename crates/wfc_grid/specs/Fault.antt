@@ -19,7 +19,9 @@ byte_fault line (Some at) = Some (BadByte line (at + 1))
 
 -- the fault of a line in a grid of this width; a bad byte comes before a wrong length
 abbrev pub line_fault : ℕ → LineView → Option GridFault
-line_fault width line = option_or (byte_fault line.number (position is_no_cell line.bytes)) (if length line.bytes == width then None else Some (Ragged line.number))
+line_fault width line =
+    option_or (byte_fault line.number (position is_no_cell line.bytes))
+    (if length line.bytes == width then None else Some (Ragged line.number))
 
 -- the fault of the first line that has one
 abbrev pub first_fault : ℕ → List LineView → Option GridFault
@@ -45,4 +47,6 @@ size_fault cells = if nat_lt MAX_CELLS cells then Some TooLarge else None
 
 -- the first fault of lines that are read as a grid
 abbrev pub grid_fault_of : List LineView → Option GridFault
-grid_fault_of lines = if width_of lines == 0 then Some Empty else option_or (first_fault (width_of lines) lines) (size_fault (length (cells_of lines)))
+grid_fault_of lines =
+    if width_of lines == 0 then Some Empty
+    else option_or (first_fault (width_of lines) lines) (size_fault (length (cells_of lines)))

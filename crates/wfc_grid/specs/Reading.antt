@@ -17,4 +17,6 @@ unless_fault (Some fault) grid = Err fault
 
 -- the grid of the text's lines, or its first fault
 abbrev pub grid_of : List ℕ → Result GridView GridFault
-grid_of text = unless_fault (grid_fault_of (lines_of text)) (rows_grid (width_of (lines_of text)) (rows_of (lines_of text)))
+grid_of text =
+    unless_fault (grid_fault_of (lines_of text))
+    (rows_grid (width_of (lines_of text)) (rows_of (lines_of text)))

@@ -10,7 +10,9 @@ IsLineEnd end = (end ≡ 10 ∷ []) ⊎ (end ≡ 13 ∷ 10 ∷ [])
 abbrev pub SpellsRows : List ℕ → List (List ℕ) → Type 0
 SpellsRows text [] = ⊥
 SpellsRows text (row ∷ []) = (end : List ℕ) × ((end ≡ []) ⊎ IsLineEnd end) × (text ≡ row ++ end)
-SpellsRows text (row ∷ next ∷ rows) = (end : List ℕ) × (rest : List ℕ) × IsLineEnd end × (text ≡ row ++ (end ++ rest)) × SpellsRows rest (next ∷ rows)
+SpellsRows text (row ∷ next ∷ rows) =
+    (end : List ℕ) × (rest : List ℕ) × IsLineEnd end × (text ≡ row ++ (end ++ rest))
+    × SpellsRows rest (next ∷ rows)
 
 -- the text is the rows of this grid
 pub record SpellsGrid (text : List ℕ) (g : GridView) : Type 0 where

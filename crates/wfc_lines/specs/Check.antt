@@ -17,7 +17,8 @@ rejected_text line reject file = about (codes "check Rejected line=" ++ decimal 
 -- a refusal is named with the value that it names, if it names one
 abbrev pub text_of_rejected : ℕ → Reject → List ℕ → List ℕ
 text_of_rejected line rejects.NotStanding file = rejected_text line (codes "NotStanding") file
-text_of_rejected line (rejects.HasSupport value) file = rejected_text line (codes "HasSupport value=" ++ decimal value) file
+text_of_rejected line (rejects.HasSupport value) file =
+    rejected_text line (codes "HasSupport value=" ++ decimal value) file
 text_of_rejected line rejects.NoNeighbour file = rejected_text line (codes "NoNeighbour") file
 text_of_rejected line (rejects.NotEmpty value) file = rejected_text line (codes "NotEmpty value=" ++ decimal value) file
 text_of_rejected line rejects.AfterEnd file = rejected_text line (codes "AfterEnd") file
@@ -37,7 +38,8 @@ header_text cells values file = about (codes "check HeaderDiffers cells=" ++ dec
 abbrev pub options_text : Shape → List ℕ → List ℕ
 options_text found file =
     about (codes "check OptionsDiffer n=" ++ decimal found.n ++ codes " width=" ++ decimal found.width ++ codes " height=" ++ decimal found.height ++ codes " depth=" ++ decimal found.depth
-    ++ codes " symmetry=" ++ decimal found.symmetry ++ codes " wrap_in=" ++ decimal (bit found.wrap_in) ++ codes " wrap_out=" ++ decimal (bit found.wrap_out)) file
+    ++ codes " symmetry=" ++ decimal found.symmetry ++ codes " wrap_in="
+    ++ decimal (bit found.wrap_in) ++ codes " wrap_out=" ++ decimal (bit found.wrap_out)) file
 
 abbrev pub text_of_check : CheckFault → List ℕ → List ℕ
 text_of_check (faults.Rejected line reject) file = text_of_rejected line reject file

@@ -8,6 +8,7 @@ use Rattle.wfc_lines.specs.Outcome.{no_memory_text}
 abbrev pub text_of_grid : GridFault → List ℕ → List ℕ
 text_of_grid faults.Empty file = about (codes "grid Empty") file
 text_of_grid (faults.Ragged line) file = numbered_text (codes "grid Ragged line=") line file
-text_of_grid (faults.BadByte line column) file = twice_numbered_text (codes "grid BadByte line=") line (codes " column=") column file
+text_of_grid (faults.BadByte line column) file =
+    twice_numbered_text (codes "grid BadByte line=") line (codes " column=") column file
 text_of_grid faults.TooLarge file = about (codes "grid TooLarge") file
 text_of_grid faults.NoMemory file = no_memory_text

@@ -10,12 +10,15 @@ use Rattle.wfc_lines.specs.Outcome.{no_memory_text}
 abbrev pub text_of_mask_grid : GridFault → List ℕ → List ℕ
 text_of_mask_grid grids.Empty file = about (codes "mask Empty") file
 text_of_mask_grid (grids.Ragged line) file = numbered_text (codes "mask Ragged line=") line file
-text_of_mask_grid (grids.BadByte line column) file = twice_numbered_text (codes "mask BadByte line=") line (codes " column=") column file
+text_of_mask_grid (grids.BadByte line column) file =
+    twice_numbered_text (codes "mask BadByte line=") line (codes " column=") column file
 text_of_mask_grid grids.TooLarge file = about (codes "mask TooLarge") file
 text_of_mask_grid grids.NoMemory file = no_memory_text
 
 abbrev pub text_of_mask : MaskFault → List ℕ → List ℕ
-text_of_mask (faults.SizeDiffers width height) file = twice_numbered_text (codes "mask SizeDiffers width=") width (codes " height=") height file
-text_of_mask (faults.BadSymbol line column) file = twice_numbered_text (codes "mask BadSymbol line=") line (codes " column=") column file
+text_of_mask (faults.SizeDiffers width height) file =
+    twice_numbered_text (codes "mask SizeDiffers width=") width (codes " height=") height file
+text_of_mask (faults.BadSymbol line column) file =
+    twice_numbered_text (codes "mask BadSymbol line=") line (codes " column=") column file
 text_of_mask faults.AllHoles file = about (codes "mask AllHoles") file
 text_of_mask faults.NoMemory file = no_memory_text

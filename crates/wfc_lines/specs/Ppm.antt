@@ -10,7 +10,8 @@ text_of_ppm faults.Magic file = about (codes "ppm Magic") file
 text_of_ppm (faults.Header at) file = numbered_text (codes "ppm Header at=") at file
 text_of_ppm (faults.Maxval value) file = numbered_text (codes "ppm Maxval value=") value file
 text_of_ppm faults.TooLarge file = about (codes "ppm TooLarge") file
-text_of_ppm (faults.Truncated wanted found) file = twice_numbered_text (codes "ppm Truncated wanted=") wanted (codes " found=") found file
+text_of_ppm (faults.Truncated wanted found) file =
+    twice_numbered_text (codes "ppm Truncated wanted=") wanted (codes " found=") found file
 text_of_ppm (faults.SampleAboveMaxval at) file = numbered_text (codes "ppm SampleAboveMaxval at=") at file
 text_of_ppm (faults.BadSample at) file = numbered_text (codes "ppm BadSample at=") at file
 text_of_ppm (faults.Trailing at) file = numbered_text (codes "ppm Trailing at=") at file

@@ -33,8 +33,10 @@ keyed_text text place key file = about (text ++ place ++ codes " key=" ++ key) f
 abbrev pub text_of_tiles : TileFault → List ℕ → List ℕ
 text_of_tiles faults.Toml file = about (codes "tiles Toml") file
 text_of_tiles faults.NoTiles file = about (codes "tiles NoTiles") file
-text_of_tiles (faults.MissingKey place key) file = keyed_text (codes "tiles MissingKey") (text_of_place place) (name_of_key key) file
-text_of_tiles (faults.WrongKind place key) file = keyed_text (codes "tiles WrongKind") (text_of_place place) (name_of_key key) file
+text_of_tiles (faults.MissingKey place key) file =
+    keyed_text (codes "tiles MissingKey") (text_of_place place) (name_of_key key) file
+text_of_tiles (faults.WrongKind place key) file =
+    keyed_text (codes "tiles WrongKind") (text_of_place place) (name_of_key key) file
 text_of_tiles (faults.BadClass tile) file = numbered_text (codes "tiles BadClass tile=") tile file
 text_of_tiles (faults.BadWeight tile) file = numbered_text (codes "tiles BadWeight tile=") tile file
 text_of_tiles (faults.BadPicture tile) file = numbered_text (codes "tiles BadPicture tile=") tile file

@@ -76,7 +76,8 @@ fn rejected_at<E: Sink>(
     value: u16,
     file: &str,
 ) -> Result<(), SinkFault>
-    ensures told { Puts (E.seen err.old) (E.seen err.new) (line (rejected_text row (name.now ++ decimal value) file.now)) result }
+    ensures told { Puts (E.seen err.old) (E.seen err.new)
+        (line (rejected_text row (name.now ++ decimal value) file.now)) result }
 {
     let mut row_buffer = Buffer::new();
     let mut value_buffer = Buffer::new();

@@ -75,9 +75,11 @@ pub fn texts_of_pictures_by_example()
 pub fn texts_of_inputs_by_example()
     ensures empty { text_of_grid grids.Empty (codes "a") ≡ codes "grid Empty file=a" }
     ensures ragged { text_of_grid (grids.Ragged 2) (codes "a") ≡ codes "grid Ragged line=2 file=a" }
-    ensures colours { text_of_palette (palettes.TooManyColours 70) (codes "a") ≡ codes "palette TooManyColours at=70 file=a" }
+    ensures colours { text_of_palette (palettes.TooManyColours 70) (codes "a")
+        ≡ codes "palette TooManyColours at=70 file=a" }
     ensures small { text_of_learn learns.SampleBelowN (codes "a") ≡ codes "learn SampleBelowN file=a" }
-    ensures many { text_of_learn (learns.TooManyPatterns 4097) (codes "a") ≡ codes "learn TooManyPatterns count=4097 file=a" }
+    ensures many { text_of_learn (learns.TooManyPatterns 4097) (codes "a")
+        ≡ codes "learn TooManyPatterns count=4097 file=a" }
     ensures pin { text_of_pins (pins.BadLine 1) (codes "p") ≡ codes "pins BadLine line=1 file=p" }
     ensures step { text_of_steps (steps.NothingToUndo 1) (codes "s") ≡ codes "steps NothingToUndo line=1 file=s" }
     ensures range { text_of_range (ranges.OutOfRange 3) (codes "s") ≡ codes "steps OutOfRange line=3 file=s" }
@@ -92,10 +94,13 @@ pub fn texts_of_inputs_by_example()
 
 /// The texts of files that are no refutations, by example.
 pub fn texts_of_checks_by_example()
-    ensures value { text_of_check (checks.Rejected 3 (rejects.NotEmpty 7)) (codes "r") ≡ codes "check Rejected line=3 reject=NotEmpty value=7 file=r" }
-    ensures name { text_of_check (checks.Rejected 3 rejects.NotClosed) (codes "r") ≡ codes "check Rejected line=3 reject=NotClosed file=r" }
+    ensures value { text_of_check (checks.Rejected 3 (rejects.NotEmpty 7)) (codes "r")
+        ≡ codes "check Rejected line=3 reject=NotEmpty value=7 file=r" }
+    ensures name { text_of_check (checks.Rejected 3 rejects.NotClosed) (codes "r")
+        ≡ codes "check Rejected line=3 reject=NotClosed file=r" }
     ensures bad_line { text_of_check (checks.BadLine 41) (codes "r") ≡ codes "check BadLine line=41 file=r" }
-    ensures header { text_of_check (checks.HeaderDiffers 3 2) (codes "r") ≡ codes "check HeaderDiffers cells=3 values=2 file=r" }
+    ensures header { text_of_check (checks.HeaderDiffers 3 2) (codes "r")
+        ≡ codes "check HeaderDiffers cells=3 values=2 file=r" }
     ensures options { text_of_check (checks.OptionsDiffer (record { n = 2; width = 3; height = 4; depth = 1; symmetry = 8; wrap_in = true; wrap_out = false })) (codes "r")
         ≡ codes "check OptionsDiffer n=2 width=3 height=4 depth=1 symmetry=8 wrap_in=1 wrap_out=0 file=r" }
     ensures too_long { text_of_check checks.TooLong (codes "r") ≡ codes "file TooLong file=r" }
@@ -105,9 +110,12 @@ pub fn texts_of_checks_by_example()
 pub fn texts_of_tile_sets_by_example()
     ensures toml { text_of_tiles tiles.Toml (codes "t") ≡ codes "tiles Toml file=t" }
     ensures none { text_of_tiles tiles.NoTiles (codes "t") ≡ codes "tiles NoTiles file=t" }
-    ensures missing { text_of_tiles (tiles.MissingKey (places.Tile 3) keys.Name) (codes "t") ≡ codes "tiles MissingKey tile=3 key=name file=t" }
-    ensures kind { text_of_tiles (tiles.WrongKind places.Top keys.Pair) (codes "t") ≡ codes "tiles WrongKind top key=pair file=t" }
-    ensures left { text_of_tiles (tiles.WrongKind (places.Pair 12) keys.Left) (codes "t") ≡ codes "tiles WrongKind pair=12 key=left file=t" }
+    ensures missing { text_of_tiles (tiles.MissingKey (places.Tile 3) keys.Name) (codes "t")
+        ≡ codes "tiles MissingKey tile=3 key=name file=t" }
+    ensures kind { text_of_tiles (tiles.WrongKind places.Top keys.Pair) (codes "t")
+        ≡ codes "tiles WrongKind top key=pair file=t" }
+    ensures left { text_of_tiles (tiles.WrongKind (places.Pair 12) keys.Left) (codes "t")
+        ≡ codes "tiles WrongKind pair=12 key=left file=t" }
     ensures class { text_of_tiles (tiles.BadClass 1) (codes "t") ≡ codes "tiles BadClass tile=1 file=t" }
     ensures weight { text_of_tiles (tiles.BadWeight 2) (codes "t") ≡ codes "tiles BadWeight tile=2 file=t" }
     ensures picture { text_of_tiles (tiles.BadPicture 3) (codes "t") ≡ codes "tiles BadPicture tile=3 file=t" }
@@ -115,7 +123,8 @@ pub fn texts_of_tile_sets_by_example()
     ensures twice { text_of_tiles (tiles.DoubleName 5) (codes "t") ≡ codes "tiles DoubleName tile=5 file=t" }
     ensures unknown { text_of_tiles (tiles.UnknownTile 6) (codes "t") ≡ codes "tiles UnknownTile pair=6 file=t" }
     ensures turn { text_of_tiles (tiles.BadTurn 7) (codes "t") ≡ codes "tiles BadTurn pair=7 file=t" }
-    ensures many { text_of_tiles (tiles.TooManyVariants 4104) (codes "t") ≡ codes "tiles TooManyVariants count=4104 file=t" }
+    ensures many { text_of_tiles (tiles.TooManyVariants 4104) (codes "t")
+        ≡ codes "tiles TooManyVariants count=4104 file=t" }
     ensures no_file { text_of_tiles (tiles.Missing 8) (codes "t") ≡ codes "device Missing tile=8 file=t" }
     ensures failed { text_of_tiles (tiles.Failed 9) (codes "t") ≡ codes "device Failed tile=9 file=t" }
     ensures mixed { text_of_tiles (tiles.MixedKinds 10) (codes "t") ≡ codes "tiles MixedKinds tile=10 file=t" }
@@ -128,7 +137,8 @@ pub fn texts_of_masks_by_example()
     ensures ragged { text_of_mask_grid (grids.Ragged 2) (codes "m") ≡ codes "mask Ragged line=2 file=m" }
     ensures byte { text_of_mask_grid (grids.BadByte 2 13) (codes "m") ≡ codes "mask BadByte line=2 column=13 file=m" }
     ensures large { text_of_mask_grid grids.TooLarge (codes "m") ≡ codes "mask TooLarge file=m" }
-    ensures sides { text_of_mask (masks.SizeDiffers 2 1) (codes "m") ≡ codes "mask SizeDiffers width=2 height=1 file=m" }
+    ensures sides { text_of_mask (masks.SizeDiffers 2 1) (codes "m")
+        ≡ codes "mask SizeDiffers width=2 height=1 file=m" }
     ensures symbol { text_of_mask (masks.BadSymbol 1 2) (codes "m") ≡ codes "mask BadSymbol line=1 column=2 file=m" }
     ensures holes { text_of_mask masks.AllHoles (codes "m") ≡ codes "mask AllHoles file=m" }
 {}

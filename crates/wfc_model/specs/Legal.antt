@@ -1,11 +1,13 @@
--- Legal pictures: those whose every window is learned from the sample, and in which the pins and bans hold. The first is
+-- Legal pictures: those whose every window is learned from the sample, and in which the pins and
+-- bans hold. The first is
 -- the condition C1 of the README of WaveFunctionCollapse (Maxim Gumin).
 use Rattle.std.specs.Prelude.{◌≡◌, ◌≢◌, ℕ, ◌<◌, ◌≤◌, Bool, true, false, List, All, Contains, MatchBool}
 use Rattle.wfc_model.specs.Raster.{Raster, height_of, number_at, IsSized}
 use Rattle.wfc_model.specs.Window.{window, places}
 use Rattle.wfc_model.specs.Learned.{learned}
 
--- what a picture is made by: the side of a window, how many images of each are learned, and whether the sample and the output wrap
+-- what a picture is made by: the side of a window, how many images of each are learned, and whether
+-- the sample and the output wrap
 pub record Rules : Type 0 where
   pub n : ℕ
   pub symmetry : ℕ
@@ -35,10 +37,12 @@ banned_pin column row number = record { keep = false; column = column; row = row
 pub record IsHeld (m : Raster) (pin : Pin) : Type 0 where
   pub column_in : pin.column < m.width
   pub row_in : pin.row < height_of m
-  pub number : MatchBool pin.keep (number_at m pin.column pin.row ≡ pin.number) (number_at m pin.column pin.row ≢ pin.number)
+  pub number : MatchBool pin.keep (number_at m pin.column pin.row ≡ pin.number)
+      (number_at m pin.column pin.row ≢ pin.number)
 
 -- of these sides, neither below n; each window is learned from the sample, and each pin is held
-pub record IsLegalPicture (sample : Raster) (rules : Rules) (pins : List Pin) (width height : ℕ) (m : Raster) : Type 0 where
+pub record IsLegalPicture (sample : Raster) (rules : Rules) (pins : List Pin) (width height : ℕ)
+    (m : Raster) : Type 0 where
   pub sized : IsSized m width height
   pub wide : rules.n ≤ width
   pub high : rules.n ≤ height

@@ -7,7 +7,8 @@ use Rattle.wfc_model.specs.Raster.{Raster, height_of, number_at}
 abbrev pub square : ℕ → (ℕ → ℕ → ℕ) → List ℕ
 square n f = map (λ k. f (k % n) (k / n)) (range_with_len 0 (n * n))
 
--- the n by n numbers from (x, y) on, to the right and down; behind the last column stands the first, and behind the last row too
+-- the n by n numbers from (x, y) on, to the right and down; behind the last column stands the
+-- first, and behind the last row too
 abbrev pub window : Raster → ℕ → ℕ → ℕ → List ℕ
 window m x y n = square n (λ i j. number_at m ((x + i) % m.width) ((y + j) % height_of m))
 
@@ -17,4 +18,6 @@ starts side n wrap = if wrap then side else side + 1 - n
 
 -- where the windows of a picture start, as pairs of a column and a row, row by row
 abbrev pub places : ℕ → ℕ → ℕ → Bool → List (ℕ × ℕ)
-places width height n wrap = flat_map (λ y. map (λ x. (x, y)) (range_with_len 0 (starts width n wrap))) (range_with_len 0 (starts height n wrap))
+places width height n wrap =
+    flat_map (λ y. map (λ x. (x, y)) (range_with_len 0 (starts width n wrap)))
+    (range_with_len 0 (starts height n wrap))

@@ -9,7 +9,9 @@ use Rattle.wfc_outside.specs.Sink.{SinkView}
 -- three files, of which the first and the last have one name
 abbrev pub three_files : List File
 three_files =
-    record { name = codes "a"; bytes = 5 ∷ 6 ∷ 7 ∷ [] } ∷ record { name = codes "b"; bytes = 8 ∷ [] } ∷ record { name = codes "a"; bytes = 9 ∷ [] } ∷ []
+    record { name = codes "a"; bytes = 5 ∷ 6 ∷ 7 ∷ [] }
+    ∷ record { name = codes "b"; bytes = 8 ∷ [] } ∷ record { name = codes "a"; bytes = 9 ∷ [] }
+    ∷ []
 
 -- a folder with these contents, a count of the name `a`, and one of every other name
 abbrev pub counting_folder : Option (List File) → ℕ → ℕ → FolderView
@@ -17,18 +19,21 @@ counting_folder contents of_a of_others = record { contents = contents; faults =
 
 -- a sink that took these bytes, finished or not, with this count
 abbrev pub telling_sink : List ℕ → Bool → ℕ → SinkView
-telling_sink bytes finished faults = record { told = Some (record { bytes = bytes; finished = finished }); faults = faults }
+telling_sink bytes finished faults =
+    record { told = Some (record { bytes = bytes; finished = finished }); faults = faults }
 
 -- a folder in memory of two files that gives two bytes a call
 abbrev pub two_kept : MemoryFolderView
 two_kept = record {
-  files = record { name = codes "a"; bytes = 5 ∷ 6 ∷ 7 ∷ []; faults = 3 } ∷ record { name = codes "b"; bytes = 8 ∷ []; faults = 4 } ∷ [];
+  files = record { name = codes "a"; bytes = 5 ∷ 6 ∷ 7 ∷ []; faults = 3 }
+      ∷ record { name = codes "b"; bytes = 8 ∷ []; faults = 4 } ∷ [];
   piece = 2;
   calls = 1;
   failing = [];
 }
 
--- a sink in memory of room for five bytes that took three and was finished, and takes two bytes a call; its call 2 fails
+-- a sink in memory of room for five bytes that took three and was finished, and takes two bytes a
+-- call; its call 2 fails
 abbrev pub three_taken : Bool → MemorySinkView
 three_taken finish_fails = record {
   bytes = 5 ∷ 6 ∷ 7 ∷ [];

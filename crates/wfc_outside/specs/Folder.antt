@@ -33,11 +33,13 @@ pub record IsFaultOf (old new : FolderView) (name : List ℕ) : Type 0 where
   pub counts : NoCountFell old new
   pub counted : HasRisen (old.faults name) (new.faults name)
 
--- the named file is missing: the told files lack it, or, where they aren't told, a fault of it was counted; what is told stands, and no count fell
+-- the named file is missing: the told files lack it, or, where they aren't told, a fault of it was
+-- counted; what is told stands, and no count fell
 pub record IsMissing (old new : FolderView) (name : List ℕ) : Type 0 where
   pub contents : new.contents ≡ old.contents
   pub counts : NoCountFell old new
-  pub lacking : MatchOption old.contents (HasRisen (old.faults name) (new.faults name)) (λ files. file_of files name ≡ None)
+  pub lacking : MatchOption old.contents (HasRisen (old.faults name) (new.faults name))
+      (λ files. file_of files name ≡ None)
 
 -- the first n bytes of the buffer are those that stand at a place of the file, and there are none only at its end
 pub record IsPieceOf (file : List ℕ) (at : ℕ) (buffer : List ℕ) (n : ℕ) : Type 0 where
@@ -48,4 +50,5 @@ pub record IsPieceOf (file : List ℕ) (at : ℕ) (buffer : List ℕ) (n : ℕ) 
 -- where the files are told, the first n bytes of the buffer are given from the named one
 abbrev pub GivesFrom : Option (List File) → List ℕ → ℕ → List ℕ → ℕ → Type 0
 GivesFrom None name at buffer n = Unit {0}
-GivesFrom (Some files) name at buffer n = (file : List ℕ) × (file_of files name ≡ Some file) × IsPieceOf file at buffer n
+GivesFrom (Some files) name at buffer n =
+    (file : List ℕ) × (file_of files name ≡ Some file) × IsPieceOf file at buffer n

@@ -49,7 +49,8 @@ with_file (file ∷ files) name bytes =
 abbrev pub with_fault : List MemoryFile → List ℕ → List MemoryFile
 with_fault [] name = []
 with_fault (file ∷ files) name =
-    if bytes_eq file.name name then record file { faults = raised file.faults } ∷ files else file ∷ with_fault files name
+    if bytes_eq file.name name then record file { faults = raised file.faults } ∷ files
+    else file ∷ with_fault files name
 
 -- the folder after a file was added
 abbrev pub after_adding : MemoryFolderView → List ℕ → List ℕ → MemoryFolderView

@@ -57,4 +57,6 @@ sink_failing_finish sink = record sink { finish_fails = true }
 
 -- the sink after it was asked to finish
 abbrev pub after_finishing : MemorySinkView → MemorySinkView
-after_finishing sink = if sink.finish_fails then record sink { faults = raised sink.faults } else record sink { finished = true }
+after_finishing sink =
+    if sink.finish_fails then record sink { faults = raised sink.faults }
+    else record sink { finished = true }

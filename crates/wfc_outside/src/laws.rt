@@ -59,8 +59,10 @@ pub fn faults_of_files()
     ensures other_name { IsFaultOf (counting_folder None 3 5) (counting_folder None 3 6) (codes "a") → ⊥ }
     ensures fell { IsFaultOf (counting_folder None 3 5) (counting_folder None 4 4) (codes "a") → ⊥ }
     ensures forgot { IsFaultOf (counting_folder (Some three_files) 3 5) (counting_folder None 4 5) (codes "a") → ⊥ }
-    ensures lacking { IsMissing (counting_folder (Some three_files) 3 5) (counting_folder (Some three_files) 3 5) (codes "c") }
-    ensures there { IsMissing (counting_folder (Some three_files) 3 5) (counting_folder (Some three_files) 4 6) (codes "b") → ⊥ }
+    ensures lacking { IsMissing (counting_folder (Some three_files) 3 5)
+        (counting_folder (Some three_files) 3 5) (codes "c") }
+    ensures there { IsMissing (counting_folder (Some three_files) 3 5)
+        (counting_folder (Some three_files) 4 6) (codes "b") → ⊥ }
     ensures untold { IsMissing (counting_folder None 3 5) (counting_folder None 4 5) (codes "a") }
     ensures uncounted { IsMissing (counting_folder None 3 5) (counting_folder None 3 5) (codes "a") → ⊥ }
     ensures longer { IsLongerThan (Some three_files) (codes "a") 2 }
@@ -72,14 +74,21 @@ pub fn texts_that_are_put()
     ensures behind { after_bytes (telling_sink (5 ∷ []) true 3) (6 ∷ 7 ∷ []) ≡ telling_sink (5 ∷ 6 ∷ 7 ∷ []) false 3 }
     ensures nothing { after_bytes (telling_sink (5 ∷ []) true 3) [] ≡ telling_sink (5 ∷ []) true 3 }
     ensures finished { after_finish (telling_sink (5 ∷ []) false 3) ≡ telling_sink (5 ∷ []) true 3 }
-    ensures whole { Puts {T = ℕ} {E = ℕ} (telling_sink (5 ∷ []) true 3) (telling_sink (5 ∷ 6 ∷ 7 ∷ []) false 3) (6 ∷ 7 ∷ []) (Ok 0) }
-    ensures front { Puts {T = ℕ} {E = ℕ} (telling_sink (5 ∷ []) true 3) (telling_sink (5 ∷ 6 ∷ []) false 4) (6 ∷ 7 ∷ []) (Err 0) }
-    ensures no_front { Puts {T = ℕ} {E = ℕ} (telling_sink (5 ∷ []) true 3) (telling_sink (5 ∷ 7 ∷ []) false 4) (6 ∷ 7 ∷ []) (Err 0) → ⊥ }
-    ensures uncounted { Puts {T = ℕ} {E = ℕ} (telling_sink (5 ∷ []) true 3) (telling_sink (5 ∷ 6 ∷ []) false 3) (6 ∷ 7 ∷ []) (Err 0) → ⊥ }
-    ensures cut { Puts {T = ℕ} {E = ℕ} (telling_sink (5 ∷ []) true 3) (telling_sink (5 ∷ 6 ∷ []) false 3) (6 ∷ 7 ∷ []) (Ok 0) → ⊥ }
+    ensures whole { Puts {T = ℕ} {E = ℕ} (telling_sink (5 ∷ []) true 3)
+        (telling_sink (5 ∷ 6 ∷ 7 ∷ []) false 3) (6 ∷ 7 ∷ []) (Ok 0) }
+    ensures front { Puts {T = ℕ} {E = ℕ} (telling_sink (5 ∷ []) true 3)
+        (telling_sink (5 ∷ 6 ∷ []) false 4) (6 ∷ 7 ∷ []) (Err 0) }
+    ensures no_front { Puts {T = ℕ} {E = ℕ} (telling_sink (5 ∷ []) true 3)
+        (telling_sink (5 ∷ 7 ∷ []) false 4) (6 ∷ 7 ∷ []) (Err 0) → ⊥ }
+    ensures uncounted { Puts {T = ℕ} {E = ℕ} (telling_sink (5 ∷ []) true 3)
+        (telling_sink (5 ∷ 6 ∷ []) false 3) (6 ∷ 7 ∷ []) (Err 0) → ⊥ }
+    ensures cut { Puts {T = ℕ} {E = ℕ} (telling_sink (5 ∷ []) true 3)
+        (telling_sink (5 ∷ 6 ∷ []) false 3) (6 ∷ 7 ∷ []) (Ok 0) → ⊥ }
     ensures ended { Finishes {T = ℕ} {E = ℕ} (telling_sink (5 ∷ []) false 3) (telling_sink (5 ∷ []) true 3) (Ok 0) }
-    ensures not_ended { Finishes {T = ℕ} {E = ℕ} (telling_sink (5 ∷ []) false 3) (telling_sink (5 ∷ []) false 4) (Err 0) }
-    ensures half_ended { Finishes {T = ℕ} {E = ℕ} (telling_sink (5 ∷ []) false 3) (telling_sink (5 ∷ []) true 4) (Err 0) → ⊥ }
+    ensures not_ended { Finishes {T = ℕ} {E = ℕ} (telling_sink (5 ∷ []) false 3)
+        (telling_sink (5 ∷ []) false 4) (Err 0) }
+    ensures half_ended { Finishes {T = ℕ} {E = ℕ} (telling_sink (5 ∷ []) false 3)
+        (telling_sink (5 ∷ []) true 4) (Err 0) → ⊥ }
     ensures taken_more { IsFault (telling_sink (5 ∷ []) false 3) (telling_sink (5 ∷ 6 ∷ []) false 4) → ⊥ }
 {}
 
@@ -96,7 +105,8 @@ pub fn answers_that_are_given()
 pub fn folders_in_memory()
     ensures replaced { bytes_of (after_adding two_kept (codes "a") (1 ∷ [])) (codes "a") ≡ Some (1 ∷ []) }
     ensures beside { bytes_of (after_adding two_kept (codes "a") (1 ∷ [])) (codes "b") ≡ Some (8 ∷ []) }
-    ensures behind { map (λ file. file.bytes) (after_adding two_kept (codes "c") (1 ∷ [])).files ≡ (5 ∷ 6 ∷ 7 ∷ []) ∷ (8 ∷ []) ∷ (1 ∷ []) ∷ [] }
+    ensures behind { map (λ file. file.bytes) (after_adding two_kept (codes "c") (1 ∷ [])).files
+        ≡ (5 ∷ 6 ∷ 7 ∷ []) ∷ (8 ∷ []) ∷ (1 ∷ []) ∷ [] }
     ensures counted { map (λ file. file.faults) (after_failed_call two_kept (codes "b")).files ≡ 3 ∷ 5 ∷ [] }
     ensures calls { (after_failed_call two_kept (codes "b")).calls ≡ 2 }
     ensures called { (after_call two_kept).calls ≡ 2 }
@@ -121,8 +131,10 @@ pub fn sinks_in_memory()
     ensures taking { seen_sink (after_taking (three_taken false) (1 ∷ [])) ≡ telling_sink (5 ∷ 6 ∷ 7 ∷ 1 ∷ []) false 3 }
     ensures failing { seen_sink (after_failing (three_taken false)) ≡ telling_sink (5 ∷ 6 ∷ 7 ∷ []) true 4 }
     ensures calls { (after_failing (three_taken false)).calls ≡ 2 }
-    ensures finishing { seen_sink (after_finishing (after_taking (three_taken false) (1 ∷ []))) ≡ telling_sink (5 ∷ 6 ∷ 7 ∷ 1 ∷ []) true 3 }
-    ensures not_finishing { seen_sink (after_finishing (after_taking (three_taken true) (1 ∷ []))) ≡ telling_sink (5 ∷ 6 ∷ 7 ∷ 1 ∷ []) false 4 }
+    ensures finishing { seen_sink (after_finishing (after_taking (three_taken false) (1 ∷ [])))
+        ≡ telling_sink (5 ∷ 6 ∷ 7 ∷ 1 ∷ []) true 3 }
+    ensures not_finishing { seen_sink (after_finishing (after_taking (three_taken true) (1 ∷ [])))
+        ≡ telling_sink (5 ∷ 6 ∷ 7 ∷ 1 ∷ []) false 4 }
     ensures asked { sink_failing_finish (three_taken false) ≡ three_taken true }
     ensures listing { (sink_listing (three_taken false) 9).failing ≡ 2 ∷ 9 ∷ [] }
 {}

@@ -34,6 +34,10 @@ pub record IsPlaceInBucket (buckets : ℕ) (hashes : List ℕ) (bucket bound pla
 -- each bucket leads to the last of its hashes, and each hash to the one before it in its bucket
 pub record IsChained (heads : List ℕ) (links : List Link) : Type 0 where
   pub some_bucket : 0 < length heads
-  pub heads_lead : (bucket : ℕ) → bucket < length heads → IsPlaceInBucket (length heads) (hashes_of links) bucket (length links) (slice_index heads bucket)
+  pub heads_lead : (bucket : ℕ) → bucket < length heads
+      → IsPlaceInBucket (length heads) (hashes_of links) bucket (length links)
+      (slice_index heads bucket)
   pub links_lead : (p : ℕ) → p < length links →
-      IsPlaceInBucket (length heads) (hashes_of links) (slice_index (hashes_of links) p % length heads) p (slice_index (map (λ (link : Link). link.before) links) p)
+      IsPlaceInBucket (length heads) (hashes_of links)
+      (slice_index (hashes_of links) p % length heads) p
+      (slice_index (map (λ (link : Link). link.before) links) p)

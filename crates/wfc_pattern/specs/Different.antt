@@ -8,7 +8,8 @@ use Rattle.wfc_pattern.specs.declared.different.Arising.{Arising}
 
 -- image `at` of those that arise: symmetry images for each place, and the places row by row, so many to a row
 abbrev pub arisen : Raster → ℕ → ℕ → ℕ → ℕ → List ℕ
-arisen sample n symmetry columns at = image n (window sample (at / symmetry % columns) (at / symmetry / columns) n) (at % symmetry)
+arisen sample n symmetry columns at =
+    image n (window sample (at / symmetry % columns) (at / symmetry / columns) n) (at % symmetry)
 
 -- the images with these numbers
 abbrev pub images_of : Raster → ℕ → ℕ → ℕ → List ℕ → List (List ℕ)
@@ -16,7 +17,8 @@ images_of sample n symmetry columns numbers = map (arisen sample n symmetry colu
 
 -- their hashes are kept
 abbrev pub HashesAre : Raster → ℕ → ℕ → ℕ → List ℕ → List ℕ → Type 0
-HashesAre sample n symmetry columns numbers hashes = hashes ≡ map (λ at. hash_of (arisen sample n symmetry columns at)) numbers
+HashesAre sample n symmetry columns numbers hashes =
+    hashes ≡ map (λ at. hash_of (arisen sample n symmetry columns at)) numbers
 
 -- the same of a sample with all that its images arise by
 abbrev pub image_in : Arising → ℕ → List ℕ
@@ -26,4 +28,5 @@ abbrev pub images_in : Arising → List ℕ → List (List ℕ)
 images_in arising numbers = images_of arising.picture.now arising.n arising.symmetry arising.columns numbers
 
 abbrev pub AreHashesIn : Arising → List ℕ → List ℕ → Type 0
-AreHashesIn arising numbers hashes = HashesAre arising.picture.now arising.n arising.symmetry arising.columns numbers hashes
+AreHashesIn arising numbers hashes =
+    HashesAre arising.picture.now arising.n arising.symmetry arising.columns numbers hashes

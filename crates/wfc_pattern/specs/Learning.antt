@@ -23,5 +23,6 @@ learned_patterns sample n symmetry wrap = record {
 abbrev pub patterns_of : Raster → ℕ → ℕ → Bool → Result PatternsView LearnFault
 patterns_of sample n symmetry wrap =
     if is_below_n sample n wrap then Err SampleBelowN
-    else if nat_lt MAX_PATTERNS (length (learned sample n symmetry wrap)) then Err (TooManyPatterns (length (learned sample n symmetry wrap)))
+    else if nat_lt MAX_PATTERNS (length (learned sample n symmetry wrap))
+    then Err (TooManyPatterns (length (learned sample n symmetry wrap)))
     else Ok (learned_patterns sample n symmetry wrap)

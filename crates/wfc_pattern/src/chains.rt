@@ -56,7 +56,8 @@ impl Chains {
     /// The last place before `p` with the same hash.
     pub fn earlier(&self, p: u32) -> Option<u32>
         requires p_in { p < length self.now.links.items }
-        ensures last { IsLastOf (hashes_of self.now.links.items) (slice_index (hashes_of self.now.links.items) p) p result }
+        ensures last { IsLastOf (hashes_of self.now.links.items)
+            (slice_index (hashes_of self.now.links.items) p) p result }
     {
         let link = self.links[p as usize];
         self.found_from(link.before, link.hash)
@@ -65,7 +66,9 @@ impl Chains {
     /// The last place before `place` that has the hash, whose bucket the hash at `place - 1` shares.
     fn found_from(&self, mut place: u32, hash: u32) -> Option<u32>
         requires within { place ≤ length self.now.links.items }
-        requires there { 0 < place → slice_index (hashes_of self.now.links.items) (place - 1) % length self.now.heads.items ≡ hash % length self.now.heads.items }
+        requires there { 0 < place
+            → slice_index (hashes_of self.now.links.items) (place - 1) % length
+            self.now.heads.items ≡ hash % length self.now.heads.items }
         ensures last { IsLastOf (hashes_of self.now.links.items) hash place result }
     {
         while place > 0 {

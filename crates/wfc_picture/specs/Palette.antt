@@ -23,7 +23,9 @@ numbered symbols = map (λ symbol. position_or_len (same_symbol symbol) (palette
 
 -- where the first symbol past the limit appears, if there are so many
 abbrev pub first_past : ℕ → List Symbol → Option ℕ
-first_past limit symbols = position (λ at. nat_lt limit (length (palette_of (take (at + 1) symbols)))) (range_with_len 0 (length symbols))
+first_past limit symbols =
+    position (λ at. nat_lt limit (length (palette_of (take (at + 1) symbols))))
+    (range_with_len 0 (length symbols))
 
 -- the picture and the palette of these symbols, unless there is a symbol too many
 abbrev pub unless_past : Option ℕ → List Symbol → ℕ → Result (Raster × List Symbol) PaletteFault

@@ -34,7 +34,10 @@ colour_of _ = None
 
 -- the only symbol that the word may spell: by its length a byte, a blank, or a colour of the parts between commas
 abbrev pub likely_symbol : List ℕ → Option Symbol
-likely_symbol word = if length word == 1 then Some (Char (slice_index word 0)) else if length word == 2 then Some (Char 0x20) else colour_of (slice_split (λ byte. byte == 0x2C) word)
+likely_symbol word =
+    if length word == 1 then Some (Char (slice_index word 0))
+    else if length word == 2 then Some (Char 0x20)
+    else colour_of (slice_split (λ byte. byte == 0x2C) word)
 
 -- the symbol, if it is there, can stand in a sample and has this text
 abbrev pub if_spelled : List ℕ → Option Symbol → Option Symbol

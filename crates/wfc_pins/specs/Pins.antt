@@ -11,11 +11,14 @@ use Rattle.wfc_pins.specs.PinView.{PinView}
 
 -- whether a line keeps its symbol, by its first word: `pin` does, and `ban` doesn't
 abbrev pub keep_of : List ℕ → Option Bool
-keep_of word = if bytes_eq word (codes "pin") then Some true else (if bytes_eq word (codes "ban") then Some false else None)
+keep_of word =
+    if bytes_eq word (codes "pin") then Some true
+    else (if bytes_eq word (codes "ban") then Some false else None)
 
 -- the pin with these parts, if they are all there
 abbrev pub pin_with : ℕ → List ℕ → Option Bool → Option ℕ → Option ℕ → Option PinView
-pin_with line symbol (Some keep) (Some x) (Some y) = Some record { line = line; keep = keep; x = x; y = y; symbol = symbol }
+pin_with line symbol (Some keep) (Some x) (Some y) =
+    Some record { line = line; keep = keep; x = x; y = y; symbol = symbol }
 pin_with line symbol _ _ _ = None
 
 -- what the words of a line say: `pin` or `ban`, a column, a row and a symbol

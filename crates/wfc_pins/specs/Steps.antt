@@ -17,10 +17,12 @@ use Rattle.wfc_pins.specs.declared.steps.StepFault.TheVariants.{BadLine, Nothing
 use Rattle.wfc_pins.specs.declared.steps.RangeFault.{RangeFault}
 use Rattle.wfc_pins.specs.declared.steps.RangeFault.TheVariants.{OutOfRange}
 
--- what is assumed of a cell and a value, if both are there: `choose` says that the cell has it, `forbid` that it doesn't
+-- what is assumed of a cell and a value, if both are there: `choose` says that the cell has it,
+-- `forbid` that it doesn't
 abbrev pub assumed : List ℕ → Option ℕ → Option ℕ → Option Step
 assumed word (Some cell) (Some value) =
-    if bytes_eq word (codes "choose") then Some (Assume (Is cell value)) else (if bytes_eq word (codes "forbid") then Some (Assume (Not cell value)) else None)
+    if bytes_eq word (codes "choose") then Some (Assume (Is cell value))
+    else (if bytes_eq word (codes "forbid") then Some (Assume (Not cell value)) else None)
 assumed word _ _ = None
 
 -- what the words of a line say: `choose` or `forbid`, a cell and a value; or `undo` alone
@@ -83,4 +85,6 @@ IsStepIn P Undo = Unit {0}
 
 -- the first line whose step doesn't fit a problem, if there is one
 abbrev pub range_fault : Network → List StepLine → Option RangeFault
-range_fault P steps = option_map (λ (line : StepLine). OutOfRange line.line) (find (λ (line : StepLine). not (fits P line.step)) steps)
+range_fault P steps =
+    option_map (λ (line : StepLine). OutOfRange line.line)
+    (find (λ (line : StepLine). not (fits P line.step)) steps)

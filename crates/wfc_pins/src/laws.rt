@@ -37,6 +37,11 @@ pub fn steps()
 
 /// A step behind steps without a fault is at fault exactly where it says none, or undoes where as many undo as assume.
 pub fn faults_of_steps()
-    ensures bad { (before : List LineView) (line : LineView) (after : List LineView) (steps : List StepLine) → steps_behind [] before ≡ Ok steps → said line ≡ None → steps_behind [] (before ++ line ∷ after) ≡ Err (step_faults.BadLine line.number) }
-    ensures nothing { (before : List LineView) (line : LineView) (after : List LineView) (steps : List StepLine) → steps_behind [] before ≡ Ok steps → said line ≡ Some Undo → undos before ≡ assumptions before → steps_behind [] (before ++ line ∷ after) ≡ Err (step_faults.NothingToUndo line.number) }
+    ensures bad { (before : List LineView) (line : LineView) (after : List LineView)
+        (steps : List StepLine) → steps_behind [] before ≡ Ok steps → said line ≡ None
+        → steps_behind [] (before ++ line ∷ after) ≡ Err (step_faults.BadLine line.number) }
+    ensures nothing { (before : List LineView) (line : LineView) (after : List LineView)
+        (steps : List StepLine) → steps_behind [] before ≡ Ok steps → said line ≡ Some Undo
+        → undos before ≡ assumptions before
+        → steps_behind [] (before ++ line ∷ after) ≡ Err (step_faults.NothingToUndo line.number) }
 {}

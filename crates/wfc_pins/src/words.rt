@@ -55,7 +55,8 @@ impl<'a> Iterator for Words<'a> {
 
 /// The first word of a line, and what stands behind it.
 fn first_word(line: &[u8]) -> Option<(&[u8], &[u8])>
-    ensures first { MatchOption result (words_of line.now ≡ []) (λ cut. words_of line.now ≡ cut.0.now ∷ words_of cut.1.now) }
+    ensures first { MatchOption result (words_of line.now ≡ [])
+        (λ cut. words_of line.now ≡ cut.0.now ∷ words_of cut.1.now) }
 {
     let start = first_other(line)?;
     let text = &line[start..];

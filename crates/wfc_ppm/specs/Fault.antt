@@ -11,7 +11,9 @@ use Rattle.wfc_ppm.specs.declared.reading.PpmFault.TheVariants.{Header, Maxval, 
 
 -- the form that the first two bytes name
 abbrev pub form_of : List ℕ → Option Form
-form_of text = if bytes_eq (take 2 text) (codes "P6") then Some Raw else if bytes_eq (take 2 text) (codes "P3") then Some Plain else None
+form_of text =
+    if bytes_eq (take 2 text) (codes "P6") then Some Raw
+    else if bytes_eq (take 2 text) (codes "P3") then Some Plain else None
 
 -- what stands before the samples: the sides, maxval, and what follows its digits
 pub record Head : Type 0 where
@@ -31,11 +33,16 @@ head_of text = record {
 
 -- a number with whitespace or a comment before it should stand here: the fault at the byte where one of them does not
 abbrev pub field_fault : ℕ → List ℕ → Option PpmFault
-field_fault total text = if length (start_of text) == length text then Some (Header (place_of total text)) else if length (digits_of (start_of text)) == 0 then Some (Header (place_of total (start_of text))) else None
+field_fault total text =
+    if length (start_of text) == length text then Some (Header (place_of total text))
+    else if length (digits_of (start_of text)) == 0
+    then Some (Header (place_of total (start_of text))) else None
 
 -- a side should stand here, and is not 0
 abbrev pub side_fault : ℕ → List ℕ → Option PpmFault
-side_fault total text = option_or (field_fault total text) (if field_value text == 0 then Some (Header (place_of total (start_of text))) else None)
+side_fault total text =
+    option_or (field_fault total text)
+    (if field_value text == 0 then Some (Header (place_of total (start_of text))) else None)
 
 -- one byte of whitespace should stand before raw samples
 abbrev pub space_fault : ℕ → List ℕ → Option PpmFault
@@ -44,7 +51,9 @@ space_fault total (byte ∷ text) = if is_space byte then None else Some (Header
 
 -- whitespace or a comment should stand before samples in decimal, and no comment that the text's end cuts
 abbrev pub gap_fault : ℕ → List ℕ → Option PpmFault
-gap_fault total text = if length (start_of text) == length text then Some (Header (place_of total text)) else if (stop_of false text).cut then Some (Header total) else None
+gap_fault total text =
+    if length (start_of text) == length text then Some (Header (place_of total text))
+    else if (stop_of false text).cut then Some (Header total) else None
 
 -- what should stand between maxval and the samples
 abbrev pub end_fault : Form → ℕ → List ℕ → Option PpmFault
@@ -98,7 +107,12 @@ ends_token (byte ∷ text) = is_space byte || (byte == 35)
 
 -- a sample in decimal should stand here, behind so many others of those wanted
 abbrev pub sample_fault : ℕ → ℕ → ℕ → ℕ → List ℕ → Option PpmFault
-sample_fault total maxval wanted found text = if length (start_of text) == 0 then Some (Truncated wanted found) else if not (ends_token (behind_field text)) then Some (BadSample (place_of total (start_of text))) else if nat_lt maxval (field_value text) then Some (SampleAboveMaxval (place_of total (start_of text))) else None
+sample_fault total maxval wanted found text =
+    if length (start_of text) == 0 then Some (Truncated wanted found)
+    else if not (ends_token (behind_field text))
+    then Some (BadSample (place_of total (start_of text)))
+    else if nat_lt maxval (field_value text)
+    then Some (SampleAboveMaxval (place_of total (start_of text))) else None
 
 -- the three samples of a pixel should stand here
 abbrev pub pixel_fault : ℕ → ℕ → ℕ → ℕ → List ℕ → Option PpmFault
@@ -118,12 +132,18 @@ tail_fault total text = if length (start_of text) == 0 then None else Some (Trai
 -- so many pixels should stand here, behind so many samples of those wanted, and nothing behind them
 abbrev pub plain_fault : ℕ → ℕ → ℕ → ℕ → ℕ → List ℕ → Option PpmFault
 plain_fault total maxval wanted found zero text = tail_fault total text
-plain_fault total maxval wanted found (suc pixels) text = option_or (pixel_fault total maxval wanted found text) (plain_fault total maxval wanted (found + 3) pixels (behind_pixel text))
+plain_fault total maxval wanted found (suc pixels) text =
+    option_or (pixel_fault total maxval wanted found text)
+    (plain_fault total maxval wanted (found + 3) pixels (behind_pixel text))
 
 -- the fault of the samples
 abbrev pub samples_fault : Form → ℕ → Head → Option PpmFault
-samples_fault Raw total head = raw_fault total head.maxval (head.width * head.height * 3 * sample_size head.maxval) (drop 1 head.rest)
-samples_fault Plain total head = plain_fault total head.maxval (head.width * head.height * 3) 0 (head.width * head.height) head.rest
+samples_fault Raw total head =
+    raw_fault total head.maxval
+    (head.width * head.height * 3 * sample_size head.maxval) (drop 1 head.rest)
+samples_fault Plain total head =
+    plain_fault total head.maxval (head.width * head.height * 3) 0
+    (head.width * head.height) head.rest
 
 -- the first fault of a text in this form
 abbrev pub fault_of : Form → List ℕ → Option PpmFault

@@ -12,7 +12,8 @@ is_space byte = (byte == 32) || (byte == 9) || (byte == 13) || (byte == 10)
 abbrev pub ends_comment : ℕ → Bool
 ends_comment byte = (byte == 10) || (byte == 13)
 
--- whether a comment is open behind a byte, by whether one was before it; none where the byte is no whitespace and no comment's
+-- whether a comment is open behind a byte, by whether one was before it; none where the byte is no
+-- whitespace and no comment's
 abbrev pub comment_behind : Bool → ℕ → Option Bool
 comment_behind true byte = Some (not (ends_comment byte))
 comment_behind false byte = if is_space byte then Some false else if byte == 35 then Some true else None

@@ -20,7 +20,9 @@ first_failing passes n = find (λ k. not (passes k)) (range_with_len 0 n)
 -- the first row, and in it the first column, at which a test isn't passed
 abbrev pub first_pair : (ℕ → ℕ → Bool) → List ℕ → ℕ → Option (ℕ × ℕ)
 first_pair passes [] columns = None
-first_pair passes (r ∷ rs) columns = option_or (option_map (λ c. (r, c)) (first_failing (passes r) columns)) (first_pair passes rs columns)
+first_pair passes (r ∷ rs) columns =
+    option_or (option_map (λ c. (r, c)) (first_failing (passes r) columns))
+    (first_pair passes rs columns)
 
 -- the counts and the lengths are as said: cells, weights, neighbours, supports, base
 abbrev pub lengths_fault : Network → Option ProblemFault
@@ -84,7 +86,9 @@ is_mutual P v d = list_all (λ w. ok P (opposite d) w v) (supports_of P v d)
 
 -- what may stand beside a value has the value beside it the other way
 abbrev pub symmetry_fault : Network → Option ProblemFault
-symmetry_fault P = option_map (λ p. NotSymmetric p.0 p.1) (first_pair (is_mutual P) (range_with_len 0 (values P)) P.dirs)
+symmetry_fault P =
+    option_map (λ p. NotSymmetric p.0 p.1)
+    (first_pair (is_mutual P) (range_with_len 0 (values P)) P.dirs)
 
 -- the first fault of the parts, if they have one
 unfoldable pub problem_fault_of : Network → Option ProblemFault

@@ -7,7 +7,8 @@ use Rattle.wfc_problem.specs.Network.{Network, values, supports_of, ok}
 abbrev pub IsEarliest : (ℕ → ℕ → Bool) → ℕ → ℕ → Option (ℕ × ℕ) → Type 0
 IsEarliest passes rows n None = (r c : ℕ) → r < rows → c < n → passes r c ≡ true
 IsEarliest passes rows n (Some (r, c)) =
-    (r < rows) × (c < n) × (passes r c ≡ false) × ((k d : ℕ) → k < r → d < n → passes k d ≡ true) × ((d : ℕ) → d < c → passes r d ≡ true)
+    (r < rows) × (c < n) × (passes r c ≡ false) × ((k d : ℕ) → k < r → d < n → passes k d ≡ true)
+    × ((d : ℕ) → d < c → passes r d ≡ true)
 
 -- the first of `end` numbers that fails a test, or `end`
 pub record IsEndOf (passes : ℕ → Bool) (end n : ℕ) : Type 0 where

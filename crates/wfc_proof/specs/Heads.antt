@@ -35,7 +35,9 @@ bit false = 0
 -- the words of the third line of a head of format 2
 abbrev pub shape_words : Shape → List (List ℕ)
 shape_words shape =
-    codes "for" ∷ decimal shape.n ∷ decimal shape.width ∷ decimal shape.height ∷ decimal shape.depth ∷ decimal shape.symmetry ∷ decimal (bit shape.wrap_in) ∷ decimal (bit shape.wrap_out) ∷ []
+    codes "for" ∷ decimal shape.n ∷ decimal shape.width ∷ decimal shape.height
+    ∷ decimal shape.depth ∷ decimal shape.symmetry ∷ decimal (bit shape.wrap_in)
+    ∷ decimal (bit shape.wrap_out) ∷ []
 
 abbrev pub shape_text : Shape → List ℕ
 shape_text shape = with_spaces (shape_words shape)
@@ -46,7 +48,8 @@ head_text cells values = ended (format_text One) ++ ended (numbers_text cells va
 
 -- the head of format 2
 abbrev pub head_2_text : Shape → ℕ → ℕ → List ℕ
-head_2_text shape cells values = ended (format_text Two) ++ (ended (numbers_text cells values) ++ ended (shape_text shape))
+head_2_text shape cells values =
+    ended (format_text Two) ++ (ended (numbers_text cells values) ++ ended (shape_text shape))
 
 -- numbers of a head within their limit
 abbrev pub AreNumbers : Numbers → Type 0
@@ -62,7 +65,9 @@ pub record IsShape (shape : Shape) : Type 0 where
 
 -- the format that a first line names
 abbrev pub format_of : List ℕ → Result Format LineFault
-format_of bytes = if bytes_eq bytes (format_text One) then Ok One else (if bytes_eq bytes (format_text Two) then Ok Two else Err BadLine)
+format_of bytes =
+    if bytes_eq bytes (format_text One) then Ok One
+    else (if bytes_eq bytes (format_text Two) then Ok Two else Err BadLine)
 
 -- the number that a word of a head writes
 abbrev pub head_word : List ℕ → Option ℕ
@@ -85,7 +90,9 @@ numbers_of bytes = ok_or (numbers_of_words (spaced_words bytes)) BadLine
 
 -- the truth value that a word writes
 abbrev pub bit_word : List ℕ → Option Bool
-bit_word word = if bytes_eq word (codes "1") then Some true else (if bytes_eq word (codes "0") then Some false else None)
+bit_word word =
+    if bytes_eq word (codes "1") then Some true
+    else (if bytes_eq word (codes "0") then Some false else None)
 
 -- the shape with these parts, if they are all there
 abbrev pub shape_with : Option ℕ → Option ℕ → Option ℕ → Option ℕ → Option ℕ → Option Bool → Option Bool → Option Shape
@@ -96,7 +103,9 @@ shape_with _ _ _ _ _ _ _ = None
 -- the shape that the words of a third line say
 abbrev pub shape_of_words : List (List ℕ) → Option Shape
 shape_of_words (word ∷ n ∷ w ∷ h ∷ d ∷ s ∷ i ∷ o ∷ []) =
-    if bytes_eq word (codes "for") then shape_with (decimal_within 6 n) (head_word w) (head_word h) (head_word d) (decimal_within (2 ^ 8 - 1) s) (bit_word i) (bit_word o) else None
+    if bytes_eq word (codes "for")
+    then shape_with (decimal_within 6 n) (head_word w) (head_word h) (head_word d)
+    (decimal_within (2 ^ 8 - 1) s) (bit_word i) (bit_word o) else None
 shape_of_words _ = None
 
 -- the shape that a third line says

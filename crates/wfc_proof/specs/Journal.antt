@@ -28,12 +28,14 @@ counted_as End = End ∷ []
 counted_as Found = Found ∷ []
 counted_as Out = Out ∷ []
 
--- the sink that a journal writes into: the name of the reference to it, and what it took before the first line, where that is told
+-- the sink that a journal writes into: the name of the reference to it, and what it took before the
+-- first line, where that is told
 pub record Target : Type 0 where
   pub name : GName
   pub before : Option Taken
 
--- a journal: the lines handed to it, where they are told, whether it refused one, the count of its faults, and its sink, if it has one
+-- a journal: the lines handed to it, where they are told, whether it refused one, the count of its
+-- faults, and its sink, if it has one
 pub record JournalView : Type 0 where
   pub lines : Option (List Line)
   pub failed : Bool

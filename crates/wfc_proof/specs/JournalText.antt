@@ -9,9 +9,11 @@ use Rattle.wfc_proof.specs.declared.Line.{Line}
 use Rattle.wfc_proof.specs.declared.heads.Format.{Format}
 use Rattle.wfc_proof.specs.declared.heads.Shape.{Shape}
 
--- the bytes are the text of the proof in this format, of which branches may be left off: the head, lines of the format that spell the nodes, and then
+-- the bytes are the text of the proof in this format, of which branches may be left off: the head,
+-- lines of the format that spell the nodes, and then
 -- this line; the proof follows from the base domains, and after a branch that was left off nothing comes
-pub record IsOpenTextOf (P : Network) (shape : Shape) (format : Format) (proof : Proof) (last : Line) (bytes : List ℕ) : Type 0 where
+pub record IsOpenTextOf (P : Network) (shape : Shape) (format : Format) (proof : Proof)
+    (last : Line) (bytes : List ℕ) : Type 0 where
   pub follows : FollowsFrom P (in_base P) proof
   pub stops : StopsThere proof
   pub lines : List Line

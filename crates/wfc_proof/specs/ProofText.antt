@@ -27,7 +27,8 @@ abbrev pub head_in : Format → Network → Shape → List ℕ
 head_in One P shape = head_text P.cells (values P)
 head_in Two P shape = head_2_text shape P.cells (values P)
 
--- the bytes are the text of the proof in this format: the head, lines of the format that spell the nodes, and the end; the proof closes the base domains
+-- the bytes are the text of the proof in this format: the head, lines of the format that spell the
+-- nodes, and the end; the proof closes the base domains
 pub record IsTextOf (P : Network) (shape : Shape) (format : Format) (proof : Proof) (bytes : List ℕ) : Type 0 where
   pub closes : Closes P (in_base P) proof
   pub lines : List Line

@@ -30,7 +30,8 @@ as_span Out = Out
 -- two spans as one, if they are of one cell and direction and the values of the second follow
 abbrev pub span_behind : ℕ → ℕ → ℕ → ℕ → Line → Option Line
 span_behind c first last d (Remove x v z) = None
-span_behind c first last d (Span x from to z) = if x == c && (z == d && from == last + 1) then Some (Span c first to d) else None
+span_behind c first last d (Span x from to z) =
+    if x == c && (z == d && from == last + 1) then Some (Span c first to d) else None
 span_behind c first last d (Try x v) = None
 span_behind c first last d (Empty x) = None
 span_behind c first last d End = None
@@ -153,14 +154,16 @@ abbrev pub is_kept : Option Line → Bool
 is_kept None = true
 is_kept (Some line) = is_span line
 
--- what holds of a journal of format 2 between its lines: behind the lines that it put stands a front of what waits, all that it
+-- what holds of a journal of format 2 between its lines: behind the lines that it put stands a
+-- front of what waits, all that it
 -- was told is joined so, and what it keeps is a span
 pub record IsSpanning (sink : SinkView) (kept refused : Option Line) : Type 0 where
   pub at : IsAt Two sink.told (waiting kept refused)
   pub joined : AreJoined (ending sink.told) kept refused
   pub spans : is_kept kept ≡ true
 
--- the kept span and a line behind it that is no part of it were cut off: some of them were put, and a front of the next one;
+-- the kept span and a line behind it that is no part of it were cut off: some of them were put, and
+-- a front of the next one;
 -- what is left is kept
 pub record IsCutApart (old new : SinkView) (before : Option Line) (line : Line) (after : Option Line) : Type 0 where
   pub done : List Line

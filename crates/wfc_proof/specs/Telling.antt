@@ -17,7 +17,8 @@ use Rattle.wfc_proof.specs.declared.text.LineFault.{LineFault}
 abbrev pub text_of : List Line → List ℕ
 text_of lines = flat_map (λ line. ended (line_text line)) lines
 
--- what was read of a text: the bytes up to its last ended line that is none of the format, the lines behind it, and the bytes
+-- what was read of a text: the bytes up to its last ended line that is none of the format, the
+-- lines behind it, and the bytes
 -- of the line that didn't end
 pub record Reading : Type 0 where
   pub before : List ℕ
@@ -37,7 +38,8 @@ and_line read (Err fault) = record { before = read.before ++ (text_of read.lines
 -- what was read after one more byte
 abbrev pub read_byte : Format → Reading → ℕ → Reading
 read_byte format read byte =
-    if byte == 10 then and_line read (line_in format read.part) else record { before = read.before; lines = read.lines; part = read.part ++ byte ∷ [] }
+    if byte == 10 then and_line read (line_in format read.part)
+    else record { before = read.before; lines = read.lines; part = read.part ++ byte ∷ [] }
 
 -- what was read after more bytes
 abbrev pub read_on : Format → Reading → List ℕ → Reading
@@ -88,7 +90,8 @@ IsAt format told waiting =
 abbrev pub IsBare : Format → Option Taken → Type 0
 IsBare format told = (option_map (lines_at_end format) told ≡ option_map (λ (taken : Taken). let none : List Line = [] in none) told) × IsAt format told []
 
--- a journal of either format that was begun, over a sink that took all of this: it tells no line, where its sink tells its bytes
+-- a journal of either format that was begun, over a sink that took all of this: it tells no line,
+-- where its sink tells its bytes
 abbrev pub begun : GName → SinkView → JournalView
 begun name sink = record {
   lines = option_map (λ (taken : Taken). let none : List Line = [] in none) sink.told;
@@ -108,7 +111,8 @@ pub record IsCut (old new : SinkView) (bytes : List ℕ) : Type 0 where
 abbrev pub PutsOrCuts : {T E : Type 0} → SinkView → SinkView → List ℕ → Result T E → Type 0
 PutsOrCuts old new bytes result = MatchResult result (λ _. new ≡ after_bytes old bytes) (λ _. IsCut old new bytes)
 
--- the lines that a line counts as were put up to one, of which a front was put; it and those behind it are the refused line's
+-- the lines that a line counts as were put up to one, of which a front was put; it and those behind
+-- it are the refused line's
 pub record IsCutAt (old new : SinkView) (line refused : Line) : Type 0 where
   pub done : List Line
   pub first : Line
@@ -119,4 +123,6 @@ pub record IsCutAt (old new : SinkView) (line refused : Line) : Type 0 where
 
 -- the lines that a line counts as were put, or else it was cut off
 abbrev pub PutsCounted : {T : Type 0} → SinkView → SinkView → Line → Result T Line → Type 0
-PutsCounted old new line result = MatchResult result (λ _. new ≡ after_bytes old (text_of (counted_as line))) (λ refused. IsCutAt old new line refused)
+PutsCounted old new line result =
+    MatchResult result (λ _. new ≡ after_bytes old (text_of (counted_as line)))
+    (λ refused. IsCutAt old new line refused)

@@ -106,7 +106,8 @@ mark_of word (next ∷ words) = None
 -- the line of a letter and the words behind it, where both formats have it
 abbrev pub either_of : List ℕ → List (List ℕ) → Option Line
 either_of word words =
-    if bytes_eq word (codes "t") then trial_of words else (if bytes_eq word (codes "x") then empty_of words else mark_of word words)
+    if bytes_eq word (codes "t") then trial_of words
+    else (if bytes_eq word (codes "x") then empty_of words else mark_of word words)
 
 -- the line of format 1 that words are
 abbrev pub line_of_words : List (List ℕ) → Option Line

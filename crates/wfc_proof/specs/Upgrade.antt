@@ -41,7 +41,9 @@ lines_in format bytes = (read_text format bytes).lines
 
 -- the text in format 2 of what a text tells: its lines, their removals joined into spans
 abbrev pub upgraded_text : Network → Shape → List ℕ → List ℕ
-upgraded_text P shape bytes = head_2_text shape P.cells (values P) ++ text_of (in_spans (counted (lines_in (format_at bytes) bytes)))
+upgraded_text P shape bytes =
+    head_2_text shape P.cells (values P)
+    ++ text_of (in_spans (counted (lines_in (format_at bytes) bytes)))
 
 -- what is still to be put of lines, behind a span that is kept
 abbrev pub spans_left : Option Line → List Line → List Line

@@ -19,7 +19,8 @@ with_spaces words = join_with_byte 32 words
 -- the number whose decimal text the word is, if it is at most `most`
 abbrev pub decimal_within : ℕ → List ℕ → Option ℕ
 decimal_within most word =
-    if nat_le (digits_value 10 word) most && bytes_eq word (decimal (digits_value 10 word)) then Some (digits_value 10 word) else None
+    if nat_le (digits_value 10 word) most
+    && bytes_eq word (decimal (digits_value 10 word)) then Some (digits_value 10 word) else None
 
 -- whether a word has a zero in front of other digits
 abbrev pub has_zero_first : List ℕ → Bool

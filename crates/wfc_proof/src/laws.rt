@@ -235,7 +235,8 @@ pub fn readings_by_example()
     ensures spans { line_2_of (codes "r 10 2 4 3") ≡ Ok (Span 10 2 4 3) }
     ensures one { line_2_of (codes "r 10 4 4 3") ≡ Ok (Span 10 4 4 3) }
     ensures other_format { (line_of (codes "r 10 2 4 3") ≡ Err BadLine) × (line_2_of (codes "r 10 2 3") ≡ Err BadLine) }
-    ensures most { (line_of (codes "t 4294967295 65535") ≡ Ok (Try 4294967295 65535)) × (line_2_of (codes "x 0") ≡ Ok (Empty 0)) }
+    ensures most { (line_of (codes "t 4294967295 65535") ≡ Ok (Try 4294967295 65535))
+        × (line_2_of (codes "x 0") ≡ Ok (Empty 0)) }
     ensures too_large { map line_of (codes "x 4294967296" ∷ codes "t 0 65536" ∷ codes "r 0 0 256" ∷ [])
         ≡ Err BadLine ∷ Err BadLine ∷ Err BadLine ∷ [] }
     ensures blanks { map line_of (codes "x  0" ∷ codes " x 0" ∷ codes "x 0 " ∷ codes "q " ∷ [])
@@ -243,14 +244,16 @@ pub fn readings_by_example()
     ensures digits { map line_of (codes "x 00" ∷ codes "x 07" ∷ codes "x +7" ∷ codes "x" ∷ [])
         ≡ Err BadLine ∷ Err BadLine ∷ Err BadLine ∷ Err BadLine ∷ [] }
     ensures backwards { line_2_of (codes "r 10 4 3 3") ≡ Err BadLine }
-    ensures letters { map line_2_of (codes "q" ∷ codes "s" ∷ codes "o" ∷ codes "Q" ∷ []) ≡ Ok End ∷ Ok Found ∷ Ok Out ∷ Err BadLine ∷ [] }
+    ensures letters { map line_2_of (codes "q" ∷ codes "s" ∷ codes "o" ∷ codes "Q" ∷ [])
+        ≡ Ok End ∷ Ok Found ∷ Ok Out ∷ Err BadLine ∷ [] }
 {}
 
 /// Lines of heads, and lines that are none.
 pub fn heads_by_example()
     ensures format { map format_of (codes "wfc-refutation 1" ∷ codes "wfc-refutation 2" ∷ codes "wfc-refutation 3" ∷ [])
         ≡ Ok One ∷ Ok Two ∷ Err BadLine ∷ [] }
-    ensures numbers { numbers_of (codes "cells 12 values 4294967295") ≡ Ok (record { cells = 12; values = 4294967295 }) }
+    ensures numbers { numbers_of (codes "cells 12 values 4294967295")
+        ≡ Ok (record { cells = 12; values = 4294967295 }) }
     ensures zero_first { numbers_of (codes "cells 02 values 1") ≡ Err BadLine }
     ensures exchanged { numbers_of (codes "values 2 cells 1") ≡ Err BadLine }
     ensures shape { shape_of (codes "for 2 3 4 1 8 1 0")

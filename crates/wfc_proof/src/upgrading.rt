@@ -59,7 +59,9 @@ fn upgrade_to<S: Sink>(
 
 /// Puts the lines of a text behind its head.
 fn upgrade_proof<S: Sink>(bytes: &[u8], sink: &mut S) -> Result<(), SinkFault>
-    requires lines { text_of (lines_in (format_at bytes.now) (behind_head (format_at bytes.now) bytes.now)) ≡ behind_head (format_at bytes.now) bytes.now }
+    requires lines { text_of
+        (lines_in (format_at bytes.now) (behind_head (format_at bytes.now) bytes.now))
+        ≡ behind_head (format_at bytes.now) bytes.now }
     ensures put { Puts (S.seen sink.old) (S.seen sink.new)
         (text_of (in_spans (counted (lines_in (format_at bytes.now) (behind_head (format_at bytes.now) bytes.now))))) result }
 {
@@ -96,7 +98,8 @@ fn behind_head(format: Format, bytes: &[u8]) -> &[u8]
 /// Puts lines, their removals joined into spans.
 fn upgrade_lines<S: Sink>(bytes: &[u8], format: Format, sink: &mut S) -> Result<(), SinkFault>
     requires lines { text_of (lines_in format bytes.now) ≡ bytes.now }
-    ensures put { Puts (S.seen sink.old) (S.seen sink.new) (text_of (in_spans (counted (lines_in format bytes.now)))) result }
+    ensures put { Puts (S.seen sink.old) (S.seen sink.new)
+        (text_of (in_spans (counted (lines_in format bytes.now)))) result }
 {
     let mut rest = bytes;
     let mut kept = None;

@@ -21,7 +21,8 @@ block_text step shown values cells = head_line (codes "step") step ++ shown_text
 -- the blocks of domains after one step and another, of which the first has this number
 abbrev pub blocks_from : ℕ → List (Option Test) → ℕ → ℕ → List ℕ
 blocks_from step [] values cells = []
-blocks_from step (shown ∷ others) values cells = block_text step shown values cells ++ blocks_from (step + 1) others values cells
+blocks_from step (shown ∷ others) values cells =
+    block_text step shown values cells ++ blocks_from (step + 1) others values cells
 
 -- the blocks of domains before any step and after each
 abbrev pub domain_text : List (Option Test) → ℕ → ℕ → List ℕ

@@ -14,7 +14,9 @@ use Rattle.wfc_render.specs.declared.form.Form.TheVariants.{Grid}
 -- what stands before all rows
 abbrev pub start_in : Form → TileSetView → Raster → List ℕ
 start_in Grid set m = []
-start_in form set m = head_in form (m.width * side_of set.pictures) (height_of m * side_of set.pictures) (maxval_of (kind_of set.pictures))
+start_in form set m =
+    head_in form (m.width * side_of set.pictures) (height_of m * side_of set.pictures)
+    (maxval_of (kind_of set.pictures))
 
 -- a pixel
 abbrev pub symbol_in : Form → ℕ → Symbol → List ℕ
@@ -29,7 +31,8 @@ end_in form = []
 -- row j of a place
 abbrev pub place_in : Form → TileSetView → ℕ → ℕ → List ℕ
 place_in form set j number =
-    flat_map (λ i. symbol_in form (maxval_of (kind_of set.pictures)) (shown_at set j number i)) (range_with_len 0 (side_of set.pictures))
+    flat_map (λ i. symbol_in form (maxval_of (kind_of set.pictures)) (shown_at set j number i))
+    (range_with_len 0 (side_of set.pictures))
 
 -- row j of a row of places
 abbrev pub line_in : Form → TileSetView → List ℕ → ℕ → List ℕ

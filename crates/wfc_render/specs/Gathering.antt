@@ -10,4 +10,6 @@ pub record Passes (old new : SinkView) (held : List ℕ) (came : List ℕ) (left
 
 -- the bytes passed, or a fault was counted after the sink took a front of what was held and came
 abbrev pub Gathers : {T E : Type 0} → SinkView → SinkView → List ℕ → List ℕ → List ℕ → Result T E → Type 0
-Gathers old new held came left result = MatchResult result (λ _. Passes old new held came left) (λ _. IsFaultAfterFront old new (held ++ came))
+Gathers old new held came left result =
+    MatchResult result (λ _. Passes old new held came left)
+    (λ _. IsFaultAfterFront old new (held ++ came))

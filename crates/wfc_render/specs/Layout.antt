@@ -41,7 +41,8 @@ unless_large layout pixels = if nat_lt MAX_MAP_PIXELS pixels then Err (TooLarge 
 abbrev pub layout_in : Kind → Option Form → ℕ → ℕ → ℕ → Result Layout RenderFault
 layout_in kind None width height side = Err FormDiffers
 layout_in kind (Some form) width height side =
-    unless_large (record { kind = kind; form = form; width = width; height = height; side = side }) (pixels_of width height side)
+    unless_large (record { kind = kind; form = form; width = width; height = height; side = side })
+    (pixels_of width height side)
 
 -- the layout of a map of so many pixels or tiles in the form that is asked for, or why it has none
 abbrev pub layout_of : Kind → Option Form → ℕ → ℕ → ℕ → Result Layout RenderFault

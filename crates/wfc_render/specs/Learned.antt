@@ -17,12 +17,17 @@ pattern_line patterns p = decimal p ++ 0x20 ∷ (decimal (weight_at patterns p) 
 
 -- all colours
 abbrev pub colours_text : List Symbol → List ℕ
-colours_text palette = head_line (codes "colours") (length palette) ++ flat_map (colour_line palette) (range_with_len 0 (length palette))
+colours_text palette =
+    head_line (codes "colours") (length palette)
+    ++ flat_map (colour_line palette) (range_with_len 0 (length palette))
 
 -- all patterns
 abbrev pub patterns_text : PatternsView → List ℕ
-patterns_text patterns = head_line (codes "patterns") (length patterns.windows) ++ flat_map (pattern_line patterns) (range_with_len 0 (length patterns.windows))
+patterns_text patterns =
+    head_line (codes "patterns") (length patterns.windows)
+    ++ flat_map (pattern_line patterns) (range_with_len 0 (length patterns.windows))
 
 -- the side of a window, the colours and the patterns
 abbrev pub learned_text : PatternsView → List Symbol → List ℕ
-learned_text patterns palette = head_line (codes "overlap") patterns.n ++ (colours_text palette ++ patterns_text patterns)
+learned_text patterns palette =
+    head_line (codes "overlap") patterns.n ++ (colours_text palette ++ patterns_text patterns)

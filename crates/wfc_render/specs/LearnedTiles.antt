@@ -14,7 +14,9 @@ variant_line set v =
 
 -- all variants
 abbrev pub variants_text : TileSetView → List ℕ
-variants_text set = head_line (codes "variants") (variant_total set.tiles) ++ flat_map (variant_line set) (range_with_len 0 (variant_total set.tiles))
+variants_text set =
+    head_line (codes "variants") (variant_total set.tiles)
+    ++ flat_map (variant_line set) (range_with_len 0 (variant_total set.tiles))
 
 -- whether the first of two variants may stand to the left of the second, or above it
 abbrev pub is_allowed : Way → TileSetView → ℕ → ℕ → Bool
@@ -39,7 +41,9 @@ pair_count way set = sum_by (λ v. length (allowed_behind way set v)) (range_wit
 
 -- all pairs, rising by the first variant and then by the second, behind a word and their number
 abbrev pub pairs_text : List ℕ → Way → TileSetView → List ℕ
-pairs_text word way set = head_line word (pair_count way set) ++ flat_map (pair_lines way set) (range_with_len 0 (variant_total set.tiles))
+pairs_text word way set =
+    head_line word (pair_count way set)
+    ++ flat_map (pair_lines way set) (range_with_len 0 (variant_total set.tiles))
 
 -- how many tiles there are, the variants, the pairs of a left and a right one, and those of an upper and a lower one
 abbrev pub learned_tiles_text : TileSetView → List ℕ

@@ -48,7 +48,8 @@ maxval_of kinds.Plain = 0
 abbrev pub coloured_map : ℕ → List Symbol → Raster → PpmView
 coloured_map maxval palette m = record { width = m.width; height = height_of m; maxval = maxval; pixels = colours_of palette (numbers_of m) }
 
--- the text of a map in a form: a picture of colours, row by row the bytes of its symbols, or its numbers with one blank between each two
+-- the text of a map in a form: a picture of colours, row by row the bytes of its symbols, or its
+-- numbers with one blank between each two
 abbrev pub text_in : Kind → Form → List Symbol → Raster → List ℕ
 text_in kind P6 palette m = p6_text (coloured_map (maxval_of kind) palette m)
 text_in kind P3 palette m = p3_text (coloured_map (maxval_of kind) palette m)

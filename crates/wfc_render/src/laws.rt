@@ -71,7 +71,8 @@ pub fn kinds_by_example()
     ensures printable { map (is_of_kind kinds.Grid) (Char 32 ∷ Char 126 ∷ []) ≡ true ∷ true ∷ [] }
     ensures others { map (is_of_kind kinds.Grid) (Char 31 ∷ Char 127 ∷ rgb 1 2 3 ∷ []) ≡ false ∷ false ∷ false ∷ [] }
     ensures plain { is_of_kind kinds.Plain (Char 97) ≡ false }
-    ensures colours { map (is_of_kind (kinds.Ppm 9)) (rgb 9 0 9 ∷ rgb 0 10 0 ∷ Char 97 ∷ []) ≡ true ∷ false ∷ false ∷ [] }
+    ensures colours { map (is_of_kind (kinds.Ppm 9)) (rgb 9 0 9 ∷ rgb 0 10 0 ∷ Char 97 ∷ [])
+        ≡ true ∷ false ∷ false ∷ [] }
     ensures symbol { map (symbol_at (Char 98 ∷ rgb 1 2 3 ∷ [])) (1 ∷ 0 ∷ 2 ∷ []) ≡ rgb 1 2 3 ∷ Char 98 ∷ Char 32 ∷ [] }
 {}
 

@@ -16,7 +16,9 @@ Cuts P D (Not cell value) = (cell < P.cells) × IsTrue (D cell value)
 
 -- each literal cuts the greatest domains of those before it
 abbrev pub IsGrown : Network → List Literal → Type 0
-IsGrown P literals = (before after : List Literal) (l : Literal) → literals ≡ before ++ l ∷ after → Cuts P (greatest P before) l
+IsGrown P literals =
+    (before after : List Literal) (l : Literal) → literals ≡ before ++ l ∷ after
+    → Cuts P (greatest P before) l
 
 -- no legal assignment lies within the base cut by these literals
 abbrev pub HasNone : Network → List Literal → Type 0

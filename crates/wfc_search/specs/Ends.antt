@@ -14,4 +14,6 @@ EndsIn P rule budget words outcome = (s : State) × (outcome_of P rule budget wo
 
 -- it ends in this map
 abbrev pub EndsInMap : Network → Rule → ℕ → Stream → List ℕ → Type 0
-EndsInMap P rule budget words a = (s : State) × (outcome_of P rule budget words ≡ Some (Map, s)) × (a ≡ assignment_of P s.standing)
+EndsInMap P rule budget words a =
+    (s : State) × (outcome_of P rule budget words ≡ Some (Map, s))
+    × (a ≡ assignment_of P s.standing)

@@ -81,7 +81,8 @@ deaths_of P [] = 0
 deaths_of P (s ∷ later) = one_if (is_dead P (greatest P s.standing)) + deaths_of P later
 
 -- the run from this state has these lines' choices, and as many dead states as they have empty cells
-pub record HasCounts (P : Network) (rule : Rule) (budget : ℕ) (s : State) (outcome : Outcome) (lines : List Line) : Type 0 where
+pub record HasCounts (P : Network) (rule : Rule) (budget : ℕ) (s : State) (outcome : Outcome)
+    (lines : List Line) : Type 0 where
   pub later : List State
   pub run : IsRunFrom P rule budget s later outcome
   pub tries : tries_in lines ≡ choices_of P rule budget s later

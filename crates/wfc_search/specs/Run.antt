@@ -95,10 +95,12 @@ LeadsTo (Chose cell value, next) t = next ≡ t
 LeadsTo (Retracted cell value, next) t = next ≡ t
 LeadsTo (Ended outcome, next) t = ⊥
 
--- from a state the run goes through these states, each made from the one before by a turn, and the turn from the last is this end
+-- from a state the run goes through these states, each made from the one before by a turn, and the
+-- turn from the last is this end
 abbrev pub IsRunFrom : Network → Rule → ℕ → State → List State → Outcome → Type 0
 IsRunFrom P rule budget s [] outcome = turn_of P rule budget s ≡ (Ended outcome, s)
-IsRunFrom P rule budget s (t ∷ later) outcome = LeadsTo (turn_of P rule budget s) t × IsRunFrom P rule budget t later outcome
+IsRunFrom P rule budget s (t ∷ later) outcome =
+    LeadsTo (turn_of P rule budget s) t × IsRunFrom P rule budget t later outcome
 
 -- the run of a problem with these words: the states after the first, and the end
 abbrev pub IsRun : Network → Rule → ℕ → Stream → List State → Outcome → Type 0
@@ -118,7 +120,8 @@ end_after (Ended outcome, next) go_on = Some (outcome, next)
 -- how the run from a state ends, and where, if it ends within so many turns
 unfoldable pub end_within : ℕ → Network → Rule → ℕ → State → Option (Outcome × State)
 end_within zero P rule budget s = None
-end_within (suc turns) P rule budget s = end_after (turn_of P rule budget s) (λ next. end_within turns P rule budget next)
+end_within (suc turns) P rule budget s =
+    end_after (turn_of P rule budget s) (λ next. end_within turns P rule budget next)
 
 -- no run has more turns
 abbrev pub most_turns : Network → ℕ → ℕ

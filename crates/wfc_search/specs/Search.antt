@@ -41,15 +41,19 @@ outcome_after (Ended outcome) = Some outcome
 -- from the state of a search the run makes this turn, to the state of the search after it
 abbrev pub IsTurnFrom : Network → Rule → StoreView → Course → Stream → Turn → StoreView → Course → Stream → Type 0
 IsTurnFrom P rule old course words turn new next left =
-    (draws : ℕ) → turn_of P rule course.budget (state_at old course draws words) ≡ (turn, state_at new next (draws_after turn draws) left)
+    (draws : ℕ) → turn_of P rule course.budget (state_at old course draws words)
+    ≡ (turn, state_at new next (draws_after turn draws) left)
 
 -- the first value of each cell in the greatest domains
 abbrev pub assignment_of : Network → List Literal → List ℕ
 assignment_of P literals = first_values P (greatest P literals)
 
--- what an outcome says: each cell has one value, and these are a legal assignment; there is none; the budget is below the volume
+-- what an outcome says: each cell has one value, and these are a legal assignment; there is none;
+-- the budget is below the volume
 abbrev pub IsTrueEnd : Network → ℕ → List Literal → Outcome → Type 0
-IsTrueEnd P budget literals Map = HasOnly P (greatest P literals) (assignment_of P literals) × IsLegalAssignment P (assignment_of P literals)
+IsTrueEnd P budget literals Map =
+    HasOnly P (greatest P literals) (assignment_of P literals)
+    × IsLegalAssignment P (assignment_of P literals)
 IsTrueEnd P budget literals NoMap = (a : List ℕ) → IsLegalAssignment P a → ⊥
 IsTrueEnd P budget literals Spent = budget < volume_of P
 
@@ -84,7 +88,9 @@ IsReady s = HoldsBetween s.problem s.store s.chooser s.course
 
 -- from one search, with these words to come, the run makes this turn to the other, with those that are left
 abbrev pub IsTurn : SearchView → Stream → Turn → SearchView → Stream → Type 0
-IsTurn old words turn new left = IsTurnFrom old.problem old.chooser.rule old.store old.course words turn new.store new.course left
+IsTurn old words turn new left =
+    IsTurnFrom old.problem old.chooser.rule old.store old.course words turn
+    new.store new.course left
 
 -- so, whatever words are to come, and it takes none
 abbrev pub IsWordless : SearchView → Turn → SearchView → Type 0

@@ -50,7 +50,8 @@ end_line Map = Found
 end_line NoMap = End
 end_line Spent = Out
 
--- the lines of a turn that leaves this store: of a choice its value and its level, of a retraction the level of what is ruled out, of an end the end
+-- the lines of a turn that leaves this store: of a choice its value and its level, of a retraction
+-- the level of what is ruled out, of an end the end
 abbrev pub turn_lines : Turn → StoreView → List Line
 turn_lines (Chose cell value) store = Try cell value ∷ level_lines store
 turn_lines (Retracted cell value) store = level_lines store
@@ -77,9 +78,11 @@ abbrev pub IsCutOffFrom : Network → Rule → StoreView → Course → Stream �
 IsCutOffFrom P rule before course words store old new =
     (draws : ℕ) → IsTurnCutOff P rule course.budget (state_at before course draws words) before store old new
 
--- where a journal failed, a front of the lines of a search's next turn was told, up to one that was refused; the turn left this store
+-- where a journal failed, a front of the lines of a search's next turn was told, up to one that was
+-- refused; the turn left this store
 abbrev pub StepFails : Result Turn JournalFault → SearchView → Stream → StoreView → JournalView → JournalView → Type 0
-StepFails answer s words store old new = OnErr answer (IsCutOffFrom s.problem s.chooser.rule s.store s.course words store old new)
+StepFails answer s words store old new =
+    OnErr answer (IsCutOffFrom s.problem s.chooser.rule s.store s.course words store old new)
 
 -- after the lines of the opening, if it is the first turn, a journal was told those of the turn that left this store
 abbrev pub IsStepTold : StoreView → Turn → StoreView → JournalView → JournalView → Type 0
@@ -90,10 +93,12 @@ abbrev pub TellsTo : Network → Rule → ℕ → State → List StoreView → S
 TellsTo P rule budget s [] t lines = (s ≡ t) × (lines ≡ [])
 TellsTo P rule budget s (store ∷ stores) t lines =
     (next : State) × LeadsTo (turn_of P rule budget s) next × IsStoreAt P next store
-    × (rest : List Line) × TellsTo P rule budget next stores t rest × (lines ≡ turn_lines (turn_of P rule budget s).0 store ++ rest)
+    × (rest : List Line) × TellsTo P rule budget next stores t rest
+    × (lines ≡ turn_lines (turn_of P rule budget s).0 store ++ rest)
 
 -- from a state the run leads to its end, and tells these lines on the way, from the opening of the store at first on
-pub record TellsRun (P : Network) (rule : Rule) (budget : ℕ) (s : State) (first : StoreView) (outcome : Outcome) (lines : List Line) : Type 0 where
+pub record TellsRun (P : Network) (rule : Rule) (budget : ℕ) (s : State) (first : StoreView)
+    (outcome : Outcome) (lines : List Line) : Type 0 where
   pub stores : List StoreView
   pub last : State
   pub before : List Line
@@ -101,9 +106,11 @@ pub record TellsRun (P : Network) (rule : Rule) (budget : ℕ) (s : State) (firs
   pub ended : turn_of P rule budget last ≡ (Ended outcome, last)
   pub lines_are : lines ≡ opening_lines first ++ (before ++ end_line outcome ∷ [])
 
--- from a state the run leads to another, and the lines on the way were cut off, from the opening on: those of the turns up
+-- from a state the run leads to another, and the lines on the way were cut off, from the opening
+-- on: those of the turns up
 -- to there, or those with the turn from there, with the store that it left
-pub record IsRunCutOff (P : Network) (rule : Rule) (budget : ℕ) (s : State) (first : StoreView) (old new : JournalView) : Type 0 where
+pub record IsRunCutOff (P : Network) (rule : Rule) (budget : ℕ) (s : State) (first : StoreView)
+    (old new : JournalView) : Type 0 where
   pub stores : List StoreView
   pub last : State
   pub before : List Line
@@ -116,9 +123,11 @@ pub record IsRunCutOff (P : Network) (rule : Rule) (budget : ℕ) (s : State) (f
 -- from the state of a search a journal was told the lines of the run up to this end
 abbrev pub IsRunTold : SearchView → Stream → Outcome → JournalView → JournalView → Type 0
 IsRunTold s words outcome old new =
-    (lines : List Line) × TellsRun s.problem s.chooser.rule s.course.budget (state_at s.store s.course 0 words) s.store outcome lines × (new ≡ after_lines old lines)
+    (lines : List Line) × TellsRun s.problem s.chooser.rule s.course.budget
+    (state_at s.store s.course 0 words) s.store outcome lines × (new ≡ after_lines old lines)
 
--- where a journal failed, a front of the lines of the run from the state of a search on was told, up to one that was refused
+-- where a journal failed, a front of the lines of the run from the state of a search on was told,
+-- up to one that was refused
 abbrev pub RunFails : Result Outcome JournalFault → SearchView → Stream → JournalView → JournalView → Type 0
 RunFails answer s words old new =
     OnErr answer (IsRunCutOff s.problem s.chooser.rule s.course.budget (state_at s.store s.course 0 words) s.store old new)

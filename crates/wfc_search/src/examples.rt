@@ -53,7 +53,8 @@ pub fn literals_cut()
     ensures outside { Cuts ring (greatest ring []) (Not 3 0) → ⊥ }
     ensures between { IsBetween ring 1 [] 0 }
     ensures too_many { IsBetween ring 1 [] 2 → ⊥ }
-    ensures ways { ways_left ring [] ∷ ways_left ring (Is 0 1 ∷ []) ∷ ways_left ring (Not 0 1 ∷ []) ∷ [] ≡ 8 ∷ 2 ∷ 1 ∷ [] }
+    ensures ways { ways_left ring [] ∷ ways_left ring (Is 0 1 ∷ []) ∷ ways_left ring (Not 0 1 ∷ [])
+        ∷ [] ≡ 8 ∷ 2 ∷ 1 ∷ [] }
     ensures work { work_left ring 1 (Is 0 1 ∷ []) 0 ∷ work_left ring 1 (Not 0 1 ∷ []) 1 ∷ [] ≡ 12 ∷ 5 ∷ [] }
 {}
 
@@ -114,5 +115,6 @@ pub fn lines_are_told()
       removals = record { cell = 5; value = 1; before = 2; cause = Arc 3 } ∷ [];
     }) ≡ Out ∷ [] }
     ensures draws { map (λ turn. draws_after turn 7) (Chose 3 8 ∷ Retracted 3 8 ∷ Ended Map ∷ []) ≡ 8 ∷ 7 ∷ 7 ∷ [] }
-    ensures outcomes { map outcome_after (Chose 3 8 ∷ Retracted 3 8 ∷ Ended Spent ∷ []) ≡ None ∷ None ∷ Some Spent ∷ [] }
+    ensures outcomes { map outcome_after (Chose 3 8 ∷ Retracted 3 8 ∷ Ended Spent ∷ [])
+        ≡ None ∷ None ∷ Some Spent ∷ [] }
 {}

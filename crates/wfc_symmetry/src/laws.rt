@@ -52,7 +52,8 @@ pub fn the_group_is_the_squares()
 
 /// The group acts on the variants of each class.
 pub fn the_group_acts_on_classes()
-    ensures variants { (class : Class) (i a : ℕ) → i < variant_count class → a < 8 → acted class i a < variant_count class }
+    ensures variants { (class : Class) (i a : ℕ) → i < variant_count class → a < 8
+        → acted class i a < variant_count class }
     ensures first { (class : Class) (i : ℕ) → acted class i 0 ≡ i }
     ensures behind { (class : Class) (i a b : ℕ) → i < variant_count class → a < 8 → b < 8
         → acted class (acted class i b) a ≡ acted class i (action_behind a b) }

@@ -50,7 +50,8 @@ pub record IsPosed (asked : RequestView) (patterns : PatternsView) (P : Network)
   pub sound : IsProblem P
   pub wide : patterns.n ≤ asked.width
   pub high : patterns.n ≤ asked.height
-  pub problem : (pins : List Pin) × (P ≡ problem_of_sample patterns (output_with asked.width asked.height asked.wrap_out) pins)
+  pub problem : (pins : List Pin)
+      × (P ≡ problem_of_sample patterns (output_with asked.width asked.height asked.wrap_out) pins)
 
 -- what `fill` works on: patterns of a palette's numbers, the layout, and the problem of these patterns
 pub record IsFilling (asked : RequestView) (task : Filling) : Type 0 where
@@ -64,7 +65,8 @@ pub record IsFilling (asked : RequestView) (task : Filling) : Type 0 where
   pub shown : IsShown kind task.palette
   pub numbers : All (λ window. All (λ number. number < length task.palette) window) task.patterns.windows
 
--- what `fill` works on for a tile set: the layout, and the problem of the tile set, whose pictures are all taken, on the mask
+-- what `fill` works on for a tile set: the layout, and the problem of the tile set, whose pictures
+-- are all taken, on the mask
 pub record IsTileFilling (asked : RequestView) (task : TileFilling) : Type 0 where
   pub layout : laid_tiles task.tiles asked ≡ Ok task.layout
   pub tiled : IsTiled asked task.tiles (masked asked task.mask) task.problem

@@ -56,8 +56,10 @@ pub record IsSampleFile (files : List File) (name : List ℕ) (sampled : Sampled
   pub file : IsFile files name bytes
   pub shows : Shows (is_picture_name name) bytes sampled
 
--- the file asked for shows symbols of this kind, which have this palette, and whose numbers teach these patterns by the request
-pub record IsSample (asked : RequestView) (files : List File) (kind : Kind) (patterns : PatternsView) (palette : List Symbol) : Type 0 where
+-- the file asked for shows symbols of this kind, which have this palette, and whose numbers teach
+-- these patterns by the request
+pub record IsSample (asked : RequestView) (files : List File) (kind : Kind)
+    (patterns : PatternsView) (palette : List Symbol) : Type 0 where
   pub sampled : SampledView
   pub file : IsSampleFile files asked.file sampled
   pub same_kind : sampled.kind ≡ kind
@@ -80,7 +82,8 @@ HoldsSteps files None steps = [] ≡ steps
 HoldsSteps files (Some name) steps = (bytes : List ℕ) × IsFile files name bytes × (steps_of bytes ≡ Ok steps)
 
 -- the problem of these patterns, for the output asked for and the pins that the lines of the pins file mean
-pub record IsProblemOf (asked : RequestView) (files : List File) (patterns : PatternsView) (palette : List Symbol) (P : Network) : Type 0 where
+pub record IsProblemOf (asked : RequestView) (files : List File) (patterns : PatternsView)
+    (palette : List Symbol) (P : Network) : Type 0 where
   pub lines : List PinView
   pub held : HoldsPins files asked.pins lines
   pub room : IsRoom patterns (output_with asked.width asked.height asked.wrap_out)
@@ -89,7 +92,8 @@ pub record IsProblemOf (asked : RequestView) (files : List File) (patterns : Pat
   pub problem : P ≡ problem_of_sample patterns (output_with asked.width asked.height asked.wrap_out) pins
 
 -- a chooser goes by the rule, and the sample, the layout and the problem are those of the request
-pub record IsFillTask (kinds : List RuleKind) (asked : RequestView) (files : List File) (patterns : PatternsView) (palette : List Symbol) (layout : Layout) (P : Network) : Type 0 where
+pub record IsFillTask (kinds : List RuleKind) (asked : RequestView) (files : List File)
+    (patterns : PatternsView) (palette : List Symbol) (layout : Layout) (P : Network) : Type 0 where
   pub chooser : Contains kinds asked.rule
   pub kind : Kind
   pub sample : IsSample asked files kind patterns palette

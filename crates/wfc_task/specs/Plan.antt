@@ -1,4 +1,5 @@
--- Plans: which files are read, in which order, and what is refused on the way. A plan says the first fault, or what all comes to.
+-- Plans: which files are read, in which order, and what is refused on the way. A plan says the
+-- first fault, or what all comes to.
 use Rattle.std.specs.Prelude.{◌≡◌, ℕ, ◌⊎◌, nat_lt, Bool, false, List, length, Option, None, Some, Result, Ok, Err, if◌then◌else◌}
 use Rattle.wfc_outside.specs.Folder.{File, FolderView, file_of, IsToldAs, IsMissing, IsFaultOf}
 use Rattle.wfc_outside.specs.Whole.{IsLongerThan}
@@ -56,14 +57,17 @@ pub record IsRead (before : FolderView) (name : List ℕ) (limit : Option ℕ) (
 
 -- the file isn't read, and the result says why
 abbrev pub IsUnread : {T : Type 0} → Source → List ℕ → Option ℕ → FolderView → FolderView → Result T Fault → Type 0
-IsUnread source name limit before after result = (fault : ReadFault) × CausesUnread name limit before after fault × (result ≡ Err (Unread source fault))
+IsUnread source name limit before after result =
+    (fault : ReadFault) × CausesUnread name limit before after fault
+    × (result ≡ Err (Unread source fault))
 
 -- this is the result of the plan in this folder, for some bytes of the files where they aren't told
 abbrev pub Follows : {T : Type 0} → Plan T → FolderView → FolderView → Result T Fault → Type 0
 Follows (done value) before after result = (after ≡ before) × (result ≡ Ok value)
 Follows (refuse refusal) before after result = (after ≡ before) × (result ≡ Err (Refused refusal))
 Follows (read source name limit next) before after result =
-    ((bytes : List ℕ) × IsRead before name limit bytes × Follows (next bytes) before after result) ⊎ IsUnread source name limit before after result
+    ((bytes : List ℕ) × IsRead before name limit bytes × Follows (next bytes) before after result)
+    ⊎ IsUnread source name limit before after result
 
 -- memory ran out
 abbrev pub IsShort : {T : Type 0} → Result T Fault → Type 0
@@ -75,7 +79,8 @@ Goes plan before after result = Follows plan before after result ⊎ ((after ≡
 
 -- a step that reads nothing may have this result: the one wanted, or memory ran out
 abbrev pub GivesStep : {T : Type 0} → Result T Refusal → Result T Refusal → Type 0
-GivesStep wanted result = (result ≡ wanted) ⊎ ((refusal : Refusal) × (class_of refusal ≡ Memory) × (result ≡ Err refusal))
+GivesStep wanted result =
+    (result ≡ wanted) ⊎ ((refusal : Refusal) × (class_of refusal ≡ Memory) × (result ≡ Err refusal))
 
 -- the reading of a file that is told
 abbrev pub reading_of : Option ℕ → Option (List ℕ) → Result (List ℕ) ReadFault
@@ -83,7 +88,8 @@ reading_of limit None = Err reading.Missing
 reading_of limit (Some bytes) = if is_over limit (length bytes) then Err reading.TooLong else Ok bytes
 
 -- what follows a reading
-abbrev pub after_reading : {T : Type 0} → Source → (List ℕ → Result T Fault) → Result (List ℕ) ReadFault → Result T Fault
+abbrev pub after_reading : {T : Type 0} → Source → (List ℕ → Result T Fault)
+    → Result (List ℕ) ReadFault → Result T Fault
 after_reading source next (Ok bytes) = next bytes
 after_reading source next (Err fault) = Err (Unread source fault)
 
@@ -91,7 +97,9 @@ after_reading source next (Err fault) = Err (Unread source fault)
 abbrev pub outcome : {T : Type 0} → Plan T → List File → Result T Fault
 outcome (done value) files = Ok value
 outcome (refuse refusal) files = Err (Refused refusal)
-outcome (read source name limit next) files = after_reading source (λ bytes. outcome (next bytes) files) (reading_of limit (file_of files name))
+outcome (read source name limit next) files =
+    after_reading source (λ bytes. outcome (next bytes) files)
+    (reading_of limit (file_of files name))
 
 -- the plan may read a file of this name
 abbrev pub Asks : {T : Type 0} → Plan T → List ℕ → Type 0
@@ -100,7 +108,8 @@ Asks (refuse refusal) asked = ⊥
 Asks (read source name limit next) asked = (asked ≡ name) ⊎ ((bytes : List ℕ) × Asks (next bytes) asked)
 
 -- a reading failed, and a fault of its file was counted
-pub record IsHindered {T U : Type 0} (plan : Plan T) (before after : FolderView) (result : Result U Fault) : Type 0 where
+pub record IsHindered {T U : Type 0} (plan : Plan T) (before after : FolderView)
+    (result : Result U Fault) : Type 0 where
   pub source : Source
   pub name : List ℕ
   pub asked : Asks plan name
@@ -109,4 +118,5 @@ pub record IsHindered {T U : Type 0} (plan : Plan T) (before after : FolderView)
 
 -- how a plan ends where the files are told: as its outcome, for want of memory, or with a counted fault
 abbrev pub ToldEnd : {T : Type 0} → Plan T → FolderView → FolderView → List File → Result T Fault → Type 0
-ToldEnd plan before after files result = (result ≡ outcome plan files) ⊎ (IsShort result ⊎ IsHindered plan before after result)
+ToldEnd plan before after files result =
+    (result ≡ outcome plan files) ⊎ (IsShort result ⊎ IsHindered plan before after result)

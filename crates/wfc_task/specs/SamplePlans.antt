@@ -46,7 +46,9 @@ pins_plan (Some name) = pins_file_plan name
 
 -- the pins file is read, and then the problem is made
 abbrev pub problem_plan : RequestView → Taught → Plan Network
-problem_plan asked lesson = and_then (pins_plan asked.pins) (λ lines. step (posed asked lesson.patterns lesson.palette lines))
+problem_plan asked lesson =
+    and_then (pins_plan asked.pins)
+    (λ lines. step (posed asked lesson.patterns lesson.palette lines))
 
 -- the steps file is read, if one is named, and then each step is looked up in the problem
 abbrev pub steps_file_plan : List ℕ → Network → Plan (List StepLine)

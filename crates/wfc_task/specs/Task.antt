@@ -86,7 +86,8 @@ domains_plan asked =
 -- what `demo` comes to: nothing is read, and nothing but a chooser can be missing
 abbrev pub demo_plan : List RuleKind → RequestView → Plan Task
 demo_plan kinds asked =
-    and_then (step (chosen kinds rules.Fewest)) (λ _. done (demo (demo_patterns asked.number) (demo_problem asked.number)))
+    and_then (step (chosen kinds rules.Fewest))
+    (λ _. done (demo (demo_patterns asked.number) (demo_problem asked.number)))
 
 -- what `refute` comes to: the chooser is looked for before anything is read
 abbrev pub refute_plan : List RuleKind → RequestView → Plan Task

@@ -22,13 +22,15 @@ use Rattle.wfc_task.specs.Given.{IsFile, HoldsPins}
 -- the next tile's picture is that of the file of this name; none is taken where no file is named
 abbrev pub HoldsPicture : List File → Option (List ℕ) → TileSetView → TileSetView → Type 0
 HoldsPicture files None before after = before ≡ after
-HoldsPicture files (Some name) before after = (bytes : List ℕ) × IsFile files name bytes × (picture_taken before bytes ≡ Ok after)
+HoldsPicture files (Some name) before after =
+    (bytes : List ℕ) × IsFile files name bytes × (picture_taken before bytes ≡ Ok after)
 
 -- the pictures of so many tiles are, one by one, those of the files that are named for them
 abbrev pub HoldsPictures : List File → ℕ → TileSetView → TileSetView → Type 0
 HoldsPictures files zero before after = before ≡ after
 HoldsPictures files (suc left) before after =
-    (middle : TileSetView) × HoldsPicture files (picture_name before (length before.pictures)) before middle × HoldsPictures files left middle after
+    (middle : TileSetView) × HoldsPicture files (picture_name before (length before.pictures))
+    before middle × HoldsPictures files left middle after
 
 -- the file asked for spells the document of this tile set, and its pictures are those of the files that it names
 pub record IsTileSetOf (asked : RequestView) (files : List File) (set : TileSetView) : Type 0 where
@@ -52,8 +54,10 @@ abbrev pub HoldsMask : RequestView → List File → Option (List ℕ) → MaskV
 HoldsMask asked files None mask = plain_mask asked.width asked.height ≡ mask
 HoldsMask asked files (Some name) mask = IsMaskFile asked files name mask
 
--- the problem of this tile set, on this mask, which is that asked for, with the pins that the lines of the pins file mean
-pub record IsTileProblemOf (asked : RequestView) (files : List File) (set : TileSetView) (mask : MaskView) (P : Network) : Type 0 where
+-- the problem of this tile set, on this mask, which is that asked for, with the pins that the lines
+-- of the pins file mean
+pub record IsTileProblemOf (asked : RequestView) (files : List File) (set : TileSetView)
+    (mask : MaskView) (P : Network) : Type 0 where
   pub lines : List PinView
   pub held : HoldsPins files asked.pins lines
   pub masked : HoldsMask asked files asked.mask mask
@@ -63,7 +67,8 @@ pub record IsTileProblemOf (asked : RequestView) (files : List File) (set : Tile
   pub problem : P ≡ problem_of_tiles set mask asked.wrap_out pins
 
 -- a chooser goes by the rule, and the tile set, the layout, the mask and the problem are those of the request
-pub record IsTileFillTask (kinds : List RuleKind) (asked : RequestView) (files : List File) (set : TileSetView) (mask : MaskView) (layout : Layout) (P : Network) : Type 0 where
+pub record IsTileFillTask (kinds : List RuleKind) (asked : RequestView) (files : List File)
+    (set : TileSetView) (mask : MaskView) (layout : Layout) (P : Network) : Type 0 where
   pub chooser : Contains kinds asked.rule
   pub tiles : IsTileSetOf asked files set
   pub written : layout_of (kind_of set.pictures) asked.form asked.width asked.height (side_of set.pictures) ≡ Ok layout

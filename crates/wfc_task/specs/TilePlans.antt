@@ -18,7 +18,8 @@ document_plan asked = and_then (file_plan Sample asked.file) (λ bytes. step (do
 -- the file of this name is read, which is the picture of the next tile; there is none where no file is named
 abbrev pub picture_plan : Option (List ℕ) → TileSetView → Plan TileSetView
 picture_plan None set = done set
-picture_plan (Some name) set = and_then (file_plan (Picture (length set.pictures)) name) (λ bytes. step (pictured set bytes))
+picture_plan (Some name) set =
+    and_then (file_plan (Picture (length set.pictures)) name) (λ bytes. step (pictured set bytes))
 
 -- the picture of the next tile is read, if it has one
 abbrev pub next_plan : TileSetView → Plan TileSetView

@@ -17,7 +17,8 @@ pub record HasSides (asked : RequestView) (mask : MaskView) : Type 0 where
   pub same_width : mask.width ≡ asked.width
   pub same_height : mask.height ≡ asked.height
 
--- the mask has the sides of the map, and the problem is that of these tiles on it, for some pins at places that are no holes
+-- the mask has the sides of the map, and the problem is that of these tiles on it, for some pins at
+-- places that are no holes
 pub record IsTiled (asked : RequestView) (set : TileSetView) (mask : MaskView) (P : Network) : Type 0 where
   pub same_width : mask.width ≡ asked.width
   pub same_height : mask.height ≡ asked.height

@@ -1,4 +1,5 @@
--- The lines of a text. A line ends with a line feed, before which a carriage return may stand; the last line may lack its end.
+-- The lines of a text. A line ends with a line feed, before which a carriage return may stand; the
+-- last line may lack its end.
 use Rattle.std.specs.Prelude.{ℕ, ◌+◌, ◌==◌, Bool, true, false, List, [], ◌∷◌}
 use Rattle.std.specs.List.{slice_split}
 use Rattle.std.specs.Str.Lines.{strip_carriage_return}
@@ -22,7 +23,9 @@ last_line n (byte ∷ part) = record { number = n; bytes = byte ∷ part; ended 
 abbrev pub lines_of_parts : ℕ → List (List ℕ) → List LineView
 lines_of_parts n [] = []
 lines_of_parts n (part ∷ []) = last_line n part
-lines_of_parts n (part ∷ next ∷ parts) = record { number = n; bytes = strip_carriage_return part; ended = true } ∷ lines_of_parts (n + 1) (next ∷ parts)
+lines_of_parts n (part ∷ next ∷ parts) =
+    record { number = n; bytes = strip_carriage_return part; ended = true }
+    ∷ lines_of_parts (n + 1) (next ∷ parts)
 
 -- the lines of a text, numbered from n
 abbrev pub lines_from : ℕ → List ℕ → List LineView

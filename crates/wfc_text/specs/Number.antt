@@ -18,7 +18,8 @@ abbrev pub unless_at : Option ℕ → Result ℕ NumberFault → Result ℕ Numb
 unless_at None answer = answer
 unless_at (Some at) answer = Err (NotDigit at)
 
--- the number that the text writes in decimal, or its fault: no byte at all, the first byte that is no digit, or a number outside the range
+-- the number that the text writes in decimal, or its fault: no byte at all, the first byte that is
+-- no digit, or a number outside the range
 abbrev pub number_of : List ℕ → ℕ → ℕ → Result ℕ NumberFault
 number_of [] least most = Err Empty
 number_of (byte ∷ bytes) least most =

@@ -7,7 +7,8 @@ ghost use Rattle.wfc_text.specs.declared.numeral.NumberFault.TheVariants.{Empty,
 
 /// A number that is written in decimal reads back as it was, with any zeros before it too.
 pub fn decimals_are_read()
-    ensures read { (zeros n least most : ℕ) → n < 2 ^ 64 → least ≤ n → n ≤ most → number_of (replicate zeros 48 ++ decimal n) least most ≡ Ok n }
+    ensures read { (zeros n least most : ℕ) → n < 2 ^ 64 → least ≤ n → n ≤ most
+        → number_of (replicate zeros 48 ++ decimal n) least most ≡ Ok n }
 {}
 
 /// The first fault in this order: no byte, a byte that is no digit, a number out of the range.
@@ -23,7 +24,10 @@ pub fn numbers_by_example()
 /// Each line feed ends a line, one carriage return before it goes, and what stands behind the last is a line without
 /// its end, if it has a byte.
 pub fn lines_by_example()
-    ensures three { lines_of (codes "ab\r\n\nc\r") ≡ record { number = 1; bytes = codes "ab"; ended = true } ∷ record { number = 2; bytes = []; ended = true } ∷ record { number = 3; bytes = codes "c\r"; ended = false } ∷ [] }
+    ensures three { lines_of (codes "ab\r\n\nc\r")
+        ≡ record { number = 1; bytes = codes "ab"; ended = true }
+        ∷ record { number = 2; bytes = []; ended = true }
+        ∷ record { number = 3; bytes = codes "c\r"; ended = false } ∷ [] }
     ensures ended { lines_of (codes "ab\n") ≡ record { number = 1; bytes = codes "ab"; ended = true } ∷ [] }
     ensures none { lines_of [] ≡ [] }
 {}

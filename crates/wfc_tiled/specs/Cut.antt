@@ -18,4 +18,5 @@ pub record IsRowCut (n : ℕ) (old new : List Bool) (cell : ℕ) (pin : Pin) : T
 -- the flags of all cells are those of the variants that meet some pins
 pub record AreMet (n : ℕ) (mask : MaskView) (flags : List Bool) (pins : List Pin) : Type 0 where
   pub as_long : length flags ≡ length mask.places * n
-  pub met : (c v : ℕ) → c < length mask.places → v < n → flag n flags c v ≡ meets mask.width pins (slice_index mask.places c) v
+  pub met : (c v : ℕ) → c < length mask.places → v < n
+      → flag n flags c v ≡ meets mask.width pins (slice_index mask.places c) v

@@ -11,19 +11,24 @@ use Rattle.wfc_tileset.specs.declared.TheConstants.{HOLE}
 use Rattle.wfc_tiled.specs.Mask.{MaskView, IsPlace, cell_number}
 use Rattle.wfc_tiled.specs.Tiles.{problem_of_tiles}
 
--- the column or row behind one: the next, or the first behind the last where the map wraps, which may be that one itself
+-- the column or row behind one: the next, or the first behind the last where the map wraps, which
+-- may be that one itself
 abbrev pub IsNext : ℕ → Bool → ℕ → ℕ → Type 0
 IsNext count wrap at next = (next < count) × ((next ≡ at + 1) ⊎ ((wrap ≡ true) × (at + 1 ≡ count) × (next ≡ 0)))
 
 -- a map of these sides has a variant at each place that is no hole, and none at a hole; neighbouring variants are
 -- allowed, each pin and ban holds, and none stands in a hole
-pub record IsLegalTileMap (set : TileSetView) (mask : MaskView) (wrap : Bool) (pins : List Pin) (m : Raster) : Type 0 where
+pub record IsLegalTileMap (set : TileSetView) (mask : MaskView) (wrap : Bool) (pins : List Pin)
+    (m : Raster) : Type 0 where
   pub sized : IsSized m mask.width mask.height
-  pub filled : (x y : ℕ) → x < mask.width → y < mask.height → IsPlace mask x y → number_at m x y < variant_total set.tiles
+  pub filled : (x y : ℕ) → x < mask.width → y < mask.height → IsPlace mask x y
+      → number_at m x y < variant_total set.tiles
   pub holes : (x y : ℕ) → x < mask.width → y < mask.height → (IsPlace mask x y → ⊥) → number_at m x y ≡ HOLE
-  pub across : (x y u : ℕ) → x < mask.width → y < mask.height → IsNext mask.width wrap x u → IsPlace mask x y → IsPlace mask u y
+  pub across : (x y u : ℕ) → x < mask.width → y < mask.height → IsNext mask.width wrap x u
+      → IsPlace mask x y → IsPlace mask u y
       → IsAcross set (variant_at set.tiles (number_at m x y)) (variant_at set.tiles (number_at m u y))
-  pub down : (x y v : ℕ) → x < mask.width → y < mask.height → IsNext mask.height wrap y v → IsPlace mask x y → IsPlace mask x v
+  pub down : (x y v : ℕ) → x < mask.width → y < mask.height → IsNext mask.height wrap y v
+      → IsPlace mask x y → IsPlace mask x v
       → IsDown set (variant_at set.tiles (number_at m x y)) (variant_at set.tiles (number_at m x v))
   pub held : All (λ pin. IsPlace mask pin.column pin.row × IsHeld m pin) pins
 
@@ -56,5 +61,6 @@ numbers_of_places mask m = map (λ n. number_at m (n % mask.width) (n / mask.wid
 -- the map is legal for each tile set and all pins for whose problem the assignment is
 abbrev pub IsLegalWith : MaskView → List ℕ → Raster → Type 0
 IsLegalWith mask a m =
-    (set : TileSetView) (wrap : Bool) (pins : List Pin) → IsProblem (problem_of_tiles set mask wrap pins) → ArePlaced mask pins
+    (set : TileSetView) (wrap : Bool) (pins : List Pin)
+    → IsProblem (problem_of_tiles set mask wrap pins) → ArePlaced mask pins
     → IsLegalAssignment (problem_of_tiles set mask wrap pins) a → IsLegalTileMap set mask wrap pins m

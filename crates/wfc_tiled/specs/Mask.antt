@@ -54,5 +54,6 @@ mask_from grid None places = Ok (record { width = grid.width; height = grid.heig
 -- the mask that a grid spells for these sides, or its first fault
 abbrev pub mask_of : GridView → ℕ → ℕ → Result MaskView MaskFault
 mask_of grid width height =
-    if grid.width == width && grid.height == height then mask_from grid (position is_other grid.bytes) (places_of grid.bytes)
+    if grid.width == width && grid.height == height
+    then mask_from grid (position is_other grid.bytes) (places_of grid.bytes)
     else Err (SizeDiffers grid.width grid.height)

@@ -17,7 +17,8 @@ grid_of bytes = record { width = 3; height = 2; bytes = bytes }
 -- a straight line of weight 3 and a cross of weight 5 that nothing may touch
 abbrev pub line_and_cross : TileSetView
 line_and_cross = record {
-  tiles = record { name = codes "line"; class = I; weight = 3; picture = None } ∷ record { name = codes "x"; class = X; weight = 5; picture = None } ∷ [];
+  tiles = record { name = codes "line"; class = I; weight = 3; picture = None }
+      ∷ record { name = codes "x"; class = X; weight = 5; picture = None } ∷ [];
   pairs = [];
   pictures = [];
 }

@@ -36,7 +36,8 @@ neighbour_table mask wrap = flat_map (λ n. all_beside mask wrap n) mask.places
 -- whether the variant w may stand beside v in a direction
 abbrev pub fits : TileSetView → ℕ → ℕ → ℕ → Bool
 fits set d v w =
-    if d == 0 then may_be_left set w v else if d == 1 then may_be_above set v w else if d == 2 then may_be_left set v w else may_be_above set w v
+    if d == 0 then may_be_left set w v else if d == 1 then may_be_above set v w
+    else if d == 2 then may_be_left set v w else may_be_above set w v
 
 -- the variants that may stand beside v in a direction, rising
 abbrev pub fitting : TileSetView → ℕ → ℕ → List ℕ

@@ -48,7 +48,8 @@ table_in place key d = ok_or (as_table d) (fault.WrongKind place key)
 -- a letter, a digit, `_` or `-`
 abbrev pub is_name_byte : ℕ → Bool
 is_name_byte b =
-    (nat_le 48 b && nat_le b 57) || ((nat_le 65 b && nat_le b 90) || ((nat_le 97 b && nat_le b 122) || (b == 95 || b == 45)))
+    (nat_le 48 b && nat_le b 57) ||
+    ((nat_le 65 b && nat_le b 90) || ((nat_le 97 b && nat_le b 122) || (b == 95 || b == 45)))
 
 -- 1 to 64 of these
 abbrev pub is_name : List ℕ → Bool
@@ -66,8 +67,10 @@ name_in before d =
 -- a class by its letter, or by a backslash
 abbrev pub class_of : List ℕ → Option Class
 class_of text =
-    if bytes_eq text (codes "X") then Some X else if bytes_eq text (codes "I") then Some I else if bytes_eq text (92 ∷ []) then Some Slash
-    else if bytes_eq text (codes "L") then Some L else if bytes_eq text (codes "T") then Some T else if bytes_eq text (codes "F") then Some F else None
+    if bytes_eq text (codes "X") then Some X else if bytes_eq text (codes "I") then Some I
+    else if bytes_eq text (92 ∷ []) then Some Slash
+    else if bytes_eq text (codes "L") then Some L else if bytes_eq text (codes "T") then Some T
+    else if bytes_eq text (codes "F") then Some F else None
 
 abbrev pub class_in : ℕ → Option Data → Result Class TileFault
 class_in t d = text_in (place.Tile t) key.Class d >>= (λ text. ok_or (class_of text) (fault.BadClass t))
@@ -85,7 +88,9 @@ weight_in t (Some d) =
 -- the name of a picture's file, if any
 abbrev pub picture_in : ℕ → Option Data → Result (Option (List ℕ)) TileFault
 picture_in t None = Ok None
-picture_in t (Some d) = and_then (ok_or (as_str d) (fault.WrongKind (place.Tile t) key.Picture)) (λ name. Ok (Some name))
+picture_in t (Some d) =
+    and_then (ok_or (as_str d) (fault.WrongKind (place.Tile t) key.Picture))
+    (λ name. Ok (Some name))
 
 -- a file of this name is read as a PPM
 abbrev pub is_ppm_name : List ℕ → Bool
@@ -112,13 +117,15 @@ tile_from before ms =
     class_in (length before) (get_member (codes "class") ms) >>= (λ class.
     weight_in (length before) (get_member (codes "weight") ms) >>= (λ weight.
     picture_in (length before) (get_member (codes "picture") ms) >>= (λ picture.
-    if fits_first before picture then Ok (tile_with name class weight picture) else Err (fault.MixedKinds (length before))))))
+    if fits_first before picture then Ok (tile_with name class weight picture)
+    else Err (fault.MixedKinds (length before))))))
 
 -- the tiles behind those before them
 abbrev pub tiles_from : List TileView → Items → Result (List TileView) TileFault
 tiles_from before no_items = Ok before
 tiles_from before (item d ds) =
-    and_then (and_then (table_in (place.Tile (length before)) key.Tile d) (tile_from before)) (λ tile. tiles_from (before ++ tile ∷ []) ds)
+    and_then (and_then (table_in (place.Tile (length before)) key.Tile d) (tile_from before))
+    (λ tile. tiles_from (before ++ tile ∷ []) ds)
 
 -- ---- pairs
 
@@ -168,7 +175,9 @@ some_tiles (item d ds) = tiles_from [] (item d ds)
 
 -- and no more variants than a tile set has
 abbrev pub few_variants : List TileView → Result (List TileView) TileFault
-few_variants tiles = if nat_le (variant_total tiles) MAX_VARIANTS then Ok tiles else Err (fault.TooManyVariants (variant_total tiles))
+few_variants tiles =
+    if nat_le (variant_total tiles) MAX_VARIANTS then Ok tiles
+    else Err (fault.TooManyVariants (variant_total tiles))
 
 -- a tile set of which no picture is taken
 abbrev pub set_with : List TileView → List Pair → TileSetView

@@ -23,7 +23,9 @@ items_of (d ∷ ds) = item d (items_of ds)
 
 -- a document of tiles and pairs
 abbrev pub document_of : List Data → List Data → Members
-document_of tiles pairs = member (codes "pair") (array (items_of pairs)) (member (codes "tile") (array (items_of tiles)) no_members)
+document_of tiles pairs =
+    member (codes "pair") (array (items_of pairs))
+    (member (codes "tile") (array (items_of tiles)) no_members)
 
 -- tiles without symmetry, a junction, and pairs of them
 abbrev pub tiles_f_t : List Data

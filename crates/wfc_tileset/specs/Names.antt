@@ -15,4 +15,5 @@ module _ {Y : Type 0} where
   -- a name was noted with a number, where it had none
   abbrev pub IsNoted : BTreeMap (String Y) ℕ → BTreeMap (String Y) ℕ → List ℕ → ℕ → Type 0
   IsNoted old new noted number =
-      (name : List ℕ) → get_by_text new name ≡ option_or (get_by_text old name) (if bytes_eq noted name then Some number else None)
+      (name : List ℕ) → get_by_text new name
+      ≡ option_or (get_by_text old name) (if bytes_eq noted name then Some number else None)

@@ -100,7 +100,9 @@ next_name set = unwrap_or (picture_name set (length set.pictures)) []
 
 -- the next picture, by the bytes of its file, or its fault
 abbrev pub picture_for : TileSetView → List ℕ → Result PictureView TileFault
-picture_for set bytes = and_then (some_picture (length set.pictures) (picture_of (next_name set) bytes)) (fitting set.pictures)
+picture_for set bytes =
+    and_then (some_picture (length set.pictures) (picture_of (next_name set) bytes))
+    (fitting set.pictures)
 
 -- a tile set with one more picture
 abbrev pub with_picture : TileSetView → PictureView → TileSetView
@@ -141,9 +143,12 @@ abbrev pub turned_pixel : PictureView → ℕ → ℕ → ℕ → Symbol
 turned_pixel picture zero x y = pixel_in picture x y
 turned_pixel picture (suc turns) x y = turned_pixel picture turns (picture.side - 1 - y) x
 
--- what variant i of a tile with this picture shows: after i quarter turns, or from 4 on the reflection of the variant four before
+-- what variant i of a tile with this picture shows: after i quarter turns, or from 4 on the
+-- reflection of the variant four before
 abbrev pub variant_pixel : PictureView → ℕ → ℕ → ℕ → Symbol
-variant_pixel picture i x y = if nat_lt i 4 then turned_pixel picture i x y else turned_pixel picture (i - 4) (picture.side - 1 - x) y
+variant_pixel picture i x y =
+    if nat_lt i 4 then turned_pixel picture i x y
+    else turned_pixel picture (i - 4) (picture.side - 1 - x) y
 
 -- a tile's picture, and one of no pixels where there is none
 abbrev pub picture_at : TileSetView → ℕ → PictureView

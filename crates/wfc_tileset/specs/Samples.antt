@@ -31,7 +31,9 @@ four_characters = record { kind = kinds.Grid; side = 2; pixels = Char 97 ∷ Cha
 
 -- what variant i of a tile with a picture of two by two shows, row by row
 abbrev pub four_shown : PictureView → ℕ → List Symbol
-four_shown picture i = variant_pixel picture i 0 0 ∷ variant_pixel picture i 1 0 ∷ variant_pixel picture i 0 1 ∷ variant_pixel picture i 1 1 ∷ []
+four_shown picture i =
+    variant_pixel picture i 0 0 ∷ variant_pixel picture i 1 0 ∷ variant_pixel picture i 0 1
+    ∷ variant_pixel picture i 1 1 ∷ []
 
 -- a picture of one colour
 abbrev pub one_colour : ℕ → PictureView

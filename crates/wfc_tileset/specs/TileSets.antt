@@ -12,7 +12,8 @@ use Rattle.wfc_tileset.specs.Pictures.{IsDrawn}
 abbrev pub AreAlike : List TileView → Type 0
 AreAlike tiles = All (λ tile. fits_first tiles tile.picture ≡ true) tiles
 
--- a tile set has a tile and few enough variants, each tile has its weight and a picture as the first, and each end of a pair
+-- a tile set has a tile and few enough variants, each tile has its weight and a picture as the
+-- first, and each end of a pair
 -- names a tile and an action
 pub record IsTileSet (set : TileSetView) : Type 0 where
   pub some_tile : 0 < length set.tiles

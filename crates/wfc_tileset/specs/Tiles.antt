@@ -9,7 +9,8 @@ use Rattle.wfc_symmetry.specs.declared.class.Class.{Class}
 use Rattle.wfc_symmetry.specs.declared.class.Class.TheVariants.{X}
 use Rattle.wfc_tileset.specs.declared.tile.Pair.{Pair}
 
--- a tile: its name, its class, how much each of its variants weighs in a draw, and the name of its picture's file, if any
+-- a tile: its name, its class, how much each of its variants weighs in a draw, and the name of its
+-- picture's file, if any
 pub record TileView : Type 0 where
   pub name : List ℕ
   pub class : Class
@@ -27,7 +28,8 @@ pub record PictureView : Type 0 where
   pub side : ℕ
   pub pixels : List Symbol
 
--- a tile set: its tiles, the declared pairs, of which one may stand to the left of the other, and the pictures of the first
+-- a tile set: its tiles, the declared pairs, of which one may stand to the left of the other, and
+-- the pictures of the first
 -- tiles, as many as are taken
 pub record TileSetView : Type 0 where
   pub tiles : List TileView
@@ -49,7 +51,8 @@ tile_at tiles t = slice_index_or tiles t (record { name = []; class = X; weight 
 -- the variants of the tiles, tile by tile, where the first tile has a number
 abbrev pub variants_from : ℕ → List TileView → List Variant
 variants_from t [] = []
-variants_from t (tile ∷ tiles) = map (λ i. (t, i)) (range_with_len 0 (variants_of_tile tile)) ++ variants_from (t + 1) tiles
+variants_from t (tile ∷ tiles) =
+    map (λ i. (t, i)) (range_with_len 0 (variants_of_tile tile)) ++ variants_from (t + 1) tiles
 
 -- all variants, tile by tile
 abbrev pub variants : List TileView → List Variant

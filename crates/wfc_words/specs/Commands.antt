@@ -21,7 +21,9 @@ pub record Command : Type 0 where
 
 -- the words that say what problem is meant, behind the file, the model and the sides
 abbrev pub problem_words : List Word
-problem_words = choice (codes "symmetry") ∷ flag (codes "wrap-in") ∷ flag (codes "wrap-out") ∷ choice (codes "pins") ∷ choice (codes "mask") ∷ []
+problem_words =
+    choice (codes "symmetry") ∷ flag (codes "wrap-in") ∷ flag (codes "wrap-out")
+    ∷ choice (codes "pins") ∷ choice (codes "mask") ∷ []
 
 -- the file, the model, and the sides of the map
 abbrev pub sized_words : List Word

@@ -30,7 +30,9 @@ unless_refused (kind ∷ kinds) rows = Err Refused
 
 -- what `clap` finds among the words behind the command's name, where it takes them
 abbrev pub matches_by : CommandKind → List Text → Result (List Row) CommandFault
-matches_by kind words = unless_refused (fault_of (app_of_command (command_row kind)) words) (matches_of (app_of_command (command_row kind)) words)
+matches_by kind words =
+    unless_refused (fault_of (app_of_command (command_row kind)) words)
+    (matches_of (app_of_command (command_row kind)) words)
 
 -- what an error of `clap` is to a caller
 abbrev pub fault_by : ErrorKind → CommandFault

@@ -103,11 +103,16 @@ pub fn refusals_by_example()
     ensures few { request_of (codes "learn" ∷ codes "a" ∷ []) ≡ Err Refused }
     ensures many { request_of (codes "demo" ∷ codes "1" ∷ codes "2" ∷ []) ≡ Err Refused }
     ensures other { request_of (codes "demo" ∷ codes "1" ∷ codes "--seed=1" ∷ []) ≡ Err Refused }
-    ensures twice { request_of (codes "learn" ∷ codes "a" ∷ codes "2" ∷ codes "--wrap-in" ∷ codes "--wrap-in" ∷ []) ≡ Err Refused }
+    ensures twice { request_of
+        (codes "learn" ∷ codes "a" ∷ codes "2" ∷ codes "--wrap-in" ∷ codes "--wrap-in" ∷ [])
+        ≡ Err Refused }
     ensures help { request_of (codes "demo" ∷ codes "--help" ∷ []) ≡ Err Refused }
     ensures value { request_of (codes "demo" ∷ codes "1000001" ∷ []) ≡ Err (Value names.Number) }
-    ensures first { request_of (codes "learn" ∷ codes "a" ∷ codes "7" ∷ codes "--symmetry=0" ∷ []) ≡ Err (Value names.Model) }
-    ensures mask { request_of (codes "domains" ∷ codes "a" ∷ codes "2" ∷ codes "3" ∷ codes "4" ∷ codes "--mask=m" ∷ []) ≡ Err (Value names.Mask) }
+    ensures first { request_of (codes "learn" ∷ codes "a" ∷ codes "7" ∷ codes "--symmetry=0" ∷ [])
+        ≡ Err (Value names.Model) }
+    ensures mask { request_of
+        (codes "domains" ∷ codes "a" ∷ codes "2" ∷ codes "3" ∷ codes "4" ∷ codes "--mask=m" ∷ [])
+        ≡ Err (Value names.Mask) }
 {}
 
 /// What stands for a model, a rule and a form.

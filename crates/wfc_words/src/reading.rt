@@ -47,7 +47,8 @@ fn asked_for(
     kind: CommandKind,
     found: &ArgMatches<'_>,
 ) -> Result<Request, CommandFault>
-    ensures exact { Gives CommandFault.NoMemory (λ asked. asked) result (request_found kind (rows_of (found_of found.now))) }
+    ensures exact { Gives CommandFault.NoMemory (λ asked. asked) result
+        (request_found kind (rows_of (found_of found.now))) }
 {
     let values = values_among(kind, found)?;
     match with_texts(alloc, kind, found, values) {

@@ -50,7 +50,8 @@ pub(crate) fn matches<'a>(
     kind: CommandKind,
     words: &'a [String],
 ) -> Result<ArgMatches<'a>, CommandFault>
-    ensures exact { Gives CommandFault.NoMemory (λ found. rows_of (found_of found)) result (matches_by kind (texts words.entry.now)) }
+    ensures exact { Gives CommandFault.NoMemory (λ found. rows_of (found_of found)) result
+        (matches_by kind (texts words.entry.now)) }
 {
     match simple(alloc, row(kind))?.try_get_matches_from(words) {
         Ok(found) => Ok(found),

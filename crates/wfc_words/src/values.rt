@@ -115,7 +115,8 @@ fn number_of(
 }
 
 fn source(text: Option<&str>) -> Result<SourceModel, CommandFault>
-    ensures exact { result ≡ value_in names.Model source_of (models.Overlap 0) (option_map (λ text. text.now) text.entry) }
+    ensures exact { result ≡ value_in names.Model source_of (models.Overlap 0)
+        (option_map (λ text. text.now) text.entry) }
 {
     match text {
         None => Ok(SourceModel::Overlap { n: 0 }),

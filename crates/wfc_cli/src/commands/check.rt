@@ -24,7 +24,8 @@ pub(super) fn check<F: Folder>(
     requires check { request.now.command ≡ Check }
     requires source { IsSourceAsked request.now }
     requires output { IsOutputAsked request.now }
-    ensures ends { (rules : List Rule) → Ends rules request.now (F.seen folder.old) (F.seen folder.new) (reply_view result) }
+    ensures ends { (rules : List Rule)
+        → Ends rules request.now (F.seen folder.old) (F.seen folder.new) (reply_view result) }
 {
     let found = check_task(alloc, request, folder)?;
     match answer(alloc, found) {

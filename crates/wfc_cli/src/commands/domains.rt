@@ -40,7 +40,9 @@ pub(super) fn domains<F: Folder, O: Sink>(
     requires domains { request.now.command ≡ commands.Domains }
     requires source { IsSourceAsked request.now }
     requires output { IsOutputAsked request.now }
-    ensures ends { (rules : List Rule) → EndsPut rules request.now (F.seen folder.old) (F.seen folder.new) (O.seen out.old) (O.seen out.new) result }
+    ensures ends { (rules : List Rule)
+        → EndsPut rules request.now (F.seen folder.old) (F.seen folder.new) (O.seen out.old)
+        (O.seen out.new) result }
 {
     let stepping = domains_task(alloc, request, folder)?;
     let walk = match begun(alloc, &stepping) {

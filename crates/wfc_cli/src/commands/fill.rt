@@ -103,7 +103,8 @@ fn found(
     requires output { IsOutputAsked request.now }
     requires filling { IsFillingBy request.now filled.now }
     requires legal { IsLegalAssignment (problem_in filled.now) assignment.now }
-    ensures text { IfOk result (λ answer. answer_view answer ≡ done_with (text_in request.now filled.now assignment.now)) }
+    ensures text { IfOk result
+        (λ answer. answer_view answer ≡ done_with (text_in request.now filled.now assignment.now)) }
 {
     let text = match filled {
         Filled::Windows(filling) => picture_text(alloc, request, filling, assignment)?,

@@ -24,7 +24,8 @@ pub(super) fn learn<F: Folder>(
 ) -> Result<Answer, Fault>
     requires learn { request.now.command ≡ Learn }
     requires source { IsSourceAsked request.now }
-    ensures ends { (rules : List Rule) → Ends rules request.now (F.seen folder.old) (F.seen folder.new) (reply_view result) }
+    ensures ends { (rules : List Rule)
+        → Ends rules request.now (F.seen folder.old) (F.seen folder.new) (reply_view result) }
 {
     let learned = learn_task(alloc, request, folder)?;
     match answer(alloc, &learned) {

@@ -114,7 +114,8 @@ fn short() -> Stop
 /// Puts the head in the format asked for.
 fn put_head<O: Sink>(out: &mut O, request: &Request, problem: &Problem) -> Result<(), SinkFault>
     requires side { side_of request.now.source ≤ 6 }
-    ensures put { Puts (O.seen out.old) (O.seen out.new) (head_in (written_format request.now.format) problem.now (shape_of request.now)) result }
+    ensures put { Puts (O.seen out.old) (O.seen out.new)
+        (head_in (written_format request.now.format) problem.now (shape_of request.now)) result }
     ensures bare { OnOk result (IsBare (written_format request.now.format) (O.seen out.new).told) }
 {
     let cells = problem.cells();

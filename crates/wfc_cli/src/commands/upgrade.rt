@@ -31,7 +31,9 @@ pub(super) fn upgrade<F: Folder, O: Sink>(
     requires upgrade { request.now.command ≡ commands.Upgrade }
     requires source { IsSourceAsked request.now }
     requires output { IsOutputAsked request.now }
-    ensures ends { (rules : List Rule) → EndsPut rules request.now (F.seen folder.old) (F.seen folder.new) (O.seen out.old) (O.seen out.new) result }
+    ensures ends { (rules : List Rule)
+        → EndsPut rules request.now (F.seen folder.old) (F.seen folder.new) (O.seen out.old)
+        (O.seen out.new) result }
 {
     let upgrading = upgrade_task(alloc, request, folder)?;
     upgraded(alloc, request, &upgrading, out)
@@ -46,7 +48,8 @@ fn upgraded<O: Sink>(
 ) -> Result<Verdict, Stop>
     requires side { side_of request.now.source ≤ 6 }
     requires short { length upgrading.now.refutation.items ≤ MAX_FILE_BYTES }
-    ensures upgrades { Upgrades request.now upgrading.now.problem upgrading.now.refutation.items (O.seen out.old) (O.seen out.new) result }
+    ensures upgrades { Upgrades request.now upgrading.now.problem upgrading.now.refutation.items
+        (O.seen out.old) (O.seen out.new) result }
 {
     let shape = shape(request);
     match first_fault(alloc, &upgrading.problem, shape, &upgrading.refutation) {
@@ -85,7 +88,8 @@ fn put_proof<O: Sink>(
 ) -> Result<Verdict, Stop>
     requires proof { IsProofText problem.now shape bytes.now }
     requires limit { shape.n ≤ 6 }
-    ensures put { Answering (done_with (upgraded_text problem.now shape bytes.now)) (O.seen out.old) (O.seen out.new) result }
+    ensures put { Answering (done_with (upgraded_text problem.now shape bytes.now))
+        (O.seen out.old) (O.seen out.new) result }
 {
     put_upgraded(bytes, problem, &shape, out)?;
     out.finish()?;
