@@ -52,6 +52,9 @@ SMALL = {
     "town.txt": TOWN,
     "two.steps": "choose 0 0\nchoose 2 1\nundo\nundo\n",
     "one.ref": PROOF,
+    "corner.toml": "[[tile]]\nname = 'corner'\nclass = 'L'\npicture = 'corner.txt'\n[[pair]]\nleft = 'corner 1'\nright = 'corner 2'\n",
+    "corner.txt": "#.\n..\n",
+    "corner.pins": "pin 0 0 corner/1\npin 1 0 corner/2\n",
 }
 STEPS = (
     "step 0\n0: 0 1\n1: 0 1\n2: 0 1\nstep 1\n0: 0\n1: 1\n2: 0\nstep 2\ndead\n"
@@ -159,6 +162,7 @@ ROWS = [
     ("a grid", "fill chk.txt 2 2 2", lambda out: out == b"ab\nba\n"),
     ("domains", "domains chk.txt 2 4 2 --wrap-in --steps two.steps", lambda out: out == STEPS.encode()),
     ("a town", FILL_TOWN, is_town),
+    ("tiles", "fill corner.toml tiles 2 1 --pins corner.pins", lambda out: out == b"....\n#..#\n"),
     ("a refutation", "refute chk.txt 2 3 2 --format 1", lambda out: out == PROOF.encode()),
     ("a check", "check chk.txt 2 3 2 one.ref", lambda out: out == b"accepted\n"),
     ("learning", "learn chk.txt 2 --wrap-in", lambda out: out.startswith(b"overlap 2\ncolours 2\n0 a\n1 b\npatterns 2\n")),
@@ -348,6 +352,15 @@ def devices_in(it):
     it.check("devices: /dev/zero as pins", "fill chk.txt 2 2 2 --pins /dev/zero", 4, err="wfc: file TooLong file=/dev/zero\n")
     it.check("devices: /dev/zero as refutation", "check chk.txt 2 3 2 /dev/zero", 1, err="wfc: check BadLine line=1 file=/dev/zero\n")
     it.check("devices: /dev/zero to be upgraded", "upgrade chk.txt 2 3 2 /dev/zero", 4, err="wfc: file TooLong file=/dev/zero\n")
+    for name, picture in (("none", "none.txt"), ("folder", "folder"), ("zero", "/dev/zero")):
+        it.write(f"{name}.toml", tile_set(["X"], picture=picture))
+    it.check("devices: a tile's picture that is missing", "fill none.toml tiles 2 1", 5, err="wfc: device Missing tile=0 file=none.toml\n")
+    it.check("devices: a folder as a tile's picture", "fill folder.toml tiles 2 1", 5, err="wfc: device Failed tile=0 file=folder.toml\n")
+    it.check("devices: /dev/zero as a tile's picture", "fill zero.toml tiles 2 1", 4, err="wfc: tiles BadPicture tile=0 file=zero.toml\n")
+    it.check("devices: a folder as tile set", "fill folder tiles 2 1", 5, err=failed.format("folder"))
+    it.check("devices: a folder as mask", "fill corner.toml tiles 2 1 --mask folder", 5, err=failed.format("folder"))
+    it.check("devices: /dev/zero as tile set", "fill /dev/zero tiles 2 1", 4, err="wfc: file TooLong file=/dev/zero\n")
+    it.check("devices: /dev/zero as mask", "fill corner.toml tiles 2 1 --mask /dev/zero", 4, err="wfc: file TooLong file=/dev/zero\n")
     if os.geteuid() == 0:
         it.check("devices: a file without permission", "fill secret.txt 2 2 2", 5, err=failed.format("secret.txt"), before=as_nobody)
     if it.wants("devices: a pipe"):
@@ -371,6 +384,17 @@ def p6(width, height, pixel):
 def padded(text, size):
     """The text behind a comment, so many bytes long."""
     return "#" + "x" * (size - len(text) - 2) + "\n" + text
+
+
+def tile_set(classes, picture=None, weight=None, name="t", pair=False):
+    """A document with a tile of each class, and with a pair that lets the first tile stand beside itself."""
+    lines = []
+    for number, letter in enumerate(classes):
+        lines += ["[[tile]]", f"name = '{name}{number}'", f"class = '{letter}'"]
+        lines += [f"picture = '{picture}'"] if picture else []
+        lines += [f"weight = {weight}"] if weight else []
+    lines += ["[[pair]]", f"left = '{name}0'", f"right = '{name}0'"] if pair else []
+    return "\n".join(lines) + "\n"
 
 
 def limits_words(it):
@@ -432,6 +456,49 @@ def limits_problems(it):
     it.write("last.pins", "pin 4095 1023 b\n")
     it.check("limits: a pin that fixes 4,189,185 cells in turn", "fill chk.txt 2 4096 1024 --wrap-in --pins last.pins", 0,
              out=lambda out: out.decode() in (board, board.translate(str.maketrans("ab", "ba"))) and out[-2:-1] == b"b")
+
+
+def limits_tiles(it):
+    """Variants, weights, names and pictures of tiles, and the pixels of a map."""
+    learned = "tiles 1\nvariants 1\n0 {}: {}0/0\nacross 0\ndown 0\n"
+    for count, end in ((4096, []), (4097, ["X"])):
+        it.write(f"{count}.toml", tile_set(["F"] * 512 + end))
+    it.check("limits: 4,096 variants", "learn 4096.toml tiles", 0, out=lambda out: out.startswith(b"tiles 512\nvariants 4096\n0 1: t0/0\n"))
+    it.check("limits: 4,097 variants", "learn 4097.toml tiles", 4, err="wfc: tiles TooManyVariants count=4097 file=4097.toml\n")
+    for weight in (1_000_000, 1_000_001):
+        it.write(f"{weight}.toml", tile_set(["X"], weight=weight))
+    it.check("limits: a weight of 1,000,000", "learn 1000000.toml tiles", 0, learned.format(1_000_000, "t"))
+    it.check("limits: a weight of 1,000,001", "learn 1000001.toml tiles", 4, err="wfc: tiles BadWeight tile=0 file=1000001.toml\n")
+    for length in (64, 65):
+        it.write(f"n{length}.toml", tile_set(["X"], name="n" * (length - 1)))
+    it.check("limits: a name of 64 bytes", "learn n64.toml tiles", 0, learned.format(1, "n" * 63))
+    it.check("limits: a name of 65 bytes", "learn n65.toml tiles", 4, err="wfc: tiles BadName tile=0 file=n65.toml\n")
+    for side in (64, 65):
+        it.write(f"side{side}.txt", ("a" * side + "\n") * side)
+        it.write(f"side{side}.toml", tile_set(["X"], picture=f"side{side}.txt", pair=True))
+    it.check("limits: 16,777,216 pixels of pictures of 64", "fill side64.toml tiles 64 64", 0, ("a" * 4096 + "\n") * 4096)
+    it.check("limits: 16,781,312 pixels", "fill side64.toml tiles 17 241", 4, err="wfc: render TooLarge pixels=16781312\n")
+    it.check("limits: a picture of a side of 65", "fill side65.toml tiles 1 1", 4, err="wfc: tiles BadPicture tile=0 file=side65.toml\n")
+    for name, size in (("long", FILE_LIMIT), ("longer", FILE_LIMIT + 1)):
+        it.write(f"{name}.toml", padded(tile_set(["X"]), size))
+        it.write(f"{name}_picture.toml", tile_set(["X"], picture=f"{name}.ppm", pair=True))
+    it.check("limits: a tile set of 16,777,216 bytes", "learn long.toml tiles", 0, learned.format(1, "t"))
+    it.check("limits: a tile set of 16,777,217 bytes", "learn longer.toml tiles", 4, err="wfc: file TooLong file=longer.toml\n")
+    it.check("limits: a tile's picture of 16,777,216 bytes", "fill long_picture.toml tiles 2 1 --form p3", 0, "P3\n2 1\n255\n1 2 3\n1 2 3\n")
+    it.check("limits: a tile's picture of 16,777,217 bytes", "fill longer_picture.toml tiles 2 1", 4, err="wfc: tiles BadPicture tile=0 file=longer_picture.toml\n")
+
+
+def limits_masks(it):
+    """Holes, and a mask as large as a grid may be."""
+    it.write("one.toml", tile_set(["X"], pair=True))
+    row = "." + "#" * 1023 + "\n"
+    it.write("most.mask", row * 1024)
+    it.check("limits: a mask of 1,048,576 places", "fill one.toml tiles 1024 1024 --mask most.mask", 0, ("0" + " -" * 1023 + "\n") * 1024)
+    it.write("more.mask", "." * 1_048_577 + "\n")
+    it.check("limits: a mask of 1,048,577 places", "fill one.toml tiles 1024 1024 --mask more.mask", 4, err="wfc: mask TooLarge file=more.mask\n")
+    it.write("none.mask", "##\n")
+    it.check("limits: a mask of holes alone", "fill one.toml tiles 2 1 --mask none.mask", 4, err="wfc: mask AllHoles file=none.mask\n")
+    it.check("limits: a mask for windows", "fill chk.txt 2 2 2 --mask none.mask", 3, err="wfc: command value mask\n")
 
 
 def limits_lines(it):
@@ -536,6 +603,8 @@ def main():
         limits_words(it)
         limits_samples(it)
         limits_problems(it)
+        limits_tiles(it)
+        limits_masks(it)
         limits_lines(it)
         limits_refutations(it)
         if asked.slow:
