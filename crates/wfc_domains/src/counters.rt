@@ -87,7 +87,7 @@ impl Counters {
         u32::from(self.small[place] % HALF) + 128 * u32::from(part_at(&self.large, place))
     }
 
-    /// Whether an entry of the cell is 0.
+    /// Whether an entry of the cell may be 0: none is where this answers no.
     pub fn has_none(&self, cell: u32) -> bool
         requires cell_in { cell < self.now.cells }
         ensures some { IsFalse result → (v d : ℕ) → v < self.now.values → d < self.now.dirs
