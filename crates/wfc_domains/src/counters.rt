@@ -75,6 +75,17 @@ impl Counters {
         (cell as usize * self.values + value as usize) * self.dirs + dir
     }
 
+    /// Where the entries of a cell begin.
+    #[inline]
+    pub fn row(&self, cell: u32) -> usize
+        requires cell_in { cell < self.now.cells }
+        ensures value { result ≡ place_in self.now.values self.now.dirs cell 0 0 }
+        ensures inside { result + self.now.values * self.now.dirs ≤ length self.now.counts }
+        ensures limit { length self.now.counts < 2 ^ 63 }
+    {
+        cell as usize * (self.values * self.dirs)
+    }
+
     /// How many supports of `value` are counted beside `cell` in direction `dir`.
     #[inline]
     pub fn get(&self, cell: u32, value: u16, dir: u8) -> u32
@@ -234,6 +245,20 @@ impl Counters {
         ensures steps { steps.new ≡ steps.old + 1 }
     {
         let place = self.place(cell, value, dir as usize);
+        self.down_at(place, steps)
+    }
+
+    /// One less at a place of the table, and whether none is left there and it isn't marked. It is one step.
+    #[inline]
+    pub fn down_at<L: Ledger>(&mut self, place: usize, steps: &mut Steps<L>) -> bool
+        requires place_in { place < length self.old.counts }
+        requires some { 0 < slice_index self.old.counts place % 32768 }
+        ensures bare { IsTrue result ↔ (slice_index self.old.counts place ≡ 1) }
+        ensures changed { self.new ≡ record self.old {
+          counts = slice_set self.old.counts place (slice_index self.old.counts place - 1);
+        } }
+        ensures steps { steps.new ≡ steps.old + 1 }
+    {
         steps.tick();
         let small = self.small[place];
         if small % HALF == 0 {
