@@ -2,6 +2,7 @@ pub mod PlaceLemmas
 pub mod MarkLemmas
 pub mod Steps
 pub mod LinkLemmas
+pub mod Strikes
 pub mod Rolls
 pub mod Costs
 pub mod Closing

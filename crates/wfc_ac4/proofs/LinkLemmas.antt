@@ -1,22 +1,25 @@
 -- The links of all values in one list, and the counters that a value's links lower.
-use Rattle.std.proofs.Common.{◌≡◌, ℕ, zero, suc, ◌+◌, ◌-◌, ◌<◌, ◌≤◌, List, [], ◌∷◌, ◌++◌, length, get_or, take, drop, map, refl, sym, ◌∙◌, ap, subst, add-one, arith, Option, Some, None, inl, inr}
-use Rattle.std.specs.Prelude.{Contains, slice_index}
+use Rattle.std.proofs.Common.{◌≡◌, ◌≢◌, ℕ, zero, suc, ◌+◌, ◌-◌, ◌*◌, ◌/◌, ◌%◌, ◌^◌, ◌<◌, ◌≤◌, List, [], ◌∷◌, ◌++◌, length, get_or, take, drop, map, refl, sym, ◌∙◌, ap, subst, add-one, arith, Option, Some, None, inl, inr}
+use Rattle.std.specs.Prelude.{Contains, slice_index, slice_set}
 use Rattle.std.proofs.lemmas.Bool.{cases_eq, cases_lt}
 use Rattle.std.proofs.lemmas.List.{get_or_default, get_or_append_left, get_or-append_right, get_or-map, length-map, length-append, length-drop, length_push, take-append-le, drop-append-le, take-append-drop, take_more, take_all, append_assoc, append-nil}
 use Rattle.std.proofs.Math.Seq.{drop-append_seam}
+use Rattle.std.proofs.lemmas.Nat.{div-mul-add}
+use Rattle.std.proofs.Math.Nat.{mul-le-mul, mul-le-mul_right}
 use Rattle.wfc_model.specs.Direction.{opposite}
-use Rattle.wfc_problem.specs.Network.{Network, values, neighbour, supports_of}
-use Rattle.wfc_domains.specs.Counters.{Table, place, cost_at}
+use Rattle.wfc_problem.specs.Network.{Network, values, neighbour, supports_of, IsProblem}
+use Rattle.wfc_domains.specs.Counters.{Table, FitsTable, place, place_in, entry_of, with_count, counters_of, cost_at}
 use Rattle.wfc_domains.specs.declared.board.Board.{Board}
-use Rattle.wfc_domains.proofs.Problems.{in_values, in_cells, back, opposite-in}
+use Rattle.wfc_domains.proofs.Places.{place-is}
+use Rattle.wfc_domains.proofs.Problems.{in_values, in_cells, back, opposite-in, supports-below, few_values, few_pairs, dirs-le}
 use Rattle.wfc_ac4.specs.Places.{side_places, places_upto, places_of, times}
-use Rattle.wfc_ac4.specs.Links.{no_link, AreLinks, link_to, side_links, links_upto, links_of, all_upto, link_place, link_places}
+use Rattle.wfc_ac4.specs.Links.{no_link, AreLinks, link_to, side_links, links_upto, links_of, all_upto, link_place, link_places, row_at, AreRows}
 use Rattle.wfc_ac4.specs.State.{IsWorking, counted}
 use Rattle.wfc_ac4.specs.declared.links.Link.{Link}
 use Rattle.wfc_ac4.specs.declared.links.Links.{Links}
 use Rattle.wfc_ac4.proofs.PlaceLemmas.{times-append}
 use Rattle.wfc_ac4.proofs.Costs.{cost-is}
-use Rattle.wfc_ac4.proofs.Steps.{SideStep, still_counts}
+use Rattle.wfc_ac4.proofs.Steps.{SideStep, still_counts, counted-in}
 
 -- ---- where the links of a value stand
 
@@ -68,24 +71,30 @@ of_is P x v h l =
     ∙ ap (λ ls. take (length (all_upto P (suc v)) - length (all_upto P v)) (drop (length (all_upto P v)) ls)) h.links
     ∙ part-is P (values P) v l
 
+-- where the counter of a link stands fits sixteen bits
+pub offset-few : (P : Network) → IsProblem P → (v d k : ℕ) (xs : List ℕ) → xs ≡ supports_of P v d → d < P.dirs → k < length xs → (get_or xs k 0 * P.dirs ≤ 24576) × (opposite d < 6)
+offset-few P p v d k xs is_xs hd l =
+    let w : get_or xs k 0 ≤ 4096 = omega (arith, supports-below P p v d xs is_xs hd k 0 l, few_values P p) in
+    let dirs = dirs-le P p in
+    (mul-le-mul w dirs, omega (arith, opposite-in P p d hd))
+
 -- one link more of a side
-pub side_more : (P : Network) (v d k w turned : ℕ) (xs : List ℕ) (old now : List Link) → xs ≡ supports_of P v d → k < length xs → w ≡ get_or xs k 0 → turned ≡ opposite d
-    → now ≡ old ++ take k (side_links P v d) → now ++ record { dir = d; back = turned; value = w } ∷ [] ≡ old ++ take (k + 1) (side_links P v d)
-side_more P v d k w turned xs old now is_xs l is_w is_back is_now =
+pub side_more : (P : Network) (v d k at : ℕ) (xs : List ℕ) (old now : List Link) → xs ≡ supports_of P v d → k < length xs → at ≡ place P 0 (get_or xs k 0) (opposite d)
+    → now ≡ old ++ take k (side_links P v d) → now ++ record { offset = at; dir = d } ∷ [] ≡ old ++ take (k + 1) (side_links P v d)
+side_more P v d k at xs old now is_xs l is_at is_now =
     let l' : k < length (supports_of P v d) = omega (arith, ap length is_xs) in
     let side = side_links P v d in
-    let w_is : w ≡ get_or (supports_of P v d) k 0 = is_w ∙ ap (λ ys. get_or ys k 0) is_xs in
-    let one : record { dir = d; back = turned; value = w } ≡ get_or side k no_link =
-    ap (λ t. record { dir = d; back = t; value = w }) is_back ∙ ap (link_to d) w_is ∙ sym (get_or-map (link_to d) (supports_of P v d) k 0 no_link l') in
-    ap (λ ls. ls ++ record { dir = d; back = turned; value = w } ∷ []) is_now
+    let one : record { offset = at; dir = d } ≡ get_or side k no_link =
+    ap (λ x. record { offset = x; dir = d }) is_at ∙ ap (λ ys. link_to P d (get_or ys k 0)) is_xs ∙ sym (get_or-map (link_to P d) (supports_of P v d) k 0 no_link l') in
+    ap (λ ls. ls ++ record { offset = at; dir = d } ∷ []) is_now
     ∙ append_assoc old (take k side) _
     ∙ ap (λ x. old ++ (take k side ++ x ∷ [])) one
-    ∙ ap (λ x. old ++ x) (sym (take_more side k no_link (omega (arith, length-map (supports_of P v d) (link_to d)))))
+    ∙ ap (λ x. old ++ x) (sym (take_more side k no_link (omega (arith, length-map (supports_of P v d) (link_to P d)))))
 
 -- all links of a side
 pub side_whole : (P : Network) (v d k : ℕ) (xs : List ℕ) (old now : List Link) → xs ≡ supports_of P v d → length xs ≤ k → now ≡ old ++ take k (side_links P v d) → now ≡ old ++ side_links P v d
 side_whole P v d k xs old now is_xs l is_now =
-    is_now ∙ ap (λ x. old ++ x) (take_all k (side_links P v d) (omega (arith, length-map (supports_of P v d) (link_to d), ap length is_xs)))
+    is_now ∙ ap (λ x. old ++ x) (take_all k (side_links P v d) (omega (arith, length-map (supports_of P v d) (link_to P d), ap length is_xs)))
 
 -- one side more
 pub value_more : (P : Network) (v d : ℕ) (old now new : List Link) → now ≡ old ++ links_upto P v d → new ≡ now ++ side_links P v d → new ≡ old ++ links_upto P v (d + 1)
@@ -95,31 +104,45 @@ value_more P v d old now new is_now is_new =
 
 -- ---- what is so of each link
 
--- the link is one of v: it has its direction and the one that leads back, and its value is supported there
+-- the link is one of v: its value is supported in its direction, and its counter is the one for the way back
 pub record IsLink (P : Network) (v : ℕ) (l : Link) : Type 0 where
   pub dir_in : l.dir < P.dirs
-  pub back_is : l.back ≡ opposite l.dir
-  pub supported : Contains (supports_of P v l.dir) l.value
+  pub offset_is : l.offset ≡ place P 0 (l.offset / P.dirs) (opposite l.dir)
+  pub supported : Contains (supports_of P v l.dir) (l.offset / P.dirs)
 
-links-are : (P : Network) (v m k : ℕ) → m ≤ P.dirs → k < length (links_upto P v m) → IsLink P v (get_or (links_upto P v m) k no_link)
-links-are P v zero k hm l = absurd (omega arith)
-links-are P v (suc m) k hm l = elim (cases_lt k (length (links_upto P v m))) [
-  | inl before ↦ subst (IsLink P v) (sym (get_or_append_left (links_upto P v m) (side_links P v m) no_link k before)) (links-are P v m k (omega arith) before)
+-- the value of a link
+link-value : (P : Network) → IsProblem P → (d w : ℕ) → d < P.dirs → (link_to P d w).offset / P.dirs ≡ w
+link-value P p d w h = div-mul-add (0 * values P + w) P.dirs (opposite d) (opposite-in P p d h) ∙ (let z : 0 * values P + w ≡ w = omega arith in z)
+
+links-are : (P : Network) → IsProblem P → (v m k : ℕ) → m ≤ P.dirs → k < length (links_upto P v m) → IsLink P v (get_or (links_upto P v m) k no_link)
+links-are P p v zero k hm l = absurd (omega arith)
+links-are P p v (suc m) k hm l = elim (cases_lt k (length (links_upto P v m))) [
+  | inl before ↦ subst (IsLink P v) (sym (get_or_append_left (links_upto P v m) (side_links P v m) no_link k before)) (links-are P p v m k (omega arith) before)
   | inr after ↦
       let n = length (links_upto P v m) in
       let xs = supports_of P v m in
       let j = k - n in
-      let lj : j < length xs = omega (arith, length-append (links_upto P v m) (side_links P v m), length-map xs (link_to m)) in
+      let lj : j < length xs = omega (arith, length-append (links_upto P v m) (side_links P v m), length-map xs (link_to P m)) in
       let w = get_or xs j 0 in
-      let is : get_or (links_upto P v (suc m)) k no_link ≡ link_to m w = get_or-append_right (links_upto P v m) (side_links P v m) n k no_link refl after ∙ get_or-map (link_to m) xs j 0 no_link lj in
-      subst (IsLink P v) (sym is) (record { dir_in = omega arith; back_is = refl; supported = (j, lj, get_or_default xs j w 0 lj) })
+      let hm' : m < P.dirs = omega arith in
+      let turned = sym (link-value P p m w hm') in
+      let is : get_or (links_upto P v (suc m)) k no_link ≡ link_to P m w = get_or-append_right (links_upto P v m) (side_links P v m) n k no_link refl after ∙ get_or-map (link_to P m) xs j 0 no_link lj in
+      subst (IsLink P v) (sym is) (record {
+        dir_in = hm';
+        offset_is = ap (λ x. place P 0 x (opposite m)) turned;
+        supported = subst (λ x. Contains xs x) turned (j, lj, get_or_default xs j w 0 lj);
+      })
 ]
 
-pub is_link : (P : Network) (v k : ℕ) (ls : List Link) → ls ≡ links_of P v → k < length ls → IsLink P v (get_or ls k no_link)
-is_link P v k ls e l =
-    subst (λ xs. IsLink P v (get_or xs k no_link)) (sym e) (links-are P v P.dirs k (omega arith) (omega (arith, ap length e)))
+pub is_link : (P : Network) → IsProblem P → (v k : ℕ) (ls : List Link) → ls ≡ links_of P v → k < length ls → IsLink P v (get_or ls k no_link)
+is_link P p v k ls e l =
+    subst (λ xs. IsLink P v (get_or xs k no_link)) (sym e) (links-are P p v P.dirs k (omega arith) (omega (arith, ap length e)))
 
 -- ---- the counters that links lower
+
+-- a counter of a cell stands behind where those of the cell begin
+pub row-offset : (P : Network) (n w d : ℕ) → place P n 0 0 + place P 0 w d ≡ place P n w d
+row-offset P n w d = omega arith
 
 places-append : (P : Network) (c : ℕ) (xs ys : List Link) → link_places P c (xs ++ ys) ≡ link_places P c xs ++ link_places P c ys
 places-append P c [] ys = refl
@@ -127,16 +150,17 @@ places-append P c (l ∷ xs) ys =
     ap (λ ps. link_place P l (neighbour P c l.dir) ++ ps) (places-append P c xs ys)
     ∙ sym (append_assoc (link_place P l (neighbour P c l.dir)) (link_places P c xs) (link_places P c ys))
 
-side-some : (P : Network) (c d n : ℕ) (ws : List ℕ) → neighbour P c d ≡ Some n → link_places P c (map (link_to d) ws) ≡ map (λ w. place P n w (opposite d)) ws
+side-some : (P : Network) (c d n : ℕ) (ws : List ℕ) → neighbour P c d ≡ Some n → link_places P c (map (link_to P d) ws) ≡ map (λ w. place P n w (opposite d)) ws
 side-some P c d n [] e = refl
 side-some P c d n (w ∷ ws) e =
-    ap (λ o. link_place P (link_to d w) o ++ link_places P c (map (link_to d) ws)) e
+    ap (λ o. link_place P (link_to P d w) o ++ link_places P c (map (link_to P d) ws)) e
+    ∙ ap (λ x. x ∷ link_places P c (map (link_to P d) ws)) (row-offset P n w (opposite d))
     ∙ ap (λ ps. place P n w (opposite d) ∷ ps) (side-some P c d n ws e)
 
-side-none : (P : Network) (c d : ℕ) (ws : List ℕ) → neighbour P c d ≡ None → link_places P c (map (link_to d) ws) ≡ []
+side-none : (P : Network) (c d : ℕ) (ws : List ℕ) → neighbour P c d ≡ None → link_places P c (map (link_to P d) ws) ≡ []
 side-none P c d [] e = refl
 side-none P c d (w ∷ ws) e =
-    ap (λ o. link_place P (link_to d w) o ++ link_places P c (map (link_to d) ws)) e ∙ side-none P c d ws e
+    ap (λ o. link_place P (link_to P d w) o ++ link_places P c (map (link_to P d) ws)) e ∙ side-none P c d ws e
 
 side-is : (P : Network) (c v d : ℕ) → link_places P c (side_links P v d) ≡ side_places P v d (neighbour P c d)
 side-is P c v d =
@@ -170,7 +194,7 @@ link-next P c k ls o l e =
     ∙ ap (λ ps. link_places P c (take k ls) ++ ps) (append-nil (link_place P (get_or ls k no_link) (neighbour P c (get_or ls k no_link).dir)) ∙ ap (link_place P (get_or ls k no_link)) e)
 
 pub link-some : (P : Network) (c k n : ℕ) (ls : List Link) → k < length ls → neighbour P c (get_or ls k no_link).dir ≡ Some n
-    → link_places P c (take (k + 1) ls) ≡ link_places P c (take k ls) ++ place P n (get_or ls k no_link).value (get_or ls k no_link).back ∷ []
+    → link_places P c (take (k + 1) ls) ≡ link_places P c (take k ls) ++ (place P n 0 0 + (get_or ls k no_link).offset) ∷ []
 link-some P c k n ls l e = link-next P c k ls (Some n) l e
 
 pub link-none : (P : Network) (c k : ℕ) (ls : List Link) → k < length ls → neighbour P c (get_or ls k no_link).dir ≡ None → link_places P c (take (k + 1) ls) ≡ link_places P c (take k ls)
@@ -188,39 +212,107 @@ part-le P c v k i ls e =
     let all = ap (times i) (sym split ∙ links-places P c v ls e) in
     omega arith
 
--- what holds of the k-th link, where its direction leads to n
-pub link_step : (b : Board) (T : Table) (head c v k n : ℕ) (ls : List Link)
-    → IsWorking b T head c v (link_places b.problem.now c (take k ls)) → ls ≡ links_of b.problem.now v → k < length ls → neighbour b.problem.now c (get_or ls k no_link).dir ≡ Some n
-    → SideStep b.problem.now (link_places b.problem.now c (take k ls)) (link_places b.problem.now c (take (k + 1) ls)) c v n (get_or ls k no_link).value (get_or ls k no_link).back T
-link_step b T head c v k n ls h e l beside =
+-- ---- where the counters of the neighbours begin
+
+-- a problem has few counters
+counters-few : (P : Network) → IsProblem P → counters_of P ≤ 50331648
+counters-few P p = let few : counters_of P ≤ 8388608 * 6 = mul-le-mul (few_pairs P p) (dirs-le P p) in omega arith
+
+pub table-few : (P : Network) (T : Table) → IsProblem P → FitsTable P T → length T.counts ≤ 50331648
+table-few P T p fits = omega (arith, fits.whole, counters-few P p)
+
+-- none begin at the greatest number
+row-few : (P : Network) → IsProblem P → (c d n : ℕ) → neighbour P c d ≡ Some n → place P n 0 0 ≢ 2 ^ 64 - 1
+row-few P p c d n beside e =
+    let hn = in_cells P p c d n beside in
+    let row : n * values P ≤ P.cells * values P = mul-le-mul_right (values P) (let z : n ≤ P.cells = omega arith in z) in
+    let before : (n * values P) * P.dirs ≤ (P.cells * values P) * P.dirs = mul-le-mul_right P.dirs row in
+    let low : place P n 0 0 ≤ 50331648 = omega (arith, counters-few P p, before) in
+    absurd (omega (arith, low, e))
+
+-- no counters begin there where there is no neighbour
+pub row_none : (P : Network) → IsProblem P → (c d row : ℕ) → row ≡ row_at P (neighbour P c d) → row ≡ 2 ^ 64 - 1 → neighbour P c d ≡ None
+row_none P p c d row is e =
+    let Q : Option ℕ → Type 0 = λ o. neighbour P c d ≡ o → o ≡ None in
+    elim (neighbour P c d) as Q [
+      | None ↦ λ f. refl
+      | Some n ↦ λ f. absurd (row-few P p c d n f (sym (is ∙ ap (row_at P) f) ∙ e))
+    ] refl
+
+-- and where they do there is one
+pub row_some : (P : Network) (c d row : ℕ) → row ≡ row_at P (neighbour P c d) → row ≢ 2 ^ 64 - 1 → (n : ℕ) × (neighbour P c d ≡ Some n) × (row ≡ place P n 0 0)
+row_some P c d row is ne =
+    let Q : Option ℕ → Type 0 = λ o. neighbour P c d ≡ o → (n : ℕ) × (o ≡ Some n) × (row ≡ place P n 0 0) in
+    elim (neighbour P c d) as Q [
+      | None ↦ λ f. absurd (ne (is ∙ ap (row_at P) f))
+      | Some n ↦ λ f. (n, refl, is ∙ ap (row_at P) f)
+    ] refl
+
+-- ---- one link worked off
+
+-- what holds of a link, where the counters of a neighbour begin at `row`
+pub record LinkStep (P : Network) (lowered next : List ℕ) (c v row : ℕ) (l : Link) (T : Table) : Type 0 where
+  pub cell : ℕ
+  pub beside : neighbour P c l.dir ≡ Some cell
+  pub dir_in : l.dir < P.dirs
+  pub place_is : row + l.offset ≡ place_in T.values T.dirs cell (l.offset / P.dirs) (opposite l.dir)
+  pub inside : row + l.offset < length T.counts
+  pub some : 0 < slice_index T.counts (row + l.offset) % 32768
+  pub side : SideStep P lowered next c v cell (l.offset / P.dirs) (opposite l.dir) T
+
+link_step : (b : Board) (T : Table) (head c v k row n : ℕ) (ls : List Link)
+    → IsWorking b T head c v (link_places b.problem.now c (take k ls)) → ls ≡ links_of b.problem.now v → k < length ls → neighbour b.problem.now c (get_or ls k no_link).dir ≡ Some n → row ≡ place b.problem.now n 0 0
+    → LinkStep b.problem.now (link_places b.problem.now c (take k ls)) (link_places b.problem.now c (take (k + 1) ls)) c v row (get_or ls k no_link) T
+link_step b T head c v k row n ls h e l beside begins =
     let P = b.problem.now in
     let p = h.board.traced.problem in
     let x = get_or ls k no_link in
-    let s = is_link P v k ls e l in
-    let hw = in_values P p v x.value x.dir s.dir_in s.supported in
-    let hb : x.back < P.dirs = omega (arith, s.back_is, opposite-in P p x.dir s.dir_in) in
+    let s = is_link P p v k ls e l in
+    let w = x.offset / P.dirs in
+    let turned = opposite x.dir in
+    let hw = in_values P p v w x.dir s.dir_in s.supported in
+    let hb : turned < P.dirs = opposite-in P p x.dir s.dir_in in
     let hn = in_cells P p c x.dir n beside in
     let lowered = link_places P c (take k ls) in
-    let next : lowered ++ place P n x.value x.back ∷ [] ≡ link_places P c (take (k + 1) ls) = sym (link-some P c k n ls l beside) in
-    let part : times (place P n x.value x.back) (lowered ++ place P n x.value x.back ∷ []) ≤ times (place P n x.value x.back) (places_of P c v) =
-    omega (arith, ap (times (place P n x.value x.back)) next, part-le P c v (k + 1) (place P n x.value x.back) ls e) in
+    let at : place P n 0 0 + x.offset ≡ place P n w turned = ap (λ o. place P n 0 0 + o) s.offset_is ∙ row-offset P n w turned in
+    let next : lowered ++ place P n w turned ∷ [] ≡ link_places P c (take (k + 1) ls) = ap (λ i. lowered ++ i ∷ []) (sym at) ∙ sym (link-some P c k n ls l beside) in
+    let part : times (place P n w turned) (lowered ++ place P n w turned ∷ []) ≤ times (place P n w turned) (places_of P c v) =
+    omega (arith, ap (times (place P n w turned)) next, part-le P c v (k + 1) (place P n w turned) ls e) in
+    let above = still_counts P p (counted b head) lowered T c v n w turned h.counters h.still_counted hn hw hb part in
+    let place_is : row + x.offset ≡ place_in T.values T.dirs n w turned = ap (λ i. i + x.offset) begins ∙ at ∙ place-is P T h.counters.fits n w turned in
     record {
-      cell_in = hn;
-      value_in = hw;
-      dir_in = hb;
-      above_zero = still_counts P p (counted b head) lowered T c v n x.value x.back h.counters h.still_counted hn hw hb part;
-      part = part;
-      beside = ap (neighbour P n) s.back_is ∙ back P p c x.dir n beside;
-      next_is = next;
+      cell = n;
+      beside = beside;
+      dir_in = s.dir_in;
+      place_is = place_is;
+      inside = subst (λ i. i < length T.counts) (sym place_is) (counted-in T n w turned above);
+      some = subst (λ i. 0 < slice_index T.counts i % 32768) (sym place_is) above;
+      side = record {
+        cell_in = hn;
+        value_in = hw;
+        dir_in = hb;
+        above_zero = above;
+        part = part;
+        beside = back P p c x.dir n beside;
+        next_is = next;
+      };
     }
 
 -- the same, where the facts are those of the board at entry
-pub link_at : (b a : Board) (T : Table) (head c v k n : ℕ) (ls : List Link) → b.problem ≡ a.problem
-    → IsWorking b T head c v (link_places b.problem.now c (take k ls)) → ls ≡ links_of a.problem.now v → k < length ls → neighbour a.problem.now c (get_or ls k no_link).dir ≡ Some n
-    → SideStep b.problem.now (link_places b.problem.now c (take k ls)) (link_places b.problem.now c (take (k + 1) ls)) c v n (get_or ls k no_link).value (get_or ls k no_link).back T
-link_at b a T head c v k n ls same h e l beside =
+pub link_at : (b a : Board) (T : Table) (head c v k row : ℕ) (ls : List Link) (rows : List ℕ) → b.problem ≡ a.problem
+    → IsWorking b T head c v (link_places b.problem.now c (take k ls)) → ls ≡ links_of a.problem.now v → k < length ls → AreRows a.problem.now c rows → row ≡ slice_index rows (get_or ls k no_link).dir → row ≢ 2 ^ 64 - 1
+    → LinkStep b.problem.now (link_places b.problem.now c (take k ls)) (link_places b.problem.now c (take (k + 1) ls)) c v row (get_or ls k no_link) T
+link_at b a T head c v k row ls rows same h e l begin is ne =
     let N = ap (λ p. p.now) same in
-    link_step b T head c v k n ls h (e ∙ ap (λ P. links_of P v) (sym N)) l (ap (λ P. neighbour P c (get_or ls k no_link).dir) N ∙ beside)
+    let x = get_or ls k no_link in
+    let e' = e ∙ ap (λ P. links_of P v) (sym N) in
+    let begin' = subst (λ P. AreRows P c rows) (sym N) begin in
+    let to = row_some b.problem.now c x.dir row (is ∙ begin' x.dir (is_link b.problem.now h.board.traced.problem v k ls e' l).dir_in) ne in
+    link_step b T head c v k row to.0 ls h e' l to.1 to.2
+
+-- the table with the counter at a link's place lowered
+pub lowered-at : (T T' : Table) (i n w d : ℕ) → i ≡ place_in T.values T.dirs n w d → T' ≡ record T { counts = slice_set T.counts i (slice_index T.counts i - 1) } → T' ≡ with_count T n w d (entry_of T n w d - 1)
+lowered-at T T' i n w d e is = is ∙ ap (λ j. record T { counts = slice_set T.counts j (slice_index T.counts j - 1) }) e
 
 -- a link that leads to no cell lowers nothing
 pub link_skipped : (b a : Board) (T : Table) (head c v k : ℕ) (ls : List Link) → b.problem ≡ a.problem

@@ -1,9 +1,12 @@
 -- What a flight's steps leave as it was.
-use Rattle.std.specs.Prelude.{◌≡◌, ℕ, ◌<◌, ◌∷◌, ◌++◌, [], length, min, take, Some}
+use Rattle.std.specs.Prelude.{◌≡◌, ℕ, ◌<◌, ◌⊎◌, ◌∷◌, ◌++◌, [], length, min, take, Some, IsTrue}
 use Rattle.wfc_problem.specs.Network.{neighbour}
-use Rattle.wfc_domains.specs.Counters.{Table, IsMarked, count_of, cost_of}
+use Rattle.wfc_domains.specs.declared.Cause.TheVariants.{Arc}
 use Rattle.wfc_domains.specs.declared.Removal.{Removal}
-use Rattle.wfc_domains.specs.Board.{Grows}
+use Rattle.wfc_domains.specs.declared.Verdict.TheVariants.{Alive}
+use Rattle.wfc_domains.specs.Domains.{has}
+use Rattle.wfc_domains.specs.Counters.{Table, IsMarked, Marks, count_of, cost_of}
+use Rattle.wfc_domains.specs.Board.{Grows, Loses}
 use Rattle.wfc_ac4.specs.declared.flight.Flight.{Flight}
 
 -- by the problem of one flight, how many counters count the first removals in the log of another
@@ -14,6 +17,23 @@ front_cost f g k = cost_of f.board.problem.now (take k g.board.trail.removals)
 pub record GoesOn (old new : Flight) : Type 0 where
   pub grows : Grows old.board new.board
   pub head : new.head ≡ old.head
+
+-- w stood at n, and no cell was empty: it was removed for want of support in direction d, and its counts were marked
+pub record Strikes (old new : Flight) (n w d : ℕ) : Type 0 where
+  pub stood : IsTrue (has old.board.domains n w)
+  pub alive : old.board.verdict ≡ Alive
+  pub board : Loses old.board new.board n w (Arc d)
+  pub marks : Marks old.counters new.counters n w
+  pub head : new.head ≡ old.head
+
+-- w did not stand at n, or a cell was empty, and nothing changed
+pub record Passes (old new : Flight) (n w : ℕ) : Type 0 where
+  pub gone : old.board.verdict ≡ Alive → IsTrue (has old.board.domains n w) → ⊥
+  pub same : new ≡ old
+
+-- w is removed at n for want of support in direction d, if it stands and no cell is empty
+abbrev pub IsStruck : Flight → Flight → ℕ → ℕ → ℕ → Type 0
+IsStruck old new n w d = Strikes old new n w d ⊎ Passes old new n w
 
 -- only the counters changed
 abbrev pub Recounts : Flight → Flight → Type 0

@@ -1,5 +1,5 @@
 -- What may stand beside each value, of all directions in one list.
-use Rattle.std.specs.Prelude.{◌≡◌, ℕ, zero, suc, ◌+◌, ◌≤◌, List, [], ◌∷◌, ◌++◌, length, map, slice_index, Option, Some, None}
+use Rattle.std.specs.Prelude.{◌≡◌, ℕ, zero, suc, ◌+◌, ◌-◌, ◌^◌, ◌<◌, ◌≤◌, List, [], ◌∷◌, ◌++◌, length, map, slice_index, Option, Some, None}
 use Rattle.wfc_model.specs.Direction.{opposite}
 use Rattle.wfc_problem.specs.Network.{Network, values, neighbour, supports_of}
 use Rattle.wfc_domains.specs.Counters.{place}
@@ -8,15 +8,15 @@ use Rattle.wfc_ac4.specs.declared.links.Links.{Links}
 
 -- what is read where there is no link
 abbrev pub no_link : Link
-no_link = record { dir = 0; back = 0; value = 0 }
+no_link = record { offset = 0; dir = 0 }
 
--- the link to w in direction d
-abbrev pub link_to : ℕ → ℕ → Link
-link_to d w = record { dir = d; back = opposite d; value = w }
+-- the link to w in direction d: the counter of w for the way back, and the direction
+abbrev pub link_to : Network → ℕ → ℕ → Link
+link_to P d w = record { offset = place P 0 w (opposite d); dir = d }
 
 -- the links of v in direction d
 abbrev pub side_links : Network → ℕ → ℕ → List Link
-side_links P v d = map (link_to d) (supports_of P v d)
+side_links P v d = map (link_to P d) (supports_of P v d)
 
 -- those in the first directions
 abbrev pub links_upto : Network → ℕ → ℕ → List Link
@@ -41,9 +41,18 @@ pub record AreLinks (P : Network) (x : Links) : Type 0 where
 -- the counter that a link of a removed value lowers, if there is a cell in its direction
 abbrev pub link_place : Network → Link → Option ℕ → List ℕ
 link_place P l None = []
-link_place P l (Some n) = place P n l.value l.back ∷ []
+link_place P l (Some n) = (place P n 0 0 + l.offset) ∷ []
 
 -- the counters that links of a value removed at c lower
 abbrev pub link_places : Network → ℕ → List Link → List ℕ
 link_places P c [] = []
 link_places P c (l ∷ ls) = link_place P l (neighbour P c l.dir) ++ link_places P c ls
+
+-- where the counters of a neighbour begin in the table, and the greatest number where there is none
+abbrev pub row_at : Network → Option ℕ → ℕ
+row_at P None = 2 ^ 64 - 1
+row_at P (Some n) = place P n 0 0
+
+-- that of each neighbour of c
+abbrev pub AreRows : Network → ℕ → List ℕ → Type 0
+AreRows P c rows = (d : ℕ) → d < P.dirs → slice_index rows d ≡ row_at P (neighbour P c d)

@@ -1,22 +1,26 @@
 //! One removal worked off, and taken back.
 
-ghost use Rattle.std.specs.Prelude.{◌≡◌, ℕ, ◌+◌, ◌-◌, ◌*◌, ◌<◌, ◌≤◌, ◌++◌, ◌↔◌, [], length, min, take, IsTrue, IfSome, IfNone, Some};
+ghost use Rattle.std.specs.Prelude.{◌≡◌, ℕ, ◌+◌, ◌*◌, ◌/◌, ◌<◌, ◌≤◌, ◌++◌, [], length, min, take, IfSome, IfNone, Some};
+ghost use Rattle.wfc_model.specs.Direction.{opposite};
 ghost use Rattle.wfc_problem.specs.Network.{values, neighbour, supports_of, in_base};
 ghost use Rattle.wfc_domains.specs.declared.Verdict.TheVariants.{Alive};
 ghost use Rattle.wfc_domains.specs.Domains.{has};
-ghost use Rattle.wfc_domains.specs.Counters.{FitsTable, count_of, entry_of, with_count, counts_of, cost_at, cost_of};
+ghost use Rattle.wfc_domains.specs.Counters.{FitsTable, count_of, counts_of, cost_at, cost_of};
 ghost use Rattle.wfc_domains.specs.Removals.{without};
 ghost use Rattle.wfc_domains.specs.Store.{IsOpening};
-ghost use Rattle.wfc_domains.specs.Board.{Grows, IsFresh};
+ghost use Rattle.wfc_domains.specs.Board.{Grows, IsFresh, IsTraced};
 ghost use Rattle.wfc_ac4.specs.Places.{places_upto, side_places, places_of};
-ghost use Rattle.wfc_ac4.specs.Links.{AreLinks, links_of};
+ghost use Rattle.wfc_ac4.specs.Links.{AreLinks, AreRows, links_of};
 ghost use Rattle.wfc_ac4.specs.State.{IsWorking, IsBetween, IsRolled, IsRaising, IsScanned, AreLowered, counted};
-ghost use Rattle.wfc_ac4.specs.Flight.{front_cost, GoesOn, Recounts, HasNoMore, IsShorter, IsRolledTo, IsFirstBare};
+ghost use Rattle.wfc_ac4.specs.Flight.{front_cost, GoesOn, Recounts, HasNoMore, IsShorter, IsRolledTo, IsFirstBare, IsStruck};
 
 use crate::links::{Link, Links};
 use std::sync::ledger::Ledger;
 use wfc_domains::{Board, Cause, Counters, Steps, is_alive};
 use wfc_problem::opposite;
+
+/// Where the entries of a neighbour begin that is not there.
+const NO_ROW: usize = usize::MAX;
 
 /// A board with its counters, and how many removals of its log are worked off.
 #[derive(Drop)]
@@ -26,34 +30,49 @@ pub struct Flight<'p> {
     pub head: usize,
 }
 
-/// Lowers a counter, and says whether its value stands without support then, and no cell is empty. The counters of
-/// a value that was removed are marked, so that they don't come to 0.
-#[inline]
-fn lower<L: Ledger>(
-    board: &Board<'_>,
-    counters: &mut Counters,
-    cell: u32,
-    value: u16,
-    dir: u8,
-    steps: &mut Steps<L>,
-) -> bool
-    requires cell_in { cell < board.now.domains.cells }
-    requires value_in { value < board.now.domains.values }
-    requires counter_cell { cell < counters.old.cells }
-    requires counter_value { value < counters.old.values }
-    requires dir_in { dir < counters.old.dirs }
-    requires some { 0 < count_of counters.old cell value dir }
-    ensures spent { IsTrue result ↔ ((entry_of counters.old cell value dir ≡ 1)
-        × IsTrue (has board.now.domains cell value) × (board.now.verdict ≡ Alive)) }
-    ensures changed { counters.new ≡ with_count counters.old cell value dir
-        (entry_of counters.old cell value dir - 1) }
-    ensures steps { steps.new ≡ steps.old + 1 }
-{
-    let bare = counters.down(cell, value, dir, steps);
-    bare && board.domains.has(cell, value) && is_alive(board.verdict)
-}
-
 impl<'p> Flight<'p> {
+    /// Where the entries of each neighbour of a cell begin in the table, `NO_ROW` where there is no neighbour.
+    #[inline]
+    fn rows(&self, cell: u32) -> [usize; 6]
+        requires cell_in { cell < self.now.board.problem.now.cells }
+        requires fits { FitsTable self.now.board.problem.now self.now.counters }
+        ensures rows { AreRows self.now.board.problem.now cell result }
+    {
+        let problem = self.board.problem;
+        let mut rows = [NO_ROW; 6];
+        for dir in 0..problem.dirs() {
+            if let Some(next) = problem.neighbour(cell, dir) {
+                rows[dir as usize] = self.counters.row(next);
+            }
+        }
+        rows
+    }
+
+    /// Removes the value to which a link leads from a cell, if it stands there and no cell is empty: it has no support
+    /// left on the way back.
+    #[inline(never)]
+    fn strike(&mut self, cell: u32, link: Link)
+        requires traced { IsTraced self.old.board }
+        requires fits { FitsTable self.old.board.problem.now self.old.counters }
+        requires cell_in { cell < self.old.board.problem.now.cells }
+        requires dir_in { link.dir < self.old.board.problem.now.dirs }
+        requires value_in { link.offset / self.old.board.problem.now.dirs
+            < values self.old.board.problem.now }
+        ensures struck { (n : ℕ) → neighbour self.old.board.problem.now cell link.dir ≡ Some n
+            → IsStruck self.old self.new n (link.offset / self.old.board.problem.now.dirs)
+            (opposite link.dir) }
+    {
+        let problem = self.board.problem;
+        if let Some(next) = problem.neighbour(cell, link.dir) {
+            let value = link.offset / u16::from(problem.dirs());
+            let back = opposite(link.dir);
+            if self.board.domains.has(next, value) && is_alive(self.board.verdict) {
+                self.board.remove(next, value, Cause::Arc(back));
+                self.counters.mark(next, value);
+            }
+        }
+    }
+
     /// Lowers the counters that count a removal, and removes what has no support left.
     fn work_links<L: Ledger>(&mut self, cell: u32, value: u16, links: &[Link], steps: &mut Steps<L>)
         requires links { links.now ≡ links_of self.old.board.problem.now value }
@@ -63,19 +82,12 @@ impl<'p> Flight<'p> {
         ensures goes_on { GoesOn self.old self.new }
         ensures steps { steps.new ≡ steps.old + cost_at self.old.board.problem.now cell value }
     {
-        let problem = self.board.problem;
+        let rows = self.rows(cell);
         for link in links {
-            if let Some(next) = problem.neighbour(cell, link.dir) {
-                if lower(
-                    &self.board,
-                    &mut self.counters,
-                    next,
-                    link.value,
-                    link.back,
-                    steps,
-                ) {
-                    self.board.remove(next, link.value, Cause::Arc(link.back));
-                    self.counters.mark(next, link.value);
+            let row = rows[link.dir as usize];
+            if row != NO_ROW {
+                if self.counters.down_at(row + link.offset as usize, steps) {
+                    self.strike(cell, *link);
                 }
             }
         }

@@ -8,12 +8,12 @@ use std::alloc::{AllocError, Global};
 use wfc_outside::NoMemory;
 use wfc_problem::{Problem, opposite};
 
-/// A value that may stand beside another: the direction that leads there, the one that leads back, and the value.
+/// A value that may stand beside another: where its counter for the way back stands among the entries of its cell,
+/// and the direction that leads there.
 #[derive(Clone, Copy)]
 pub struct Link {
+    pub offset: u16,
     pub dir: u8,
-    pub back: u8,
-    pub value: u16,
 }
 
 /// The links of each value, one value after the other, and where those of each begin.
@@ -74,13 +74,12 @@ fn push_side(
     ensures more { IsOk result → links.new.items
         ≡ links.old.items ++ side_links problem.now value dir }
 {
-    let supports = problem.supports(value, dir);
-    let back = opposite(dir);
-    for other in supports {
+    let dirs = u16::from(problem.dirs());
+    let back = u16::from(opposite(dir));
+    for other in problem.supports(value, dir) {
         links.push(Link {
+            offset: *other * dirs + back,
             dir,
-            back,
-            value: *other,
         })?;
     }
     Ok(())

@@ -1,0 +1,31 @@
+-- A value struck: removed and marked, or not there.
+use Rattle.std.proofs.Common.{◌≡◌, ℕ, ◌-◌, List, refl, sym, subst, inl, inr}
+use Rattle.wfc_problem.specs.Network.{Network}
+use Rattle.wfc_domains.specs.Counters.{Table, entry_of, with_count}
+use Rattle.wfc_domains.specs.Board.{Grows}
+use Rattle.wfc_domains.proofs.Boards.{lost-gone, grows-lost, grows-none}
+use Rattle.wfc_ac4.specs.declared.flight.Flight.{Flight}
+use Rattle.wfc_ac4.specs.State.{IsWorking}
+use Rattle.wfc_ac4.specs.Flight.{GoesOn, IsStruck}
+use Rattle.wfc_ac4.proofs.Steps.{SideStep, step_removed, step_lowered, working-marked}
+
+-- the log goes on
+pub struck_on : (old new : Flight) (n w d : ℕ) → IsStruck old new n w d → GoesOn old new
+struck_on old new n w d s = elim s [
+  | inl x ↦ record { grows = subst (Grows old.board) (sym x.board.same) (grows-lost old.board _ _ _ _); head = x.head }
+  | inr x ↦ subst (GoesOn old) (sym x.same) (record { grows = grows-none old.board; head = refl })
+]
+
+-- the state after a counter has come to 0, and its value is struck
+pub struck_working : (old new : Flight) (T : Table) (c v n w d : ℕ) (lowered : List ℕ) (next : Network → List ℕ)
+    → IsWorking old.board T old.head c v lowered → SideStep old.board.problem.now lowered (next old.board.problem.now) c v n w d T
+    → old.counters ≡ with_count T n w d (entry_of T n w d - 1) → entry_of T n w d ≡ 1 → IsStruck old new n w d
+    → IsWorking new.board new.counters new.head c v (next new.board.problem.now)
+struck_working old new T c v n w d lowered next h s is_table one_left struck = elim struck [
+  | inl x ↦
+      let r = step_removed old.board new.board T old.counters old.head c v lowered next n w d h s is_table x.alive one_left x.board in
+      subst (λ k. IsWorking new.board new.counters k c v (next new.board.problem.now)) (sym x.head) (working-marked new.board old.counters new.counters old.head c v n w _ r x.marks (lost-gone x.board.less))
+  | inr x ↦
+      subst (λ (f : Flight). IsWorking f.board f.counters f.head c v (next f.board.problem.now)) (sym x.same)
+      (step_lowered old.board T old.counters old.head c v lowered (next old.board.problem.now) n w d h s is_table (λ alive _ stands. x.gone alive stands))
+]
