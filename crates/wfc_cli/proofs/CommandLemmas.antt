@@ -41,7 +41,7 @@ use Rattle.wfc_task.proofs.CallerLemmas.{domains_given, fill_given, fill_tiles_g
 use Rattle.wfc_cli.specs.Answer.{Devices, IsAnswer, Replied}
 use Rattle.wfc_cli.specs.Answers.{Answers, demo_answer, demo_budget, demo_text, domains_answer, fill_answer, fill_by, fill_text, outcome_status, root_verdict, steps_text, verdict_of}
 use Rattle.wfc_cli.specs.Choosers.{chosen, kinds_of}
-use Rattle.wfc_cli.specs.Claims.{FillWork, HasNoMap, IsAsRun, IsCommand, IsLegalMap, IsNeverSpent, IsRules, IsRulesBy, WritesDemo, WritesDomains, WritesFront, WritesLearned, WritesLegalMap, assignment_text, map_text_of}
+use Rattle.wfc_cli.specs.Claims.{FillWork, HasNoMap, IsAsRun, IsCommand, IsFoundMap, IsLegalMap, IsNeverSpent, IsRules, IsRulesBy, WritesDemo, WritesDomains, WritesFront, WritesLearned, WritesLegalMap, assignment_text, map_text_of}
 use Rattle.wfc_cli.specs.Maps.{IsLaidBy, map_by, map_of, map_text_by}
 use Rattle.wfc_cli.specs.Reply.{Answered, CutsOff, Delivers, Reply, Takes, TakesWhole, done_with, said_of, verdict_status}
 use Rattle.wfc_cli.specs.Runs.{end_by, end_of, seeded}
@@ -244,6 +244,14 @@ map_is_legal rules words before asked files is work s ends =
     let ran = ran_by rules asked.rule work.P asked.budget asked.seed (outcome.Map, s) ends in
     sure.makes (assignment_of work.P s.standing) (outcome_map work.P sure.problem ran.0 asked.budget (seeded asked.seed) s ran.1).1
 
+-- a run ends in one map
+pub found_once : (rules : List Rule) (asked : RequestView) (files : List File) (work : FillWork rules asked files) (m other : Raster) → IsFoundMap asked work m → IsFoundMap asked work other → m ≡ other
+found_once rules asked files work m other first second =
+    let ends : Some (outcome.Map, first.state) ≡ Some (outcome.Map, second.state) = sym first.ends ∙ second.ends in
+    let pairs : (outcome.Map, first.state) ≡ (outcome.Map, second.state) = cc (ends) in
+    let same : first.state ≡ second.state = ap (λ (end : Outcome × State). end.1) pairs in
+    first.made ∙ ap (λ (s : State). found_map rules asked files work s) same ∙ sym second.made
+
 pub writes_legal : (rules : List Rule) (words : List (List ℕ)) (before after : Devices) (status : ℕ) → IsAnswer rules words before after status → WritesLegalMap rules words before after status
 writes_legal rules words before after status answer asked files is nought =
     let run = is_as_run rules words before after status answer asked files is (omega (arith, nought)) in by_outcome run.0 run.1.0 run.1.1 run.2 run.3 run.4
@@ -288,13 +296,13 @@ writes_front rules words before after status answer asked files is five = by_end
   where
     by_outcome : (work : FillWork rules asked files) (o : Outcome) (s : State) → end_of rules asked.rule work.P asked.budget asked.seed ≡ Some (o, s)
         → CutsOff (fill_text (assignment_text asked work) work.P (o, s)) before.out after.out
-        → (work : FillWork rules asked files) × (m : Raster) × IsLegalMap asked work m × IsFaultAfterFront before.out after.out (map_text_of asked work m)
-    by_outcome work outcome.Map s ends front = (work, found_map rules asked files work s, map_is_legal rules words before asked files is work s ends, front)
+        → (work : FillWork rules asked files) × (m : Raster) × IsFoundMap asked work m × IsLegalMap asked work m × IsFaultAfterFront before.out after.out (map_text_of asked work m)
+    by_outcome work outcome.Map s ends front = (work, found_map rules asked files work s, record { state = s; ends = ends; made = refl }, map_is_legal rules words before asked files is work s ends, front)
     by_outcome work outcome.NoMap s ends front = absurd front
     by_outcome work outcome.Spent s ends front = absurd front
 
     by_end : CameTo rules asked files before after status
-        → (after.out ≡ before.out) ⊎ ((work : FillWork rules asked files) × (m : Raster) × IsLegalMap asked work m × IsFaultAfterFront before.out after.out (map_text_of asked work m))
+        → (after.out ≡ before.out) ⊎ ((work : FillWork rules asked files) × (m : Raster) × IsFoundMap asked work m × IsLegalMap asked work m × IsFaultAfterFront before.out after.out (map_text_of asked work m))
     by_end (whole answered has same takes) = absurd (verdict_apart answered.verdict 5 (omega arith) (sym same ∙ five))
     by_end (cut answered has _ front) =
         let filled = fill_answered rules words before asked files answered is has in

@@ -3,6 +3,7 @@
 ghost use Rattle.std.specs.Prelude.{◌≡◌, ◌∷◌, [], List, None, Some, codes, ℕ};
 ghost use Rattle.wfc_outside.specs.Folder.{File};
 ghost use Rattle.wfc_model.specs.Raster.{Raster};
+ghost use Rattle.wfc_choose.specs.Pick.{Rule};
 ghost use Rattle.wfc_choose.specs.declared.RuleKind.TheVariants as rules;
 ghost use Rattle.wfc_pins.specs.declared.steps.Step.TheVariants.{Assume, Undo};
 ghost use Rattle.wfc_problem.specs.Assignment.{IsLegalAssignment};
@@ -16,6 +17,7 @@ ghost use Rattle.wfc_task.specs.Posed.{Posed};
 ghost use Rattle.wfc_words.specs.RequestView.{RequestView};
 ghost use Rattle.wfc_cli.specs.Answers.{demo_text, outcome_status, standings};
 ghost use Rattle.wfc_cli.specs.Choosers.{chosen};
+ghost use Rattle.wfc_cli.specs.Claims.{FillWork, IsFoundMap};
 ghost use Rattle.wfc_cli.specs.Maps.{IsLegal, map_of};
 ghost use Rattle.wfc_cli.specs.RefuteClaims.{refute_status};
 ghost use Rattle.wfc_cli.specs.Refuting.{lines_in, refute_verdict, written_format};
@@ -78,4 +80,10 @@ pub fn maps_are_assignments()
         IsOutputAsked asked → IsLegalAssignment P a → IsLegal asked files P posed (map_of asked files P posed a) }
     ensures there { (asked : RequestView) (files : List File) (P : Network) (posed : Posed asked files P) (m : Raster) → IsSourceAsked asked →
         IsOutputAsked asked → IsLegal asked files P posed m → (a : List ℕ) × IsLegalAssignment P a }
+{}
+
+/// The map in which a run ends is one map.
+pub fn found_maps_are_one()
+    ensures one { (rules : List Rule) (asked : RequestView) (files : List File) (work : FillWork rules asked files) (m other : Raster) →
+        IsFoundMap asked work m → IsFoundMap asked work other → m ≡ other }
 {}
