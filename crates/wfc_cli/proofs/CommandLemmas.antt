@@ -97,12 +97,12 @@ planned rules asked files command task is comes = ap (λ (plan : Plan Task). out
 -- ---- `learn`
 
 -- what `learn` answered
-record HasLearned (source : SourceModel) (asked : RequestView) (files : List File) (answered : Answered) : Type 0 where
-  text : List ℕ
-  rules : IsRulesBy source asked files text
-  is : done_with text ≡ answered
+pub record HasLearned (source : SourceModel) (asked : RequestView) (files : List File) (answered : Answered) : Type 0 where
+  pub text : List ℕ
+  pub rules : IsRulesBy source asked files text
+  pub is : done_with text ≡ answered
 
-has_learned : (source : SourceModel) (rules : List Rule) (asked : RequestView) (files : List File) (task : Task) (answered : Answered) → asked.source ≡ source → outcome (learn_plan asked) files ≡ Ok task
+pub has_learned : (source : SourceModel) (rules : List Rule) (asked : RequestView) (files : List File) (task : Task) (answered : Answered) → asked.source ≡ source → outcome (learn_plan asked) files ≡ Ok task
     → Answers rules asked task answered → HasLearned source asked files answered
 has_learned (Overlap n) rules asked files task answered is comes answers =
     let given = learn_given asked files task (ap is_of_windows is) comes in
@@ -341,7 +341,7 @@ writes_domains rules words before after status answer asked files is low = by_en
 -- ---- `demo`
 
 -- what `demo` comes to
-demo_given : (kinds : List RuleKind) (asked : RequestView) (files : List File) (task : Task) → outcome (demo_plan kinds asked) files ≡ Ok task → demo (demo_patterns asked.number) (demo_problem asked.number) ≡ task
+pub demo_given : (kinds : List RuleKind) (asked : RequestView) (files : List File) (task : Task) → outcome (demo_plan kinds asked) files ≡ Ok task → demo (demo_patterns asked.number) (demo_problem asked.number) ≡ task
 demo_given kinds asked files task is = by_chosen (choosing kinds Fewest) is
   where
     by_chosen : (found : Result (Unit {0}) Refusal) → outcome (and_then (step found) (λ _. let end : Plan Task = done (demo (demo_patterns asked.number) (demo_problem asked.number)) in end)) files ≡ Ok task

@@ -12,3 +12,4 @@ pub mod CheckLemmas
 pub mod RefuteLemmas
 pub mod RunTextLemmas
 pub mod UpgradeLemmas
+pub mod CutLemmas

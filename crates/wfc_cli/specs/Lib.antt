@@ -17,3 +17,4 @@ pub mod DemoClaims
 pub mod CheckClaims
 pub mod RefuteClaims
 pub mod UpgradeClaims
+pub mod CutClaims
