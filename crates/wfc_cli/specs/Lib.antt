@@ -11,6 +11,7 @@ pub mod Held
 pub mod Walk
 pub mod Answer
 pub mod Ending
+pub mod Reaching
 pub mod Theorem
 pub mod Claims
 pub mod DemoClaims

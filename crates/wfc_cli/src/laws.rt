@@ -13,12 +13,15 @@ ghost use Rattle.wfc_proof.specs.declared.Line.TheVariants.{Empty, End, Remove, 
 ghost use Rattle.wfc_proof.specs.declared.heads.Format.TheVariants.{One, Two};
 ghost use Rattle.wfc_search.specs.declared.Outcome.TheVariants as outcomes;
 ghost use Rattle.wfc_task.specs.Asked.{IsOutputAsked, IsSourceAsked};
+ghost use Rattle.wfc_task.specs.Plan.{done, most_bytes, read};
 ghost use Rattle.wfc_task.specs.Posed.{Posed};
+ghost use Rattle.wfc_task.specs.declared.fault.Source.TheVariants.{Pins, Sample};
 ghost use Rattle.wfc_words.specs.RequestView.{RequestView};
 ghost use Rattle.wfc_cli.specs.Answers.{demo_text, outcome_status, standings};
 ghost use Rattle.wfc_cli.specs.Choosers.{chosen};
 ghost use Rattle.wfc_cli.specs.Claims.{FillWork, IsFoundMap};
 ghost use Rattle.wfc_cli.specs.Maps.{IsLegal, map_of};
+ghost use Rattle.wfc_cli.specs.Reaching.{Reaches};
 ghost use Rattle.wfc_cli.specs.RefuteClaims.{refute_status};
 ghost use Rattle.wfc_cli.specs.Refuting.{lines_in, refute_verdict, written_format};
 ghost use Rattle.wfc_cli.specs.Reply.{verdict_status};
@@ -86,4 +89,14 @@ pub fn maps_are_assignments()
 pub fn found_maps_are_one()
     ensures one { (rules : List Rule) (asked : RequestView) (files : List File) (work : FillWork rules asked files) (m other : Raster) →
         IsFoundMap asked work m → IsFoundMap asked work other → m ≡ other }
+{}
+
+/// Which file a plan comes to, by example: the second of two files where the folder has the first, and else the first alone.
+pub fn files_are_reached_by_example()
+    ensures first { Reaches {T = ℕ} (read Sample (97 ∷ []) most_bytes (λ a. read Pins (98 ∷ []) most_bytes (λ b. done 0)))
+        (record { contents = Some []; faults = λ name. 0 }) Sample (97 ∷ []) }
+    ensures second { Reaches {T = ℕ} (read Sample (97 ∷ []) most_bytes (λ a. read Pins (98 ∷ []) most_bytes (λ b. done 0)))
+        (record { contents = Some (record { name = 97 ∷ []; bytes = 7 ∷ [] } ∷ []); faults = λ name. 0 }) Pins (98 ∷ []) }
+    ensures hidden { Reaches {T = ℕ} (read Sample (97 ∷ []) most_bytes (λ a. read Pins (98 ∷ []) most_bytes (λ b. done 0)))
+        (record { contents = Some []; faults = λ name. 0 }) Pins (98 ∷ []) → ⊥ }
 {}
