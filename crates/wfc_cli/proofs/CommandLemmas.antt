@@ -59,7 +59,7 @@ pub record HasAnswered (rules : List Rule) (asked : RequestView) (files : List F
   pub is : task_of rules asked files ≡ Ok task
   pub answers : Answers rules asked task answered
 
-answered_task : (rules : List Rule) (asked : RequestView) (before after : Devices) (files : List File) (answered : Answered) → ToldReply rules asked before.folder after.folder files (Ok answered) → HasAnswered rules asked files answered
+pub answered_task : (rules : List Rule) (asked : RequestView) (before after : Devices) (files : List File) (answered : Answered) → ToldReply rules asked before.folder after.folder files (Ok answered) → HasAnswered rules asked files answered
 answered_task rules asked before after files answered (inl replied) = by_task (task_of rules asked files) refl replied
   where
     by_task : (task : Result Task Fault) → task_of rules asked files ≡ task → Replied rules asked task (Ok answered) → HasAnswered rules asked files answered
@@ -192,13 +192,13 @@ ran_by rules kind P budget seed end is = by_rule (chosen kind rules) is
     by_rule None is = absurd (cc (is))
 
 -- what `fill` answered
-record HasFilled (rules : List Rule) (asked : RequestView) (files : List File) (answered : Answered) : Type 0 where
-  work : FillWork rules asked files
-  end : Outcome × State
-  ends : end_of rules asked.rule work.P asked.budget asked.seed ≡ Some end
-  is : answered ≡ record { verdict = verdict_of asked.budget end.0; text = fill_text (assignment_text asked work) work.P end; whole = true }
+pub record HasFilled (rules : List Rule) (asked : RequestView) (files : List File) (answered : Answered) : Type 0 where
+  pub work : FillWork rules asked files
+  pub end : Outcome × State
+  pub ends : end_of rules asked.rule work.P asked.budget asked.seed ≡ Some end
+  pub is : answered ≡ record { verdict = verdict_of asked.budget end.0; text = fill_text (assignment_text asked work) work.P end; whole = true }
 
-fill_answered : (rules : List Rule) (words : List (List ℕ)) (before : Devices) (asked : RequestView) (files : List File) (answered : Answered) → IsCommand commands.Fill words before asked files → HasAnswered rules asked files answered
+pub fill_answered : (rules : List Rule) (words : List (List ℕ)) (before : Devices) (asked : RequestView) (files : List File) (answered : Answered) → IsCommand commands.Fill words before asked files → HasAnswered rules asked files answered
     → HasFilled rules asked files answered
 fill_answered rules words before asked files answered is has =
     let made = has_fill_task asked.source rules asked files has.task refl (planned rules asked files commands.Fill has.task is.command_is has.is) in

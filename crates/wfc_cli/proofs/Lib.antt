@@ -14,3 +14,4 @@ pub mod RefuteLemmas
 pub mod RunTextLemmas
 pub mod UpgradeLemmas
 pub mod CutLemmas
+pub mod LineLemmas

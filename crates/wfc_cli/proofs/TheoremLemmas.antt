@@ -58,7 +58,7 @@ fault_between (Refused refusal) = by_class (class_of refusal)
     by_class NoChooser = (omega arith, omega arith)
 
 -- the status of words that are no request is 3 or 6
-command_between : (fault : CommandFault) → (command_status fault ≡ 3) ⊎ (command_status fault ≡ 6)
+pub command_between : (fault : CommandFault) → (command_status fault ≡ 3) ⊎ (command_status fault ≡ 6)
 command_between words_fault.Refused = inl refl
 command_between (words_fault.Value name) = inl refl
 command_between words_fault.NoMemory = inr refl
@@ -72,11 +72,11 @@ replied_fault : (rules : List Rule) (asked : RequestView) (ended : Result Task F
 replied_fault rules asked ended reply fault is replied = subst (λ e. Replied rules asked e reply) is replied
 
 -- the fault of a reply to a task is want of memory, and else it is that of the plan
-data FaultOf (rules : List Rule) (asked : RequestView) (before after : FolderView) (fault : Fault) : Type 0 where
+pub data FaultOf (rules : List Rule) (asked : RequestView) (before after : FolderView) (fault : Fault) : Type 0 where
   of_plan : Goes (plan_of (kinds_of rules) asked) before after (Err fault) → FaultOf rules asked before after fault
   of_task : status_of fault ≡ 6 → FaultOf rules asked before after fault
 
-fault_from : (rules : List Rule) (asked : RequestView) (before after : FolderView) (fault : Fault) → Ends rules asked before after (Err fault) → FaultOf rules asked before after fault
+pub fault_from : (rules : List Rule) (asked : RequestView) (before after : FolderView) (fault : Fault) → Ends rules asked before after (Err fault) → FaultOf rules asked before after fault
 fault_from rules asked before after fault ends = by_end ends.ended ends.goes ends.replied
   where
     by_end : (ended : Result Task Fault) → Goes (plan_of (kinds_of rules) asked) before after ended → Replied rules asked ended (Err fault) → FaultOf rules asked before after fault
@@ -86,7 +86,7 @@ fault_from rules asked before after fault ends = by_end ends.ended ends.goes end
         of_plan (subst (λ f. let ended : Result Task Fault = Err f in Goes (plan_of (kinds_of rules) asked) before after ended) same goes)
 
 -- what a call with words that are no request does to its status
-refused_status : (fault : CommandFault) (before after : Devices) (status : ℕ) → IsRefusedCall fault before after status → (status ≡ command_status fault) × (after.out ≡ before.out)
+pub refused_status : (fault : CommandFault) (before after : Devices) (status : ℕ) → IsRefusedCall fault before after status → (status ≡ command_status fault) × (after.out ≡ before.out)
 refused_status fault before after status call = elim (call.delivers) [ inl delivered ↦ (delivered.same_status, delivered.taken) | inr cut ↦ absurd (cut.front) ]
 
 -- a call for a request never ends with the status of other words
@@ -175,7 +175,7 @@ keeps_out rules words before after status answer without = elim (answer.answers)
     by_request (Err fault) answer = (refused_status fault before after status answer).1
 
 -- a cut text leaves a counted fault
-cut_counted : (text : Option (List ℕ)) (old new : SinkView) → CutsOff text old new → HasRisen old.faults new.faults
+pub cut_counted : (text : Option (List ℕ)) (old new : SinkView) → CutsOff text old new → HasRisen old.faults new.faults
 cut_counted None old new cut = absurd cut
 cut_counted (Some text) old new cut = cut.counted
 
@@ -229,7 +229,7 @@ is_device_fault rules words before after status answer five = elim (answer.answe
 abbrev pub ToldReply : List Rule → RequestView → FolderView → FolderView → List File → Reply → Type 0
 ToldReply rules asked before after files reply = Replied rules asked (task_of rules asked files) reply ⊎ (IsShort reply ⊎ IsStopped (plan_of (kinds_of rules) asked) before after reply)
 
-told_reply : (rules : List Rule) (asked : RequestView) (before after : FolderView) (files : List File) (reply : Reply) → before.contents ≡ Some files → Ends rules asked before after reply → ToldReply rules asked before after files reply
+pub told_reply : (rules : List Rule) (asked : RequestView) (before after : FolderView) (files : List File) (reply : Reply) → before.contents ≡ Some files → Ends rules asked before after reply → ToldReply rules asked before after files reply
 told_reply rules asked before after files reply told ends = by_end (goes_stopped (plan_of (kinds_of rules) asked) before after ends.ended files told ends.goes)
   where
     by_end : (ends.ended ≡ task_of rules asked files) ⊎ (IsShort ends.ended ⊎ IsStopped (plan_of (kinds_of rules) asked) before after ends.ended) → ToldReply rules asked before after files reply

@@ -19,3 +19,4 @@ pub mod CheckClaims
 pub mod RefuteClaims
 pub mod UpgradeClaims
 pub mod CutClaims
+pub mod LineClaims
