@@ -1,89 +1,54 @@
 -- Entries of counters in two parts.
-use Rattle.std.proofs.Common.{◌≡◌, ℕ, zero, suc, ◌+◌, ◌-◌, ◌*◌, ◌/◌, ◌%◌, ◌<◌, List, [], ◌∷◌, length, get_or, set, replicate, refl, sym, ◌∙◌, ap, arith, inl, inr}
-use Rattle.std.proofs.lemmas.Bool.{cases_lt, cases_eq}
+use Rattle.std.proofs.Common.{◌≡◌, ℕ, zero, suc, ◌+◌, ◌-◌, ◌*◌, ◌/◌, ◌%◌, ◌<◌, ◌≤◌, ◌⊎◌, Bool, true, false, List, [], ◌∷◌, length, get_or, set, replicate, refl, sym, ◌∙◌, ap, subst, arith, inl, inr}
+use Rattle.std.proofs.lemmas.Bool.{cases_lt, cases_eq, cases_Bool, true≢false}
 use Rattle.std.proofs.lemmas.List.{get_or-set_same, get_or-set_other, get_or_past, length-set}
 use Rattle.std.proofs.lemmas.Nat.{div-mul-add, mod-mul-add, div-add-mod'}
 use Rattle.std.proofs.Math.Nat.{mod-lt}
-use Rattle.wfc_domains.specs.Halves.{entry_from, entries_from, limit_from}
+use Rattle.wfc_domains.specs.Halves.{narrow_entry, wide_entry, entries_from, limit_from}
+use Rattle.wfc_domains.specs.Parts.{IsSplit}
 
--- ---- one entry
+-- ---- one part alone
 
--- its count, with a large part of eight bits
-pub half-count : (s l : ℕ) → l < 256 → entry_from s l % 32768 ≡ s % 128 + 128 * l
-half-count s l h =
-    let few = mod-lt s (let z : 0 < 128 = omega arith in z) in
-    let is : entry_from s l ≡ s / 128 * 32768 + (s % 128 + 128 * l) = omega arith in
-    ap (λ x. x % 32768) is ∙ mod-mul-add (s / 128) 32768 (s % 128 + 128 * l) (omega arith)
-
--- the rest by 128 is that of the small part
-pub half-rest : (s l : ℕ) → entry_from s l % 128 ≡ s % 128
-half-rest s l =
-    let few = mod-lt s (let z : 0 < 128 = omega arith in z) in
-    let is : entry_from s l ≡ (l + 256 * (s / 128)) * 128 + s % 128 = omega arith in
-    ap (λ x. x % 128) is ∙ mod-mul-add (l + 256 * (s / 128)) 128 (s % 128) few
-
--- with a small part that has a count there is a count
-pub half-some : (s l : ℕ) → 0 < s % 128 → 0 < entry_from s l % 32768
-half-some s l h = elim (cases_lt 0 (entry_from s l % 32768)) [
-  | inl pos ↦ pos
-  | inr none ↦
-      let x = entry_from s l in
-      let is : x ≡ x / 32768 * 256 * 128 + 0 = omega (arith, div-add-mod' x 32768) in
-      let rest = ap (λ y. y % 128) is ∙ mod-mul-add (x / 32768 * 256) 128 0 (omega arith) in
-      absurd (omega (arith, half-rest s l))
-]
+small-rest : (s : ℕ) → s % 128 < 128
+small-rest s = mod-lt s (let z : 0 < 128 = omega arith in z)
 
 -- a number of whole and rest
-half-parts : (s q r : ℕ) → s ≡ q * 128 + r → r < 128 → (s % 128 ≡ r) × (s / 128 ≡ q)
-half-parts s q r e h = (ap (λ x. x % 128) e ∙ mod-mul-add q 128 r h, ap (λ x. x / 128) e ∙ div-mul-add q 128 r h)
+narrow-of : (s q r : ℕ) → s ≡ q * 128 + r → r < 128 → narrow_entry s ≡ r + 32768 * q
+narrow-of s q r e h =
+    let rest : s % 128 ≡ r = ap (λ x. x % 128) e ∙ mod-mul-add q 128 r h in
+    let whole : s / 128 ≡ q = ap (λ x. x / 128) e ∙ div-mul-add q 128 r h in
+    omega (arith, rest, whole)
 
-half-is : (s : ℕ) → s ≡ s / 128 * 128 + s % 128
-half-is s = sym (div-add-mod' s 128)
+narrow-is : (s : ℕ) → s ≡ s / 128 * 128 + s % 128
+narrow-is s = sym (div-add-mod' s 128)
 
--- one less
-pub half-less : (s l : ℕ) → 0 < s % 128 → entry_from (s - 1) l ≡ entry_from s l - 1
-half-less s l h =
-    let few = mod-lt s (let z : 0 < 128 = omega arith in z) in
-    let p = half-parts (s - 1) (s / 128) (s % 128 - 1) (omega (arith, half-is s)) (omega arith) in
-    omega (arith, p.0, p.1)
+-- its count
+pub narrow-count : (s : ℕ) → narrow_entry s % 32768 ≡ s % 128
+narrow-count s =
+    let is : narrow_entry s ≡ s / 128 * 32768 + s % 128 = omega arith in
+    ap (λ x. x % 32768) is ∙ mod-mul-add (s / 128) 32768 (s % 128) (omega (arith, small-rest s))
 
--- one less, borrowed from the large part
-pub half-borrow : (s l : ℕ) → s % 128 ≡ 0 → 0 < l → entry_from (s + 127) (l - 1) ≡ entry_from s l - 1
-half-borrow s l h pos =
-    let p = half-parts (s + 127) (s / 128) 127 (omega (arith, half-is s)) (omega arith) in
-    omega (arith, p.0, p.1)
+-- one less, and one more
+narrow-less : (s : ℕ) → 0 < s % 128 → narrow_entry (s - 1) ≡ narrow_entry s - 1
+narrow-less s h = omega (arith, narrow-of (s - 1) (s / 128) (s % 128 - 1) (omega (arith, narrow-is s)) (omega (arith, small-rest s)))
 
--- one more
-pub half-more : (s l : ℕ) → s % 128 < 127 → entry_from (s + 1) l ≡ entry_from s l + 1
-half-more s l h =
-    let p = half-parts (s + 1) (s / 128) (s % 128 + 1) (omega (arith, half-is s)) (omega arith) in
-    omega (arith, p.0, p.1)
-
--- one more, carried to the large part
-pub half-carry : (s l : ℕ) → s % 128 ≡ 127 → entry_from (s - 127) (l + 1) ≡ entry_from s l + 1
-half-carry s l h =
-    let p = half-parts (s - 127) (s / 128) 0 (omega (arith, half-is s)) (omega arith) in
-    omega (arith, p.0, p.1)
+narrow-more : (s : ℕ) → s % 128 < 127 → narrow_entry (s + 1) ≡ narrow_entry s + 1
+narrow-more s h = omega (arith, narrow-of (s + 1) (s / 128) (s % 128 + 1) (omega (arith, narrow-is s)) (omega arith))
 
 -- marked, and not
-pub half-marked : (s l : ℕ) → l < 256 → entry_from (s % 128 + 128) l ≡ entry_from s l % 32768 + 32768
-half-marked s l h =
-    let few = mod-lt s (let z : 0 < 128 = omega arith in z) in
-    let p = half-parts (s % 128 + 128) 1 (s % 128) (omega arith) few in
-    omega (arith, p.0, p.1, half-count s l h)
+pub narrow-marked : (s : ℕ) → narrow_entry (s % 128 + 128) ≡ narrow_entry s % 32768 + 32768
+narrow-marked s = omega (arith, narrow-of (s % 128 + 128) 1 (s % 128) (omega arith) (small-rest s), narrow-count s)
 
-pub half-plain : (s l : ℕ) → l < 256 → entry_from (s % 128) l ≡ entry_from s l % 32768
-half-plain s l h =
-    let few = mod-lt s (let z : 0 < 128 = omega arith in z) in
-    let p = half-parts (s % 128) 0 (s % 128) (omega arith) few in
-    omega (arith, p.0, p.1, half-count s l h)
+pub narrow-plain : (s : ℕ) → narrow_entry (s % 128) ≡ narrow_entry s % 32768
+narrow-plain s = omega (arith, narrow-of (s % 128) 0 (s % 128) (omega arith) (small-rest s), narrow-count s)
 
--- the entry of a count
-pub half-of : (n : ℕ) → entry_from (n % 128) (n / 128) ≡ n
-half-of n =
-    let few = mod-lt n (let z : 0 < 128 = omega arith in z) in
-    let p = half-parts (n % 128) 0 (n % 128) (omega arith) few in
-    omega (arith, p.0, p.1, half-is n)
+-- a count that has no mark
+pub narrow-small : (n : ℕ) → n < 128 → narrow_entry n ≡ n
+narrow-small n h = omega (arith, narrow-of n 0 n (omega arith) h)
+
+-- an entry of 1
+narrow-one : (s : ℕ) → narrow_entry s ≡ 1 → s ≡ 1
+narrow-one s e = omega (arith, narrow-is s, small-rest s)
 
 -- ---- all entries
 
@@ -92,41 +57,63 @@ halves-length [] ls = refl
 halves-length (s ∷ ss) [] = ap suc (halves-length ss [])
 halves-length (s ∷ ss) (l ∷ ls) = ap suc (halves-length ss ls)
 
-pub halves-at : (ss ls : List ℕ) (i : ℕ) → i < length ss → get_or (entries_from ss ls) i 0 ≡ entry_from (get_or ss i 0) (get_or ls i 0)
-halves-at [] ls i h = absurd (omega (arith, h))
-halves-at (s ∷ ss) [] zero h = refl
-halves-at (s ∷ ss) [] (suc i) h = halves-at ss [] i (omega (arith, h))
-halves-at (s ∷ ss) (l ∷ ls) zero h = refl
-halves-at (s ∷ ss) (l ∷ ls) (suc i) h = halves-at ss ls i (omega (arith, h))
+-- the entry of a small part alone
+pub narrow-at : (ss ls : List ℕ) (i : ℕ) → i < length ss → length ls ≤ i → get_or (entries_from ss ls) i 0 ≡ narrow_entry (get_or ss i 0)
+narrow-at [] ls i h past = absurd (omega (arith, h))
+narrow-at (s ∷ ss) [] zero h past = refl
+narrow-at (s ∷ ss) [] (suc i) h past = narrow-at ss [] i (omega (arith, h)) (omega arith)
+narrow-at (s ∷ ss) (l ∷ ls) zero h past = absurd (omega (arith, past))
+narrow-at (s ∷ ss) (l ∷ ls) (suc i) h past = narrow-at ss ls i (omega (arith, h)) (omega (arith, past))
 
--- one small part set
-pub halves-set : (ss ls : List ℕ) (i x : ℕ) → entries_from (set ss i x) ls ≡ set (entries_from ss ls) i (entry_from x (get_or ls i 0))
-halves-set [] ls i x = refl
-halves-set (s ∷ ss) [] zero x = refl
-halves-set (s ∷ ss) [] (suc i) x = ap (λ ys. entry_from s 0 ∷ ys) (halves-set ss [] i x)
-halves-set (s ∷ ss) (l ∷ ls) zero x = refl
-halves-set (s ∷ ss) (l ∷ ls) (suc i) x = ap (λ ys. entry_from s l ∷ ys) (halves-set ss ls i x)
+-- the entry of both parts
+pub wide-at : (ss ls : List ℕ) (i : ℕ) → i < length ss → i < length ls → get_or (entries_from ss ls) i 0 ≡ wide_entry (get_or ss i 0) (get_or ls i 0)
+wide-at [] ls i h there = absurd (omega (arith, h))
+wide-at (s ∷ ss) [] i h there = absurd (omega (arith, there))
+wide-at (s ∷ ss) (l ∷ ls) zero h there = refl
+wide-at (s ∷ ss) (l ∷ ls) (suc i) h there = wide-at ss ls i (omega (arith, h)) (omega (arith, there))
 
--- one large part set, where there is one
-pub halves-set_large : (ss ls : List ℕ) (i y : ℕ) → i < length ls → entries_from ss (set ls i y) ≡ set (entries_from ss ls) i (entry_from (get_or ss i 0) y)
-halves-set_large ss [] i y h = absurd (omega (arith, h))
-halves-set_large [] (l ∷ ls) i y h = refl
-halves-set_large (s ∷ ss) (l ∷ ls) zero y h = refl
-halves-set_large (s ∷ ss) (l ∷ ls) (suc i) y h = ap (λ ys. entry_from s l ∷ ys) (halves-set_large ss ls i y (omega (arith, h)))
+-- a small part set that is alone
+pub narrow-set : (ss ls : List ℕ) (i x : ℕ) → length ls ≤ i → entries_from (set ss i x) ls ≡ set (entries_from ss ls) i (narrow_entry x)
+narrow-set [] ls i x past = refl
+narrow-set (s ∷ ss) [] zero x past = refl
+narrow-set (s ∷ ss) [] (suc i) x past = ap (λ ys. narrow_entry s ∷ ys) (narrow-set ss [] i x (omega arith))
+narrow-set (s ∷ ss) (l ∷ ls) zero x past = absurd (omega (arith, past))
+narrow-set (s ∷ ss) (l ∷ ls) (suc i) x past = ap (λ ys. wide_entry s l ∷ ys) (narrow-set ss ls i x (omega (arith, past)))
 
--- ---- both parts
+-- a small part set beside a large one
+pub wide-set : (ss ls : List ℕ) (i x : ℕ) → i < length ls → entries_from (set ss i x) ls ≡ set (entries_from ss ls) i (wide_entry x (get_or ls i 0))
+wide-set [] ls i x there = refl
+wide-set (s ∷ ss) [] i x there = absurd (omega (arith, there))
+wide-set (s ∷ ss) (l ∷ ls) zero x there = refl
+wide-set (s ∷ ss) (l ∷ ls) (suc i) x there = ap (λ ys. wide_entry s l ∷ ys) (wide-set ss ls i x (omega (arith, there)))
 
-set-set : (xs : List ℕ) (i x y : ℕ) → set (set xs i x) i y ≡ set xs i y
+-- both parts set
+pub wide-both : (ss ls : List ℕ) (i x y : ℕ) → i < length ls → entries_from (set ss i x) (set ls i y) ≡ set (entries_from ss ls) i (wide_entry x y)
+wide-both [] ls i x y there = refl
+wide-both (s ∷ ss) [] i x y there = absurd (omega (arith, there))
+wide-both (s ∷ ss) (l ∷ ls) zero x y there = refl
+wide-both (s ∷ ss) (l ∷ ls) (suc i) x y there = ap (λ ys. wide_entry s l ∷ ys) (wide-both ss ls i x y (omega (arith, there)))
+
+-- entries of the same parts are the same
+pub same-entry : (ss ls ss' ls' : List ℕ) (p q : ℕ) → p < length ss' → q < length ss → length ss' ≡ length ss → length ls' ≡ length ls → (length ls ≡ 0) ⊎ (length ls ≡ length ss)
+    → get_or ss' p 0 ≡ get_or ss q 0 → get_or ls' p 0 ≡ get_or ls q 0 → get_or (entries_from ss' ls') p 0 ≡ get_or (entries_from ss ls) q 0
+same-entry ss ls ss' ls' p q hp hq smalls larges both small large = elim both [
+  | inl none ↦ narrow-at ss' ls' p hp (omega (arith, larges, none)) ∙ ap narrow_entry small ∙ sym (narrow-at ss ls q hq (omega (arith, none)))
+  | inr same ↦
+      wide-at ss' ls' p hp (omega (arith, larges, same, smalls)) ∙ ap (λ x. wide_entry x (get_or ls' p 0)) small ∙ ap (wide_entry (get_or ss q 0)) large
+      ∙ sym (wide-at ss ls q hq (omega (arith, same)))
+]
+
+-- no count yet
+pub halves-zero : (n m : ℕ) → entries_from (replicate n 0) (replicate m 0) ≡ replicate n 0
+halves-zero zero m = refl
+halves-zero (suc n) zero = ap (λ xs. 0 ∷ xs) (halves-zero n zero)
+halves-zero (suc n) (suc m) = ap (λ xs. 0 ∷ xs) (halves-zero n m)
+
+pub set-set : (xs : List ℕ) (i x y : ℕ) → set (set xs i x) i y ≡ set xs i y
 set-set [] i x y = refl
 set-set (z ∷ xs) zero x y = refl
 set-set (z ∷ xs) (suc i) x y = ap (λ ys. z ∷ ys) (set-set xs i x y)
-
-pub halves-both : (ss ls : List ℕ) (i x y : ℕ) → i < length ss → i < length ls → entries_from (set ss i x) (set ls i y) ≡ set (entries_from ss ls) i (entry_from x y)
-halves-both ss ls i x y hs hl =
-    halves-set_large (set ss i x) ls i y hl
-    ∙ ap (λ e. set (entries_from (set ss i x) ls) i (entry_from e y)) (get_or-set_same ss i x 0 hs)
-    ∙ ap (λ es. set es i (entry_from x y)) (halves-set ss ls i x)
-    ∙ set-set (entries_from ss ls) i (entry_from x (get_or ls i 0)) (entry_from x y)
 
 -- ---- the limit
 
@@ -135,7 +122,7 @@ limit-set [] i y = refl
 limit-set (l ∷ ls) zero y = refl
 limit-set (l ∷ ls) (suc i) y = refl
 
-pub limit-some : (ls : List ℕ) → 0 < length ls → limit_from ls ≡ 32767
+pub limit-some : (ls : List ℕ) → 0 < length ls → limit_from ls ≡ 32640
 limit-some [] h = absurd (omega (arith, h))
 limit-some (l ∷ ls) h = refl
 
@@ -143,19 +130,19 @@ pub limit-none : (ls : List ℕ) → length ls ≡ 0 → limit_from ls ≡ 127
 limit-none [] h = refl
 limit-none (l ∷ ls) h = absurd (omega (arith, h))
 
+pub none-limit : (ls : List ℕ) → limit_from ls ≡ 127 → length ls ≡ 0
+none-limit [] h = refl
+none-limit (l ∷ ls) h = absurd (omega (arith, h))
+
 pub limit-length : (ls ls' : List ℕ) → length ls ≡ length ls' → limit_from ls ≡ limit_from ls'
 limit-length [] [] h = refl
 limit-length [] (l ∷ ls) h = absurd (omega (arith, h))
 limit-length (l ∷ ls) [] h = absurd (omega (arith, h))
 limit-length (l ∷ ls) (m ∷ ms) h = refl
 
--- no count yet
-pub halves-zero : (n m : ℕ) → entries_from (replicate n 0) (replicate m 0) ≡ replicate n 0
-halves-zero zero m = refl
-halves-zero (suc n) zero = ap (λ xs. 0 ∷ xs) (halves-zero n zero)
-halves-zero (suc n) (suc m) = ap (λ xs. 0 ∷ xs) (halves-zero n m)
-
--- ---- large parts
+-- without a large part at a place, there is none
+pub past-none : (ss ls : List ℕ) (i : ℕ) → (length ls ≡ 0) ⊎ (length ls ≡ length ss) → i < length ss → length ls ≤ i → length ls ≡ 0
+past-none ss ls i both h past = elim both [ inl none ↦ none | inr same ↦ absurd (omega (arith, same)) ]
 
 -- a large part that is not 0 is there
 pub large-there : (ls : List ℕ) (i : ℕ) → 0 < get_or ls i 0 → i < length ls
@@ -164,18 +151,192 @@ large-there ls i pos = elim (cases_lt i (length ls)) [
   | inr past ↦ absurd (omega (arith, get_or_past ls i 0 past))
 ]
 
--- bytes with another byte set are bytes
-pub bytes-set : (ls : List ℕ) (j y : ℕ) → ((i : ℕ) → get_or ls i 0 < 256) → y < 256 → (i : ℕ) → get_or (set ls j y) i 0 < 256
-bytes-set ls j y h few i = elim (cases_eq i j) [
-  | inr ne ↦ omega (arith, h i, get_or-set_other ls j i y 0 ne)
-  | inl same ↦ elim (cases_lt j (length ls)) [
-    | inl l ↦ omega (arith, ap (λ k. get_or (set ls j y) k 0) same, get_or-set_same ls j y 0 l)
-    | inr past ↦ omega (arith, get_or_past (set ls j y) i 0 (omega (arith, same, length-set ls j y)))
-  ]
+-- ---- parts that are set
+
+-- parts of which the small one is set
+pub split-small : (ss ls : List ℕ) (j x : ℕ) → j < length ss → ((i : ℕ) → IsSplit (get_or ss i 0) (get_or ls i 0)) → IsSplit x (get_or ls j 0) → (i : ℕ) → IsSplit (get_or (set ss j x) i 0) (get_or ls i 0)
+split-small ss ls j x h each here i = elim (cases_eq i j) [
+  | inl same ↦ subst (λ k. IsSplit (get_or (set ss j x) k 0) (get_or ls k 0)) (sym same) (subst (λ y. IsSplit y (get_or ls j 0)) (sym (get_or-set_same ss j x 0 h)) here)
+  | inr ne ↦ subst (λ y. IsSplit y (get_or ls i 0)) (sym (get_or-set_other ss j i x 0 ne)) (each i)
 ]
 
--- what an entry of 1 is made of
-pub half-one : (s l : ℕ) → entry_from s l ≡ 1 → (s ≡ 1) × (l ≡ 0)
-half-one s l e =
-    let few = mod-lt s (let z : 0 < 128 = omega arith in z) in
-    (omega (arith, half-is s), omega arith)
+-- parts of which both are set
+pub split-both : (ss ls : List ℕ) (j x y : ℕ) → j < length ss → j < length ls → ((i : ℕ) → IsSplit (get_or ss i 0) (get_or ls i 0)) → IsSplit x y → (i : ℕ) → IsSplit (get_or (set ss j x) i 0) (get_or (set ls j y) i 0)
+split-both ss ls j x y h h' each here i = elim (cases_eq i j) [
+  | inl same ↦
+      subst (λ k. IsSplit (get_or (set ss j x) k 0) (get_or (set ls j y) k 0)) (sym same)
+      (subst (λ b. IsSplit b (get_or (set ls j y) j 0)) (sym (get_or-set_same ss j x 0 h)) (subst (IsSplit x) (sym (get_or-set_same ls j y 0 h')) here))
+  | inr ne ↦
+      subst (λ b. IsSplit b (get_or (set ls j y) i 0)) (sym (get_or-set_other ss j i x 0 ne))
+      (subst (IsSplit (get_or ss i 0)) (sym (get_or-set_other ls j i y 0 ne)) (each i))
+]
+
+-- ---- one less
+
+-- with a count there is a small part
+pub less-some : (ss ls : List ℕ) (i : ℕ) → i < length ss → IsSplit (get_or ss i 0) (get_or ls i 0) → 0 < get_or (entries_from ss ls) i 0 % 32768 → 0 < get_or ss i 0
+less-some ss ls i h split pos = elim (cases_lt 0 (get_or ss i 0)) [
+  | inl some ↦ some
+  | inr l ↦
+      let zero_s : get_or ss i 0 ≡ 0 = omega arith in
+      elim (cases_lt i (length ls)) [
+        | inl there ↦ elim (cases_lt 0 (get_or ls i 0)) [
+          | inl large ↦ split.some large
+          | inr l' ↦
+              let zero_e : get_or (entries_from ss ls) i 0 ≡ 0 = omega (arith, wide-at ss ls i h there) in
+              absurd (omega (arith, pos, ap (λ x. x % 32768) zero_e))
+        ]
+        | inr past ↦
+            let e = ap (λ x. x % 32768) (narrow-at ss ls i h past) ∙ narrow-count (get_or ss i 0) ∙ ap (λ x. x % 128) zero_s in
+            absurd (omega (arith, pos, e))
+      ]
+]
+
+-- the entries with one less
+pub less-entries : (ss ls : List ℕ) (i : ℕ) → i < length ss → IsSplit (get_or ss i 0) (get_or ls i 0) → 0 < get_or (entries_from ss ls) i 0 % 32768
+    → entries_from (set ss i (get_or ss i 0 - 1)) ls ≡ set (entries_from ss ls) i (get_or (entries_from ss ls) i 0 - 1)
+less-entries ss ls i h split pos =
+    let s = get_or ss i 0 in
+    let es = entries_from ss ls in
+    let some = less-some ss ls i h split pos in
+    elim (cases_lt i (length ls)) [
+      | inl there ↦
+          let at = wide-at ss ls i h there in
+          let one : wide_entry (s - 1) (get_or ls i 0) ≡ get_or es i 0 - 1 = omega (arith, at, some) in
+          wide-set ss ls i (s - 1) there ∙ ap (set es i) one
+      | inr past ↦
+          let at = narrow-at ss ls i h past in
+          let rest : 0 < s % 128 = omega (arith, pos, ap (λ x. x % 32768) at, narrow-count s) in
+          narrow-set ss ls i (s - 1) past ∙ ap (set es i) (narrow-less s rest ∙ ap (λ x. x - 1) (sym at))
+    ]
+
+-- the entries with one less, where the small part is filled again
+pub less-refilled : (ss ls : List ℕ) (i : ℕ) → i < length ss → get_or ss i 0 ≡ 1 → 0 < get_or ls i 0
+    → entries_from (set ss i 255) (set ls i (get_or ls i 0 - 1)) ≡ set (entries_from ss ls) i (get_or (entries_from ss ls) i 0 - 1)
+less-refilled ss ls i h one large =
+    let there = large-there ls i large in
+    let is : wide_entry 255 (get_or ls i 0 - 1) ≡ get_or (entries_from ss ls) i 0 - 1 = omega (arith, wide-at ss ls i h there, one, large) in
+    wide-both ss ls i 255 (get_or ls i 0 - 1) there ∙ ap (set (entries_from ss ls) i) is
+
+-- an entry has a small part of 1 and no large one where it is 1
+pub one-parts : (ss ls : List ℕ) (i : ℕ) → i < length ss → get_or (entries_from ss ls) i 0 ≡ 1 → (get_or ss i 0 ≡ 1) × (get_or ls i 0 ≡ 0)
+one-parts ss ls i h e = elim (cases_lt i (length ls)) [
+  | inl there ↦
+      let at = wide-at ss ls i h there in
+      (omega (arith, at, e), omega (arith, at, e))
+  | inr past ↦ (narrow-one (get_or ss i 0) (sym (narrow-at ss ls i h past) ∙ e), get_or_past ls i 0 past)
+]
+
+pub parts-one : (ss ls : List ℕ) (i : ℕ) → i < length ss → get_or ss i 0 ≡ 1 → get_or ls i 0 ≡ 0 → get_or (entries_from ss ls) i 0 ≡ 1
+parts-one ss ls i h one none = elim (cases_lt i (length ls)) [
+  | inl there ↦ omega (arith, wide-at ss ls i h there, one, none)
+  | inr past ↦ narrow-at ss ls i h past ∙ ap narrow_entry one
+]
+
+-- parts after the small one came to 0, and whether nothing is left
+pub record IsSpent (ss ls ss' ls' : List ℕ) (i : ℕ) (none : Bool) : Type 0 where
+  pub same_length : length ss' ≡ length ss
+  pub both : (length ls' ≡ 0) ⊎ (length ls' ≡ length ss')
+  pub each : (j : ℕ) → IsSplit (get_or ss' j 0) (get_or ls' j 0)
+  pub limit : limit_from ls' ≡ limit_from ls
+  pub entries : entries_from ss' ls' ≡ set (entries_from ss ls) i (get_or (entries_from ss ls) i 0 - 1)
+  pub bare : (none ≡ true → get_or (entries_from ss ls) i 0 ≡ 1) × (get_or (entries_from ss ls) i 0 ≡ 1 → none ≡ true)
+
+pub spent : (ss ls ss' ls' : List ℕ) (i s : ℕ) (none : Bool) → i < length ss → s ≡ get_or ss i 0 → s - 1 ≡ 0 → (length ls ≡ 0) ⊎ (length ls ≡ length ss) → ((j : ℕ) → IsSplit (get_or ss j 0) (get_or ls j 0))
+    → 0 < get_or (entries_from ss ls) i 0 % 32768
+    → (none ≡ true → (get_or ls i 0 ≡ 0) × (ss' ≡ set ss i (s - 1)) × (ls' ≡ ls))
+    → (none ≡ false → (0 < get_or ls i 0) × (ss' ≡ set (set ss i (s - 1)) i 255) × (ls' ≡ set ls i (get_or ls i 0 - 1)))
+    → IsSpent ss ls ss' ls' i none
+spent ss ls ss' ls' i s none h read left both each pos when_true when_false = elim (cases_Bool none) [
+  | inl t ↦
+      let w = when_true t in
+      let small : ss' ≡ set ss i (get_or ss i 0 - 1) = w.1 ∙ ap (λ x. set ss i (x - 1)) read in
+      subst (IsSpent ss ls ss' ls' i) (sym t) (subst (λ xs. IsSpent ss ls xs ls' i true) (sym small) (subst (λ ys. IsSpent ss ls (set ss i (get_or ss i 0 - 1)) ys i true) (sym w.2) (record {
+        same_length = length-set ss i (get_or ss i 0 - 1);
+        both = elim both [ inl no_large ↦ inl no_large | inr same ↦ inr (same ∙ sym (length-set ss i (get_or ss i 0 - 1))) ];
+        each = split-small ss ls i (get_or ss i 0 - 1) h each (record { limit = omega (arith, w.0, one); some = λ l. absurd (omega (arith, w.0, l)) });
+        limit = refl;
+        entries = less-entries ss ls i h (each i) pos;
+        bare = ((λ u. parts-one ss ls i h one w.0), (λ e. refl));
+      })))
+  | inr f ↦
+      let w = when_false f in
+      let there = large-there ls i w.0 in
+      let small : ss' ≡ set ss i 255 = w.1 ∙ set-set ss i (s - 1) 255 in
+      let large = get_or ls i 0 - 1 in
+      let few = (each i).limit in
+      subst (IsSpent ss ls ss' ls' i) (sym f) (subst (λ xs. IsSpent ss ls xs ls' i false) (sym small) (subst (λ ys. IsSpent ss ls (set ss i 255) ys i false) (sym w.2) (record {
+        same_length = length-set ss i 255;
+        both = elim both [ inl no_large ↦ absurd (omega (arith, no_large, there)) | inr same ↦ inr (length-set ls i large ∙ same ∙ sym (length-set ss i 255)) ];
+        each = split-both ss ls i 255 large h there each (record { limit = omega (arith, few, one, w.0); some = λ l. omega arith });
+        limit = limit-set ls i large;
+        entries = less-refilled ss ls i h one w.0;
+        bare = ((λ u. absurd (true≢false (sym u))), (λ e. absurd (omega (arith, w.0, (one-parts ss ls i h e).1))));
+      })))
+]
+  where
+    one : get_or ss i 0 ≡ 1
+    one = omega (arith, less-some ss ls i h (each i) pos, read, left)
+
+-- ---- one more
+
+-- where the small part is not full
+pub more-entries : (ss ls : List ℕ) (i : ℕ) → i < length ss → (length ls ≡ 0) ⊎ (length ls ≡ length ss) → get_or (entries_from ss ls) i 0 % 32768 < limit_from ls
+    → entries_from (set ss i (get_or ss i 0 + 1)) ls ≡ set (entries_from ss ls) i (get_or (entries_from ss ls) i 0 + 1)
+more-entries ss ls i h both limit =
+    let s = get_or ss i 0 in
+    let es = entries_from ss ls in
+    elim (cases_lt i (length ls)) [
+      | inl there ↦
+          let one : wide_entry (s + 1) (get_or ls i 0) ≡ get_or es i 0 + 1 = omega (arith, wide-at ss ls i h there) in
+          wide-set ss ls i (s + 1) there ∙ ap (set es i) one
+      | inr past ↦
+          let at = narrow-at ss ls i h past in
+          let none = past-none ss ls i both h past in
+          let rest : s % 128 < 127 = omega (arith, limit, limit-none ls none, ap (λ x. x % 32768) at, narrow-count s) in
+          narrow-set ss ls i (s + 1) past ∙ ap (set es i) (narrow-more s rest ∙ ap (λ x. x + 1) (sym at))
+    ]
+
+-- where it is full there is a large one with room for one more
+pub carry-room : (ss ls : List ℕ) (i : ℕ) → i < length ss → (length ls ≡ 0) ⊎ (length ls ≡ length ss) → IsSplit (get_or ss i 0) (get_or ls i 0)
+    → get_or (entries_from ss ls) i 0 % 32768 < limit_from ls → get_or ss i 0 ≡ 255 → (i < length ls) × (get_or ls i 0 < 127)
+carry-room ss ls i h both split limit full =
+    let s = get_or ss i 0 in
+    let es = entries_from ss ls in
+    elim (cases_lt i (length ls)) [
+      | inl there ↦
+          let at = wide-at ss ls i h there in
+          let few : get_or es i 0 < 32768 = omega (arith, at, split.limit) in
+          (there, omega (arith, at, few, limit, limit-some ls (omega (arith, there)), full))
+      | inr past ↦
+          let none = past-none ss ls i both h past in
+          let rest = ap (λ x. x % 32768) (narrow-at ss ls i h past) ∙ narrow-count s ∙ ap (λ x. x % 128) full in
+          absurd (omega (arith, limit, limit-none ls none, rest))
+    ]
+
+pub carry-entries : (ss ls : List ℕ) (i : ℕ) → i < length ss → i < length ls → get_or ss i 0 ≡ 255
+    → entries_from (set ss i 1) (set ls i (get_or ls i 0 + 1)) ≡ set (entries_from ss ls) i (get_or (entries_from ss ls) i 0 + 1)
+carry-entries ss ls i h there full =
+    let is : wide_entry 1 (get_or ls i 0 + 1) ≡ get_or (entries_from ss ls) i 0 + 1 = omega (arith, wide-at ss ls i h there, full) in
+    wide-both ss ls i 1 (get_or ls i 0 + 1) there ∙ ap (set (entries_from ss ls) i) is
+
+-- ---- entries that have no mark
+
+-- a small part that has a rest by 128 has a count
+pub rest-some : (ss ls : List ℕ) (i : ℕ) → i < length ss → IsSplit (get_or ss i 0) (get_or ls i 0) → 0 < get_or ss i 0 % 128 → 0 < get_or (entries_from ss ls) i 0 % 32768
+rest-some ss ls i h split pos = elim (cases_lt i (length ls)) [
+  | inl there ↦
+      let at = wide-at ss ls i h there in
+      let few : get_or (entries_from ss ls) i 0 < 32768 = omega (arith, at, split.limit) in
+      omega (arith, at, few, narrow-is (get_or ss i 0))
+  | inr past ↦ omega (arith, ap (λ x. x % 32768) (narrow-at ss ls i h past), narrow-count (get_or ss i 0))
+]
+
+-- no entry with a large part is marked
+pub wide-plain : (ss ls : List ℕ) (i : ℕ) → 0 < length ls → (length ls ≡ 0) ⊎ (length ls ≡ length ss) → IsSplit (get_or ss i 0) (get_or ls i 0) → get_or (entries_from ss ls) i 0 < 32768
+wide-plain ss ls i some both split = elim (cases_lt i (length ss)) [
+  | inl h ↦
+      let there : i < length ls = elim both [ inl none ↦ absurd (omega (arith, none)) | inr same ↦ omega (arith, same) ] in
+      omega (arith, wide-at ss ls i h there, split.limit)
+  | inr past ↦ omega (arith, get_or_past (entries_from ss ls) i 0 (omega (arith, past, halves-length ss ls)))
+]

@@ -1,5 +1,5 @@
 -- The counters set one after another.
-use Rattle.std.proofs.Common.{◌≡◌, ℕ, ◌+◌, ◌-◌, ◌*◌, ◌%◌, ◌<◌, ◌≤◌, Bool, Some, refl, List, length, get_or, take, drop, set, sym, ◌∙◌, ap, subst, arith, inl, inr}
+use Rattle.std.proofs.Common.{◌≡◌, ℕ, ◌+◌, ◌-◌, ◌*◌, ◌%◌, ◌<◌, ◌≤◌, ◌⊎◌, Bool, Some, refl, List, length, get_or, take, drop, set, sym, ◌∙◌, ap, subst, arith, inl, inr}
 use Rattle.std.specs.Prelude.{count_by, filter}
 use Rattle.std.specs.List.{range_with_len}
 use Rattle.std.proofs.lemmas.Bool.{cases_eq, cases_lt}
@@ -14,9 +14,10 @@ use Rattle.wfc_problem.specs.Network.{Network, values, neighbour, supports_of, I
 use Rattle.wfc_problem.specs.Domains.{Test, count_at, support_count}
 use Rattle.wfc_domains.specs.Domains.{Flags, has, size_of}
 use Rattle.wfc_domains.specs.Counters.{Table, with_count, entry_of, counts_of, place_in, place}
-use Rattle.wfc_domains.specs.Halves.{entry_from, entries_from, limit_from}
+use Rattle.wfc_domains.specs.Halves.{entries_from, limit_from}
+use Rattle.wfc_domains.specs.Parts.{IsSplit}
 use Rattle.wfc_domains.specs.Loaded.{AreLoaded, IsSurrounded, IsCopied, IsRowCopied}
-use Rattle.wfc_domains.proofs.HalfLemmas.{halves-length, halves-at, limit-length}
+use Rattle.wfc_domains.proofs.HalfLemmas.{halves-length, same-entry, limit-length}
 use Rattle.wfc_domains.proofs.Problems.{supports-below}
 use Rattle.wfc_domains.proofs.Places.{place-same, place_in-lt, place-is, counts_are}
 
@@ -141,10 +142,10 @@ row_none ls start row dest none = record {
 }
 
 -- entries of which both parts were copied from another row
-pub copied-row : (n k cells from to : ℕ) (ss ss' ls ls' : List ℕ) → length ss ≡ (cells * n) * k → from < cells → to < cells
+pub copied-row : (n k cells from to : ℕ) (ss ss' ls ls' : List ℕ) → length ss ≡ (cells * n) * k → (length ls ≡ 0) ⊎ (length ls ≡ length ss) → from < cells → to < cells
     → IsRowCopied ss ss' (from * (n * k)) (n * k) (to * (n * k)) → IsRowCopied ls ls' (from * (n * k)) (n * k) (to * (n * k))
     → IsCopied (record { cells = cells; values = n; dirs = k; limit = limit_from ls; counts = entries_from ss ls }) (record { cells = cells; values = n; dirs = k; limit = limit_from ls'; counts = entries_from ss' ls' }) from to
-copied-row n k cells from to ss ss' ls ls' whole hf ht cs cl = record {
+copied-row n k cells from to ss ss' ls ls' whole both hf ht cs cl = record {
   same_cells = refl;
   same_values = refl;
   same_dirs = refl;
@@ -159,22 +160,25 @@ copied-row n k cells from to ss ss' ls ls' whole hf ht cs cl = record {
       let qi : q < length ss = omega (arith, place_in-lt n k from v d cells hf hv hd, whole) in
       let small : get_or ss' p 0 ≡ get_or ss q 0 = ap (λ x. get_or ss' x 0) (place_in-row n k to v d) ∙ cs.copied j hj ∙ ap (λ x. get_or ss x 0) (sym (place_in-row n k from v d)) in
       let large : get_or ls' p 0 ≡ get_or ls q 0 = ap (λ x. get_or ls' x 0) (place_in-row n k to v d) ∙ cl.copied j hj ∙ ap (λ x. get_or ls x 0) (sym (place_in-row n k from v d)) in
-      halves-at ss' ls' p pi ∙ ap (λ x. entry_from x (get_or ls' p 0)) small ∙ ap (entry_from (get_or ss q 0)) large ∙ sym (halves-at ss ls q qi);
+      same-entry ss ls ss' ls' p q pi qi cs.same_length cl.same_length both small large;
   others = λ c v d hc hv hd.
       let p = place_in n k c v d in
       let before : p < to * (n * k) = omega (arith, place_in-lt n k c v d to hc hv hd, place_in-row n k to 0 0) in
       let inside : p < length ss = omega (arith, place_in-lt n k c v d cells (omega arith) hv hd, whole) in
-      halves-at ss' ls' p (omega (arith, inside, cs.same_length)) ∙ ap (λ x. entry_from x (get_or ls' p 0)) (cs.below p before) ∙ ap (entry_from (get_or ss p 0)) (cl.below p before) ∙ sym (halves-at ss ls p inside);
+      same-entry ss ls ss' ls' p p (omega (arith, inside, cs.same_length)) inside cs.same_length cl.same_length both (cs.below p before) (cl.below p before);
 }
 
--- copied bytes are bytes
-pub bytes-copied : (ls ls' : List ℕ) (start row dest : ℕ) → IsRowCopied ls ls' start row dest → ((i : ℕ) → get_or ls i 0 < 256) → (i : ℕ) → get_or ls' i 0 < 256
-bytes-copied ls ls' start row dest h few i = elim (cases_lt i dest) [
-  | inl l ↦ omega (arith, few i, h.below i l)
+-- parts that were copied
+pub split-copied : (ss ss' ls ls' : List ℕ) (start row dest : ℕ) → IsRowCopied ss ss' start row dest → IsRowCopied ls ls' start row dest → ((i : ℕ) → IsSplit (get_or ss i 0) (get_or ls i 0)) → (i : ℕ) → IsSplit (get_or ss' i 0) (get_or ls' i 0)
+split-copied ss ss' ls ls' start row dest hs hl each i = elim (cases_lt i dest) [
+  | inl l ↦ moved i i (hs.below i l) (hl.below i l)
   | inr l ↦ elim (cases_lt i (dest + row)) [
     | inl l' ↦
         let at : dest + (i - dest) ≡ i = omega arith in
-        omega (arith, few (start + (i - dest)), h.copied (i - dest) (omega arith), ap (λ x. get_or ls' x 0) at)
-    | inr l' ↦ omega (arith, few i, h.behind i l')
+        moved i (start + (i - dest)) (ap (λ x. get_or ss' x 0) (sym at) ∙ hs.copied (i - dest) (omega arith)) (ap (λ x. get_or ls' x 0) (sym at) ∙ hl.copied (i - dest) (omega arith))
+    | inr l' ↦ moved i i (hs.behind i l') (hl.behind i l')
   ]
 ]
+  where
+    moved : (i j : ℕ) → get_or ss' i 0 ≡ get_or ss j 0 → get_or ls' i 0 ≡ get_or ls j 0 → IsSplit (get_or ss' i 0) (get_or ls' i 0)
+    moved i j small large = subst (λ x. IsSplit x (get_or ls' i 0)) (sym small) (subst (IsSplit (get_or ss j 0)) (sym large) (each j))

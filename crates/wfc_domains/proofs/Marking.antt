@@ -1,7 +1,7 @@
 -- Marks put beside counts.
 use Rattle.std.proofs.Common.{◌≡◌, ◌≢◌, ℕ, zero, suc, ◌+◌, ◌*◌, ◌%◌, ◌<◌, ◌≤◌, length, set, refl, sym, ◌∙◌, ap, subst, arith, inl, inr}
 use Rattle.std.specs.Prelude.{slice_index}
-use Rattle.std.proofs.lemmas.Bool.{cases_eq, cases_lt}
+use Rattle.std.proofs.lemmas.Bool.{cases_eq}
 use Rattle.std.proofs.lemmas.List.{length-set, get_or-set_same, get_or-set_other}
 use Rattle.std.proofs.lemmas.Nat.{same_from_place}
 use Rattle.std.proofs.Math.Nat.{mod-lt}
@@ -80,10 +80,3 @@ le-mul a (suc k) h = omega arith
 pub row_few : (n k c v d cells len : ℕ) → len ≡ (cells * n) * k → c < cells → v < n → d < k → c * n + v ≤ len
 row_few n k c v d cells len whole hc hv hd =
     omega (arith, place_in-lt n k c v d cells hc hv hd, le-mul (c * n + v) k (omega arith))
-
--- an entry whose count is below 4,096 is not the last number of 16 bits
-pub not_last : (x : ℕ) → x % 32768 < 4096 → x < 65536 → x + 1 < 65536
-not_last x few l = elim (cases_lt x 65535) [
-  | inl below ↦ omega arith
-  | inr l' ↦ let e : x ≡ 65535 = omega arith in let same = ap (λ y. y % 32768) e in absurd (omega arith)
-]

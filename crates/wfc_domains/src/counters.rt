@@ -15,14 +15,17 @@ use std::sync::ledger::Ledger;
 use wfc_outside::NoMemory;
 use wfc_problem::Problem;
 
-/// How many counts the small part of an entry tells apart; a marked one's is so much above.
+/// How much the part of a marked count is above that of the count alone.
 const HALF: u8 = 128;
 
 /// The largest count that needs no large part.
 const SMALL: usize = 127;
 
-/// One count for each cell, value and direction. Each can be marked beside; a mark leaves the count as it is. A count
-/// and its mark take one byte, and a second one only where some value has more than 127 supports in a direction.
+/// How much one more in a large part is worth.
+const WHOLE: u8 = 255;
+
+/// One count for each cell, value and direction. Each can be marked beside, where no value has more than 127 supports
+/// in a direction: a count and its mark take one byte then, and else a count takes two. A mark leaves the count as it is.
 #[derive(Drop)]
 pub struct Counters {
     cells: u32,
@@ -95,7 +98,12 @@ impl Counters {
         ensures value { result ≡ count_of self.now cell value dir }
     {
         let place = self.place(cell, value, dir as usize);
-        u32::from(self.small[place] % HALF) + 128 * u32::from(part_at(&self.large, place))
+        let small = u32::from(self.small[place]);
+        if place < self.large.len() {
+            small + 255 * u32::from(self.large[place])
+        } else {
+            small % 128
+        }
     }
 
     /// Whether an entry of the cell may be 0: none is where this answers no.
@@ -226,9 +234,12 @@ impl Counters {
         ensures changed { self.new ≡ with_count self.old cell value dir count }
     {
         let place = self.place(cell, value, dir as usize);
-        self.small[place] = (count % 128) as u8;
         if place < self.large.len() {
-            self.large[place] = (count / 128) as u8;
+            let large = large_part(count);
+            self.small[place] = (count - 255 * large) as u8;
+            self.large[place] = large as u8;
+        } else {
+            self.small[place] = count as u8;
         }
     }
 
@@ -260,31 +271,12 @@ impl Counters {
         ensures steps { steps.new ≡ steps.old + 1 }
     {
         steps.tick();
-        let small = self.small[place];
-        if small % HALF == 0 {
-            self.borrow(place);
+        let left = self.small[place] - 1;
+        self.small[place] = left;
+        if left != 0 {
             return false;
         }
-        self.small[place] = small - 1;
-        if small > 1 {
-            return false;
-        }
-        part_at(&self.large, place) == 0
-    }
-
-    /// One less at a place whose small part has no count.
-    fn borrow(&mut self, place: usize)
-        requires place_in { place < length self.old.counts }
-        requires some { 0 < slice_index self.old.counts place % 32768 }
-        requires none { slice_index self.old.counts place % 128 ≡ 0 }
-        ensures changed { self.new ≡ record self.old {
-          counts = slice_set self.old.counts place (slice_index self.old.counts place - 1);
-        } }
-    {
-        let small = self.small[place];
-        let large = self.large[place];
-        self.small[place] = small + SMALL as u8;
-        self.large[place] = large - 1;
+        refill(&mut self.small, &mut self.large, place)
     }
 
     /// One more. It is one step.
@@ -301,35 +293,32 @@ impl Counters {
         let place = self.place(cell, value, dir as usize);
         steps.tick();
         let small = self.small[place];
-        if small % HALF == 127 {
-            self.carry(place);
+        if small == WHOLE {
+            carry(&mut self.small, &mut self.large, place);
         } else {
             self.small[place] = small + 1;
         }
     }
 
-    /// One more at a place whose small part has no room for it.
-    fn carry(&mut self, place: usize)
-        requires place_in { place < length self.old.counts }
-        requires limit { slice_index self.old.counts place % 32768 < self.old.limit }
-        requires full { slice_index self.old.counts place % 128 ≡ 127 }
-        ensures changed { self.new ≡ record self.old {
-          counts = slice_set self.old.counts place (slice_index self.old.counts place + 1);
-        } }
+    /// Whether counts can be marked; else none is.
+    #[inline]
+    fn is_narrow(&self) -> bool
+        ensures narrow { IsTrue result → self.now.limit ≡ 127 }
+        ensures wide { IsFalse result → (c v d : ℕ) → entry_of self.now c v d < 32768 }
     {
-        let small = self.small[place];
-        let large = self.large[place];
-        self.small[place] = small - SMALL as u8;
-        self.large[place] = large + 1;
+        self.large.len() == 0
     }
 
-    /// Marks the counts of a value at a cell.
+    /// Marks the counts of a value at a cell, where counts can be marked.
     #[inline]
     pub fn mark(&mut self, cell: u32, value: u16)
         requires cell_in { cell < self.old.cells }
         requires value_in { value < self.old.values }
         ensures marks { Marks self.old self.new cell value }
     {
+        if !self.is_narrow() {
+            return;
+        }
         for dir in 0..self.dirs {
             self.mark_side(cell, value, dir);
         }
@@ -341,6 +330,7 @@ impl Counters {
         requires cell_in { cell < self.old.cells }
         requires value_in { value < self.old.values }
         requires dir_in { dir < self.old.dirs }
+        requires narrow { self.old.limit ≡ 127 }
         ensures changed { self.new ≡ with_count self.old cell value dir
             (entry_of self.old cell value dir % 32768 + 32768) }
     {
@@ -356,6 +346,9 @@ impl Counters {
         requires value_in { value < self.old.values }
         ensures unmarks { Unmarks self.old self.new cell value self.old.dirs }
     {
+        if !self.is_narrow() {
+            return;
+        }
         for dir in 0..self.dirs {
             self.unmark_side(cell, value, dir);
         }
@@ -367,6 +360,7 @@ impl Counters {
         requires cell_in { cell < self.old.cells }
         requires value_in { value < self.old.values }
         requires dir_in { dir < self.old.dirs }
+        requires narrow { self.old.limit ≡ 127 }
         ensures changed { self.new ≡ with_count self.old cell value dir
             (entry_of self.old cell value dir % 32768) }
     {
@@ -374,6 +368,52 @@ impl Counters {
         let small = self.small[place];
         self.small[place] = small % HALF;
     }
+}
+
+/// The large part of a count. What it leaves for the small one is 0 only where the count is.
+fn large_part(count: u16) -> u16
+    requires limit { count ≤ 32640 }
+    ensures room { 255 * result ≤ count }
+    ensures rest { count ≤ 255 * result + 255 }
+    ensures few { result ≤ 127 }
+    ensures some { 0 < result → 255 * result < count }
+{
+    if count == 0 { 0 } else { (count - 1) / 255 }
+}
+
+/// Fills the small part of a count, which came to 0, from the large one. Whether there is nothing to fill it from.
+#[inline(never)]
+fn refill(small: &mut Vec<u8>, large: &mut Vec<u8>, place: usize) -> bool
+    requires place_in { place < vec_len small.old }
+    ensures none { IsTrue result → (slice_index large.old.items place ≡ 0)
+        × (small.new.items ≡ small.old.items) × (large.new.items ≡ large.old.items) }
+    ensures some { IsFalse result → 0 < slice_index large.old.items place }
+    ensures small { IsFalse result → small.new.items ≡ slice_set small.old.items place 255 }
+    ensures large { IsFalse result → large.new.items
+        ≡ slice_set large.old.items place (slice_index large.old.items place - 1) }
+{
+    let part = part_at(large, place);
+    if part == 0 {
+        return true;
+    }
+    small[place] = WHOLE;
+    large[place] = part - 1;
+    false
+}
+
+/// One more at a place whose small part is full.
+#[inline(never)]
+fn carry(small: &mut Vec<u8>, large: &mut Vec<u8>, place: usize)
+    requires place_in { place < vec_len small.old }
+    requires large_in { place < vec_len large.old }
+    requires room { slice_index large.old.items place < 255 }
+    ensures small { small.new.items ≡ slice_set small.old.items place 1 }
+    ensures large { large.new.items
+        ≡ slice_set large.old.items place (slice_index large.old.items place + 1) }
+{
+    let part = large[place];
+    small[place] = 1;
+    large[place] = part + 1;
 }
 
 /// Copies a row of parts to another place.
@@ -430,7 +470,7 @@ fn has_long_side(problem: &Problem, value: u16) -> bool
     false
 }
 
-/// Whether a small part has no count.
+/// Whether a small part is 0 or 128: no count is 0 where none is.
 fn has_zero(entries: &[u8]) -> bool
     ensures none { IsFalse result → (k : ℕ) → k < length entries.now
         → 0 < slice_index entries.now k % 128 }

@@ -7,6 +7,8 @@ ghost use Rattle.wfc_problem.specs.Corner.{corner};
 ghost use Rattle.wfc_problem.specs.Network.{in_base};
 ghost use Rattle.wfc_problem.specs.declared.Literal.TheVariants.{Is, Not};
 ghost use Rattle.wfc_domains.specs.Counters.{count_of, with_count, counts_of, no_counts, cost_at, cost_of};
+ghost use Rattle.wfc_domains.specs.Halves.{entries_from, limit_from};
+ghost use Rattle.wfc_domains.specs.Parts.{IsSplit};
 ghost use Rattle.wfc_domains.specs.Domains.{has, size_of, flags_of, base_of, less, Fits};
 ghost use Rattle.wfc_domains.specs.Removals.{without, IsUnsupported, IsCause, AreRemoved};
 ghost use Rattle.wfc_domains.specs.Sample.{two_rows, numbered, unsupported, cut_first, later, two_levels};
@@ -85,4 +87,16 @@ pub fn counters_are_read()
     ensures none { count_of (no_counts corner 127) 3 2 3 ≡ 0 }
     ensures cost { cost_at corner 0 1 ≡ 3 }
     ensures costs { cost_of corner (unsupported ∷ record cut_first { value = 1 } ∷ []) ≡ 4 }
+{}
+
+/// A small part alone has a count up to 127 and its mark; beside a large one it has a count up to 255.
+pub fn entries_are_read()
+    ensures narrow { entries_from (3 ∷ 127 ∷ 128 ∷ 133 ∷ []) [] ≡ 3 ∷ 127 ∷ 32768 ∷ 32773 ∷ [] }
+    ensures wide { entries_from (133 ∷ 255 ∷ 1 ∷ 255 ∷ []) (0 ∷ 0 ∷ 1 ∷ 127 ∷ [])
+        ≡ 133 ∷ 255 ∷ 256 ∷ 32640 ∷ [] }
+    ensures narrow_limit { limit_from [] ≡ 127 }
+    ensures wide_limit { limit_from (0 ∷ []) ≡ 32640 }
+    ensures split { IsSplit 255 127 }
+    ensures nothing_small { IsSplit 0 1 → ⊥ }
+    ensures no_room { IsSplit 1 128 → ⊥ }
 {}

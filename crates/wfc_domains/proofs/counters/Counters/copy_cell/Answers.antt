@@ -1,5 +1,5 @@
 use Rattle.std.proofs.Common.{◌≡◌, length, sym, ◌∙◌, arith, inl, inr}
-use Rattle.wfc_domains.proofs.Loading.{row-in, copied-row, bytes-copied, row_none}
+use Rattle.wfc_domains.proofs.Loading.{row-in, copied-row, split-copied, row_none}
 use Rattle.wfc_domains.proofs.counters.Counters.copy_cell.Goals as goal
 
 pub copy_row-requires-then-len-gt0-clause-start_in : goal.copy_row-requires-then-len-gt0-clause-start_in
@@ -47,7 +47,20 @@ invariant_of-self g c =
     record {
       whole = cs.same_length ∙ h.whole;
       both = inr (cl.same_length ∙ there ∙ sym cs.same_length);
-      bytes = bytes-copied _ _ _ _ _ cl h.bytes;
+      each = split-copied _ _ _ _ _ _ _ cs cl h.each;
+    }
+
+pub invariant_of-self-else-len-gt0 : goal.invariant_of-self-else-len-gt0
+invariant_of-self-else-len-gt0 g c =
+    let a = c.self.inside in
+    let h = c.self.invariant in
+    let ls = a.large.items in
+    let cs = c.copy_row.ensures.copied in
+    let none : length ls ≡ 0 = omega (arith, c.if-len-gt0.false, c.len.ensures, a.large.ok.0) in
+    record {
+      whole = cs.same_length ∙ h.whole;
+      both = inl none;
+      each = split-copied _ _ _ _ _ _ _ cs (row_none ls _ _ _ none) h.each;
     }
 
 pub returns-then-len-gt0-clause-copied : goal.returns-then-len-gt0-clause-copied
@@ -63,7 +76,7 @@ returns-then-len-gt0-clause-copied g c =
     let ls = a.large.items in
     let cs = c.copy_row.ensures.copied in
     let cl = c.copy_row-then-len-gt0.ensures.copied in
-    rw (← c.self.view_is) (copied-row n k a.cells from to a.small.items _ ls _ h.whole hf ht cs cl)
+    rw (← c.self.view_is) (copied-row n k a.cells from to a.small.items _ ls _ h.whole h.both hf ht cs cl)
 
 pub returns-else-len-gt0-clause-copied : goal.returns-else-len-gt0-clause-copied
 returns-else-len-gt0-clause-copied g c =
@@ -78,4 +91,4 @@ returns-else-len-gt0-clause-copied g c =
     let ls = a.large.items in
     let cs = c.copy_row.ensures.copied in
     let none : length ls ≡ 0 = omega (arith, c.if-len-gt0.false, c.len.ensures, a.large.ok.0) in
-    rw (← c.self.view_is) (copied-row n k a.cells from to a.small.items _ ls ls h.whole hf ht cs (row_none ls _ _ _ none))
+    rw (← c.self.view_is) (copied-row n k a.cells from to a.small.items _ ls ls h.whole h.both hf ht cs (row_none ls _ _ _ none))

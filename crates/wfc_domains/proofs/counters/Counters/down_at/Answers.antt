@@ -1,79 +1,93 @@
-use Rattle.std.proofs.Common.{◌≡◌, ◌-◌, ◌%◌, ◌<◌, length, get_or, set, sym, ◌∙◌, ap, arith}
-use Rattle.wfc_domains.specs.Halves.{entry_from, entries_from, limit_from}
-use Rattle.std.proofs.lemmas.Bool.{true≢false, eqb-true, eq-eqb}
+use Rattle.std.proofs.Common.{◌≡◌, ◌-◌, ◌<◌, length, get_or, set, sym, ◌∙◌, ap, arith}
+use Rattle.wfc_domains.specs.Halves.{entries_from, limit_from}
+use Rattle.std.proofs.lemmas.Bool.{true≢false}
 use Rattle.std.proofs.lemmas.List.{get_or_read}
-use Rattle.wfc_domains.proofs.HalfLemmas.{halves-length, halves-at, halves-set, half-rest, half-less, half-one}
+use Rattle.wfc_domains.proofs.HalfLemmas.{halves-length, less-some, less-entries, one-parts, spent}
 use Rattle.wfc_domains.proofs.counters.Counters.down_at.Goals as goal
 
-pub index-small-requires : goal.index-small-requires
-index-small-requires g c =
+pub index-requires : goal.index-requires
+index-requires g c =
     let a = c.self.inside in
+    let ss = a.small.items in
+    let ls = a.large.items in
+    let i = c.args.place in
     let given = rw (← c.self.view_is) at c.requires.place_in in
-    omega (arith, given, halves-length a.small.items a.large.items, a.small.ok.0)
+    let inside : i < length ss = omega (arith, given, halves-length ss ls) in
+    omega (arith, inside, a.small.ok.0)
+
+pub overflow_sub-left : goal.overflow_sub-left
+overflow_sub-left g c =
+    let a = c.self.inside in
+    let ss = a.small.items in
+    let ls = a.large.items in
+    let i = c.args.place in
+    let given = rw (← c.self.view_is) at c.requires.place_in in
+    let inside : i < length ss = omega (arith, given, halves-length ss ls) in
+    let some = rw (← c.self.view_is) at c.requires.some in
+    let s = c.index.result.now in
+    let read : s ≡ get_or ss i 0 = get_or_read ss i s inside c.index.ensures 0 in
+    omega (arith, less-some ss ls i inside (c.self.invariant.each i) some, read)
 
 pub index_mut-requires : goal.index_mut-requires
 index_mut-requires g c =
     let a = c.self.inside in
+    let ss = a.small.items in
+    let ls = a.large.items in
+    let i = c.args.place in
     let given = rw (← c.self.view_is) at c.requires.place_in in
-    omega (arith, given, halves-length a.small.items a.large.items, a.small.ok.0)
+    let inside : i < length ss = omega (arith, given, halves-length ss ls) in
+    omega (arith, inside, a.small.ok.0)
 
-pub borrow-requires-clause-none : goal.borrow-requires-clause-none
-borrow-requires-clause-none g c =
+pub returns-then-left-ne0-clause-bare : goal.returns-then-left-ne0-clause-bare
+returns-then-left-ne0-clause-bare g c =
     let a = c.self.inside in
     let ss = a.small.items in
     let ls = a.large.items in
     let i = c.args.place in
     let given = rw (← c.self.view_is) at c.requires.place_in in
     let inside : i < length ss = omega (arith, given, halves-length ss ls) in
-    let s = c.index-small.result.now in
-    let read : s ≡ get_or ss i 0 = get_or_read ss i s inside c.index-small.ensures 0 in
-    let l = get_or ls i 0 in
-    let at : get_or (entries_from ss ls) i 0 ≡ entry_from s l = halves-at ss ls i inside ∙ ap (λ x. entry_from x l) (sym read) in
-    rw (← c.self.view_is) (ap (λ x. x % 128) at ∙ half-rest s l ∙ c.if-small-eq0.true)
+    let some = rw (← c.self.view_is) at c.requires.some in
+    let s = c.index.result.now in
+    let read : s ≡ get_or ss i 0 = get_or_read ss i s inside c.index.ensures 0 in
+    rw (← c.self.view_is) ((λ t. absurd (true≢false (sym t))), (λ h. absurd (omega (arith, (one-parts ss ls i inside h).0, read, c.if-left-ne0.true))))
 
-pub returns-then-small-eq0-clause-bare : goal.returns-then-small-eq0-clause-bare
-returns-then-small-eq0-clause-bare g c =
+pub returns-then-left-ne0-clause-changed : goal.returns-then-left-ne0-clause-changed
+returns-then-left-ne0-clause-changed g c =
     let a = c.self.inside in
     let ss = a.small.items in
     let ls = a.large.items in
     let i = c.args.place in
     let given = rw (← c.self.view_is) at c.requires.place_in in
     let inside : i < length ss = omega (arith, given, halves-length ss ls) in
-    let s = c.index-small.result.now in
-    let read : s ≡ get_or ss i 0 = get_or_read ss i s inside c.index-small.ensures 0 in
-    let l = get_or ls i 0 in
-    let at : get_or (entries_from ss ls) i 0 ≡ entry_from s l = halves-at ss ls i inside ∙ ap (λ x. entry_from x l) (sym read) in
-    rw (← c.self.view_is) ((λ t. absurd (true≢false (sym t))), (λ h. let one = (half-one s l (sym at ∙ h)).0 in absurd (omega (arith, one, c.if-small-eq0.true))))
-
-pub returns-then-small-gt1-clause-bare : goal.returns-then-small-gt1-clause-bare
-returns-then-small-gt1-clause-bare g c =
-    let a = c.self.inside in
-    let ss = a.small.items in
-    let ls = a.large.items in
-    let i = c.args.place in
-    let given = rw (← c.self.view_is) at c.requires.place_in in
-    let inside : i < length ss = omega (arith, given, halves-length ss ls) in
-    let s = c.index-small.result.now in
-    let read : s ≡ get_or ss i 0 = get_or_read ss i s inside c.index-small.ensures 0 in
-    let l = get_or ls i 0 in
-    let at : get_or (entries_from ss ls) i 0 ≡ entry_from s l = halves-at ss ls i inside ∙ ap (λ x. entry_from x l) (sym read) in
-    rw (← c.self.view_is) ((λ t. absurd (true≢false (sym t))), (λ h. let one = (half-one s l (sym at ∙ h)).0 in absurd (omega (arith, one, c.if-small-gt1.true))))
-
-pub returns-then-small-gt1-clause-changed : goal.returns-then-small-gt1-clause-changed
-returns-then-small-gt1-clause-changed g c =
-    let a = c.self.inside in
-    let ss = a.small.items in
-    let ls = a.large.items in
-    let i = c.args.place in
-    let given = rw (← c.self.view_is) at c.requires.place_in in
-    let inside : i < length ss = omega (arith, given, halves-length ss ls) in
-    let s = c.index-small.result.now in
-    let read : s ≡ get_or ss i 0 = get_or_read ss i s inside c.index-small.ensures 0 in
-    let l = get_or ls i 0 in
-    let at : get_or (entries_from ss ls) i 0 ≡ entry_from s l = halves-at ss ls i inside ∙ ap (λ x. entry_from x l) (sym read) in
-    let pos : 0 < s % 128 = omega (arith, c.if-small-eq0.false) in
-    let counts = halves-set ss ls i (s - 1) ∙ ap (set (entries_from ss ls) i) (half-less s l pos ∙ ap (λ x. x - 1) (sym at)) in
+    let some = rw (← c.self.view_is) at c.requires.some in
+    let s = c.index.result.now in
+    let read : s ≡ get_or ss i 0 = get_or_read ss i s inside c.index.ensures 0 in
+    let counts : entries_from (set ss i (s - 1)) ls ≡ set (entries_from ss ls) i (get_or (entries_from ss ls) i 0 - 1) = ap (λ x. entries_from (set ss i (x - 1)) ls) read ∙ less-entries ss ls i inside (c.self.invariant.each i) some in
     rw (← c.self.view_is) (λ j. record { cells = a.cells; values = a.values; dirs = a.dirs; limit = limit_from ls; counts = counts j })
+
+pub refill-requires : goal.refill-requires
+refill-requires g c =
+    let a = c.self.inside in
+    let ss = a.small.items in
+    let ls = a.large.items in
+    let i = c.args.place in
+    let given = rw (← c.self.view_is) at c.requires.place_in in
+    let inside : i < length ss = omega (arith, given, halves-length ss ls) in
+    record { place_in = omega (arith, inside, a.small.ok.0) }
+
+pub invariant_of-self-2 : goal.invariant_of-self-2
+invariant_of-self-2 g c =
+    let a = c.self.inside in
+    let ss = a.small.items in
+    let ls = a.large.items in
+    let i = c.args.place in
+    let given = rw (← c.self.view_is) at c.requires.place_in in
+    let inside : i < length ss = omega (arith, given, halves-length ss ls) in
+    let some = rw (← c.self.view_is) at c.requires.some in
+    let s = c.index.result.now in
+    let read : s ≡ get_or ss i 0 = get_or_read ss i s inside c.index.ensures 0 in
+    let after = spent ss ls _ _ i s c.refill.result inside read c.if-left-ne0.false c.self.invariant.both c.self.invariant.each some c.refill.ensures.none (λ f. (c.refill.ensures.some f, c.refill.ensures.small f, c.refill.ensures.large f)) in
+    record { whole = after.same_length ∙ c.self.invariant.whole; both = after.both; each = after.each }
 
 pub returns-clause-bare : goal.returns-clause-bare
 returns-clause-bare g c =
@@ -83,17 +97,11 @@ returns-clause-bare g c =
     let i = c.args.place in
     let given = rw (← c.self.view_is) at c.requires.place_in in
     let inside : i < length ss = omega (arith, given, halves-length ss ls) in
-    let s = c.index-small.result.now in
-    let read : s ≡ get_or ss i 0 = get_or_read ss i s inside c.index-small.ensures 0 in
-    let l = get_or ls i 0 in
-    let at : get_or (entries_from ss ls) i 0 ≡ entry_from s l = halves-at ss ls i inside ∙ ap (λ x. entry_from x l) (sym read) in
-    let pos : 0 < s % 128 = omega (arith, c.if-small-eq0.false) in
-    let one : s ≡ 1 = omega (arith, c.if-small-gt1.false) in
-    let part : c.part_at.result ≡ l = c.part_at.ensures.value ∙ ap (λ xs. get_or xs i 0) c.deref.ensures.value in
-    rw (← c.self.view_is) (
-      (λ t. at ∙ ap (λ x. entry_from x l) one ∙ ap (entry_from 1) (sym part ∙ eqb-true _ _ t)),
-      (λ h. eq-eqb _ _ (part ∙ (half-one s l (sym at ∙ h)).1)),
-    )
+    let some = rw (← c.self.view_is) at c.requires.some in
+    let s = c.index.result.now in
+    let read : s ≡ get_or ss i 0 = get_or_read ss i s inside c.index.ensures 0 in
+    let after = spent ss ls _ _ i s c.refill.result inside read c.if-left-ne0.false c.self.invariant.both c.self.invariant.each some c.refill.ensures.none (λ f. (c.refill.ensures.some f, c.refill.ensures.small f, c.refill.ensures.large f)) in
+    rw (← c.self.view_is) after.bare
 
 pub returns-clause-changed : goal.returns-clause-changed
 returns-clause-changed g c =
@@ -103,10 +111,8 @@ returns-clause-changed g c =
     let i = c.args.place in
     let given = rw (← c.self.view_is) at c.requires.place_in in
     let inside : i < length ss = omega (arith, given, halves-length ss ls) in
-    let s = c.index-small.result.now in
-    let read : s ≡ get_or ss i 0 = get_or_read ss i s inside c.index-small.ensures 0 in
-    let l = get_or ls i 0 in
-    let at : get_or (entries_from ss ls) i 0 ≡ entry_from s l = halves-at ss ls i inside ∙ ap (λ x. entry_from x l) (sym read) in
-    let pos : 0 < s % 128 = omega (arith, c.if-small-eq0.false) in
-    let counts = halves-set ss ls i (s - 1) ∙ ap (set (entries_from ss ls) i) (half-less s l pos ∙ ap (λ x. x - 1) (sym at)) in
-    rw (← c.self.view_is) (λ j. record { cells = a.cells; values = a.values; dirs = a.dirs; limit = limit_from ls; counts = counts j })
+    let some = rw (← c.self.view_is) at c.requires.some in
+    let s = c.index.result.now in
+    let read : s ≡ get_or ss i 0 = get_or_read ss i s inside c.index.ensures 0 in
+    let after = spent ss ls _ _ i s c.refill.result inside read c.if-left-ne0.false c.self.invariant.both c.self.invariant.each some c.refill.ensures.none (λ f. (c.refill.ensures.some f, c.refill.ensures.small f, c.refill.ensures.large f)) in
+    rw (← c.self.view_is) (λ j. record { cells = a.cells; values = a.values; dirs = a.dirs; limit = after.limit j; counts = after.entries j })

@@ -1,5 +1,4 @@
-use Rattle.std.proofs.Common.{◌≡◌, ℕ, ◌+◌, ◌*◌, ◌≤◌, length, arith}
-use Rattle.wfc_domains.specs.Counters.{place_in}
+use Rattle.std.proofs.Common.{length, arith}
 use Rattle.wfc_domains.proofs.Loading.{place_in-row, row-in}
 use Rattle.wfc_domains.proofs.HalfLemmas.{halves-length}
 use Rattle.wfc_domains.proofs.counters.Counters.row.Goals as goal

@@ -1,12 +1,13 @@
-use Rattle.std.proofs.Common.{◌≡◌, ◌+◌, ◌%◌, ◌<◌, length, get_or, set, sym, ◌∙◌, ap, arith}
-use Rattle.wfc_domains.specs.Halves.{entry_from, entries_from, limit_from}
-use Rattle.std.proofs.lemmas.List.{get_or_read}
-use Rattle.std.proofs.Math.Nat.{mod-lt}
-use Rattle.wfc_domains.proofs.HalfLemmas.{halves-length, halves-at, halves-set, half-rest, half-more}
+use Rattle.std.proofs.Common.{◌≡◌, ◌+◌, ◌%◌, ◌<◌, length, get_or, set, sym, ◌∙◌, ap, subst, arith, inl, inr}
+use Rattle.wfc_domains.specs.Halves.{entries_from, limit_from}
+use Rattle.wfc_domains.specs.Parts.{IsSplit}
+use Rattle.wfc_domains.specs.Counters.{place_in}
+use Rattle.std.proofs.lemmas.List.{get_or_read, length-set}
+use Rattle.wfc_domains.proofs.HalfLemmas.{halves-length, more-entries, carry-room, carry-entries, limit-set, split-both}
 use Rattle.wfc_domains.proofs.counters.Counters.up.Goals as goal
 
-pub carry-requires-clause-full : goal.carry-requires-clause-full
-carry-requires-clause-full g c =
+pub carry-requires-clause-large_in : goal.carry-requires-clause-large_in
+carry-requires-clause-large_in g c =
     let a = c.self.inside in
     let ss = a.small.items in
     let ls = a.large.items in
@@ -14,14 +15,16 @@ carry-requires-clause-full g c =
     let given = rw (← c.self.view_is) at c.place-place.ensures.inside in
     let inside : i < length ss = omega (arith, given, halves-length ss ls) in
     let e = rw (← c.self.view_is) at c.place-place.ensures.value in
+    let limit : get_or (entries_from ss ls) (place_in a.values a.dirs c.args.cell c.args.value c.args.dir) 0 % 32768 < limit_from ls = rw (← c.self.view_is) at c.requires.limit in
+    let below : get_or (entries_from ss ls) i 0 % 32768 < limit_from ls = omega (arith, limit, ap (λ k. get_or (entries_from ss ls) k 0 % 32768) e) in
     let s = c.index-small.result.now in
     let read : s ≡ get_or ss i 0 = get_or_read ss i s inside c.index-small.ensures 0 in
-    let l = get_or ls i 0 in
-    let at : get_or (entries_from ss ls) i 0 ≡ entry_from s l = halves-at ss ls i inside ∙ ap (λ x. entry_from x l) (sym read) in
-    rw (← c.self.view_is) (ap (λ x. x % 128) at ∙ half-rest s l ∙ c.if-small-eq127.true)
+    let full : get_or ss i 0 ≡ 255 = sym read ∙ c.if-small.true in
+    let room = carry-room ss ls i inside c.self.invariant.both (c.self.invariant.each i) below full in
+    omega (arith, room.0, a.large.ok.0)
 
-pub returns-else-small-eq127-clause-changed : goal.returns-else-small-eq127-clause-changed
-returns-else-small-eq127-clause-changed g c =
+pub invariant_of-self : goal.invariant_of-self
+invariant_of-self g c =
     let a = c.self.inside in
     let ss = a.small.items in
     let ls = a.large.items in
@@ -29,11 +32,59 @@ returns-else-small-eq127-clause-changed g c =
     let given = rw (← c.self.view_is) at c.place-place.ensures.inside in
     let inside : i < length ss = omega (arith, given, halves-length ss ls) in
     let e = rw (← c.self.view_is) at c.place-place.ensures.value in
+    let limit : get_or (entries_from ss ls) (place_in a.values a.dirs c.args.cell c.args.value c.args.dir) 0 % 32768 < limit_from ls = rw (← c.self.view_is) at c.requires.limit in
+    let below : get_or (entries_from ss ls) i 0 % 32768 < limit_from ls = omega (arith, limit, ap (λ k. get_or (entries_from ss ls) k 0 % 32768) e) in
     let s = c.index-small.result.now in
     let read : s ≡ get_or ss i 0 = get_or_read ss i s inside c.index-small.ensures 0 in
+    let full : get_or ss i 0 ≡ 255 = sym read ∙ c.if-small.true in
+    let room = carry-room ss ls i inside c.self.invariant.both (c.self.invariant.each i) below full in
+    let h = c.self.invariant in
     let l = get_or ls i 0 in
-    let at : get_or (entries_from ss ls) i 0 ≡ entry_from s l = halves-at ss ls i inside ∙ ap (λ x. entry_from x l) (sym read) in
-    let few = mod-lt s (let z : 0 < 128 = omega arith in z) in
-    let room : s % 128 < 127 = omega (arith, few, c.if-small-eq127.false) in
-    let counts = halves-set ss ls i (s + 1) ∙ ap (set (entries_from ss ls) i) (half-more s l room ∙ ap (λ x. x + 1) (sym at)) ∙ ap (λ k. set (entries_from ss ls) k (get_or (entries_from ss ls) k 0 + 1)) e in
+    let small = c.carry.ensures.small in
+    let large = c.carry.ensures.large in
+    let split : IsSplit 1 (l + 1) = record { limit = omega (arith, (h.each i).limit, full, room.1); some = λ p. omega arith } in
+    record {
+      whole = ap length small ∙ length-set ss i 1 ∙ h.whole;
+      both = elim h.both [ inl none ↦ absurd (omega (arith, none, room.0)) | inr same ↦ inr (ap length large ∙ length-set ls i (l + 1) ∙ same ∙ sym (length-set ss i 1) ∙ sym (ap length small)) ];
+      each = λ j. subst (λ xs. IsSplit (get_or xs j 0) (get_or c.carry.new.large.items j 0)) (sym small)
+          (subst (λ ys. IsSplit (get_or (set ss i 1) j 0) (get_or ys j 0)) (sym large) (split-both ss ls i 1 (l + 1) inside room.0 h.each split j));
+    }
+
+pub returns-then-small-clause-changed : goal.returns-then-small-clause-changed
+returns-then-small-clause-changed g c =
+    let a = c.self.inside in
+    let ss = a.small.items in
+    let ls = a.large.items in
+    let i = c.place-place.result in
+    let given = rw (← c.self.view_is) at c.place-place.ensures.inside in
+    let inside : i < length ss = omega (arith, given, halves-length ss ls) in
+    let e = rw (← c.self.view_is) at c.place-place.ensures.value in
+    let limit : get_or (entries_from ss ls) (place_in a.values a.dirs c.args.cell c.args.value c.args.dir) 0 % 32768 < limit_from ls = rw (← c.self.view_is) at c.requires.limit in
+    let below : get_or (entries_from ss ls) i 0 % 32768 < limit_from ls = omega (arith, limit, ap (λ k. get_or (entries_from ss ls) k 0 % 32768) e) in
+    let s = c.index-small.result.now in
+    let read : s ≡ get_or ss i 0 = get_or_read ss i s inside c.index-small.ensures 0 in
+    let full : get_or ss i 0 ≡ 255 = sym read ∙ c.if-small.true in
+    let room = carry-room ss ls i inside c.self.invariant.both (c.self.invariant.each i) below full in
+    let l = get_or ls i 0 in
+    let small = c.carry.ensures.small in
+    let large = c.carry.ensures.large in
+    let limits = ap limit_from large ∙ limit-set ls i (l + 1) in
+    let counts = ap (λ xs. entries_from xs c.carry.new.large.items) small ∙ ap (entries_from (set ss i 1)) large ∙ carry-entries ss ls i inside room.0 full ∙ ap (λ k. set (entries_from ss ls) k (get_or (entries_from ss ls) k 0 + 1)) e in
+    rw (← c.self.view_is) (λ j. record { cells = a.cells; values = a.values; dirs = a.dirs; limit = limits j; counts = counts j })
+
+pub returns-else-small-clause-changed : goal.returns-else-small-clause-changed
+returns-else-small-clause-changed g c =
+    let a = c.self.inside in
+    let ss = a.small.items in
+    let ls = a.large.items in
+    let i = c.place-place.result in
+    let given = rw (← c.self.view_is) at c.place-place.ensures.inside in
+    let inside : i < length ss = omega (arith, given, halves-length ss ls) in
+    let e = rw (← c.self.view_is) at c.place-place.ensures.value in
+    let limit : get_or (entries_from ss ls) (place_in a.values a.dirs c.args.cell c.args.value c.args.dir) 0 % 32768 < limit_from ls = rw (← c.self.view_is) at c.requires.limit in
+    let below : get_or (entries_from ss ls) i 0 % 32768 < limit_from ls = omega (arith, limit, ap (λ k. get_or (entries_from ss ls) k 0 % 32768) e) in
+    let s = c.index-small.result.now in
+    let read : s ≡ get_or ss i 0 = get_or_read ss i s inside c.index-small.ensures 0 in
+    let more = more-entries ss ls i inside c.self.invariant.both below in
+    let counts = ap (λ x. entries_from (set ss i (x + 1)) ls) read ∙ more ∙ ap (λ k. set (entries_from ss ls) k (get_or (entries_from ss ls) k 0 + 1)) e in
     rw (← c.self.view_is) (λ j. record { cells = a.cells; values = a.values; dirs = a.dirs; limit = limit_from ls; counts = counts j })
