@@ -30,6 +30,19 @@ pub struct Flight<'p> {
     pub head: usize,
 }
 
+/// The value whose entry stands at an offset within its cell. Division by 4 alone is a shift.
+#[inline]
+fn value_at(offset: u16, dirs: u8) -> u16
+    requires some { 0 < dirs }
+    ensures value { result ≡ offset / dirs }
+{
+    if dirs == 4 {
+        offset / 4
+    } else {
+        offset / u16::from(dirs)
+    }
+}
+
 impl<'p> Flight<'p> {
     /// Where the entries of each neighbour of a cell begin in the table, `NO_ROW` where there is no neighbour.
     #[inline]
@@ -64,7 +77,7 @@ impl<'p> Flight<'p> {
     {
         let problem = self.board.problem;
         if let Some(next) = problem.neighbour(cell, link.dir) {
-            let value = link.offset / u16::from(problem.dirs());
+            let value = value_at(link.offset, problem.dirs());
             let back = opposite(link.dir);
             if self.board.domains.has(next, value) && is_alive(self.board.verdict) {
                 self.board.remove(next, value, Cause::Arc(back));

@@ -65,7 +65,8 @@ impl<'p, 's> Reading<'p, 's> {
     /// The next line, without its end.
     pub(crate) fn line(&mut self, line: &[u8]) -> Result<(), CheckFault>
         requires counted { self.old.number < 2 ^ 64 - 1 }
-        ensures led { Leads (line_led (problem_of self.old.checker) self.old.shape.now self.old.number (place_of self.old) line.now) (place_of self.new) result }
+        ensures led { Leads (line_led (problem_of self.old.checker) self.old.shape.now
+            self.old.number (place_of self.old) line.now) (place_of self.new) result }
         ensures same { OnOk result (reads_for self.new ≡ reads_for self.old) }
         ensures next { OnOk result (self.new.number ≡ self.old.number + 1) }
     {
@@ -111,7 +112,8 @@ fn take_line(
     line: &[u8],
 ) -> Result<Stage, CheckFault>
     ensures led { MatchResult result
-        (λ next. staged (problem_of checker.old) shape.now number stage (point_of checker.old) line.now ≡ Ok (place next (point_of checker.new)))
+        (λ next. staged (problem_of checker.old) shape.now number stage (point_of checker.old)
+        line.now ≡ Ok (place next (point_of checker.new)))
         (λ fault. staged (problem_of checker.old) shape.now number stage (point_of checker.old) line.now ≡ Err fault) }
     ensures same { problem_of checker.new ≡ problem_of checker.old }
 {
@@ -184,7 +186,8 @@ fn after_line(
     line: &[u8],
 ) -> Result<(), CheckFault>
     ensures led { MatchResult result
-        (λ _. after_line (problem_of checker.old) number format (point_of checker.old) (line_in format line.now) ≡ Ok (place (Proving format) (point_of checker.new)))
+        (λ _. after_line (problem_of checker.old) number format (point_of checker.old)
+        (line_in format line.now) ≡ Ok (place (Proving format) (point_of checker.new)))
         (λ fault. after_line (problem_of checker.old) number format (point_of checker.old) (line_in format line.now) ≡ Err fault) }
     ensures same { problem_of checker.new ≡ problem_of checker.old }
 {

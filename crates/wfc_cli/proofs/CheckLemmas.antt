@@ -15,7 +15,7 @@ use Rattle.wfc_task.specs.declared.fault.Refusal.{Refusal}
 use Rattle.wfc_task.proofs.CallerLemmas.{check_given}
 use Rattle.wfc_cli.specs.Answer.{Devices, IsAnswer}
 use Rattle.wfc_cli.specs.Answers.{Answers, check_answer}
-use Rattle.wfc_cli.specs.CheckClaims.{Accepts, ChecksRefutation, Refuses}
+use Rattle.wfc_cli.specs.CheckClaims.{Accepts, ChecksRefutation, IsRefuted, Refuses}
 use Rattle.wfc_cli.specs.Claims.{IsCommand}
 use Rattle.wfc_cli.specs.Reply.{Answered, Takes, TakesWhole, verdict_status}
 use Rattle.wfc_cli.proofs.CommandLemmas.{CameTo, whole, cut, none, came_to, planned}
@@ -44,6 +44,13 @@ accepted (Err faults.TooLong) is = absurd (cc)
 accepted (Err faults.NoMemory) is = absurd (cc)
 accepted (Err (faults.OptionsDiffer found)) is = absurd (cc)
 
+-- a file without a fault is a refutation
+pub is_accepted : (words : List (List ℕ)) (before : Devices) (asked : RequestView) (files : List File) → IsCommand commands.Check words before asked files → (task : IsCheckTask asked files None) → IsRefuted asked task.work
+is_accepted words before asked files is task =
+    let work = task.work in
+    let sure = known words before asked files is work in
+    accepted_refutation work.P sure.bridge.problem (shape_of asked) work.bytes (accepted (checked work.P (shape_of asked) work.bytes) task.answer)
+
 pub checks_refutation : (rules : List Rule) (words : List (List ℕ)) (before after : Devices) (status : ℕ) → IsAnswer rules words before after status → ChecksRefutation words before after status
 checks_refutation rules words before after status answer asked files is low = by_end (came_to rules commands.Check words before after status answer asked files is)
   where
@@ -52,7 +59,7 @@ checks_refutation rules words before after status answer asked files is low = by
     by_found None task same takes =
         let work = task.work in
         let sure = known words before asked files is work in
-        let refutation = accepted_refutation work.P sure.bridge.problem (shape_of asked) work.bytes (accepted (checked work.P (shape_of asked) work.bytes) task.answer) in
+        let refutation = is_accepted words before asked files is task in
         (work, inl (same, record { refutation = refutation; none = no_legal asked files work.P work.posed sure.bridge (refutation_none work.P sure.bridge.problem (shape_of asked) work.bytes refutation); written = takes }))
     by_found (Some fault) task same takes =
         let work = task.work in

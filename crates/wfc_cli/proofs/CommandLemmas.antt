@@ -41,7 +41,7 @@ use Rattle.wfc_task.proofs.CallerLemmas.{domains_given, fill_given, fill_tiles_g
 use Rattle.wfc_cli.specs.Answer.{Devices, IsAnswer, Replied}
 use Rattle.wfc_cli.specs.Answers.{Answers, demo_answer, demo_budget, demo_text, domains_answer, fill_answer, fill_by, fill_text, outcome_status, root_verdict, steps_text, verdict_of}
 use Rattle.wfc_cli.specs.Choosers.{chosen, kinds_of}
-use Rattle.wfc_cli.specs.Claims.{FillWork, HasNoMap, IsAsRun, IsCommand, IsLegalMap, IsNeverSpent, IsRules, IsRulesBy, WritesDemo, WritesDomains, WritesFront, WritesLearned, WritesLegalMap, assignment_text, map_text_of}
+use Rattle.wfc_cli.specs.Claims.{FillWork, HasNoMap, IsAsRun, IsCommand, IsFoundMap, IsLegalMap, IsNeverSpent, IsRules, IsRulesBy, WritesDemo, WritesDomains, WritesFront, WritesLearned, WritesLegalMap, assignment_text, map_text_of}
 use Rattle.wfc_cli.specs.Maps.{IsLaidBy, map_by, map_of, map_text_by}
 use Rattle.wfc_cli.specs.Reply.{Answered, CutsOff, Delivers, Reply, Takes, TakesWhole, done_with, said_of, verdict_status}
 use Rattle.wfc_cli.specs.Runs.{end_by, end_of, seeded}
@@ -59,7 +59,7 @@ pub record HasAnswered (rules : List Rule) (asked : RequestView) (files : List F
   pub is : task_of rules asked files ≡ Ok task
   pub answers : Answers rules asked task answered
 
-answered_task : (rules : List Rule) (asked : RequestView) (before after : Devices) (files : List File) (answered : Answered) → ToldReply rules asked before.folder after.folder files (Ok answered) → HasAnswered rules asked files answered
+pub answered_task : (rules : List Rule) (asked : RequestView) (before after : Devices) (files : List File) (answered : Answered) → ToldReply rules asked before.folder after.folder files (Ok answered) → HasAnswered rules asked files answered
 answered_task rules asked before after files answered (inl replied) = by_task (task_of rules asked files) refl replied
   where
     by_task : (task : Result Task Fault) → task_of rules asked files ≡ task → Replied rules asked task (Ok answered) → HasAnswered rules asked files answered
@@ -97,12 +97,12 @@ planned rules asked files command task is comes = ap (λ (plan : Plan Task). out
 -- ---- `learn`
 
 -- what `learn` answered
-record HasLearned (source : SourceModel) (asked : RequestView) (files : List File) (answered : Answered) : Type 0 where
-  text : List ℕ
-  rules : IsRulesBy source asked files text
-  is : done_with text ≡ answered
+pub record HasLearned (source : SourceModel) (asked : RequestView) (files : List File) (answered : Answered) : Type 0 where
+  pub text : List ℕ
+  pub rules : IsRulesBy source asked files text
+  pub is : done_with text ≡ answered
 
-has_learned : (source : SourceModel) (rules : List Rule) (asked : RequestView) (files : List File) (task : Task) (answered : Answered) → asked.source ≡ source → outcome (learn_plan asked) files ≡ Ok task
+pub has_learned : (source : SourceModel) (rules : List Rule) (asked : RequestView) (files : List File) (task : Task) (answered : Answered) → asked.source ≡ source → outcome (learn_plan asked) files ≡ Ok task
     → Answers rules asked task answered → HasLearned source asked files answered
 has_learned (Overlap n) rules asked files task answered is comes answers =
     let given = learn_given asked files task (ap is_of_windows is) comes in
@@ -192,13 +192,13 @@ ran_by rules kind P budget seed end is = by_rule (chosen kind rules) is
     by_rule None is = absurd (cc (is))
 
 -- what `fill` answered
-record HasFilled (rules : List Rule) (asked : RequestView) (files : List File) (answered : Answered) : Type 0 where
-  work : FillWork rules asked files
-  end : Outcome × State
-  ends : end_of rules asked.rule work.P asked.budget asked.seed ≡ Some end
-  is : answered ≡ record { verdict = verdict_of asked.budget end.0; text = fill_text (assignment_text asked work) work.P end; whole = true }
+pub record HasFilled (rules : List Rule) (asked : RequestView) (files : List File) (answered : Answered) : Type 0 where
+  pub work : FillWork rules asked files
+  pub end : Outcome × State
+  pub ends : end_of rules asked.rule work.P asked.budget asked.seed ≡ Some end
+  pub is : answered ≡ record { verdict = verdict_of asked.budget end.0; text = fill_text (assignment_text asked work) work.P end; whole = true }
 
-fill_answered : (rules : List Rule) (words : List (List ℕ)) (before : Devices) (asked : RequestView) (files : List File) (answered : Answered) → IsCommand commands.Fill words before asked files → HasAnswered rules asked files answered
+pub fill_answered : (rules : List Rule) (words : List (List ℕ)) (before : Devices) (asked : RequestView) (files : List File) (answered : Answered) → IsCommand commands.Fill words before asked files → HasAnswered rules asked files answered
     → HasFilled rules asked files answered
 fill_answered rules words before asked files answered is has =
     let made = has_fill_task asked.source rules asked files has.task refl (planned rules asked files commands.Fill has.task is.command_is has.is) in
@@ -244,6 +244,14 @@ map_is_legal rules words before asked files is work s ends =
     let ran = ran_by rules asked.rule work.P asked.budget asked.seed (outcome.Map, s) ends in
     sure.makes (assignment_of work.P s.standing) (outcome_map work.P sure.problem ran.0 asked.budget (seeded asked.seed) s ran.1).1
 
+-- a run ends in one map
+pub found_once : (rules : List Rule) (asked : RequestView) (files : List File) (work : FillWork rules asked files) (m other : Raster) → IsFoundMap asked work m → IsFoundMap asked work other → m ≡ other
+found_once rules asked files work m other first second =
+    let ends : Some (outcome.Map, first.state) ≡ Some (outcome.Map, second.state) = sym first.ends ∙ second.ends in
+    let pairs : (outcome.Map, first.state) ≡ (outcome.Map, second.state) = cc (ends) in
+    let same : first.state ≡ second.state = ap (λ (end : Outcome × State). end.1) pairs in
+    first.made ∙ ap (λ (s : State). found_map rules asked files work s) same ∙ sym second.made
+
 pub writes_legal : (rules : List Rule) (words : List (List ℕ)) (before after : Devices) (status : ℕ) → IsAnswer rules words before after status → WritesLegalMap rules words before after status
 writes_legal rules words before after status answer asked files is nought =
     let run = is_as_run rules words before after status answer asked files is (omega (arith, nought)) in by_outcome run.0 run.1.0 run.1.1 run.2 run.3 run.4
@@ -288,13 +296,13 @@ writes_front rules words before after status answer asked files is five = by_end
   where
     by_outcome : (work : FillWork rules asked files) (o : Outcome) (s : State) → end_of rules asked.rule work.P asked.budget asked.seed ≡ Some (o, s)
         → CutsOff (fill_text (assignment_text asked work) work.P (o, s)) before.out after.out
-        → (work : FillWork rules asked files) × (m : Raster) × IsLegalMap asked work m × IsFaultAfterFront before.out after.out (map_text_of asked work m)
-    by_outcome work outcome.Map s ends front = (work, found_map rules asked files work s, map_is_legal rules words before asked files is work s ends, front)
+        → (work : FillWork rules asked files) × (m : Raster) × IsFoundMap asked work m × IsLegalMap asked work m × IsFaultAfterFront before.out after.out (map_text_of asked work m)
+    by_outcome work outcome.Map s ends front = (work, found_map rules asked files work s, record { state = s; ends = ends; made = refl }, map_is_legal rules words before asked files is work s ends, front)
     by_outcome work outcome.NoMap s ends front = absurd front
     by_outcome work outcome.Spent s ends front = absurd front
 
     by_end : CameTo rules asked files before after status
-        → (after.out ≡ before.out) ⊎ ((work : FillWork rules asked files) × (m : Raster) × IsLegalMap asked work m × IsFaultAfterFront before.out after.out (map_text_of asked work m))
+        → (after.out ≡ before.out) ⊎ ((work : FillWork rules asked files) × (m : Raster) × IsFoundMap asked work m × IsLegalMap asked work m × IsFaultAfterFront before.out after.out (map_text_of asked work m))
     by_end (whole answered has same takes) = absurd (verdict_apart answered.verdict 5 (omega arith) (sym same ∙ five))
     by_end (cut answered has _ front) =
         let filled = fill_answered rules words before asked files answered is has in
@@ -333,7 +341,7 @@ writes_domains rules words before after status answer asked files is low = by_en
 -- ---- `demo`
 
 -- what `demo` comes to
-demo_given : (kinds : List RuleKind) (asked : RequestView) (files : List File) (task : Task) → outcome (demo_plan kinds asked) files ≡ Ok task → demo (demo_patterns asked.number) (demo_problem asked.number) ≡ task
+pub demo_given : (kinds : List RuleKind) (asked : RequestView) (files : List File) (task : Task) → outcome (demo_plan kinds asked) files ≡ Ok task → demo (demo_patterns asked.number) (demo_problem asked.number) ≡ task
 demo_given kinds asked files task is = by_chosen (choosing kinds Fewest) is
   where
     by_chosen : (found : Result (Unit {0}) Refusal) → outcome (and_then (step found) (λ _. let end : Plan Task = done (demo (demo_patterns asked.number) (demo_problem asked.number)) in end)) files ≡ Ok task

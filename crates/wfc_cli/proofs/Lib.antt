@@ -5,6 +5,7 @@ pub mod RunLemmas
 pub mod WalkLemmas
 pub mod EndLemmas
 pub mod MapLemmas
+pub mod ReachLemmas
 pub mod TheoremLemmas
 pub mod CommandLemmas
 pub mod DemoLemmas
@@ -12,3 +13,5 @@ pub mod CheckLemmas
 pub mod RefuteLemmas
 pub mod RunTextLemmas
 pub mod UpgradeLemmas
+pub mod CutLemmas
+pub mod LineLemmas

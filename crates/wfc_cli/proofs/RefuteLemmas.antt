@@ -333,9 +333,9 @@ refuted_status budget outcome.NoMap = refl
 refuted_status budget outcome.Spent = refl
 
 -- what `refute` answered
-record HasRefuted (rules : List Rule) (asked : RequestView) (files : List File) (answered : Answered) : Type 0 where
-  work : RefuteWork rules asked files
-  is : RefutesWhole work.rule asked work.P answered ⊎ RefutesFront work.rule asked work.P answered
+pub record HasRefuted (rules : List Rule) (asked : RequestView) (files : List File) (answered : Answered) : Type 0 where
+  pub work : RefuteWork rules asked files
+  pub is : RefutesWhole work.rule asked work.P answered ⊎ RefutesFront work.rule asked work.P answered
 
 refuted_by : (rules : List Rule) (asked : RequestView) (files : List File) (answered : Answered) (P : Network) → IsRefuteTask (kinds_of rules) asked files P → Answers rules asked (tasks.refute P) answered → HasRefuted rules asked files answered
 refuted_by rules asked files answered P task answers = by_rule (chosen asked.rule rules) refl answers
@@ -366,7 +366,7 @@ run_spent P p rule budget words later outcome.Spent run two =
 run_spent P p rule budget words later outcome.Map run two = absurd (omega (arith, two))
 run_spent P p rule budget words later outcome.NoMap run two = absurd (omega (arith, two))
 
-has_refuted : (rules : List Rule) (words : List (List ℕ)) (before : Devices) (asked : RequestView) (files : List File) (task : Task) (answered : Answered) → IsCommand commands.Refute words before asked files
+pub has_refuted : (rules : List Rule) (words : List (List ℕ)) (before : Devices) (asked : RequestView) (files : List File) (task : Task) (answered : Answered) → IsCommand commands.Refute words before asked files
     → (P : Network) → tasks.refute P ≡ task → IsRefuteTask (kinds_of rules) asked files P → Answers rules asked task answered → HasRefuted rules asked files answered
 has_refuted rules words before asked files task answered is P same given answers = refuted_by rules asked files answered P given (subst (λ (t : Task). Answers rules asked t answered) (sym same) answers)
 

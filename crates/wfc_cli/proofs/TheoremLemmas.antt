@@ -12,19 +12,20 @@ use Rattle.wfc_words.specs.RequestView.{RequestView}
 use Rattle.wfc_words.specs.declared.fault.CommandFault.{CommandFault}
 use Rattle.wfc_words.specs.declared.fault.CommandFault.TheVariants as words_fault
 use Rattle.wfc_task.specs.Fault.{class_of, class_status, reading_status, status_of}
-use Rattle.wfc_task.specs.Plan.{Goes, IsHindered, IsShort, Plan, ToldEnd, refuse}
+use Rattle.wfc_task.specs.Plan.{Goes, IsShort, Plan, refuse}
 use Rattle.wfc_task.specs.Task.{Task, plan_of}
 use Rattle.wfc_task.specs.declared.fault.Fault.{Fault}
 use Rattle.wfc_task.specs.declared.fault.Fault.TheVariants.{Unread, Refused}
 use Rattle.wfc_task.specs.declared.fault.Class.{Class}
 use Rattle.wfc_task.specs.declared.fault.Class.TheVariants.{Input, Memory, NoChooser}
-use Rattle.wfc_task.proofs.CallerLemmas.{goes_device, goes_quiet, goes_told, never_3}
+use Rattle.wfc_task.proofs.CallerLemmas.{goes_quiet, never_3}
 use Rattle.wfc_cli.specs.Choosers.{kinds_of}
 use Rattle.wfc_cli.specs.ErrorLine.{command_status}
 use Rattle.wfc_cli.specs.Reply.{Reply, CutsOff, Delivers, IsDelivered, Takes, TakesWhole, said_of, verdict_status}
 use Rattle.wfc_cli.specs.declared.reply.Verdict.{Verdict}
 use Rattle.wfc_cli.specs.declared.reply.Verdict.TheVariants.{Done, NoMap, Spent, Dead, MapExists, Unaccepted}
 use Rattle.wfc_cli.specs.Answer.{AnswersAsked, Devices, Ends, IsAnswer, IsAnswerTo, IsRefusedCall, Replied, Replies}
+use Rattle.wfc_cli.proofs.ReachLemmas.{IsStopped, first_missing, goes_reading, goes_stopped}
 use Rattle.wfc_cli.specs.Theorem.{AreQuiet, HasFirstFault, IsAnswered, IsComplete, IsDeviceFault, IsFileFault, IsGiven, IsNoCommand, IsRefusedFirst, IsRefusedWith, IsWithoutAnswer, NoneCounted, task_of}
 
 -- no verdict has a status above 2
@@ -57,7 +58,7 @@ fault_between (Refused refusal) = by_class (class_of refusal)
     by_class NoChooser = (omega arith, omega arith)
 
 -- the status of words that are no request is 3 or 6
-command_between : (fault : CommandFault) → (command_status fault ≡ 3) ⊎ (command_status fault ≡ 6)
+pub command_between : (fault : CommandFault) → (command_status fault ≡ 3) ⊎ (command_status fault ≡ 6)
 command_between words_fault.Refused = inl refl
 command_between (words_fault.Value name) = inl refl
 command_between words_fault.NoMemory = inr refl
@@ -71,11 +72,11 @@ replied_fault : (rules : List Rule) (asked : RequestView) (ended : Result Task F
 replied_fault rules asked ended reply fault is replied = subst (λ e. Replied rules asked e reply) is replied
 
 -- the fault of a reply to a task is want of memory, and else it is that of the plan
-data FaultOf (rules : List Rule) (asked : RequestView) (before after : FolderView) (fault : Fault) : Type 0 where
+pub data FaultOf (rules : List Rule) (asked : RequestView) (before after : FolderView) (fault : Fault) : Type 0 where
   of_plan : Goes (plan_of (kinds_of rules) asked) before after (Err fault) → FaultOf rules asked before after fault
   of_task : status_of fault ≡ 6 → FaultOf rules asked before after fault
 
-fault_from : (rules : List Rule) (asked : RequestView) (before after : FolderView) (fault : Fault) → Ends rules asked before after (Err fault) → FaultOf rules asked before after fault
+pub fault_from : (rules : List Rule) (asked : RequestView) (before after : FolderView) (fault : Fault) → Ends rules asked before after (Err fault) → FaultOf rules asked before after fault
 fault_from rules asked before after fault ends = by_end ends.ended ends.goes ends.replied
   where
     by_end : (ended : Result Task Fault) → Goes (plan_of (kinds_of rules) asked) before after ended → Replied rules asked ended (Err fault) → FaultOf rules asked before after fault
@@ -85,7 +86,7 @@ fault_from rules asked before after fault ends = by_end ends.ended ends.goes end
         of_plan (subst (λ f. let ended : Result Task Fault = Err f in Goes (plan_of (kinds_of rules) asked) before after ended) same goes)
 
 -- what a call with words that are no request does to its status
-refused_status : (fault : CommandFault) (before after : Devices) (status : ℕ) → IsRefusedCall fault before after status → (status ≡ command_status fault) × (after.out ≡ before.out)
+pub refused_status : (fault : CommandFault) (before after : Devices) (status : ℕ) → IsRefusedCall fault before after status → (status ≡ command_status fault) × (after.out ≡ before.out)
 refused_status fault before after status call = elim (call.delivers) [ inl delivered ↦ (delivered.same_status, delivered.taken) | inr cut ↦ absurd (cut.front) ]
 
 -- a call for a request never ends with the status of other words
@@ -174,7 +175,7 @@ keeps_out rules words before after status answer without = elim (answer.answers)
     by_request (Err fault) answer = (refused_status fault before after status answer).1
 
 -- a cut text leaves a counted fault
-cut_counted : (text : Option (List ℕ)) (old new : SinkView) → CutsOff text old new → HasRisen old.faults new.faults
+pub cut_counted : (text : Option (List ℕ)) (old new : SinkView) → CutsOff text old new → HasRisen old.faults new.faults
 cut_counted None old new cut = absurd cut
 cut_counted (Some text) old new cut = cut.counted
 
@@ -185,6 +186,22 @@ command_not_5 fault before after status call five = elim (command_between fault)
   | inr six ↦ omega (arith, (refused_status fault before after status call).0, six, five)
 ]
 
+-- a plan that ends with the status of a device ended at a file
+pub file_fault : (rules : List Rule) (asked : RequestView) (before after : FolderView) (fault : Fault) → Goes (plan_of (kinds_of rules) asked) before after (Err fault) → status_of fault ≡ 5
+    → (file : IsFileFault rules asked before after) × (fault ≡ Unread file.source file.fault)
+file_fault rules asked before after fault goes five =
+    let ends = goes_reading (plan_of (kinds_of rules) asked) before after fault goes five in (
+      record {
+        source = ends.source;
+        name = ends.name;
+        fault = ends.why;
+        reached = ends.reached;
+        cause = ends.cause;
+        first = λ missing files told. first_missing (plan_of (kinds_of rules) asked) before after fault ends.source files goes (ends.is ∙ ap (λ why. Unread ends.source why) missing) told;
+      },
+      ends.is,
+    )
+
 -- status 5 comes only from a file or from the sink of the answer
 pub is_device_fault : (rules : List Rule) (words : List (List ℕ)) (before after : Devices) (status : ℕ) → IsAnswer rules words before after status → status ≡ 5 → IsDeviceFault rules words before after
 is_device_fault rules words before after status answer five = elim (answer.answers) [
@@ -193,7 +210,7 @@ is_device_fault rules words before after status answer five = elim (answer.answe
 ]
   where
     by_fault : (asked : RequestView) (fault : Fault) → status_of fault ≡ 5 → FaultOf rules asked before.folder after.folder fault → IsFileFault rules asked before.folder after.folder
-    by_fault asked fault is (of_plan goes) = goes_device (plan_of (kinds_of rules) asked) before.folder after.folder fault goes is
+    by_fault asked fault is (of_plan goes) = (file_fault rules asked before.folder after.folder fault goes is).0
     by_fault asked fault is (of_task six) = absurd (omega (arith, six, is))
 
     by_reply : (asked : RequestView) (reply : Reply) → Ends rules asked before.folder after.folder reply → Delivers (said_of asked reply) before.out after.out before.err after.err status
@@ -210,18 +227,18 @@ is_device_fault rules words before after status answer five = elim (answer.answe
 
 -- what a reply is where the files are told: the one to the task, or want of memory, or a counted fault
 abbrev pub ToldReply : List Rule → RequestView → FolderView → FolderView → List File → Reply → Type 0
-ToldReply rules asked before after files reply = Replied rules asked (task_of rules asked files) reply ⊎ (IsShort reply ⊎ IsHindered (plan_of (kinds_of rules) asked) before after reply)
+ToldReply rules asked before after files reply = Replied rules asked (task_of rules asked files) reply ⊎ (IsShort reply ⊎ IsStopped (plan_of (kinds_of rules) asked) before after reply)
 
-told_reply : (rules : List Rule) (asked : RequestView) (before after : FolderView) (files : List File) (reply : Reply) → before.contents ≡ Some files → Ends rules asked before after reply → ToldReply rules asked before after files reply
-told_reply rules asked before after files reply told ends = by_end (goes_told (plan_of (kinds_of rules) asked) before after ends.ended files told ends.goes)
+pub told_reply : (rules : List Rule) (asked : RequestView) (before after : FolderView) (files : List File) (reply : Reply) → before.contents ≡ Some files → Ends rules asked before after reply → ToldReply rules asked before after files reply
+told_reply rules asked before after files reply told ends = by_end (goes_stopped (plan_of (kinds_of rules) asked) before after ends.ended files told ends.goes)
   where
-    by_end : ToldEnd (plan_of (kinds_of rules) asked) before after files ends.ended → ToldReply rules asked before after files reply
+    by_end : (ends.ended ≡ task_of rules asked files) ⊎ (IsShort ends.ended ⊎ IsStopped (plan_of (kinds_of rules) asked) before after ends.ended) → ToldReply rules asked before after files reply
     by_end (inl is) = inl (subst (λ e. Replied rules asked e reply) is ends.replied)
     by_end (inr (inl (fault, six, is))) = inr (inl (fault, six, replied_fault rules asked ends.ended reply fault is ends.replied))
     by_end (inr (inr hindered)) = inr (inr (record {
       source = hindered.source;
       name = hindered.name;
-      asked = hindered.asked;
+      reached = hindered.reached;
       counted = hindered.counted;
       is = replied_fault rules asked ends.ended reply (Unread hindered.source reading.Failed) hindered.is ends.replied;
     }))
@@ -283,7 +300,7 @@ settled rules words before after status answer asked files given none = by_call 
         → IsSettled rules asked files before after status
     by_end reply (inl is) delivered = replied reply is delivered
     by_end reply (inr (inl (fault, six, is))) delivered = exhausted (delivered.same_status ∙ ap (λ r. (said_of asked r).status) is ∙ six)
-    by_end reply (inr (inr hindered)) delivered = absurd (none.files hindered.name hindered.asked hindered.counted)
+    by_end reply (inr (inr hindered)) delivered = absurd (none.files hindered.source hindered.name hindered.reached hindered.counted)
 
     by_delivery : (reply : Reply) → ToldReply rules asked before.folder after.folder files reply → Delivers (said_of asked reply) before.out after.out before.err after.err status
         → IsSettled rules asked files before after status

@@ -119,11 +119,11 @@ is_refutation : (asked : RequestView) (files : List File) (work : UpgradeWork as
 is_refutation asked files work sure found = accepted_refutation work.P sure.bridge.problem (shape_of asked) work.bytes (accepted (checked work.P (shape_of asked) work.bytes) found)
 
 -- what `upgrade` answered
-record HasUpgraded (asked : RequestView) (files : List File) (answered : Answered) : Type 0 where
-  work : UpgradeWork asked files
-  is : upgrade_answer asked work.P work.bytes (first_fault asked work.P work.bytes) ≡ answered
+pub record HasUpgraded (asked : RequestView) (files : List File) (answered : Answered) : Type 0 where
+  pub work : UpgradeWork asked files
+  pub is : upgrade_answer asked work.P work.bytes (first_fault asked work.P work.bytes) ≡ answered
 
-has_upgraded : (rules : List Rule) (asked : RequestView) (files : List File) (task : Task) (answered : Answered) (P : Network) (bytes : List ℕ) → tasks.upgrade P bytes ≡ task → IsUpgradeTask asked files P bytes
+pub has_upgraded : (rules : List Rule) (asked : RequestView) (files : List File) (task : Task) (answered : Answered) (P : Network) (bytes : List ℕ) → tasks.upgrade P bytes ≡ task → IsUpgradeTask asked files P bytes
     → Answers rules asked task answered → HasUpgraded asked files answered
 has_upgraded rules asked files task answered P bytes same given answers =
     let said : Some (upgrade_answer asked P bytes (first_fault asked P bytes)) ≡ Some answered = subst (λ (t : Task). Answers rules asked t answered) (sym same) answers in

@@ -12,8 +12,10 @@ use Rattle.wfc_problem.specs.Sizes.{is_dead}
 use Rattle.wfc_choose.specs.Pick.{Rule}
 use Rattle.wfc_choose.specs.declared.RuleKind.TheVariants.{Fewest}
 use Rattle.wfc_search.specs.Run.{State}
+use Rattle.wfc_search.specs.Search.{assignment_of}
 use Rattle.wfc_search.specs.Volume.{volume_of}
 use Rattle.wfc_search.specs.declared.Outcome.{Outcome}
+use Rattle.wfc_search.specs.declared.Outcome.TheVariants as outcome
 use Rattle.wfc_render.specs.Learned.{learned_text}
 use Rattle.wfc_render.specs.LearnedTiles.{learned_tiles_text}
 use Rattle.wfc_render.specs.declared.form.Layout.{Layout}
@@ -75,12 +77,20 @@ WritesLegalMap rules words before after status =
     → (work : FillWork rules asked files) × (m : Raster) × IsLegalMap asked work m
     × (after.out ≡ after_finish (after_bytes before.out (map_text_of asked work m)))
 
--- status 5 of `fill`: nothing was written, or a front of the text of a legal map
+-- the run of this work by the rule, the budget and the seed asked for ends in this map
+pub record IsFoundMap {rules : List Rule} {files : List File} (asked : RequestView)
+    (work : FillWork rules asked files) (m : Raster) : Type 0 where
+  pub state : State
+  pub ends : end_of rules asked.rule work.P asked.budget asked.seed ≡ Some (outcome.Map, state)
+  pub made : m ≡ map_of asked files work.P work.posed (assignment_of work.P state.standing)
+
+-- status 5 of `fill`: nothing was written, or a front of the text of the map in which the run ends,
+-- and that map is legal
 abbrev pub WritesFront : List Rule → List (List ℕ) → Devices → Devices → ℕ → Type 0
 WritesFront rules words before after status =
     (asked : RequestView) (files : List File) → IsCommand commands.Fill words before asked files → status ≡ 5
     → (after.out ≡ before.out)
-    ⊎ ((work : FillWork rules asked files) × (m : Raster) × IsLegalMap asked work m
+    ⊎ ((work : FillWork rules asked files) × (m : Raster) × IsFoundMap asked work m × IsLegalMap asked work m
     × IsFaultAfterFront before.out after.out (map_text_of asked work m))
 
 -- status 1 of `fill`: no map is legal, and nothing was written

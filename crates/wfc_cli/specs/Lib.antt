@@ -11,9 +11,12 @@ pub mod Held
 pub mod Walk
 pub mod Answer
 pub mod Ending
+pub mod Reaching
 pub mod Theorem
 pub mod Claims
 pub mod DemoClaims
 pub mod CheckClaims
 pub mod RefuteClaims
 pub mod UpgradeClaims
+pub mod CutClaims
+pub mod LineClaims

@@ -1,16 +1,21 @@
 -- The words of the main theorem on a call of the program.
 use Rattle.std.specs.Prelude.{◌≡◌, ℕ, ◌⊎◌, List, Some, Result, Ok, Err, IsErr}
 use Rattle.wfc_outside.specs.Count.{HasRisen}
-use Rattle.wfc_outside.specs.Folder.{File, FolderView, IsMissing, IsFaultOf}
+use Rattle.wfc_outside.specs.Folder.{File, FolderView, IsFaultOf}
+use Rattle.wfc_outside.specs.declared.whole.ReadFault.{ReadFault}
+use Rattle.wfc_outside.specs.declared.whole.ReadFault.TheVariants as reading
 use Rattle.wfc_choose.specs.Pick.{Rule}
 use Rattle.wfc_words.specs.Request.{request_of}
 use Rattle.wfc_words.specs.RequestView.{RequestView}
 use Rattle.wfc_task.specs.Fault.{status_of}
-use Rattle.wfc_task.specs.Plan.{Asks, outcome}
+use Rattle.wfc_task.specs.Plan.{outcome}
 use Rattle.wfc_task.specs.Task.{Task, plan_of}
 use Rattle.wfc_task.specs.declared.fault.Fault.{Fault}
+use Rattle.wfc_task.specs.declared.fault.Fault.TheVariants.{Unread}
+use Rattle.wfc_task.specs.declared.fault.Source.{Source}
 use Rattle.wfc_cli.specs.Answer.{Devices, Replies}
 use Rattle.wfc_cli.specs.Choosers.{kinds_of}
+use Rattle.wfc_cli.specs.Reaching.{IsDeviceCause, Reaches}
 use Rattle.wfc_cli.specs.Reply.{Answered, IsDelivered, said_of}
 
 -- the words ask for this, and the folder tells these files
@@ -31,11 +36,21 @@ abbrev pub IsRefusedWith : List Rule → RequestView → List File → ℕ → T
 IsRefusedWith rules asked files status =
     (fault : Fault) × (task_of rules asked files ≡ Err fault) × (status_of fault ≡ status)
 
--- a file that the request may read is missing, or a fault of it was counted
-abbrev pub IsFileFault : List Rule → RequestView → FolderView → FolderView → Type 0
-IsFileFault rules asked before after =
-    (name : List ℕ) × Asks (plan_of (kinds_of rules) asked) name
-    × (IsMissing before after name ⊎ IsFaultOf before after name)
+-- where the folder tells its files, that the file is missing is the first fault of the request
+abbrev pub IsFirstMissing : List Rule → RequestView → FolderView → Source → Type 0
+IsFirstMissing rules asked before source =
+    (files : List File) → before.contents ≡ Some files
+    → task_of rules asked files ≡ Err (Unread source reading.Missing)
+
+-- a file that the request comes to, no fault being before its reading, is missing, and then that is
+-- the first fault, or a fault of it was counted
+pub record IsFileFault (rules : List Rule) (asked : RequestView) (before after : FolderView) : Type 0 where
+  pub source : Source
+  pub name : List ℕ
+  pub fault : ReadFault
+  pub reached : Reaches (plan_of (kinds_of rules) asked) before source name
+  pub cause : IsDeviceCause fault before after name
+  pub first : fault ≡ reading.Missing → IsFirstMissing rules asked before source
 
 -- a file of the request is at fault, and the sink of the answer is as before, or a fault of that sink was counted
 abbrev pub IsDeviceFault : List Rule → List (List ℕ) → Devices → Devices → Type 0
@@ -43,9 +58,9 @@ IsDeviceFault rules words before after =
     (asked : RequestView) × (request_of words ≡ Ok asked)
     × ((IsFileFault rules asked before.folder after.folder × (after.out ≡ before.out)) ⊎ HasRisen before.out.faults after.out.faults)
 
--- no fault of a file that the request may read, or of the sink of the answer, was counted
+-- no fault of a file that the request comes to, or of the sink of the answer, was counted
 pub record NoneCounted (rules : List Rule) (asked : RequestView) (before after : Devices) : Type 0 where
-  pub files : (name : List ℕ) → Asks (plan_of (kinds_of rules) asked) name
+  pub files : (source : Source) (name : List ℕ) → Reaches (plan_of (kinds_of rules) asked) before.folder source name
       → IsFaultOf before.folder after.folder name → ⊥
   pub out : HasRisen before.out.faults after.out.faults → ⊥
 

@@ -1,9 +1,11 @@
 //! Laws of the definitions, each a function with no body whose contract is the law. They run nothing.
 
-ghost use Rattle.std.specs.Prelude.{◌≡◌, ◌∷◌, [], List, None, Some, codes, ℕ};
+ghost use Rattle.std.specs.Prelude.{◌≡◌, ◌∷◌, [], List, None, Some, codes, false, ℕ};
 ghost use Rattle.wfc_outside.specs.Folder.{File};
 ghost use Rattle.wfc_model.specs.Raster.{Raster};
+ghost use Rattle.wfc_choose.specs.Pick.{Rule};
 ghost use Rattle.wfc_choose.specs.declared.RuleKind.TheVariants as rules;
+ghost use Rattle.wfc_lines.specs.Outcome.{no_map_text};
 ghost use Rattle.wfc_pins.specs.declared.steps.Step.TheVariants.{Assume, Undo};
 ghost use Rattle.wfc_problem.specs.Assignment.{IsLegalAssignment};
 ghost use Rattle.wfc_problem.specs.Network.{Network};
@@ -12,14 +14,18 @@ ghost use Rattle.wfc_proof.specs.declared.Line.TheVariants.{Empty, End, Remove, 
 ghost use Rattle.wfc_proof.specs.declared.heads.Format.TheVariants.{One, Two};
 ghost use Rattle.wfc_search.specs.declared.Outcome.TheVariants as outcomes;
 ghost use Rattle.wfc_task.specs.Asked.{IsOutputAsked, IsSourceAsked};
+ghost use Rattle.wfc_task.specs.Plan.{done, most_bytes, read};
 ghost use Rattle.wfc_task.specs.Posed.{Posed};
+ghost use Rattle.wfc_task.specs.declared.fault.Source.TheVariants.{Pins, Sample};
 ghost use Rattle.wfc_words.specs.RequestView.{RequestView};
 ghost use Rattle.wfc_cli.specs.Answers.{demo_text, outcome_status, standings};
 ghost use Rattle.wfc_cli.specs.Choosers.{chosen};
+ghost use Rattle.wfc_cli.specs.Claims.{FillWork, IsFoundMap};
 ghost use Rattle.wfc_cli.specs.Maps.{IsLegal, map_of};
+ghost use Rattle.wfc_cli.specs.Reaching.{Reaches};
 ghost use Rattle.wfc_cli.specs.RefuteClaims.{refute_status};
 ghost use Rattle.wfc_cli.specs.Refuting.{lines_in, refute_verdict, written_format};
-ghost use Rattle.wfc_cli.specs.Reply.{verdict_status};
+ghost use Rattle.wfc_cli.specs.Reply.{Tells, verdict_status};
 ghost use Rattle.wfc_cli.specs.declared.reply.Verdict.TheVariants as verdicts;
 
 /// What stands before steps and after each, by example: an undo takes the last literal that stands.
@@ -78,4 +84,27 @@ pub fn maps_are_assignments()
         IsOutputAsked asked → IsLegalAssignment P a → IsLegal asked files P posed (map_of asked files P posed a) }
     ensures there { (asked : RequestView) (files : List File) (P : Network) (posed : Posed asked files P) (m : Raster) → IsSourceAsked asked →
         IsOutputAsked asked → IsLegal asked files P posed m → (a : List ℕ) × IsLegalAssignment P a }
+{}
+
+/// The map in which a run ends is one map.
+pub fn found_maps_are_one()
+    ensures one { (rules : List Rule) (asked : RequestView) (files : List File) (work : FillWork rules asked files) (m other : Raster) →
+        IsFoundMap asked work m → IsFoundMap asked work other → m ≡ other }
+{}
+
+/// What the error stream took with a line and with none, by example.
+pub fn lines_are_told_by_example()
+    ensures whole { Tells (Some no_map_text) (record { told = Some (record { bytes = []; finished = false }); faults = 3 })
+        (record { told = Some (record { bytes = codes "wfc: no map\n"; finished = false }); faults = 3 }) }
+    ensures none { Tells None (record { told = None; faults = 3 }) (record { told = None; faults = 3 }) }
+{}
+
+/// Which file a plan comes to, by example: the second of two files where the folder has the first, and else the first alone.
+pub fn files_are_reached_by_example()
+    ensures first { Reaches {T = ℕ} (read Sample (97 ∷ []) most_bytes (λ a. read Pins (98 ∷ []) most_bytes (λ b. done 0)))
+        (record { contents = Some []; faults = λ name. 0 }) Sample (97 ∷ []) }
+    ensures second { Reaches {T = ℕ} (read Sample (97 ∷ []) most_bytes (λ a. read Pins (98 ∷ []) most_bytes (λ b. done 0)))
+        (record { contents = Some (record { name = 97 ∷ []; bytes = 7 ∷ [] } ∷ []); faults = λ name. 0 }) Pins (98 ∷ []) }
+    ensures hidden { Reaches {T = ℕ} (read Sample (97 ∷ []) most_bytes (λ a. read Pins (98 ∷ []) most_bytes (λ b. done 0)))
+        (record { contents = Some []; faults = λ name. 0 }) Pins (98 ∷ []) → ⊥ }
 {}

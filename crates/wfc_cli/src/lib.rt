@@ -7,7 +7,9 @@ ghost use Rattle.wfc_cli.specs.Answer.{IsAnswer, devices};
 ghost use Rattle.wfc_cli.specs.CheckClaims.{ChecksRefutation};
 ghost use Rattle.wfc_cli.specs.Claims.{HasNoMap, IsAsRun, IsNeverSpent, WritesDemo, WritesDomains};
 ghost use Rattle.wfc_cli.specs.Claims.{WritesFront, WritesLearned, WritesLegalMap};
+ghost use Rattle.wfc_cli.specs.CutClaims.{CutsAnswer};
 ghost use Rattle.wfc_cli.specs.DemoClaims.{EndsDemo};
+ghost use Rattle.wfc_cli.specs.LineClaims.{IsApartFromErr, TellsStatus};
 ghost use Rattle.wfc_cli.specs.RefuteClaims.{WritesRefutation, WritesRunFront};
 ghost use Rattle.wfc_cli.specs.Reply.{Tells, said_of_words};
 ghost use Rattle.wfc_cli.specs.UpgradeClaims.{UpgradesFront, UpgradesRefutation};
@@ -55,6 +57,14 @@ pub fn run<F: Folder, O: Sink, E: Sink>(
     ensures counts { result ≢ 5 → AreQuiet (devices (F.seen folder.old) (O.seen out.old) (E.seen err.old))
         (devices (F.seen folder.new) (O.seen out.new) (E.seen err.new)) }
     ensures untouched { IsWithoutAnswer result → O.seen out.new ≡ O.seen out.old }
+
+    // The error stream takes the line of the status, and nothing else depends on that stream.
+    ensures told { TellsStatus (map (λ chooser. (told chooser).rule) choosers.items) (texts words.now)
+        (devices (F.seen folder.old) (O.seen out.old) (E.seen err.old))
+        (devices (F.seen folder.new) (O.seen out.new) (E.seen err.new)) result }
+    ensures apart { IsApartFromErr (map (λ chooser. (told chooser).rule) choosers.items) (texts words.now)
+        (devices (F.seen folder.old) (O.seen out.old) (E.seen err.old))
+        (devices (F.seen folder.new) (O.seen out.new) (E.seen err.new)) result }
 
     // Where no fault is counted, the files and the words decide.
     ensures refused { IsRefusedFirst (map (λ chooser. (told chooser).rule) choosers.items) (texts words.now)
@@ -107,6 +117,9 @@ pub fn run<F: Folder, O: Sink, E: Sink>(
         (devices (F.seen folder.new) (O.seen out.new) (E.seen err.new)) result }
     ensures demo_ends { EndsDemo (texts words.now)
         (devices (F.seen folder.old) (O.seen out.old) (E.seen err.old)) result }
+    ensures cut { CutsAnswer (map (λ chooser. (told chooser).rule) choosers.items) (texts words.now)
+        (devices (F.seen folder.old) (O.seen out.old) (E.seen err.old))
+        (devices (F.seen folder.new) (O.seen out.new) (E.seen err.new)) result }
 {
     answer(alloc, words, folder, out, err, choosers)
 }

@@ -34,13 +34,15 @@ is_tile_size width height = width == height && nat_le width MAX_TILE_SIDE
 -- a grid as a picture of a tile, if it may be one
 abbrev pub of_grid : GridView → Option PictureView
 of_grid grid =
-    if is_tile_size grid.width grid.height then Some (record { kind = kinds.Grid; side = grid.width; pixels = map (λ byte. Char byte) grid.bytes })
+    if is_tile_size grid.width grid.height
+    then Some (record { kind = kinds.Grid; side = grid.width; pixels = map (λ byte. Char byte) grid.bytes })
     else None
 
 -- a picture of colours as one of a tile, if it may be one
 abbrev pub of_ppm : PpmView → Option PictureView
 of_ppm ppm =
-    if is_tile_size ppm.width ppm.height then Some (record { kind = kinds.Ppm ppm.maxval; side = ppm.width; pixels = map (λ colour. Rgb colour) ppm.pixels })
+    if is_tile_size ppm.width ppm.height
+    then Some (record { kind = kinds.Ppm ppm.maxval; side = ppm.width; pixels = map (λ colour. Rgb colour) ppm.pixels })
     else None
 
 -- what becomes of a file that was read, and nothing of one that could not be

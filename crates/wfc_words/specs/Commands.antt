@@ -39,10 +39,16 @@ checked_words = sized_words ++ (needed (codes "REFUTATION") ∷ problem_words)
 
 -- the table: each command with its name and its words
 abbrev pub command_row : CommandKind → Command
-command_row Learn = record { name = codes "learn"; words = needed (codes "FILE") ∷ needed (codes "MODEL") ∷ choice (codes "symmetry") ∷ flag (codes "wrap-in") ∷ [] }
+command_row Learn = record {
+  name = codes "learn";
+  words = needed (codes "FILE") ∷ needed (codes "MODEL") ∷ choice (codes "symmetry") ∷ flag (codes "wrap-in") ∷ [];
+}
 command_row Fill = record { name = codes "fill"; words = sized_words ++ (problem_words ++ (run_words ++ (choice (codes "form") ∷ []))) }
 command_row Domains = record { name = codes "domains"; words = sized_words ++ (problem_words ++ (choice (codes "steps") ∷ [])) }
-command_row Refute = record { name = codes "refute"; words = sized_words ++ (problem_words ++ (run_words ++ (choice (codes "format") ∷ []))) }
+command_row Refute = record {
+  name = codes "refute";
+  words = sized_words ++ (problem_words ++ (run_words ++ (choice (codes "format") ∷ [])));
+}
 command_row Check = record { name = codes "check"; words = checked_words }
 command_row Upgrade = record { name = codes "upgrade"; words = checked_words }
 command_row Demo = record { name = codes "demo"; words = needed (codes "NUMBER") ∷ [] }

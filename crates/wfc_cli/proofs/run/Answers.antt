@@ -1,7 +1,9 @@
 use Rattle.wfc_cli.proofs.TheoremLemmas.{first_fault_decides, has_first_fault, is_device_fault, is_no_command, keeps_counts, keeps_out, no_command_is_3, task_is_answered}
 use Rattle.wfc_cli.proofs.CheckLemmas.{checks_refutation}
 use Rattle.wfc_cli.proofs.CommandLemmas.{has_no_map, is_as_run, is_never_spent, writes_demo, writes_domains, writes_front, writes_learned, writes_legal}
+use Rattle.wfc_cli.proofs.CutLemmas.{cuts_answer}
 use Rattle.wfc_cli.proofs.DemoLemmas.{ends_demo}
+use Rattle.wfc_cli.proofs.LineLemmas.{is_apart_from_err, tells_status}
 use Rattle.wfc_cli.proofs.RefuteLemmas.{writes_refutation, writes_run_front}
 use Rattle.wfc_cli.proofs.UpgradeLemmas.{upgrades_front, upgrades_refutation}
 use Rattle.wfc_cli.proofs.run.Goals as goal
@@ -68,6 +70,15 @@ returns-clause-upgraded g c = upgrades_refutation _ _ _ _ _ c.answer.ensures.ans
 
 pub returns-clause-upgraded_front : goal.returns-clause-upgraded_front
 returns-clause-upgraded_front g c = upgrades_front _ _ _ _ _ c.answer.ensures.answer
+
+pub returns-clause-cut : goal.returns-clause-cut
+returns-clause-cut g c = cuts_answer _ _ _ _ _ c.answer.ensures.answer
+
+pub returns-clause-told : goal.returns-clause-told
+returns-clause-told g c = tells_status _ _ _ _ _ c.answer.ensures.answer
+
+pub returns-clause-apart : goal.returns-clause-apart
+returns-clause-apart g c = is_apart_from_err _ _ _ _ _ c.answer.ensures.answer
 
 pub returns-clause-demo_ends : goal.returns-clause-demo_ends
 returns-clause-demo_ends g c = ends_demo _ _ _ _ _ c.answer.ensures.answer

@@ -1,0 +1,460 @@
+-- What the error stream is told with each status.
+use Rattle.std.proofs.Common.{◌≡◌, ◌≢◌, ℕ, ◌⊎◌, inl, inr, true, false, Bool, List, [], Option, None, Some, Result, Ok, Err, ap, sym, ◌∙◌, subst, refl, arith, if◌then◌else◌}
+use Rattle.wfc_outside.specs.Folder.{File}
+use Rattle.wfc_outside.specs.Sink.{SinkView}
+use Rattle.wfc_outside.specs.declared.whole.ReadFault.TheVariants as reads
+use Rattle.wfc_grid.specs.declared.reading.GridFault.{GridFault}
+use Rattle.wfc_grid.specs.declared.reading.GridFault.TheVariants as grids
+use Rattle.wfc_ppm.specs.declared.reading.PpmFault.{PpmFault}
+use Rattle.wfc_ppm.specs.declared.reading.PpmFault.TheVariants as ppms
+use Rattle.wfc_picture.specs.declared.palette.PaletteFault.{PaletteFault}
+use Rattle.wfc_picture.specs.declared.palette.PaletteFault.TheVariants as palettes
+use Rattle.wfc_pattern.specs.declared.learning.LearnFault.{LearnFault}
+use Rattle.wfc_pattern.specs.declared.learning.LearnFault.TheVariants as learning
+use Rattle.wfc_pins.specs.declared.pins.PinFault.{PinFault}
+use Rattle.wfc_pins.specs.declared.pins.PinFault.TheVariants as pins
+use Rattle.wfc_pins.specs.declared.fault.BuildFault.{BuildFault}
+use Rattle.wfc_pins.specs.declared.fault.BuildFault.TheVariants as builds
+use Rattle.wfc_pins.specs.declared.steps.StepFault.{StepFault}
+use Rattle.wfc_pins.specs.declared.steps.StepFault.TheVariants as steps
+use Rattle.wfc_tiled.specs.declared.reading.MaskFault.{MaskFault}
+use Rattle.wfc_tiled.specs.declared.reading.MaskFault.TheVariants as masks
+use Rattle.wfc_tileset.specs.declared.fault.TileFault.{TileFault}
+use Rattle.wfc_tileset.specs.declared.fault.TileFault.TheVariants as tiles
+use Rattle.wfc_check.specs.declared.fault.CheckFault.{CheckFault}
+use Rattle.wfc_problem.specs.Network.{Network}
+use Rattle.wfc_problem.specs.Rounds.{greatest}
+use Rattle.wfc_problem.specs.Sizes.{is_dead}
+use Rattle.wfc_choose.specs.Pick.{Rule}
+use Rattle.wfc_choose.specs.declared.RuleKind.TheVariants.{Fewest}
+use Rattle.wfc_search.specs.Run.{State}
+use Rattle.wfc_search.specs.declared.Outcome.{Outcome}
+use Rattle.wfc_search.specs.declared.Outcome.TheVariants as outcome
+use Rattle.wfc_lines.specs.Build.{text_of_build}
+use Rattle.wfc_lines.specs.Check.{text_of_check}
+use Rattle.wfc_lines.specs.Command.{text_of_command}
+use Rattle.wfc_lines.specs.Grid.{text_of_grid}
+use Rattle.wfc_lines.specs.Learn.{text_of_learn}
+use Rattle.wfc_lines.specs.Mask.{text_of_mask, text_of_mask_grid}
+use Rattle.wfc_lines.specs.Outcome.{map_exists_text, no_domains_text, no_map_text, no_memory_text, out_failed_text, text_of_budget}
+use Rattle.wfc_lines.specs.Palette.{text_of_palette}
+use Rattle.wfc_lines.specs.Pins.{text_of_pins}
+use Rattle.wfc_lines.specs.Ppm.{text_of_ppm}
+use Rattle.wfc_lines.specs.Steps.{text_of_steps}
+use Rattle.wfc_lines.specs.Tiles.{text_of_tiles}
+use Rattle.wfc_words.specs.Request.{request_of}
+use Rattle.wfc_words.specs.RequestView.{RequestView}
+use Rattle.wfc_words.specs.declared.fault.CommandFault.{CommandFault}
+use Rattle.wfc_words.specs.declared.fault.CommandFault.TheVariants as words_fault
+use Rattle.wfc_words.specs.declared.kinds.CommandKind.{CommandKind}
+use Rattle.wfc_words.specs.declared.kinds.CommandKind.TheVariants as commands
+use Rattle.wfc_task.specs.CheckGiven.{IsCheckTask}
+use Rattle.wfc_task.specs.Checking.{refutation_name}
+use Rattle.wfc_task.specs.Demo.{demo_patterns, demo_problem}
+use Rattle.wfc_task.specs.Fault.{build_class, class_status, colours_class, grid_class, learn_class, mask_class, pins_class, ppm_class, status_of, steps_class, tiles_class}
+use Rattle.wfc_task.specs.Plan.{Goes, IsShort}
+use Rattle.wfc_task.specs.Task.{plan_of}
+use Rattle.wfc_task.specs.declared.fault.Fault.{Fault}
+use Rattle.wfc_task.specs.declared.fault.Fault.TheVariants.{Unread, Refused}
+use Rattle.wfc_task.specs.declared.fault.Refusal.{Refusal}
+use Rattle.wfc_task.specs.declared.fault.Refusal.TheVariants as refused
+use Rattle.wfc_task.specs.declared.fault.Source.{Source}
+use Rattle.wfc_task.specs.declared.fault.Source.TheVariants as source
+use Rattle.wfc_task.proofs.CallerLemmas.{check_given, domains_given, refute_given, upgrade_given}
+use Rattle.wfc_cli.specs.Answer.{AnswersAsked, Devices, Ends, IsAnswer, IsAnswerTo, IsRefusedCall}
+use Rattle.wfc_cli.specs.Answers.{Answers, check_answer, demo_answer, demo_budget, demo_text, domains_answer, outcome_status, root_verdict, verdict_of}
+use Rattle.wfc_cli.specs.Choosers.{kinds_of}
+use Rattle.wfc_cli.specs.Claims.{IsCommand}
+use Rattle.wfc_cli.specs.CutClaims.{demonstration}
+use Rattle.wfc_cli.specs.ErrorLine.{command_status, fault_text, grid_text, name_of, refusal_text, unread_text}
+use Rattle.wfc_cli.specs.LineClaims.{IsApartFromErr, IsNoText, IsReason, TellsReason, TellsStatus, TellsWords, beside, budget_by, says_fault, says_file, says_no, says_out, says_short, says_spent}
+use Rattle.wfc_cli.specs.Refuting.{RefutesFront, RefutesWhole, refute_verdict}
+use Rattle.wfc_cli.specs.Reply.{Answered, CutsOff, Delivers, IsDelivered, IsTold, Reply, TakesWhole, Tells, said_of, verdict_status, verdict_text}
+use Rattle.wfc_cli.specs.Runs.{end_of}
+use Rattle.wfc_cli.specs.Theorem.{IsGiven, task_of}
+use Rattle.wfc_cli.specs.UpgradeClaims.{UpgradeWork}
+use Rattle.wfc_cli.specs.Upgrading.{first_fault, upgrade_answer}
+use Rattle.wfc_cli.specs.declared.reply.Verdict.{Verdict}
+use Rattle.wfc_cli.specs.declared.reply.Verdict.TheVariants as verdict
+use Rattle.wfc_cli.proofs.CommandLemmas.{HasAnswered, answered_task, demo_given, fill_answered, has_learned, planned}
+use Rattle.wfc_cli.proofs.ReachLemmas.{IsStopped, goes_stopped}
+use Rattle.wfc_cli.proofs.RefuteLemmas.{has_refuted}
+use Rattle.wfc_cli.proofs.TheoremLemmas.{FaultOf, command_between, cut_counted, fault_between, fault_from, file_fault, of_plan, of_task, refused_status, told_reply}
+use Rattle.wfc_cli.proofs.UpgradeLemmas.{has_upgraded}
+
+-- ---- want of memory has one line
+
+grid_memory : (fault : GridFault) (file : List ℕ) → class_status (grid_class fault) ≡ 6 → text_of_grid fault file ≡ no_memory_text
+grid_memory grids.NoMemory file six = refl
+grid_memory grids.Empty file six = absurd (omega (arith, six))
+grid_memory (grids.Ragged line) file six = absurd (omega (arith, six))
+grid_memory (grids.BadByte line column) file six = absurd (omega (arith, six))
+grid_memory grids.TooLarge file six = absurd (omega (arith, six))
+
+mask_grid_memory : (fault : GridFault) (file : List ℕ) → class_status (grid_class fault) ≡ 6 → text_of_mask_grid fault file ≡ no_memory_text
+mask_grid_memory grids.NoMemory file six = refl
+mask_grid_memory grids.Empty file six = absurd (omega (arith, six))
+mask_grid_memory (grids.Ragged line) file six = absurd (omega (arith, six))
+mask_grid_memory (grids.BadByte line column) file six = absurd (omega (arith, six))
+mask_grid_memory grids.TooLarge file six = absurd (omega (arith, six))
+
+ppm_memory : (fault : PpmFault) (file : List ℕ) → class_status (ppm_class fault) ≡ 6 → text_of_ppm fault file ≡ no_memory_text
+ppm_memory ppms.NoMemory file six = refl
+ppm_memory ppms.Magic file six = absurd (omega (arith, six))
+ppm_memory (ppms.Header at) file six = absurd (omega (arith, six))
+ppm_memory (ppms.Maxval value) file six = absurd (omega (arith, six))
+ppm_memory ppms.TooLarge file six = absurd (omega (arith, six))
+ppm_memory (ppms.Truncated wanted found) file six = absurd (omega (arith, six))
+ppm_memory (ppms.SampleAboveMaxval at) file six = absurd (omega (arith, six))
+ppm_memory (ppms.BadSample at) file six = absurd (omega (arith, six))
+ppm_memory (ppms.Trailing at) file six = absurd (omega (arith, six))
+
+palette_memory : (fault : PaletteFault) (file : List ℕ) → class_status (colours_class fault) ≡ 6 → text_of_palette fault file ≡ no_memory_text
+palette_memory palettes.NoMemory file six = refl
+palette_memory (palettes.TooManyColours at) file six = absurd (omega (arith, six))
+
+learn_memory : (fault : LearnFault) (file : List ℕ) → class_status (learn_class fault) ≡ 6 → text_of_learn fault file ≡ no_memory_text
+learn_memory learning.NoMemory file six = refl
+learn_memory learning.SampleBelowN file six = absurd (omega (arith, six))
+learn_memory (learning.TooManyPatterns count) file six = absurd (omega (arith, six))
+
+pins_memory : (fault : PinFault) (file : List ℕ) → class_status (pins_class fault) ≡ 6 → text_of_pins fault file ≡ no_memory_text
+pins_memory pins.NoMemory file six = refl
+pins_memory (pins.BadLine line) file six = absurd (omega (arith, six))
+
+build_memory : (fault : BuildFault) (file : List ℕ) → class_status (build_class fault) ≡ 6 → text_of_build fault file ≡ no_memory_text
+build_memory builds.NoMemory file six = refl
+build_memory builds.SizeBelowN file six = absurd (omega (arith, six))
+build_memory (builds.PinOutside line) file six = absurd (omega (arith, six))
+build_memory (builds.UnknownSymbol line) file six = absurd (omega (arith, six))
+build_memory (builds.TooLarge product) file six = absurd (omega (arith, six))
+build_memory (builds.PinInHole line) file six = absurd (omega (arith, six))
+
+steps_memory : (fault : StepFault) (file : List ℕ) → class_status (steps_class fault) ≡ 6 → text_of_steps fault file ≡ no_memory_text
+steps_memory steps.NoMemory file six = refl
+steps_memory (steps.BadLine line) file six = absurd (omega (arith, six))
+steps_memory (steps.NothingToUndo line) file six = absurd (omega (arith, six))
+
+tiles_memory : (fault : TileFault) (file : List ℕ) → class_status (tiles_class fault) ≡ 6 → text_of_tiles fault file ≡ no_memory_text
+tiles_memory tiles.NoMemory file six = refl
+tiles_memory tiles.Toml file six = absurd (omega (arith, six))
+tiles_memory tiles.NoTiles file six = absurd (omega (arith, six))
+tiles_memory (tiles.MissingKey place key) file six = absurd (omega (arith, six))
+tiles_memory (tiles.WrongKind place key) file six = absurd (omega (arith, six))
+tiles_memory (tiles.BadClass tile) file six = absurd (omega (arith, six))
+tiles_memory (tiles.BadWeight tile) file six = absurd (omega (arith, six))
+tiles_memory (tiles.BadPicture tile) file six = absurd (omega (arith, six))
+tiles_memory (tiles.SizeDiffers tile) file six = absurd (omega (arith, six))
+tiles_memory (tiles.DoubleName tile) file six = absurd (omega (arith, six))
+tiles_memory (tiles.UnknownTile pair) file six = absurd (omega (arith, six))
+tiles_memory (tiles.BadTurn pair) file six = absurd (omega (arith, six))
+tiles_memory (tiles.TooManyVariants count) file six = absurd (omega (arith, six))
+tiles_memory (tiles.Missing tile) file six = absurd (omega (arith, six))
+tiles_memory (tiles.Failed tile) file six = absurd (omega (arith, six))
+tiles_memory (tiles.MixedKinds tile) file six = absurd (omega (arith, six))
+tiles_memory (tiles.BadName tile) file six = absurd (omega (arith, six))
+
+mask_memory : (fault : MaskFault) (file : List ℕ) → class_status (mask_class fault) ≡ 6 → text_of_mask fault file ≡ no_memory_text
+mask_memory masks.NoMemory file six = refl
+mask_memory (masks.SizeDiffers width height) file six = absurd (omega (arith, six))
+mask_memory (masks.BadSymbol line column) file six = absurd (omega (arith, six))
+mask_memory masks.AllHoles file six = absurd (omega (arith, six))
+
+reading_memory : (which : Source) (file : List ℕ) → unread_text which reads.NoMemory file ≡ no_memory_text
+reading_memory source.Sample file = refl
+reading_memory source.Pins file = refl
+reading_memory source.Steps file = refl
+reading_memory source.Refutation file = refl
+reading_memory (source.Picture tile) file = refl
+reading_memory source.Mask file = refl
+
+any_grid_memory : (which : Source) (fault : GridFault) (file : List ℕ) → class_status (grid_class fault) ≡ 6 → grid_text which fault file ≡ no_memory_text
+any_grid_memory source.Sample fault file six = grid_memory fault file six
+any_grid_memory source.Pins fault file six = grid_memory fault file six
+any_grid_memory source.Steps fault file six = grid_memory fault file six
+any_grid_memory source.Refutation fault file six = grid_memory fault file six
+any_grid_memory (source.Picture tile) fault file six = grid_memory fault file six
+any_grid_memory source.Mask fault file six = mask_grid_memory fault file six
+
+-- a fault with the status of want of memory has its text
+memory_text : (asked : RequestView) (fault : Fault) → status_of fault ≡ 6 → fault_text asked fault ≡ no_memory_text
+memory_text asked (Unread which reads.NoMemory) six = reading_memory which (name_of asked which)
+memory_text asked (Unread which reads.Missing) six = absurd (omega (arith, six))
+memory_text asked (Unread which reads.Failed) six = absurd (omega (arith, six))
+memory_text asked (Unread which reads.TooLong) six = absurd (omega (arith, six))
+memory_text asked (Refused (refused.Chooser rule)) six = absurd (omega (arith, six))
+memory_text asked (Refused (refused.Grid which fault)) six = any_grid_memory which fault (name_of asked which) six
+memory_text asked (Refused (refused.Ppm which fault)) six = ppm_memory fault (name_of asked which) six
+memory_text asked (Refused (refused.Colours fault)) six = palette_memory fault asked.file six
+memory_text asked (Refused (refused.Learn fault)) six = learn_memory fault asked.file six
+memory_text asked (Refused (refused.Render fault)) six = absurd (omega (arith, six))
+memory_text asked (Refused (refused.Pins fault)) six = pins_memory fault (name_of asked source.Pins) six
+memory_text asked (Refused (refused.Build fault)) six = build_memory fault (name_of asked source.Pins) six
+memory_text asked (Refused (refused.Steps fault)) six = steps_memory fault (name_of asked source.Steps) six
+memory_text asked (Refused (refused.Range fault)) six = absurd (omega (arith, six))
+memory_text asked (Refused (refused.TooLong which)) six = absurd (omega (arith, six))
+memory_text asked (Refused refused.NoMemory) six = refl
+memory_text asked (Refused (refused.Tiles fault)) six = tiles_memory fault asked.file six
+memory_text asked (Refused (refused.Mask fault)) six = mask_memory fault (name_of asked source.Mask) six
+
+-- ---- how each command ends
+
+-- a verdict of this command: it is done, its answer is no, or its budget is spent
+data IsEnding (command : CommandKind) (asked : RequestView) (files : List File) (said : Verdict) : Type 0 where
+  done : said ≡ verdict.Done → IsEnding command asked files said
+  negative : (text : List ℕ) → verdict_text asked said ≡ Some text → verdict_status said ≡ 1 → IsNoText command asked files text → IsEnding command asked files said
+  spent : said ≡ verdict.Spent (budget_by command asked) → IsEnding command asked files said
+
+-- what is taken whole is whole
+front_taken : (whole : Bool) (text : Option (List ℕ)) (old new : SinkView) → whole ≡ false → TakesWhole whole text old new → ⊥
+front_taken true text old new is takes = absurd (cc (is))
+front_taken false text old new is takes = takes
+
+-- what a call of this command may end with
+abbrev EndsSo : CommandKind → Type 0
+EndsSo command =
+    (rules : List Rule) (words : List (List ℕ)) (before after : Devices) (asked : RequestView) (files : List File) (answered : Answered) → IsCommand command words before asked files → HasAnswered rules asked files answered
+    → TakesWhole answered.whole answered.text before.out after.out → IsEnding command asked files answered.verdict
+
+learn_ends : EndsSo commands.Learn
+learn_ends rules words before after asked files answered is has takes =
+    let learned = has_learned asked.source rules asked files has.task answered refl (planned rules asked files commands.Learn has.task is.command_is has.is) has.answers in
+    done (sym (ap (λ (a : Answered). a.verdict) learned.is))
+
+fill_ends : EndsSo commands.Fill
+fill_ends rules words before after asked files answered is has takes =
+    let filled = fill_answered rules words before asked files answered is has in
+    subst (λ (a : Answered). IsEnding commands.Fill asked files a.verdict) (sym filled.is) (by_outcome filled.end.0)
+  where
+    by_outcome : (o : Outcome) → IsEnding commands.Fill asked files (verdict_of asked.budget o)
+    by_outcome outcome.Map = done refl
+    by_outcome outcome.NoMap = negative no_map_text refl refl refl
+    by_outcome outcome.Spent = spent refl
+
+domains_ends : EndsSo commands.Domains
+domains_ends rules words before after asked files answered is has takes =
+    let given = domains_given asked files has.task (planned rules asked files commands.Domains has.task is.command_is has.is) in
+    let answers : Some (domains_answer given.0 given.1) ≡ Some answered = subst (λ task. Answers rules asked task answered) (sym given.2) has.answers in
+    let is_answer : domains_answer given.0 given.1 ≡ answered = cc (answers) in
+    subst (λ (a : Answered). IsEnding commands.Domains asked files a.verdict) is_answer (by_dead (is_dead given.0 (greatest given.0 [])))
+  where
+    by_dead : (dead : Bool) → IsEnding commands.Domains asked files (if dead then verdict.Dead else verdict.Done)
+    by_dead true = negative no_domains_text refl refl refl
+    by_dead false = done refl
+
+demo_ends : EndsSo commands.Demo
+demo_ends rules words before after asked files answered is has takes =
+    let given = demo_given (kinds_of rules) asked files has.task (planned rules asked files commands.Demo has.task is.command_is has.is) in
+    by_end (end_of rules Fewest (demo_problem asked.number) demo_budget asked.number) (subst (λ task. Answers rules asked task answered) (sym given) has.answers)
+  where
+    by_outcome : (o : Outcome) → IsEnding commands.Demo asked files (verdict_of demo_budget o)
+    by_outcome outcome.Map = done refl
+    by_outcome outcome.NoMap = negative no_map_text refl refl refl
+    by_outcome outcome.Spent = spent refl
+
+    by_end : (end : Option (Outcome × State)) → demo_answer (demo_patterns asked.number) (demo_problem asked.number) end ≡ Some answered → IsEnding commands.Demo asked files answered.verdict
+    by_end None answers = absurd (cc (answers))
+    by_end (Some end) answers =
+        let made : Answered = record { verdict = verdict_of demo_budget end.0; text = Some (demonstration asked.number end); whole = true } in
+        let is_answer : made ≡ answered = cc (answers) in
+        subst (λ (a : Answered). IsEnding commands.Demo asked files a.verdict) is_answer (by_outcome end.0)
+
+refute_ends : EndsSo commands.Refute
+refute_ends rules words before after asked files answered is has takes =
+    let given = refute_given (kinds_of rules) asked files has.task (planned rules asked files commands.Refute has.task is.command_is has.is) in
+    let refuted = has_refuted rules words before asked files has.task answered is given.0 given.1 given.2 has.answers in
+    by_answer refuted.work.rule refuted.work.P refuted.is
+  where
+    by_outcome : (o : Outcome) → IsEnding commands.Refute asked files (refute_verdict asked.budget o)
+    by_outcome outcome.Map = negative map_exists_text refl refl refl
+    by_outcome outcome.NoMap = done refl
+    by_outcome outcome.Spent = spent refl
+
+    by_answer : (rule : Rule) (P : Network) → RefutesWhole rule asked P answered ⊎ RefutesFront rule asked P answered → IsEnding commands.Refute asked files answered.verdict
+    by_answer rule P (inl refuted) = subst (λ (a : Answered). IsEnding commands.Refute asked files a.verdict) (sym refuted.is) (by_outcome refuted.outcome)
+    by_answer rule P (inr front) = absurd (front_taken answered.whole answered.text before.out after.out front.front takes)
+
+check_ends : EndsSo commands.Check
+check_ends rules words before after asked files answered is has takes =
+    let given = check_given asked files has.task (planned rules asked files commands.Check has.task is.command_is has.is) in
+    let answers : Some (check_answer given.0) ≡ Some answered = subst (λ task. Answers rules asked task answered) (sym given.1) has.answers in
+    let is_answer : check_answer given.0 ≡ answered = cc (answers) in
+    subst (λ (a : Answered). IsEnding commands.Check asked files a.verdict) is_answer (by_found given.0 given.2)
+  where
+    by_found : (found : Option CheckFault) → IsCheckTask asked files found → IsEnding commands.Check asked files (check_answer found).verdict
+    by_found None task = done refl
+    by_found (Some fault) task = negative (text_of_check fault (refutation_name asked)) refl refl (fault, task, refl)
+
+upgrade_ends : EndsSo commands.Upgrade
+upgrade_ends rules words before after asked files answered is has takes =
+    let given = upgrade_given asked files has.task (planned rules asked files commands.Upgrade has.task is.command_is has.is) in
+    let said = has_upgraded rules asked files has.task answered given.0 given.1 given.2 given.3 has.answers in
+    subst (λ (a : Answered). IsEnding commands.Upgrade asked files a.verdict) said.is (by_found said.work (first_fault asked said.work.P said.work.bytes) refl)
+  where
+    by_found : (work : UpgradeWork asked files) (found : Option CheckFault) → first_fault asked work.P work.bytes ≡ found → IsEnding commands.Upgrade asked files (upgrade_answer asked work.P work.bytes found).verdict
+    by_found work None found = done refl
+    by_found work (Some fault) found = negative (text_of_check fault (refutation_name asked)) refl refl (work, fault, found, refl)
+
+ends_so : (command : CommandKind) → EndsSo command
+ends_so commands.Learn = learn_ends
+ends_so commands.Fill = fill_ends
+ends_so commands.Domains = domains_ends
+ends_so commands.Demo = demo_ends
+ends_so commands.Refute = refute_ends
+ends_so commands.Check = check_ends
+ends_so commands.Upgrade = upgrade_ends
+
+-- ---- the line of each status
+
+-- a verdict that has no line has status 0, and no other has
+told_nothing : (asked : RequestView) (said : Verdict) (old new : SinkView) → verdict_status said ≡ 0 → Tells (verdict_text asked said) old new → new ≡ old
+told_nothing asked verdict.Done old new nought told = told
+told_nothing asked verdict.NoMap old new nought told = absurd (omega (arith, nought))
+told_nothing asked (verdict.Spent budget) old new nought told = absurd (omega (arith, nought))
+told_nothing asked verdict.Dead old new nought told = absurd (omega (arith, nought))
+told_nothing asked verdict.MapExists old new nought told = absurd (omega (arith, nought))
+told_nothing asked (verdict.Unaccepted fault) old new nought told = absurd (omega (arith, nought))
+
+told_line : (asked : RequestView) (said : Verdict) (old new : SinkView) → verdict_status said ≢ 0 → Tells (verdict_text asked said) old new → (text : List ℕ) × IsTold text old new
+told_line asked verdict.Done old new some told = absurd (some refl)
+told_line asked verdict.NoMap old new some told = (no_map_text, told)
+told_line asked (verdict.Spent budget) old new some told = (text_of_budget budget, told)
+told_line asked verdict.Dead old new some told = (no_domains_text, told)
+told_line asked verdict.MapExists old new some told = (map_exists_text, told)
+told_line asked (verdict.Unaccepted fault) old new some told = (text_of_check fault (name_of asked source.Refutation), told)
+
+-- words that are no request
+told_words : (fault : CommandFault) (before after : Devices) (status : ℕ) → IsRefusedCall fault before after status → TellsWords fault before after status
+told_words fault before after status call = elim (call.delivers) [ inl delivered ↦ inl (delivered.same_status, delivered.told) | inr cut ↦ absurd (cut.front) ]
+
+told_short : (fault : CommandFault) (before after : Devices) (status : ℕ) → IsRefusedCall words_fault.NoMemory before after status → TellsWords fault before after status
+told_short fault before after status call = elim (call.delivers) [ inl delivered ↦ inr (delivered.same_status, delivered.told) | inr cut ↦ absurd (cut.front) ]
+
+-- words that are no request end with another status than 0
+words_some : (fault : CommandFault) (before after : Devices) (status : ℕ) → IsRefusedCall fault before after status → status ≡ 0 → ⊥
+words_some fault before after status call nought = elim (command_between fault) [
+  | inl three ↦ omega (arith, (refused_status fault before after status call).0, three, nought)
+  | inr six ↦ omega (arith, (refused_status fault before after status call).0, six, nought)
+]
+
+words_line : (fault : CommandFault) (before after : Devices) (status : ℕ) → IsRefusedCall fault before after status → (text : List ℕ) × IsTold text before.err after.err
+words_line fault before after status call = elim (call.delivers) [ inl delivered ↦ (text_of_command fault, delivered.told) | inr cut ↦ absurd (cut.front) ]
+
+pub tells_status : (rules : List Rule) (words : List (List ℕ)) (before after : Devices) (status : ℕ) → IsAnswer rules words before after status → TellsStatus rules words before after status
+tells_status rules words before after status answer = record {
+  nothing = λ nought. elim (answer.answers) [
+    | inl to ↦ nothing_asked (request_of words) nought to
+    | inr short ↦ absurd (words_some words_fault.NoMemory before after status short nought)
+  ];
+  one_line = λ some. elim (answer.answers) [ inl to ↦ line_asked (request_of words) some to | inr short ↦ words_line words_fault.NoMemory before after status short ];
+  no_request = λ fault is. elim (answer.answers) [
+    | inl to ↦ told_words fault before after status (subst (λ request. AnswersAsked rules request before after status) is to)
+    | inr short ↦ told_short fault before after status short
+  ];
+  request = λ asked files given some. elim (answer.answers) [
+    | inl to ↦ by_answer asked files given some (subst (λ request. AnswersAsked rules request before after status) given.spelled to)
+    | inr short ↦ by_words asked files (told_short words_fault.NoMemory before after status short)
+  ];
+}
+  where
+    nothing_said : (asked : RequestView) (reply : Reply) → status ≡ 0 → Delivers (said_of asked reply) before.out after.out before.err after.err status → after.err ≡ before.err
+    nothing_said asked (Ok answered) nought (inl delivered) = told_nothing asked answered.verdict before.err after.err (sym delivered.same_status ∙ nought) delivered.told
+    nothing_said asked (Err fault) nought (inl delivered) = absurd (omega (arith, (fault_between fault).0, delivered.same_status, nought))
+    nothing_said asked reply nought (inr cut) = absurd (omega (arith, cut.five, nought))
+
+    nothing_asked : (request : Result RequestView CommandFault) → status ≡ 0 → AnswersAsked rules request before after status → after.err ≡ before.err
+    nothing_asked (Ok asked) nought to = nothing_said asked to.reply nought to.delivers
+    nothing_asked (Err fault) nought to = absurd (words_some fault before after status to nought)
+
+    line_said : (asked : RequestView) (reply : Reply) → status ≢ 0 → Delivers (said_of asked reply) before.out after.out before.err after.err status → (text : List ℕ) × IsTold text before.err after.err
+    line_said asked (Ok answered) some (inl delivered) = told_line asked answered.verdict before.err after.err (λ nought. some (delivered.same_status ∙ nought)) delivered.told
+    line_said asked (Err fault) some (inl delivered) = (fault_text asked fault, delivered.told)
+    line_said asked reply some (inr cut) = (out_failed_text, cut.told)
+
+    line_asked : (request : Result RequestView CommandFault) → status ≢ 0 → AnswersAsked rules request before after status → (text : List ℕ) × IsTold text before.err after.err
+    line_asked (Ok asked) some to = line_said asked to.reply some to.delivers
+    line_asked (Err fault) some to = words_line fault before after status to
+
+    by_words : (asked : RequestView) (files : List File) → TellsWords words_fault.NoMemory before after status → TellsReason rules asked files before after status
+    by_words asked files (inl told) = (no_memory_text, says_short told.0 refl, told.1)
+    by_words asked files (inr told) = (no_memory_text, says_short told.0 refl, told.1)
+
+    -- a verdict
+    by_ending : (asked : RequestView) (files : List File) (said : Verdict) → status ≢ 0 → status ≡ verdict_status said → Tells (verdict_text asked said) before.err after.err → IsEnding asked.command asked files said
+        → TellsReason rules asked files before after status
+    by_ending asked files said some same told (done is) = absurd (some (same ∙ ap verdict_status is))
+    by_ending asked files said some same told (negative text is one denied) =
+        (text, says_no (same ∙ one) denied, subst (λ (t : Option (List ℕ)). Tells t before.err after.err) is told)
+    by_ending asked files said some same told (spent is) =
+        (text_of_budget (budget_by asked.command asked), says_spent (same ∙ ap verdict_status is) refl, subst (λ v. Tells (verdict_text asked v) before.err after.err) is told)
+
+    -- want of memory
+    by_short : (asked : RequestView) (files : List File) (fault : Fault) → status ≡ status_of fault → IsTold (fault_text asked fault) before.err after.err → status_of fault ≡ 6 → TellsReason rules asked files before after status
+    by_short asked files fault same told six = (no_memory_text, says_short (same ∙ six) refl, subst (λ t. IsTold t before.err after.err) (memory_text asked fault six) told)
+
+    -- a fault of the plan
+    by_plan : (asked : RequestView) (files : List File) (fault : Fault) → before.folder.contents ≡ Some files → status ≡ status_of fault → IsTold (fault_text asked fault) before.err after.err
+        → Goes (plan_of (kinds_of rules) asked) before.folder after.folder (Err fault) → TellsReason rules asked files before after status
+    by_plan asked files fault contents same told goes = elim (goes_stopped (plan_of (kinds_of rules) asked) before.folder after.folder (Err fault) files contents goes) [
+      | inl is ↦ (fault_text asked fault, says_fault fault (sym is) same refl, told)
+      | inr other ↦ elim other [
+        | inl short ↦ let fault_is : fault ≡ short.0 = cc (short.2) in by_short asked files fault same told (ap status_of fault_is ∙ short.1)
+        | inr stopped ↦
+            let fault_is : fault ≡ Unread stopped.source reads.Failed = cc (stopped.is) in
+            let file = file_fault rules asked before.folder after.folder fault goes (ap status_of fault_is) in
+            (fault_text asked fault, says_file file.0 (same ∙ ap status_of fault_is) (ap (fault_text asked) file.1), told)
+      ]
+    ]
+
+    by_fault : (asked : RequestView) (files : List File) (fault : Fault) → before.folder.contents ≡ Some files → status ≡ status_of fault → IsTold (fault_text asked fault) before.err after.err
+        → FaultOf rules asked before.folder after.folder fault → TellsReason rules asked files before after status
+    by_fault asked files fault contents same told (of_plan goes) = by_plan asked files fault contents same told goes
+    by_fault asked files fault contents same told (of_task six) = by_short asked files fault same told six
+
+    by_reply : (asked : RequestView) (files : List File) → IsGiven words before asked files → status ≢ 0 → (reply : Reply) → Ends rules asked before.folder after.folder reply
+        → Delivers (said_of asked reply) before.out after.out before.err after.err status → TellsReason rules asked files before after status
+    by_reply asked files given some (Ok answered) ends (inl delivered) =
+        let has = answered_task rules asked before after files answered (told_reply rules asked before.folder after.folder files (Ok answered) given.told ends) in
+        by_ending asked files answered.verdict some delivered.same_status delivered.told
+        (ends_so asked.command rules words before after asked files answered (record { given = given; command_is = refl }) has delivered.taken)
+    by_reply asked files given some (Ok answered) ends (inr cut) = (out_failed_text, says_out (cut_counted answered.text before.out after.out cut.front) cut.five refl, cut.told)
+    by_reply asked files given some (Err fault) ends (inl delivered) = by_fault asked files fault given.told delivered.same_status delivered.told (fault_from rules asked before.folder after.folder fault ends)
+    by_reply asked files given some (Err fault) ends (inr cut) = absurd cut.front
+
+    by_answer : (asked : RequestView) (files : List File) → IsGiven words before asked files → status ≢ 0 → IsAnswerTo rules asked before after status → TellsReason rules asked files before after status
+    by_answer asked files given some to = by_reply asked files given some to.reply to.ends to.delivers
+
+-- ---- the error stream alone
+
+pub is_apart_from_err : (rules : List Rule) (words : List (List ℕ)) (before after : Devices) (status : ℕ) → IsAnswer rules words before after status → IsApartFromErr rules words before after status
+is_apart_from_err rules words before after status answer = elim (answer.answers) [ inl to ↦ by_request (request_of words) refl to | inr short ↦ by_words words_fault.NoMemory (λ old new call. record { answers = inr call }) short ]
+  where
+    by_words : (fault : CommandFault) → ((old new : SinkView) → IsRefusedCall fault (beside before old) (beside after new) status → IsAnswer rules words (beside before old) (beside after new) status)
+        → IsRefusedCall fault before after status → IsApartFromErr rules words before after status
+    by_words fault back call = elim (call.delivers) [
+      | inl delivered ↦ (
+        Some (text_of_command fault),
+        delivered.told,
+        λ old new told. back old new (record { folder = call.folder; delivers = inl (record { taken = delivered.taken; told = told; same_status = delivered.same_status }) }),
+      )
+      | inr cut ↦ absurd (cut.front)
+    ]
+
+    by_answer : (asked : RequestView) → ((old new : SinkView) → IsAnswerTo rules asked (beside before old) (beside after new) status → IsAnswer rules words (beside before old) (beside after new) status)
+        → IsAnswerTo rules asked before after status → IsApartFromErr rules words before after status
+    by_answer asked back to = elim (to.delivers) [
+      | inl delivered ↦ (
+        (said_of asked to.reply).told,
+        delivered.told,
+        λ old new told. back old new (record { reply = to.reply; ends = to.ends; delivers = inl (record { taken = delivered.taken; told = told; same_status = delivered.same_status }) }),
+      )
+      | inr cut ↦ (
+        Some out_failed_text,
+        cut.told,
+        λ old new told. back old new (record { reply = to.reply; ends = to.ends; delivers = inr (record { front = cut.front; told = told; five = cut.five }) }),
+      )
+    ]
+
+    by_request : (request : Result RequestView CommandFault) → request_of words ≡ request → AnswersAsked rules request before after status → IsApartFromErr rules words before after status
+    by_request (Ok asked) is to = by_answer asked (λ old new to. record { answers = inl (subst (λ request. AnswersAsked rules request (beside before old) (beside after new) status) (sym is) to) }) to
+    by_request (Err fault) is call = by_words fault (λ old new call. record { answers = inl (subst (λ request. AnswersAsked rules request (beside before old) (beside after new) status) (sym is) call) }) call
