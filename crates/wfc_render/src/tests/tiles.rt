@@ -1,8 +1,10 @@
-//! Maps and texts of tile sets, by tables.
+//! Maps and texts of tile sets, by tables, and large ones.
+
+ghost use Rattle.std.specs.Prelude.{◌<◌, ◌≤◌};
 
 use crate::laws::layouts_are_as_asked;
 use crate::{Form, layout, learned_tiles, tile_bytes};
-use std::alloc::Global;
+use std::alloc::{AllocError, Global};
 use std::process::Abort;
 use std::test::Fail;
 use wfc_picture::Picture;
@@ -80,5 +82,112 @@ fn writes_maps_of_tiles(rt: HostRuntime) -> Result<(), Fail> {
         let text = text_of(&rt, rt.alloc(), &set, 0, form)?;
         assert_eq!(rt; text.as_slice(), wanted, "as {form:?}");
     }
+    Ok(())
+}
+
+/// The text of a map with the same variant at each place.
+fn even_text_of(
+    rt: &impl Abort,
+    alloc: Global,
+    set: &TileSet,
+    v: u16,
+    width: u32,
+    height: u32,
+    form: Form,
+) -> Result<Vec<u8>, Fail>
+    requires some_width { 0 < width }
+    requires some_height { 0 < height }
+    requires width_limit { width ≤ 4096 }
+    requires height_limit { height ≤ 4096 }
+{
+    assert!(rt; v < set.variants());
+    assert!(rt; set.pictures() == set.tiles());
+    layouts_are_as_asked();
+    let numbers = vec![in alloc; u32::from(v); width as usize * height as usize]?;
+    let picture = Picture::new(width, height, numbers)?;
+    let laid = layout(set.kind(), Some(form), width, height, set.side())?;
+    Ok(tile_bytes(alloc, &laid, set, &picture)?)
+}
+
+/// So many times the same bytes.
+fn times(alloc: Global, bytes: &[u8], count: u32) -> Result<Vec<u8>, AllocError> {
+    let mut text = Vec::new(alloc);
+    for _ in 0..count {
+        text.extend_from_slice(bytes)?;
+    }
+    Ok(text)
+}
+
+#[test]
+fn writes_large_maps_of_tiles(rt: HostRuntime) -> Result<(), Fail> {
+    let mut set = set_of(&rt, rt.alloc(), GRIDS)?;
+    take(&rt, rt.alloc(), &mut set, b"ab\ncd\n")?;
+    take(&rt, rt.alloc(), &mut set, b"-+\n -\n")?;
+    let mut rows = times(rt.alloc(), b"bd", 2048)?;
+    rows.push(b'\n')?;
+    rows.extend_from_slice(&times(rt.alloc(), b"ac", 2048)?)?;
+    rows.push(b'\n')?;
+    let wanted = times(rt.alloc(), &rows, 1024)?;
+    assert!(rt; even_text_of(&rt, rt.alloc(), &set, 1, 2048, 1024, Form::Grid)? == wanted);
+    let mut row = times(rt.alloc(), b"9 ", 2047)?;
+    row.extend_from_slice(b"9\n")?;
+    let wanted = times(rt.alloc(), &row, 1024)?;
+    assert!(rt; even_text_of(&rt, rt.alloc(), &set, 9, 2048, 1024, Form::Cells)? == wanted);
+    Ok(())
+}
+
+#[test]
+fn writes_large_maps_of_coloured_tiles(rt: HostRuntime) -> Result<(), Fail> {
+    let mut set = set_of(&rt, rt.alloc(), COLOURS)?;
+    take(&rt, rt.alloc(), &mut set, b"P3 1 1 9 1 2 3")?;
+    let mut raw = Vec::from_slice(rt.alloc(), b"P6\n2048 1024\n9\n")?;
+    raw.extend_from_slice(&times(rt.alloc(), b"\x01\x02\x03", 2_097_152)?)?;
+    assert!(rt; even_text_of(&rt, rt.alloc(), &set, 0, 2048, 1024, Form::P6)? == raw);
+    let mut plain = Vec::from_slice(rt.alloc(), b"P3\n2048 1024\n9\n")?;
+    plain.extend_from_slice(&times(rt.alloc(), b"1 2 3\n", 2_097_152)?)?;
+    assert!(rt; even_text_of(&rt, rt.alloc(), &set, 0, 2048, 1024, Form::P3)? == plain);
+    Ok(())
+}
+
+/// A document of so many tiles without symmetry, of the weights 1, 2 and so on, each of which may follow itself.
+fn many(alloc: Global, tiles: u32) -> Result<String, AllocError> {
+    let mut text = String::new(alloc);
+    for tile in 0..tiles {
+        let weight = u64::from(tile) + 1;
+        write!(
+            text,
+            "[[tile]]\nname = 't{tile}'\nclass = 'F'\nweight = {weight}\n"
+        )?;
+        write!(text, "[[pair]]\nleft = 't{tile}'\nright = 't{tile}'\n")?;
+    }
+    Ok(text)
+}
+
+/// As many variants as there may be. A turn by a half and a reflection leave the two ends of such a pair side
+/// by side, and these make the even variants of variant 0; the others make the odd ones, one above the other.
+#[test]
+fn tells_what_a_large_tile_set_allows(rt: HostRuntime) -> Result<(), Fail> {
+    let text = many(rt.alloc(), 512)?;
+    let set = set_of(&rt, rt.alloc(), text.as_str())?;
+    let mut wanted = String::new(rt.alloc());
+    wanted.push_str("tiles 512\nvariants 4096\n")?;
+    for v in 0..4096_u32 {
+        let tile = v / 8;
+        let weight = tile + 1;
+        let index = v % 8;
+        write!(wanted, "{v} {weight}: t{tile}/{index}\n")?;
+    }
+    wanted.push_str("across 2048\n")?;
+    for k in 0..2048_u32 {
+        let v = 2 * k;
+        write!(wanted, "{v} {v}\n")?;
+    }
+    wanted.push_str("down 2048\n")?;
+    for k in 0..2048_u32 {
+        let v = 2 * k + 1;
+        write!(wanted, "{v} {v}\n")?;
+    }
+    let found = learned_tiles(rt.alloc(), &set)?;
+    assert!(rt; found.as_slice() == wanted.as_bytes());
     Ok(())
 }
