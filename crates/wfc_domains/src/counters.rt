@@ -319,22 +319,34 @@ impl Counters {
         if !self.is_narrow() {
             return;
         }
+        let start = self.start(cell, value);
         for dir in 0..self.dirs {
-            self.mark_side(cell, value, dir);
+            self.mark_side(start + dir, cell, value, dir);
         }
     }
 
-    /// Marks the count of a value at a cell in one direction.
+    /// Where the counts of a value at a cell begin.
     #[inline]
-    fn mark_side(&mut self, cell: u32, value: u16, dir: usize)
-        requires cell_in { cell < self.old.cells }
-        requires value_in { value < self.old.values }
-        requires dir_in { dir < self.old.dirs }
+    fn start(&self, cell: u32, value: u16) -> usize
+        requires cell_in { cell < self.now.cells }
+        requires value_in { value < self.now.values }
+        ensures value { result ≡ place_in self.now.values self.now.dirs cell value 0 }
+        ensures inside { result + self.now.dirs ≤ length self.now.counts }
+        ensures limit { length self.now.counts < 2 ^ 63 }
+    {
+        self.row(cell) + value as usize * self.dirs
+    }
+
+    /// Marks the count of a value at a cell in one direction, which stands at `place`.
+    #[inline]
+    fn mark_side(&mut self, place: usize, cell: u32, value: u16, dir: usize)
+        requires place { place ≡ place_in self.old.values self.old.dirs cell value dir }
+        requires place_in { place < length self.old.counts }
         requires narrow { self.old.limit ≡ 127 }
         ensures changed { self.new ≡ with_count self.old cell value dir
             (entry_of self.old cell value dir % 32768 + 32768) }
     {
-        let place = self.place(cell, value, dir);
+        let _ = (cell, value, dir);
         let small = self.small[place];
         self.small[place] = small % HALF + HALF;
     }
