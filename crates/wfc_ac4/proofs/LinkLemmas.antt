@@ -79,14 +79,14 @@ offset-few P p v d k xs is_xs hd l =
     (mul-le-mul w dirs, omega (arith, opposite-in P p d hd))
 
 -- one link more of a side
-pub side_more : (P : Network) (v d k at : ℕ) (xs : List ℕ) (old now : List Link) → xs ≡ supports_of P v d → k < length xs → at ≡ place P 0 (get_or xs k 0) (opposite d)
-    → now ≡ old ++ take k (side_links P v d) → now ++ record { offset = at; dir = d } ∷ [] ≡ old ++ take (k + 1) (side_links P v d)
-side_more P v d k at xs old now is_xs l is_at is_now =
+pub side_more : (P : Network) (v d k at turned : ℕ) (xs : List ℕ) (old now : List Link) → xs ≡ supports_of P v d → k < length xs → turned ≡ opposite d → at ≡ place P 0 (get_or xs k 0) (opposite d)
+    → now ≡ old ++ take k (side_links P v d) → now ++ record { offset = at; dir = d; back = turned } ∷ [] ≡ old ++ take (k + 1) (side_links P v d)
+side_more P v d k at turned xs old now is_xs l is_turned is_at is_now =
     let l' : k < length (supports_of P v d) = omega (arith, ap length is_xs) in
     let side = side_links P v d in
-    let one : record { offset = at; dir = d } ≡ get_or side k no_link =
-    ap (λ x. record { offset = x; dir = d }) is_at ∙ ap (λ ys. link_to P d (get_or ys k 0)) is_xs ∙ sym (get_or-map (link_to P d) (supports_of P v d) k 0 no_link l') in
-    ap (λ ls. ls ++ record { offset = at; dir = d } ∷ []) is_now
+    let one : record { offset = at; dir = d; back = turned } ≡ get_or side k no_link =
+    ap (λ x. record { offset = x; dir = d; back = turned }) is_at ∙ ap (λ t. record { offset = place P 0 (get_or xs k 0) (opposite d); dir = d; back = t }) is_turned ∙ ap (λ ys. link_to P d (get_or ys k 0)) is_xs ∙ sym (get_or-map (link_to P d) (supports_of P v d) k 0 no_link l') in
+    ap (λ ls. ls ++ record { offset = at; dir = d; back = turned } ∷ []) is_now
     ∙ append_assoc old (take k side) _
     ∙ ap (λ x. old ++ (take k side ++ x ∷ [])) one
     ∙ ap (λ x. old ++ x) (sym (take_more side k no_link (omega (arith, length-map (supports_of P v d) (link_to P d)))))
@@ -107,6 +107,7 @@ value_more P v d old now new is_now is_new =
 -- the link is one of v: its value is supported in its direction, and its counter is the one for the way back
 pub record IsLink (P : Network) (v : ℕ) (l : Link) : Type 0 where
   pub dir_in : l.dir < P.dirs
+  pub back_is : l.back ≡ opposite l.dir
   pub offset_is : l.offset ≡ place P 0 (l.offset / P.dirs) (opposite l.dir)
   pub supported : Contains (supports_of P v l.dir) (l.offset / P.dirs)
 
@@ -129,6 +130,7 @@ links-are P p v (suc m) k hm l = elim (cases_lt k (length (links_upto P v m))) [
       let is : get_or (links_upto P v (suc m)) k no_link ≡ link_to P m w = get_or-append_right (links_upto P v m) (side_links P v m) n k no_link refl after ∙ get_or-map (link_to P m) xs j 0 no_link lj in
       subst (IsLink P v) (sym is) (record {
         dir_in = hm';
+        back_is = refl;
         offset_is = ap (λ x. place P 0 x (opposite m)) turned;
         supported = subst (λ x. Contains xs x) turned (j, lj, get_or_default xs j w 0 lj);
       })
@@ -255,6 +257,7 @@ pub record LinkStep (P : Network) (lowered next : List ℕ) (c v row : ℕ) (l :
   pub cell : ℕ
   pub beside : neighbour P c l.dir ≡ Some cell
   pub dir_in : l.dir < P.dirs
+  pub back_is : l.back ≡ opposite l.dir
   pub place_is : row + l.offset ≡ place_in T.values T.dirs cell (l.offset / P.dirs) (opposite l.dir)
   pub inside : row + l.offset < length T.counts
   pub some : 0 < slice_index T.counts (row + l.offset) % 32768
@@ -284,6 +287,7 @@ link_step b T head c v k row n ls h e l beside begins =
       cell = n;
       beside = beside;
       dir_in = s.dir_in;
+      back_is = s.back_is;
       place_is = place_is;
       inside = subst (λ i. i < length T.counts) (sym place_is) (counted-in T n w turned above);
       some = subst (λ i. 0 < slice_index T.counts i % 32768) (sym place_is) above;

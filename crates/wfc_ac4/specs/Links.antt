@@ -8,11 +8,11 @@ use Rattle.wfc_ac4.specs.declared.links.Links.{Links}
 
 -- what is read where there is no link
 abbrev pub no_link : Link
-no_link = record { offset = 0; dir = 0 }
+no_link = record { offset = 0; dir = 0; back = 0 }
 
--- the link to w in direction d: the counter of w for the way back, and the direction
+-- the link to w in direction d: the counter of w for the way back, the direction, and the way back
 abbrev pub link_to : Network → ℕ → ℕ → Link
-link_to P d w = record { offset = place P 0 w (opposite d); dir = d }
+link_to P d w = record { offset = place P 0 w (opposite d); dir = d; back = opposite d }
 
 -- the links of v in direction d
 abbrev pub side_links : Network → ℕ → ℕ → List Link

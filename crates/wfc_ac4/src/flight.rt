@@ -10,7 +10,7 @@ ghost use Rattle.wfc_domains.specs.Removals.{without};
 ghost use Rattle.wfc_domains.specs.Store.{IsOpening};
 ghost use Rattle.wfc_domains.specs.Board.{Grows, IsFresh, IsTraced};
 ghost use Rattle.wfc_ac4.specs.Places.{places_upto, side_places, places_of};
-ghost use Rattle.wfc_ac4.specs.Links.{AreLinks, AreRows, links_of};
+ghost use Rattle.wfc_ac4.specs.Links.{AreLinks, AreRows, links_of, row_at};
 ghost use Rattle.wfc_ac4.specs.State.{IsWorking, IsBetween, IsRolled, IsRaising, IsScanned, AreLowered, counted};
 ghost use Rattle.wfc_ac4.specs.Flight.{front_cost, GoesOn, Recounts, HasNoMore, IsShorter, IsRolledTo, IsFirstBare, IsStruck};
 
@@ -44,19 +44,39 @@ fn value_at(offset: u16, dirs: u8) -> u16
 }
 
 impl<'p> Flight<'p> {
-    /// Where the entries of each neighbour of a cell begin in the table, `NO_ROW` where there is no neighbour.
+    /// Where the entries of the neighbour of a cell in a direction begin in the table, `NO_ROW` where there is none.
+    #[inline]
+    fn row_beside(&self, cell: u32, dir: u8) -> usize
+        requires cell_in { cell < self.now.board.problem.now.cells }
+        requires dir_in { dir < self.now.board.problem.now.dirs }
+        requires fits { FitsTable self.now.board.problem.now self.now.counters }
+        ensures row { result ≡ row_at self.now.board.problem.now
+            (neighbour self.now.board.problem.now cell dir) }
+    {
+        match self.board.problem.neighbour(cell, dir) {
+            Some(next) => self.counters.row(next),
+            None => NO_ROW,
+        }
+    }
+
+    /// Where the entries of each neighbour of a cell begin in the table. There are four directions or six.
     #[inline]
     fn rows(&self, cell: u32) -> [usize; 6]
         requires cell_in { cell < self.now.board.problem.now.cells }
         requires fits { FitsTable self.now.board.problem.now self.now.counters }
         ensures rows { AreRows self.now.board.problem.now cell result }
     {
-        let problem = self.board.problem;
-        let mut rows = [NO_ROW; 6];
-        for dir in 0..problem.dirs() {
-            if let Some(next) = problem.neighbour(cell, dir) {
-                rows[dir as usize] = self.counters.row(next);
-            }
+        let mut rows = [
+            self.row_beside(cell, 0),
+            self.row_beside(cell, 1),
+            self.row_beside(cell, 2),
+            self.row_beside(cell, 3),
+            NO_ROW,
+            NO_ROW,
+        ];
+        if self.board.problem.dirs() == 6 {
+            rows[4] = self.row_beside(cell, 4);
+            rows[5] = self.row_beside(cell, 5);
         }
         rows
     }
@@ -69,6 +89,7 @@ impl<'p> Flight<'p> {
         requires fits { FitsTable self.old.board.problem.now self.old.counters }
         requires cell_in { cell < self.old.board.problem.now.cells }
         requires dir_in { link.dir < self.old.board.problem.now.dirs }
+        requires back { link.back ≡ opposite link.dir }
         requires value_in { link.offset / self.old.board.problem.now.dirs
             < values self.old.board.problem.now }
         ensures struck { (n : ℕ) → neighbour self.old.board.problem.now cell link.dir ≡ Some n
@@ -78,9 +99,8 @@ impl<'p> Flight<'p> {
         let problem = self.board.problem;
         if let Some(next) = problem.neighbour(cell, link.dir) {
             let value = value_at(link.offset, problem.dirs());
-            let back = opposite(link.dir);
             if self.board.domains.has(next, value) && is_alive(self.board.verdict) {
-                self.board.remove(next, value, Cause::Arc(back));
+                self.board.remove(next, value, Cause::Arc(link.back));
                 self.counters.mark(next, value);
             }
         }

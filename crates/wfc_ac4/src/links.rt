@@ -9,11 +9,12 @@ use wfc_outside::NoMemory;
 use wfc_problem::{Problem, opposite};
 
 /// A value that may stand beside another: where its counter for the way back stands among the entries of its cell,
-/// and the direction that leads there.
+/// the direction that leads there, and the one that leads back.
 #[derive(Clone, Copy)]
 pub struct Link {
     pub offset: u16,
     pub dir: u8,
+    pub back: u8,
 }
 
 /// The links of each value, one value after the other, and where those of each begin.
@@ -75,11 +76,12 @@ fn push_side(
         ≡ links.old.items ++ side_links problem.now value dir }
 {
     let dirs = u16::from(problem.dirs());
-    let back = u16::from(opposite(dir));
+    let back = opposite(dir);
     for other in problem.supports(value, dir) {
         links.push(Link {
-            offset: *other * dirs + back,
+            offset: *other * dirs + u16::from(back),
             dir,
+            back,
         })?;
     }
     Ok(())

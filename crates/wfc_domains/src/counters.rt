@@ -320,9 +320,36 @@ impl Counters {
             return;
         }
         let start = self.start(cell, value);
-        for dir in 0..self.dirs {
+        let dirs = self.dirs;
+        let mut first = 0;
+        if dirs >= 4 {
+            self.mark_four(start, cell, value);
+            first = 4;
+        }
+        for dir in first..dirs {
             self.mark_side(start + dir, cell, value, dir);
         }
+    }
+
+    /// Marks the counts of a value at a cell in the first four directions, which stand from `start` on: one change of
+    /// four bytes.
+    #[inline]
+    fn mark_four(&mut self, start: usize, cell: u32, value: u16)
+        requires start { start ≡ place_in self.old.values self.old.dirs cell value 0 }
+        requires start_in { start + self.old.dirs ≤ length self.old.counts }
+        requires limit { length self.old.counts < 2 ^ 63 }
+        requires cell_in { cell < self.old.cells }
+        requires value_in { value < self.old.values }
+        requires four { 4 ≤ self.old.dirs }
+        requires whole { length self.old.counts
+            ≡ (self.old.cells * self.old.values) * self.old.dirs }
+        requires narrow { self.old.limit ≡ 127 }
+        ensures marks { Marks self.old self.new cell value }
+    {
+        self.mark_side(start, cell, value, 0);
+        self.mark_side(start + 1, cell, value, 1);
+        self.mark_side(start + 2, cell, value, 2);
+        self.mark_side(start + 3, cell, value, 3);
     }
 
     /// Where the counts of a value at a cell begin.
@@ -394,8 +421,25 @@ fn large_part(count: u16) -> u16
 }
 
 /// Fills the small part of a count, which came to 0, from the large one. Whether there is nothing to fill it from.
-#[inline(never)]
+#[inline]
 fn refill(small: &mut Vec<u8>, large: &mut Vec<u8>, place: usize) -> bool
+    requires place_in { place < vec_len small.old }
+    ensures none { IsTrue result → (slice_index large.old.items place ≡ 0)
+        × (small.new.items ≡ small.old.items) × (large.new.items ≡ large.old.items) }
+    ensures some { IsFalse result → 0 < slice_index large.old.items place }
+    ensures small { IsFalse result → small.new.items ≡ slice_set small.old.items place 255 }
+    ensures large { IsFalse result → large.new.items
+        ≡ slice_set large.old.items place (slice_index large.old.items place - 1) }
+{
+    if large.len() == 0 {
+        return true;
+    }
+    refill_wide(small, large, place)
+}
+
+/// The same where there are large parts.
+#[inline(never)]
+fn refill_wide(small: &mut Vec<u8>, large: &mut Vec<u8>, place: usize) -> bool
     requires place_in { place < vec_len small.old }
     ensures none { IsTrue result → (slice_index large.old.items place ≡ 0)
         × (small.new.items ≡ small.old.items) × (large.new.items ≡ large.old.items) }

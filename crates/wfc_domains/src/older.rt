@@ -86,17 +86,18 @@ fn place_number(removal: Removal, cells: u32, values: u16, dirs: u8) -> u32
     pair * (u32::from(dirs) + 1) + u32::from(cause_number(removal.cause, dirs))
 }
 
-/// The number of a removal among all that there can be.
+/// The number of a removal among all that there can be, where there are so many places.
 #[inline]
-fn removal_number(removal: Removal, cells: u32, values: u16, dirs: u8) -> u64
+fn removal_number(removal: Removal, places: u64, cells: u32, values: u16, dirs: u8) -> u64
     requires logged { IsLogged (record { cells = cells; values = values; dirs = dirs }) removal }
+    requires places { places ≡ place_count (record { cells = cells; values = values; dirs = dirs }) }
     requires few_places { (cells * values) * (dirs + 1) ≤ 2 ^ 32 }
     requires few { (cells * values) * (dirs + 1) * (values + 1) ≤ 2 ^ 40 }
     ensures value { result ≡ removal_number (record { cells = cells; values = values; dirs = dirs })
         removal }
 {
     let place = place_number(removal, cells, values, dirs);
-    u64::from(removal.before) * place_count(cells, values, dirs) + u64::from(place)
+    u64::from(removal.before) * places + u64::from(place)
 }
 
 /// The removal with this number of its cell, value and cause.
@@ -137,8 +138,9 @@ pub fn add_all(older: &mut Older, removals: &[Removal])
     requires logged { All (IsLogged older.old.extent) removals.now }
     ensures more { older.new ≡ record older.old { removals = older.old.removals ++ removals.now } }
 {
+    let places = older.places();
     for removal in removals {
-        older.push(*removal);
+        older.push(*removal, places);
     }
 }
 
@@ -193,14 +195,23 @@ impl Older {
         numbered_removal(number, self.cells, self.values, self.dirs)
     }
 
-    /// One more.
+    /// How many cells, values and causes there are, one with the other.
     #[inline]
-    pub fn push(&mut self, removal: Removal)
+    fn places(&self) -> u64
+        ensures value { result ≡ place_count self.now.extent }
+    {
+        place_count(self.cells, self.values, self.dirs)
+    }
+
+    /// One more, of as many `places` as there are.
+    #[inline]
+    fn push(&mut self, removal: Removal, places: u64)
         requires room { length self.old.removals < self.old.room }
         requires logged { IsLogged self.old.extent removal }
+        requires places { places ≡ place_count self.old.extent }
         ensures more { self.new ≡ record self.old { removals = self.old.removals ++ removal ∷ [] } }
     {
-        let number = removal_number(removal, self.cells, self.values, self.dirs);
+        let number = removal_number(removal, places, self.cells, self.values, self.dirs);
         self.lows.push_reserved((number % LOWS) as u32);
         if self.wide {
             self.highs.push_reserved((number / LOWS) as u8);

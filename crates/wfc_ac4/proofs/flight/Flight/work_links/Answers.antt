@@ -46,6 +46,12 @@ strike-requires-clause-dir_in g c =
     let s = link_at _ c.args.self.now.board _ _ _ _ _ _ _ c.rows-rows.result h.goes_on.grows.problem h.working c.requires.links c.loop-link-test.true c.rows-rows.ensures.rows refl c.if-row.true in
     s.dir_in
 
+pub strike-requires-clause-back : goal.strike-requires-clause-back
+strike-requires-clause-back g c =
+    let h = c.loop-link.invariant in
+    let s = link_at _ c.args.self.now.board _ _ _ _ _ _ _ c.rows-rows.result h.goes_on.grows.problem h.working c.requires.links c.loop-link-test.true c.rows-rows.ensures.rows refl c.if-row.true in
+    s.back_is
+
 pub strike-requires-clause-value_in : goal.strike-requires-clause-value_in
 strike-requires-clause-value_in g c =
     let h = c.loop-link.invariant in
