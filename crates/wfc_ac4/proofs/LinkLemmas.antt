@@ -216,6 +216,10 @@ part-le P c v k i ls e =
 
 -- ---- where the counters of the neighbours begin
 
+-- there are at least four directions
+pub dirs-ge : (P : Network) → IsProblem P → 4 ≤ P.dirs
+dirs-ge P p = elim p.sized.four_or_six [ inl four ↦ omega (arith, four) | inr six ↦ omega (arith, six) ]
+
 -- a problem has few counters
 counters-few : (P : Network) → IsProblem P → counters_of P ≤ 50331648
 counters-few P p = let few : counters_of P ≤ 8388608 * 6 = mul-le-mul (few_pairs P p) (dirs-le P p) in omega arith

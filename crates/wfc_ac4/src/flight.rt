@@ -66,6 +66,7 @@ impl<'p> Flight<'p> {
         requires fits { FitsTable self.now.board.problem.now self.now.counters }
         ensures rows { AreRows self.now.board.problem.now cell result }
     {
+        let dirs = self.board.problem.dirs();
         let mut rows = [
             self.row_beside(cell, 0),
             self.row_beside(cell, 1),
@@ -74,7 +75,7 @@ impl<'p> Flight<'p> {
             NO_ROW,
             NO_ROW,
         ];
-        if self.board.problem.dirs() == 6 {
+        if dirs == 6 {
             rows[4] = self.row_beside(cell, 4);
             rows[5] = self.row_beside(cell, 5);
         }
