@@ -6,5 +6,6 @@ pub mod Corner
 pub mod Rounds
 pub mod Sizes
 pub mod Symmetry
+pub mod Whole
 pub use Rattle.wfc_model.specs.Direction
 pub use Rattle.wfc_outside.specs.Gives

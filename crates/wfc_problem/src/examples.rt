@@ -10,6 +10,7 @@ ghost use Rattle.wfc_problem.specs.Fault.{problem_fault_of, size_fault};
 ghost use Rattle.wfc_problem.specs.Network.{IsProblem, values, value_weight, neighbour, supports_of, ok, in_base};
 ghost use Rattle.wfc_problem.specs.Rounds.{depth_of, greatest};
 ghost use Rattle.wfc_problem.specs.Sizes.{first_values, is_dead, sizes_of, values_at};
+ghost use Rattle.wfc_problem.specs.Whole.{is_whole, network_of};
 ghost use Rattle.wfc_problem.specs.declared.Literal.TheVariants.{Is, Not};
 ghost use Rattle.wfc_problem.specs.declared.TheConstants.{NO_CELL};
 ghost use Rattle.wfc_problem.specs.declared.Part.TheVariants.{Cells, Neighbours, Weights, Supports, Base};
@@ -30,6 +31,15 @@ pub fn tables_are_read()
     ensures base { map (in_base corner 1) (range_with_len 0 4) ≡ false ∷ true ∷ true ∷ false ∷ [] }
     ensures base_no_cell { in_base corner 4 0 ≡ false }
     ensures depth { depth_of corner ≡ 9 }
+{}
+
+/// A base is whole where it has each value at each cell, the last one too.
+pub fn whole_bases_are_told()
+    ensures part { is_whole corner ≡ false }
+    ensures without_flags { (network_of true corner).base ≡ replicate 12 true }
+    ensures whole { is_whole (network_of true corner) ≡ true }
+    ensures but_one { is_whole (record corner { base = slice_set (replicate 12 true) 11 false }) ≡ false }
+    ensures with_flags { network_of false corner ≡ corner }
 {}
 
 /// These parts are a problem, and each change of one of them is the fault that is named.

@@ -3,13 +3,14 @@
 //! it: what a literal cuts off, and what the greatest arc-consistent domains of a problem are.
 #![tactic(auto)]
 
-ghost use Rattle.std.specs.Prelude.{◌≡◌, ℕ, ◌+◌, ◌*◌, ◌<◌, ◌≤◌, ◌↔◌, IsTrue, IsOk, IfOk, Contains, count_by, length};
+ghost use Rattle.std.specs.Prelude.{◌≡◌, ℕ, ◌+◌, ◌*◌, ◌<◌, ◌≤◌, ◌↔◌, [], false, IsTrue, IsOk, IfOk, Contains, count_by, length, slice_index_or};
 ghost use Rattle.std.specs.List.Sorted.{IsStrictlyIncreasing};
 ghost use Rattle.std.specs.Result.{result_err};
 ghost use Rattle.wfc_model.specs.Direction.{opposite};
 ghost use Rattle.wfc_problem.specs.Fault.{problem_fault_of};
 ghost use Rattle.wfc_problem.specs.Rounds.{depth_of};
 ghost use Rattle.wfc_problem.specs.Network.{values, value_weight, neighbour, supports_of, ok, in_base, IsProblem};
+ghost use Rattle.wfc_problem.specs.Whole.{is_whole};
 
 mod checks;
 pub mod examples;
@@ -166,22 +167,48 @@ impl Parts {
     {
         self.base.iter().filter(|&&flag| flag).count()
     }
+
+    /// How many pairs of a cell and a value there are.
+    fn pairs(&self) -> usize
+        requires limit { self.now.cells * values self.now ≤ MAX_PAIRS }
+        ensures value { result ≡ self.now.cells * values self.now }
+    {
+        self.cells as usize * self.weights.len()
+    }
+
+    /// Whether each flag of the base is set.
+    fn is_whole(&self) -> bool
+        ensures value { result ≡ is_whole self.now }
+    {
+        self.base.iter().all(|&flag| flag)
+    }
+
+    /// Gives back the memory of the base.
+    fn forget_base(&mut self)
+        ensures rest { self.new ≡ record self.old { base = [] } }
+    {
+        self.base.clear();
+        self.base.shrink_to_fit();
+    }
 }
 
 /// A constraint problem. Cells, values and directions count from 0.
 #[derive(Debug, Drop)]
 pub struct Problem {
+    /// With no flags in the base where each of them is set.
     parts: Parts,
+    whole: bool,
 }
 
 impl Model for Problem {
-    ghost use Rattle.wfc_problem.specs.Network.{Network, IsProblem};
+    ghost use Rattle.wfc_problem.specs.Network.{Network};
+    ghost use Rattle.wfc_problem.specs.Whole.{network_of, IsKept};
 
     ghost Value = { Network };
 
-    ghost view = { λ a. a.parts };
+    ghost view = { λ a. network_of a.whole a.parts };
 
-    ghost invariant = { λ a. IsProblem a.parts };
+    ghost invariant = { λ a. IsKept a.whole a.parts };
 }
 
 impl Problem {
@@ -199,7 +226,22 @@ impl Problem {
         ensures problem { IsOk result ↔ IsProblem parts }
     {
         checks::check(&parts)?;
-        Ok(Problem { parts })
+        Ok(Problem::kept(parts))
+    }
+
+    /// The problem of these parts, without the flags of the base where each of them is set.
+    fn kept(mut parts: Parts) -> Problem
+        requires problem { IsProblem parts }
+        ensures value { result ≡ parts }
+    {
+        if parts.is_whole() {
+            parts.forget_base();
+            return Problem { parts, whole: true };
+        }
+        Problem {
+            parts,
+            whole: false,
+        }
     }
 
     /// How many cells there are.
@@ -271,18 +313,27 @@ impl Problem {
         ensures value { result ≡ in_base self.now cell value }
         ensures problem { IsProblem self.now }
     {
-        let parts = &self.parts;
-        parts.base[cell as usize * parts.weights.len() + value as usize]
+        self.in_base_at(cell as usize * self.parts.weights.len() + value as usize)
     }
 
-    /// Whether each cell may have each value, row by row: `value` at `cell` stands at `cell` times
+    /// Whether the pair at `place` is in the base. That of `value` at `cell` stands at `cell` times
     /// the number of values, plus `value`.
     #[inline]
-    pub fn base(&self) -> &[bool]
-        ensures value { result.now ≡ self.now.base }
+    pub fn in_base_at(&self, place: usize) -> bool
+        requires place_in { place < length self.now.base }
+        ensures value { result ≡ slice_index_or self.now.base place false }
         ensures problem { IsProblem self.now }
     {
-        &self.parts.base
+        self.whole || self.parts.base[place]
+    }
+
+    /// Whether each cell may have each value.
+    #[inline]
+    pub fn is_whole(&self) -> bool
+        ensures value { result ≡ is_whole self.now }
+        ensures problem { IsProblem self.now }
+    {
+        self.whole
     }
 
     /// How much `value` weighs in a draw, 1 to `MAX_WEIGHT`.
@@ -295,11 +346,16 @@ impl Problem {
         self.parts.weights[value as usize]
     }
 
-    /// How many pairs of a cell and a value of its base there are. It counts them anew.
+    /// How many pairs of a cell and a value of its base there are. It counts them anew where not
+    /// each cell may have each value.
     pub fn depth(&self) -> u32
         ensures value { result ≡ depth_of self.now }
         ensures problem { IsProblem self.now }
     {
-        self.parts.depth() as u32
+        if self.whole {
+            self.parts.pairs() as u32
+        } else {
+            self.parts.depth() as u32
+        }
     }
 }

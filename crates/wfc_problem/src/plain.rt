@@ -41,7 +41,7 @@ fn cut_base(alloc: Global, problem: &Problem, literals: &[Literal]) -> Result<Ve
 {
     let values = problem.values() as usize;
     let mut flags = Vec::new(alloc);
-    for place in 0..problem.base().len() {
+    for place in 0..problem.cells() as usize * values {
         let (cell, value) = ((place / values) as u32, (place % values) as u16);
         flags.push(is_left(problem, literals, cell, value))?;
     }

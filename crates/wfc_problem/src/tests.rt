@@ -257,10 +257,32 @@ fn what_is_read(rt: HostRuntime) -> Result<(), Fail> {
     assert!(rt; problem.ok(3, 1, 0));
     assert!(rt; !problem.in_base(0, 1));
     assert!(rt; problem.in_base(1, 0));
-    assert_eq!(rt; problem.base(), [true, false, true, true].as_slice());
+    for (place, wanted) in [true, false, true, true].iter().enumerate() {
+        assert_eq!(rt; problem.in_base_at(place), *wanted);
+    }
+    assert!(rt; !problem.is_whole());
     assert_eq!(rt; problem.weight(0), MAX_WEIGHT);
     assert_eq!(rt; problem.weight(1), 1);
     assert_eq!(rt; problem.depth(), 3);
+    Ok(())
+}
+
+/// Where each cell may have each value no flag is read.
+#[test]
+fn a_whole_base_and_one_without_its_last_flag(rt: HostRuntime) -> Result<(), Fail> {
+    let whole = Problem::new(uniform(rt.alloc(), 3, NO_CELL, 2, 1)?)?;
+    assert!(rt; whole.is_whole());
+    assert_eq!(rt; whole.depth(), 6);
+    let mut parts = uniform(rt.alloc(), 3, NO_CELL, 2, 1)?;
+    parts.base[5] = false;
+    let cut = Problem::new(parts)?;
+    assert!(rt; !cut.is_whole());
+    assert_eq!(rt; cut.depth(), 5);
+    for place in 0..6 {
+        assert!(rt; whole.in_base_at(place));
+        assert_eq!(rt; cut.in_base_at(place), place < 5);
+    }
+    assert!(rt; whole.in_base(2, 1) && !cut.in_base(2, 1));
     Ok(())
 }
 

@@ -1,5 +1,6 @@
 -- Each flag is that of the next place, and the whole table is the cut base.
-use Rattle.std.proofs.Common.{length, ap, arith}
+use Rattle.std.proofs.Common.{◌≡◌, ◌*◌, refl, arith}
+use Rattle.wfc_problem.specs.Network.{values}
 use Rattle.wfc_problem.proofs.Flags.{flags_are, tells_push}
 use Rattle.wfc_problem.proofs.Rounds.{base_with_inside}
 use Rattle.wfc_problem.proofs.plain.cut_base.Goals as goal
@@ -17,6 +18,7 @@ loop-place-preserved c =
 pub returns-clause-value : goal.returns-clause-value
 returns-clause-value c =
     let long = c.loop-place.flags.ok.0 in
-    let p = c.base-place-end.ensures.problem in
-    let same = ap length c.base-place-end.ensures.value in
-    flags_are c.args.problem.now _ c.loop-place.flags.items (omega (arith, p.sized.base_table)) (base_with_inside c.args.problem.now p c.args.literals.now) c.loop-place.invariant.told
+    let P = c.args.problem.now in
+    let p = c.cells.ensures.problem in
+    let end : c.cells.result * c.values-values.result ≡ P.cells * values P = rw (c.cells.ensures.value, c.values-values.ensures.value) refl in
+    flags_are P _ c.loop-place.flags.items (omega (arith, end)) (base_with_inside P p c.args.literals.now) c.loop-place.invariant.told
