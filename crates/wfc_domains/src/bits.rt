@@ -46,7 +46,7 @@ fn without_bit(byte: u8, bit: usize) -> u8
 
 impl Bits {
     /// So many flags, all of them set.
-    fn all(alloc: Global, len: usize) -> Result<Bits, AllocError>
+    pub fn all(alloc: Global, len: usize) -> Result<Bits, AllocError>
         ensures len { IfOk result (λ bits. length bits ≡ len) }
         ensures set { IfOk result (λ bits. (k : ℕ) → k < len → slice_index_or bits k false ≡ true) }
     {
@@ -54,19 +54,6 @@ impl Bits {
             len,
             bytes: vec![in alloc; 255; len / 8 + 1]?,
         })
-    }
-
-    /// These flags.
-    pub fn from_slice(alloc: Global, flags: &[bool]) -> Result<Bits, AllocError>
-        ensures ok { IfOk result (λ bits. bits ≡ flags.now) }
-    {
-        let mut bits = Bits::all(alloc, flags.len())?;
-        for (index, flag) in flags.iter().enumerate() {
-            if !*flag {
-                bits.clear(index);
-            }
-        }
-        Ok(bits)
     }
 
     /// The flag at an index.

@@ -1,7 +1,7 @@
 //! Domains: which values stand at each cell.
 
-ghost use Rattle.std.specs.Prelude.{◌≡◌, ℕ, ◌+◌, ◌*◌, ◌<◌, ◌≤◌, ◌^◌, All, IsTrue, IsFalse, IfOk, count_by, length, slice_index, vec_len};
-ghost use Rattle.wfc_problem.specs.Network.{row_of};
+ghost use Rattle.std.specs.Prelude.{◌≡◌, ℕ, ◌+◌, ◌*◌, ◌<◌, ◌≤◌, ◌^◌, true, false, All, IsTrue, IsFalse, IfOk, count_by, length, slice_index, slice_index_or, vec_len};
+ghost use Rattle.wfc_problem.specs.Network.{row_of, values};
 ghost use Rattle.wfc_problem.specs.declared.TheConstants.{MAX_VALUES};
 ghost use Rattle.wfc_domains.specs.declared.Verdict.TheVariants.{Alive, Dead};
 ghost use Rattle.wfc_domains.specs.Domains.{has, size_of, IsLess, IsFirstEmpty, base_of};
@@ -38,11 +38,10 @@ impl Domains {
     pub fn new(alloc: Global, problem: &Problem) -> Result<Domains, NoMemory>
         ensures ok { IfOk result (λ domains. domains ≡ base_of problem.now) }
     {
-        let values = problem.values();
-        let flags = Bits::from_slice(alloc, problem.base())?;
-        let sizes = sizes_of(alloc, problem.base(), problem.cells(), values)?;
+        let flags = base_flags(alloc, problem)?;
+        let sizes = base_sizes(alloc, problem)?;
         Ok(Domains {
-            values,
+            values: problem.values(),
             flags,
             sizes,
         })
@@ -141,18 +140,58 @@ impl Domains {
     }
 }
 
-/// How many flags are set in each of so many rows.
-fn sizes_of(alloc: Global, flags: &[bool], cells: u32, values: u16) -> Result<Vec<u16>, AllocError>
-    requires rows { length flags.now ≡ cells * values }
-    ensures rows { IfOk result (λ sizes. vec_len sizes ≡ cells) }
-    ensures each { IfOk result (λ sizes. (c : ℕ) → c < cells →
-        slice_index sizes.items c ≡ count_by (λ flag. flag) (row_of values flags.now c)) }
+/// A flag for each pair of a cell and a value, set where it is in the base.
+fn base_flags(alloc: Global, problem: &Problem) -> Result<Bits, AllocError>
+    ensures ok { IfOk result (λ flags. flags ≡ problem.now.base) }
 {
-    let values = values as usize;
-    let mut sizes = Vec::with_capacity(alloc, cells as usize)?;
-    for cell in 0..cells as usize {
-        let row = &flags[cell * values..cell * values + values];
-        sizes.push(row.iter().filter(|flag| **flag).count() as u16)?;
+    let flags = Bits::all(alloc, problem.cells() as usize * problem.values() as usize)?;
+    if problem.is_whole() {
+        return Ok(flags);
+    }
+    Ok(cut_to_base(problem, flags))
+}
+
+/// The flags, all of which are set, without those of pairs that are not in the base.
+fn cut_to_base(problem: &Problem, mut flags: Bits) -> Bits
+    requires long { length flags ≡ problem.now.cells * values problem.now }
+    requires set { (k : ℕ) → k < length flags → slice_index_or flags k false ≡ true }
+    ensures base { result ≡ problem.now.base }
+{
+    for place in 0..problem.cells() as usize * problem.values() as usize {
+        if !problem.in_base_at(place) {
+            flags.clear(place);
+        }
+    }
+    flags
+}
+
+/// How many base values each cell has.
+fn base_sizes(alloc: Global, problem: &Problem) -> Result<Vec<u16>, AllocError>
+    ensures rows { IfOk result (λ sizes. vec_len sizes ≡ problem.now.cells) }
+    ensures each { IfOk result (λ sizes. (c : ℕ) → c < problem.now.cells → slice_index sizes.items c
+        ≡ count_by (λ flag. flag) (row_of (values problem.now) problem.now.base c)) }
+{
+    if problem.is_whole() {
+        return Ok(vec![in alloc; problem.values(); problem.cells() as usize]?);
+    }
+    let mut sizes = Vec::with_capacity(alloc, problem.cells() as usize)?;
+    for cell in 0..problem.cells() {
+        sizes.push(base_size(problem, cell))?;
     }
     Ok(sizes)
+}
+
+/// How many base values the cell has.
+fn base_size(problem: &Problem, cell: u32) -> u16
+    requires cell_in { cell < problem.now.cells }
+    ensures value { result
+        ≡ count_by (λ flag. flag) (row_of (values problem.now) problem.now.base cell) }
+{
+    let mut count = 0;
+    for value in 0..problem.values() {
+        if problem.in_base(cell, value) {
+            count += 1;
+        }
+    }
+    count
 }
