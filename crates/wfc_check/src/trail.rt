@@ -5,7 +5,7 @@ ghost use Rattle.wfc_problem.specs.Network.{values, IsProblem};
 ghost use Rattle.wfc_problem.specs.Rounds.{depth_of};
 ghost use Rattle.wfc_check.specs.Entries.{standing, waits_of, with_more, Resumes};
 
-use std::alloc::Global;
+use std::alloc::{AllocError, Global};
 use std::marker::Model;
 use wfc_outside::NoMemory;
 use wfc_problem::Problem;
@@ -45,7 +45,7 @@ impl<'p> Trail<'p> {
         ensures ok { IfOk result (λ trail. trail ≡ record { problem = problem.now; entries = [] }) }
         ensures problem { IsProblem problem.now }
     {
-        let flags = Vec::from_slice(alloc, problem.base())?;
+        let flags = base_flags(alloc, problem)?;
         let entries = Vec::with_capacity(alloc, 2 * problem.depth() as usize)?;
         Ok(Trail {
             problem,
@@ -148,4 +148,20 @@ impl<'p> Trail<'p> {
         }
         None
     }
+}
+
+/// A flag for each pair of a cell and a value, set where it is in the base.
+fn base_flags(alloc: Global, problem: &Problem) -> Result<Vec<bool>, AllocError>
+    ensures base { IfOk result (λ flags. flags.items ≡ problem.now.base) }
+    ensures problem { IsProblem problem.now }
+{
+    let pairs = problem.cells() as usize * problem.values() as usize;
+    if problem.is_whole() {
+        return Ok(vec![in alloc; true; pairs]?);
+    }
+    let mut flags = Vec::with_capacity(alloc, pairs)?;
+    for place in 0..pairs {
+        flags.push(problem.in_base_at(place))?;
+    }
+    Ok(flags)
 }
