@@ -48,8 +48,14 @@ pub fn problem_of(
 /// A byte for each cell and value: `1` where the cell may have the value, and `0` where it mayn't.
 fn base_of(alloc: Global, problem: &Problem) -> Result<Vec<u8>, AllocError> {
     let mut text = Vec::new(alloc);
-    for flag in problem.base() {
-        text.push(if *flag { b'1' } else { b'0' })?;
+    for cell in 0..problem.cells() {
+        for value in 0..problem.values() {
+            text.push(if problem.in_base(cell, value) {
+                b'1'
+            } else {
+                b'0'
+            })?;
+        }
     }
     Ok(text)
 }

@@ -186,7 +186,7 @@ fn large_outputs(rt: HostRuntime) -> Result<(), Fail> {
     let patterns = single(&rt, rt.alloc())?;
     let problem = large_problem(&rt, rt.alloc(), &patterns)?;
     assert!(rt; problem.cells() == 524_288);
-    assert!(rt; problem.base().iter().all(|flag| *flag));
+    assert!(rt; problem.is_whole());
     Ok(())
 }
 
