@@ -257,9 +257,8 @@ fn what_is_read(rt: HostRuntime) -> Result<(), Fail> {
     assert!(rt; problem.ok(3, 1, 0));
     assert!(rt; !problem.in_base(0, 1));
     assert!(rt; problem.in_base(1, 0));
-    for (place, wanted) in [true, false, true, true].iter().enumerate() {
-        assert_eq!(rt; problem.in_base_at(place), *wanted);
-    }
+    let flags = flags_of(rt.alloc(), &problem)?;
+    assert_eq!(rt; flags.as_slice(), [true, false, true, true].as_slice());
     assert!(rt; !problem.is_whole());
     assert_eq!(rt; problem.weight(0), MAX_WEIGHT);
     assert_eq!(rt; problem.weight(1), 1);
@@ -267,22 +266,35 @@ fn what_is_read(rt: HostRuntime) -> Result<(), Fail> {
     Ok(())
 }
 
-/// Where each cell may have each value no flag is read.
+/// A flag for each pair, set where the cell may have the value.
+fn flags_of(alloc: Global, problem: &Problem) -> Result<Vec<bool>, AllocError> {
+    let mut flags = Vec::new(alloc);
+    for cell in 0..problem.cells() {
+        for value in 0..problem.values() {
+            flags.push(problem.in_base(cell, value))?;
+        }
+    }
+    Ok(flags)
+}
+
 #[test]
 fn a_whole_base_and_one_without_its_last_flag(rt: HostRuntime) -> Result<(), Fail> {
     let whole = Problem::new(uniform(rt.alloc(), 3, NO_CELL, 2, 1)?)?;
     assert!(rt; whole.is_whole());
     assert_eq!(rt; whole.depth(), 6);
-    let mut parts = uniform(rt.alloc(), 3, NO_CELL, 2, 1)?;
-    parts.base[5] = false;
-    let cut = Problem::new(parts)?;
+    let mut base = vec![in rt.alloc(); true; 5]?;
+    base.push(false)?;
+    let parts = uniform(rt.alloc(), 3, NO_CELL, 2, 1)?;
+    let cut = Problem::new(Parts { base, ..parts })?;
     assert!(rt; !cut.is_whole());
     assert_eq!(rt; cut.depth(), 5);
-    for place in 0..6 {
-        assert!(rt; whole.in_base_at(place));
-        assert_eq!(rt; cut.in_base_at(place), place < 5);
-    }
-    assert!(rt; whole.in_base(2, 1) && !cut.in_base(2, 1));
+    let flags = flags_of(rt.alloc(), &whole)?;
+    assert_eq!(rt; flags.as_slice(), [true; 6].as_slice());
+    let flags = flags_of(rt.alloc(), &cut)?;
+    assert_eq!(rt;
+        flags.as_slice(),
+        [true, true, true, true, true, false].as_slice()
+    );
     Ok(())
 }
 

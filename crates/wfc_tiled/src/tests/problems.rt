@@ -101,9 +101,14 @@ const PINNED: [(&[u8], [bool; 8]); 4] = [
 
 /// Whether the base of a problem is this one.
 fn has_base(rt: &impl Abort, problem: &Problem, wanted: &[bool]) {
-    for (place, flag) in wanted.iter().enumerate() {
-        assert!(rt; problem.in_base_at(place) == *flag);
+    let mut wanted = wanted.iter();
+    for cell in 0..problem.cells() {
+        for value in 0..problem.values() {
+            let flag = problem.in_base(cell, value);
+            assert!(rt; wanted.next() == Some(&flag));
+        }
     }
+    assert!(rt; wanted.next() == None);
 }
 
 #[test]
