@@ -331,8 +331,8 @@ impl Counters {
         }
     }
 
-    /// Marks the counts of a value at a cell in the first four directions, which stand from `start` on: one change of
-    /// four bytes.
+    /// Marks the counts of a value at a cell in the first four directions, which stand from `start` on. Without a loop
+    /// it is one change of four bytes.
     #[inline]
     fn mark_four(&mut self, start: usize, cell: u32, value: u16)
         requires start { start ≡ place_in self.old.values self.old.dirs cell value 0 }

@@ -203,7 +203,7 @@ impl Older {
         place_count(self.cells, self.values, self.dirs)
     }
 
-    /// One more, of as many `places` as there are.
+    /// One more, where there are so many places.
     #[inline]
     fn push(&mut self, removal: Removal, places: u64)
         requires room { length self.old.removals < self.old.room }
