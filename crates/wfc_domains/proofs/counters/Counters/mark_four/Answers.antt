@@ -1,4 +1,4 @@
-use Rattle.std.proofs.Common.{◌<◌, arith}
+use Rattle.std.proofs.Common.{arith}
 use Rattle.wfc_domains.proofs.Marking.{marks_none, marks_more}
 use Rattle.wfc_domains.proofs.counters.Counters.mark_four.Goals as goal
 
