@@ -56,3 +56,7 @@ row_at P (Some n) = place P n 0 0
 -- that of each neighbour of c
 abbrev pub AreRows : Network → ℕ → List ℕ → Type 0
 AreRows P c rows = (d : ℕ) → d < P.dirs → slice_index rows d ≡ row_at P (neighbour P c d)
+
+-- the neighbours of c, each at its direction
+abbrev pub AreNexts : Network → ℕ → List ℕ → Type 0
+AreNexts P c nexts = (d n : ℕ) → d < P.dirs → neighbour P c d ≡ Some n → slice_index nexts d ≡ n

@@ -10,14 +10,14 @@ ghost use Rattle.wfc_domains.specs.Removals.{without};
 ghost use Rattle.wfc_domains.specs.Store.{IsOpening};
 ghost use Rattle.wfc_domains.specs.Board.{Grows, IsFresh, IsTraced};
 ghost use Rattle.wfc_ac4.specs.Places.{places_upto, side_places, places_of};
-ghost use Rattle.wfc_ac4.specs.Links.{AreLinks, AreRows, links_of, row_at};
+ghost use Rattle.wfc_ac4.specs.Links.{AreLinks, AreNexts, AreRows, links_of, row_at};
 ghost use Rattle.wfc_ac4.specs.State.{IsWorking, IsBetween, IsRolled, IsRaising, IsScanned, AreLowered, counted};
 ghost use Rattle.wfc_ac4.specs.Flight.{front_cost, GoesOn, Recounts, HasNoMore, IsShorter, IsRolledTo, IsFirstBare, IsStruck};
 
 use crate::links::{Link, Links};
 use std::sync::ledger::Ledger;
 use wfc_domains::{Board, Cause, Counters, Steps, is_alive};
-use wfc_problem::opposite;
+use wfc_problem::{NO_CELL, opposite};
 
 /// Where the entries of a neighbour begin that is not there.
 const NO_ROW: usize = usize::MAX;
@@ -82,28 +82,60 @@ impl<'p> Flight<'p> {
         rows
     }
 
-    /// Removes the value to which a link leads from a cell, if it stands there and no cell is empty: it has no support
-    /// left on the way back.
-    #[inline(never)]
-    fn strike(&mut self, cell: u32, link: Link)
+    /// The neighbour of a cell in each direction, `NO_CELL` where there is none. There are four directions or six.
+    #[inline]
+    fn nexts(&self, cell: u32) -> [u32; 6]
+        requires cell_in { cell < self.now.board.problem.now.cells }
+        ensures nexts { AreNexts self.now.board.problem.now cell result }
+    {
+        let dirs = self.board.problem.dirs();
+        let mut nexts = [
+            self.next_beside(cell, 0),
+            self.next_beside(cell, 1),
+            self.next_beside(cell, 2),
+            self.next_beside(cell, 3),
+            NO_CELL,
+            NO_CELL,
+        ];
+        if dirs == 6 {
+            nexts[4] = self.next_beside(cell, 4);
+            nexts[5] = self.next_beside(cell, 5);
+        }
+        nexts
+    }
+
+    /// The neighbour of a cell in a direction, `NO_CELL` where there is none.
+    #[inline]
+    fn next_beside(&self, cell: u32, dir: u8) -> u32
+        requires cell_in { cell < self.now.board.problem.now.cells }
+        requires dir_in { dir < self.now.board.problem.now.dirs }
+        ensures next { (n : ℕ) → neighbour self.now.board.problem.now cell dir ≡ Some n → result ≡ n }
+    {
+        match self.board.problem.neighbour(cell, dir) {
+            Some(next) => next,
+            None => NO_CELL,
+        }
+    }
+
+    /// Removes the value to which a link leads at a neighbour, if it stands there and no cell is empty: it has no
+    /// support left on the way back.
+    #[inline]
+    fn strike(&mut self, next: u32, link: Link)
         requires traced { IsTraced self.old.board }
         requires fits { FitsTable self.old.board.problem.now self.old.counters }
-        requires cell_in { cell < self.old.board.problem.now.cells }
-        requires dir_in { link.dir < self.old.board.problem.now.dirs }
+        requires next_in { next < self.old.board.problem.now.cells }
         requires back { link.back ≡ opposite link.dir }
+        requires back_in { link.back < self.old.board.problem.now.dirs }
         requires value_in { link.offset / self.old.board.problem.now.dirs
             < values self.old.board.problem.now }
-        ensures struck { (n : ℕ) → neighbour self.old.board.problem.now cell link.dir ≡ Some n
-            → IsStruck self.old self.new n (link.offset / self.old.board.problem.now.dirs)
+        ensures struck { IsStruck self.old self.new next (link.offset / self.old.board.problem.now.dirs)
             (opposite link.dir) }
     {
         let problem = self.board.problem;
-        if let Some(next) = problem.neighbour(cell, link.dir) {
-            let value = value_at(link.offset, problem.dirs());
-            if self.board.domains.has(next, value) && is_alive(self.board.verdict) {
-                self.board.remove(next, value, Cause::Arc(link.back));
-                self.counters.mark(next, value);
-            }
+        let value = value_at(link.offset, problem.dirs());
+        if self.board.domains.has(next, value) && is_alive(self.board.verdict) {
+            self.board.remove(next, value, Cause::Arc(link.back));
+            self.counters.mark(next, value);
         }
     }
 
@@ -116,12 +148,13 @@ impl<'p> Flight<'p> {
         ensures goes_on { GoesOn self.old self.new }
         ensures steps { steps.new ≡ steps.old + cost_at self.old.board.problem.now cell value }
     {
+        let nexts = self.nexts(cell);
         let rows = self.rows(cell);
         for link in links {
             let row = rows[link.dir as usize];
             if row != NO_ROW {
                 if self.counters.down_at(row + link.offset as usize, steps) {
-                    self.strike(cell, *link);
+                    self.strike(nexts[link.dir as usize], *link);
                 }
             }
         }

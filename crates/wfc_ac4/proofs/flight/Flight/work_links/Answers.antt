@@ -37,14 +37,28 @@ down_at-requires-clause-some g c =
     let s = link_at _ c.args.self.now.board _ _ _ _ _ _ _ c.rows-rows.result h.goes_on.grows.problem h.working c.requires.links c.loop-link-test.true c.rows-rows.ensures.rows refl c.if-row.true in
     s.some
 
-pub strike-requires-clause-cell_in : goal.strike-requires-clause-cell_in
-strike-requires-clause-cell_in g c = (working-range c.loop-link.invariant.working).0
+pub nexts-nexts-requires : goal.nexts-nexts-requires
+nexts-nexts-requires g c = record { cell_in = (working-range c.requires.working).0 }
 
-pub strike-requires-clause-dir_in : goal.strike-requires-clause-dir_in
-strike-requires-clause-dir_in g c =
+pub bounds-nexts-link : goal.bounds-nexts-link
+bounds-nexts-link g c =
+    let p = c.requires.working.board.traced.problem in
+    omega (arith, (is_link _ p _ _ _ c.requires.links c.loop-link-test.true).dir_in, dirs-le _ p)
+
+pub strike-requires-clause-next_in : goal.strike-requires-clause-next_in
+strike-requires-clause-next_in g c =
+    let h = c.loop-link.invariant in
+    let x = get_or c.args.links.now c.loop-link.link-index no_link in
+    let s = link_at _ c.args.self.now.board _ _ _ _ _ _ _ c.rows-rows.result h.goes_on.grows.problem h.working c.requires.links c.loop-link-test.true c.rows-rows.ensures.rows refl c.if-row.true in
+    let to = ap (λ p. neighbour p.now c.args.cell x.dir) (sym h.goes_on.grows.problem) ∙ s.beside in
+    let dir_in = (is_link _ c.requires.working.board.traced.problem _ _ _ c.requires.links c.loop-link-test.true).dir_in in
+    omega (arith, c.nexts-nexts.ensures.nexts x.dir s.cell dir_in to, s.side.cell_in)
+
+pub strike-requires-clause-back_in : goal.strike-requires-clause-back_in
+strike-requires-clause-back_in g c =
     let h = c.loop-link.invariant in
     let s = link_at _ c.args.self.now.board _ _ _ _ _ _ _ c.rows-rows.result h.goes_on.grows.problem h.working c.requires.links c.loop-link-test.true c.rows-rows.ensures.rows refl c.if-row.true in
-    s.dir_in
+    omega (arith, s.back_is, s.side.dir_in)
 
 pub strike-requires-clause-back : goal.strike-requires-clause-back
 strike-requires-clause-back g c =
@@ -71,7 +85,9 @@ loop-link-preserved g c =
           let s = link_at _ c.args.self.now.board _ _ _ _ _ _ _ c.rows-rows.result h.goes_on.grows.problem h.working c.requires.links c.loop-link-test.true c.rows-rows.ensures.rows refl w.if-row.true in
           let longer = length-some P c.args.cell k s.cell ls c.loop-link-test.true (ap (λ p. neighbour p.now c.args.cell x.dir) (sym h.goes_on.grows.problem) ∙ s.beside) in
           let one_left = ap (slice_index T.counts) (sym s.place_is) ∙ w.down_at.ensures.bare.0 w.if-down_at.true in
-          let struck = w.strike.ensures.struck s.cell s.beside in
+          let to = ap (λ p. neighbour p.now c.args.cell x.dir) (sym h.goes_on.grows.problem) ∙ s.beside in
+          let dir_in = (is_link _ c.requires.working.board.traced.problem _ _ _ c.requires.links c.loop-link-test.true).dir_in in
+          let struck = rw (c.nexts-nexts.ensures.nexts x.dir s.cell dir_in to) at w.strike.ensures.struck in
           let on = struck_on _ _ _ _ _ struck in
           rw (w.self-is, w.steps-is) (record {
             working = struck_working _ _ T _ _ _ _ _ _ (λ (N : Network). link_places N c.args.cell (take (k + 1) ls)) h.working s.side (lowered-at T _ _ _ _ _ s.place_is w.down_at.ensures.changed) one_left struck;
