@@ -1,11 +1,12 @@
 -- What the tables of a problem have at a place.
-use Rattle.std.proofs.Common.{◌≡◌, ℕ, ◌+◌, ◌*◌, ◌<◌, ◌≤◌, Bool, true, false, List, [], length, get_or, take, drop, sym, ◌∙◌, ap, arith, Some, None, inl, inr}
+use Rattle.std.proofs.Common.{◌≡◌, ℕ, suc, ◌+◌, ◌*◌, ◌<◌, ◌≤◌, Bool, true, false, List, [], length, get_or, take, drop, sym, ◌∙◌, ap, arith, Some, None, inl, inr}
 use Rattle.std.specs.Prelude.{Contains}
 use Rattle.std.proofs.lemmas.Bool.{false≢true, cases_lt, cases_eq, eq-eqb, ne_eqb, lt-ltb, le-ltb, cond-true, cond-false}
-use Rattle.std.proofs.lemmas.List.{get_or_past, get_or-take, get_or-drop, length-take}
+use Rattle.std.proofs.lemmas.List.{get_or_past, get_or-take, get_or-drop, length-take, length-drop}
+use Rattle.std.proofs.Math.Nat.{mul-le-mul_right}
 use Rattle.wfc_lists.proofs.Tables.{row_below}
 use Rattle.wfc_problem.specs.declared.TheConstants.{NO_CELL}
-use Rattle.wfc_problem.specs.Network.{Network, values, neighbour, named, supports_of, has_flag, in_base, IsProblem}
+use Rattle.wfc_problem.specs.Network.{Network, values, neighbour, named, beside, supports_of, has_flag, in_base, IsProblem}
 
 -- ---- neighbours and supports
 
@@ -42,6 +43,18 @@ pub neighbour_is : (P : Network) (c d : ℕ) → d < P.dirs → (get_or P.neighb
 neighbour_is P c d l some =
     let entry = get_or P.neighbours (c * P.dirs + d) NO_CELL in
     cond-true _ (named entry) None (lt-ltb d P.dirs l) ∙ cond-false _ None (Some entry) (ne_eqb entry NO_CELL some)
+
+-- the entries for what is beside a cell name its neighbours
+pub beside_names : (P : Network) (c d : ℕ) → d < P.dirs → neighbour P c d ≡ named (get_or (beside P c) d NO_CELL)
+beside_names P c d l =
+    cond-true _ (named (get_or P.neighbours (c * P.dirs + d) NO_CELL)) None (lt-ltb d P.dirs l)
+    ∙ ap named (sym (get_or-take P.dirs (drop (c * P.dirs) P.neighbours) d NO_CELL l ∙ get_or-drop (c * P.dirs) P.neighbours d NO_CELL))
+
+-- there is one for each direction
+pub beside_length : (P : Network) → IsProblem P → (c : ℕ) → c < P.cells → length (beside P c) ≡ P.dirs
+beside_length P p c hc =
+    let rows : suc c * P.dirs ≤ P.cells * P.dirs = mul-le-mul_right P.dirs hc in
+    omega (arith, length-take P.dirs (drop (c * P.dirs) P.neighbours), length-drop (c * P.dirs) P.neighbours, p.sized.neighbours_table, rows)
 
 -- in a direction that there is, a list of supports is what the table has
 pub supports_at : (P : Network) (v d : ℕ) → d < P.dirs → supports_of P v d ≡ get_or P.supports (v * P.dirs + d) []

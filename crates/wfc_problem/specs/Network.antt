@@ -31,6 +31,10 @@ named n = if n == NO_CELL then None else Some n
 abbrev pub neighbour : Network → ℕ → ℕ → Option ℕ
 neighbour P c d = if nat_lt d P.dirs then named (slice_index_or P.neighbours (c * P.dirs + d) NO_CELL) else None
 
+-- the entries of the table for what is beside c, one for each direction
+abbrev pub beside : Network → ℕ → List ℕ
+beside P c = take P.dirs (drop (c * P.dirs) P.neighbours)
+
 -- the values that may stand beside v in direction d, rising; none where there is no such value or direction
 abbrev pub supports_of : Network → ℕ → ℕ → List ℕ
 supports_of P v d = if nat_lt d P.dirs then slice_index_or P.supports (v * P.dirs + d) [] else []

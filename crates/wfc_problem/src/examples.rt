@@ -7,7 +7,7 @@ ghost use Rattle.wfc_problem.specs.Assignment.{IsLegalAssignment, LiesIn};
 ghost use Rattle.wfc_problem.specs.Corner.{corner};
 ghost use Rattle.wfc_problem.specs.Domains.{IsSupported, IsArcConsistent, IsDead, IsLiteralIn, HasOnly, base_with, leaves, support_count};
 ghost use Rattle.wfc_problem.specs.Fault.{problem_fault_of, size_fault};
-ghost use Rattle.wfc_problem.specs.Network.{IsProblem, values, value_weight, neighbour, supports_of, ok, in_base};
+ghost use Rattle.wfc_problem.specs.Network.{IsProblem, values, value_weight, neighbour, beside, supports_of, ok, in_base};
 ghost use Rattle.wfc_problem.specs.Rounds.{depth_of, greatest};
 ghost use Rattle.wfc_problem.specs.Sizes.{first_values, is_dead, sizes_of, values_at};
 ghost use Rattle.wfc_problem.specs.Whole.{is_whole, network_of};
@@ -23,6 +23,8 @@ pub fn tables_are_read()
     ensures neighbours { map (neighbour corner 0) (range_with_len 0 5)
         ≡ None ∷ Some 2 ∷ Some 1 ∷ None ∷ None ∷ [] }
     ensures no_cell { neighbour corner 4 0 ≡ None }
+    ensures beside { beside corner 2 ≡ NO_CELL ∷ NO_CELL ∷ NO_CELL ∷ 0 ∷ [] }
+    ensures beside_no_cell { beside corner 4 ≡ [] }
     ensures supports { map (supports_of corner 1) (range_with_len 0 5)
         ≡ (0 ∷ []) ∷ (0 ∷ 2 ∷ []) ∷ (2 ∷ []) ∷ (2 ∷ []) ∷ [] ∷ [] }
     ensures no_value { supports_of corner 3 0 ≡ [] }

@@ -9,7 +9,7 @@ ghost use Rattle.std.specs.Result.{result_err};
 ghost use Rattle.wfc_model.specs.Direction.{opposite};
 ghost use Rattle.wfc_problem.specs.Fault.{problem_fault_of};
 ghost use Rattle.wfc_problem.specs.Rounds.{depth_of};
-ghost use Rattle.wfc_problem.specs.Network.{values, value_weight, neighbour, supports_of, ok, in_base, IsProblem};
+ghost use Rattle.wfc_problem.specs.Network.{values, value_weight, neighbour, beside, supports_of, ok, in_base, IsProblem};
 ghost use Rattle.wfc_problem.specs.Whole.{is_whole};
 
 mod checks;
@@ -280,6 +280,18 @@ impl Problem {
         ensures problem { IsProblem self.now }
     {
         self.parts.neighbour(cell, dir)
+    }
+
+    /// The cell beside `cell` in each direction, or `NO_CELL`.
+    #[inline]
+    pub fn beside(&self, cell: u32) -> &[u32]
+        requires cell_in { cell < self.now.cells }
+        ensures value { result.now ≡ beside self.now cell }
+        ensures problem { IsProblem self.now }
+    {
+        let dirs = self.parts.dirs as usize;
+        let start = cell as usize * dirs;
+        &self.parts.neighbours[start..start + dirs]
     }
 
     /// The values that may stand beside `value` in direction `dir`, strictly rising.
