@@ -1,25 +1,28 @@
 -- The links of all values in one list, and the counters that a value's links lower.
-use Rattle.std.proofs.Common.{◌≡◌, ◌≢◌, ℕ, zero, suc, ◌+◌, ◌-◌, ◌*◌, ◌/◌, ◌%◌, ◌^◌, ◌<◌, ◌≤◌, List, [], ◌∷◌, ◌++◌, length, get_or, take, drop, map, refl, sym, ◌∙◌, ap, subst, add-one, arith, Option, Some, None, inl, inr}
+use Rattle.std.proofs.Common.{◌≡◌, ◌≢◌, ℕ, zero, suc, ◌+◌, ◌-◌, ◌*◌, ◌/◌, ◌%◌, ◌<◌, ◌≤◌, List, [], ◌∷◌, ◌++◌, length, get_or, take, drop, map, refl, sym, ◌∙◌, ap, subst, add-one, arith, Option, Some, None, inl, inr}
 use Rattle.std.specs.Prelude.{Contains, slice_index, slice_set}
-use Rattle.std.proofs.lemmas.Bool.{cases_eq, cases_lt}
+use Rattle.std.proofs.lemmas.Bool.{cases_eq, cases_lt, cond-true, cond-false, eq-eqb, ne_eqb}
 use Rattle.std.proofs.lemmas.List.{get_or_default, get_or_append_left, get_or-append_right, get_or-map, length-map, length-append, length-drop, length_push, take-append-le, drop-append-le, take-append-drop, take_more, take_all, append_assoc, append-nil}
 use Rattle.std.proofs.Math.Seq.{drop-append_seam}
 use Rattle.std.proofs.lemmas.Nat.{div-mul-add}
-use Rattle.std.proofs.Math.Nat.{mul-le-mul, mul-le-mul_right}
+use Rattle.std.proofs.Math.Nat.{mul-le-mul}
 use Rattle.wfc_model.specs.Direction.{opposite}
-use Rattle.wfc_problem.specs.Network.{Network, values, neighbour, supports_of, IsProblem}
+use Rattle.wfc_problem.specs.declared.TheConstants.{NO_CELL}
+use Rattle.wfc_problem.specs.Network.{Network, values, neighbour, named, beside, supports_of, IsProblem}
+use Rattle.wfc_problem.proofs.CallerLemmas.{beside_names, beside_length, few_cells}
 use Rattle.wfc_domains.specs.Counters.{Table, FitsTable, place, place_in, entry_of, with_count, counters_of, cost_at}
 use Rattle.wfc_domains.specs.declared.board.Board.{Board}
 use Rattle.wfc_domains.proofs.Places.{place-is}
+use Rattle.wfc_domains.proofs.Loading.{place_in-row}
 use Rattle.wfc_domains.proofs.Problems.{in_values, in_cells, back, opposite-in, supports-below, few_values, few_pairs, dirs-le}
 use Rattle.wfc_ac4.specs.Places.{side_places, places_upto, places_of, times}
-use Rattle.wfc_ac4.specs.Links.{no_link, AreLinks, link_to, side_links, links_upto, links_of, all_upto, link_place, link_places, row_at, AreRows}
+use Rattle.wfc_ac4.specs.Links.{no_link, AreLinks, link_to, side_links, links_upto, links_of, all_upto, link_place, link_places}
 use Rattle.wfc_ac4.specs.State.{IsWorking, counted}
 use Rattle.wfc_ac4.specs.declared.links.Link.{Link}
 use Rattle.wfc_ac4.specs.declared.links.Links.{Links}
 use Rattle.wfc_ac4.proofs.PlaceLemmas.{times-append}
 use Rattle.wfc_ac4.proofs.Costs.{cost-is}
-use Rattle.wfc_ac4.proofs.Steps.{SideStep, still_counts, counted-in}
+use Rattle.wfc_ac4.proofs.Steps.{SideStep, still_counts, counted-in, working-range}
 
 -- ---- where the links of a value stand
 
@@ -214,11 +217,7 @@ part-le P c v k i ls e =
     let all = ap (times i) (sym split ∙ links-places P c v ls e) in
     omega arith
 
--- ---- where the counters of the neighbours begin
-
--- there are at least four directions
-pub dirs-ge : (P : Network) → IsProblem P → 4 ≤ P.dirs
-dirs-ge P p = elim p.sized.four_or_six [ inl four ↦ omega (arith, four) | inr six ↦ omega (arith, six) ]
+-- ---- where the counters of the neighbours stand
 
 -- a problem has few counters
 counters-few : (P : Network) → IsProblem P → counters_of P ≤ 50331648
@@ -227,50 +226,39 @@ counters-few P p = let few : counters_of P ≤ 8388608 * 6 = mul-le-mul (few_pai
 pub table-few : (P : Network) (T : Table) → IsProblem P → FitsTable P T → length T.counts ≤ 50331648
 table-few P T p fits = omega (arith, fits.whole, counters-few P p)
 
--- none begin at the greatest number
-row-few : (P : Network) → IsProblem P → (c d n : ℕ) → neighbour P c d ≡ Some n → place P n 0 0 ≢ 2 ^ 64 - 1
-row-few P p c d n beside e =
-    let hn = in_cells P p c d n beside in
-    let row : n * values P ≤ P.cells * values P = mul-le-mul_right (values P) (let z : n ≤ P.cells = omega arith in z) in
-    let before : (n * values P) * P.dirs ≤ (P.cells * values P) * P.dirs = mul-le-mul_right P.dirs row in
-    let low : place P n 0 0 ≤ 50331648 = omega (arith, counters-few P p, before) in
-    absurd (omega (arith, low, e))
+-- what the entries of a cell say of a direction
+entry-names : (P : Network) → IsProblem P → (c d n : ℕ) → c < P.cells → d < P.dirs → n ≡ slice_index (beside P c) d → neighbour P c d ≡ named n
+entry-names P p c d n hc hd is =
+    beside_names P c d hd ∙ ap named (get_or_default (beside P c) d NO_CELL 0 (omega (arith, beside_length P p c hc)) ∙ sym is)
 
--- no counters begin there where there is no neighbour
-pub row_none : (P : Network) → IsProblem P → (c d row : ℕ) → row ≡ row_at P (neighbour P c d) → row ≡ 2 ^ 64 - 1 → neighbour P c d ≡ None
-row_none P p c d row is e =
-    let Q : Option ℕ → Type 0 = λ o. neighbour P c d ≡ o → o ≡ None in
-    elim (neighbour P c d) as Q [
-      | None ↦ λ f. refl
-      | Some n ↦ λ f. absurd (row-few P p c d n f (sym (is ∙ ap (row_at P) f) ∙ e))
-    ] refl
+-- an entry that names a cell names the neighbour
+named_neighbour : (P : Network) → IsProblem P → (c d n : ℕ) → c < P.cells → d < P.dirs → n ≡ slice_index (beside P c) d → n ≢ NO_CELL → neighbour P c d ≡ Some n
+named_neighbour P p c d n hc hd is some = entry-names P p c d n hc hd is ∙ cond-false _ None (Some n) (ne_eqb n NO_CELL some)
 
--- and where they do there is one
-pub row_some : (P : Network) (c d row : ℕ) → row ≡ row_at P (neighbour P c d) → row ≢ 2 ^ 64 - 1 → (n : ℕ) × (neighbour P c d ≡ Some n) × (row ≡ place P n 0 0)
-row_some P c d row is ne =
-    let Q : Option ℕ → Type 0 = λ o. neighbour P c d ≡ o → (n : ℕ) × (o ≡ Some n) × (row ≡ place P n 0 0) in
-    elim (neighbour P c d) as Q [
-      | None ↦ λ f. absurd (ne (is ∙ ap (row_at P) f))
-      | Some n ↦ λ f. (n, refl, is ∙ ap (row_at P) f)
-    ] refl
+-- an entry that is no cell's number is of no neighbour
+pub no_neighbour : (P : Network) → IsProblem P → (c d n : ℕ) → c < P.cells → d < P.dirs → n ≡ slice_index (beside P c) d → P.cells ≤ n → neighbour P c d ≡ None
+no_neighbour P p c d n hc hd is past = elim (cases_eq n NO_CELL) [
+  | inl none ↦ entry-names P p c d n hc hd is ∙ cond-true _ None (Some n) (eq-eqb n NO_CELL none)
+  | inr some ↦ absurd (let inside = in_cells P p c d n (named_neighbour P p c d n hc hd is some) in omega (arith, inside, past))
+]
 
 -- ---- one link worked off
 
--- what holds of a link, where the counters of a neighbour begin at `row`
-pub record LinkStep (P : Network) (lowered next : List ℕ) (c v row : ℕ) (l : Link) (T : Table) : Type 0 where
-  pub cell : ℕ
-  pub beside : neighbour P c l.dir ≡ Some cell
+-- what holds of a link that leads to cell n, where its counter stands at i
+pub record LinkStep (P : Network) (lowered next : List ℕ) (c v n i : ℕ) (l : Link) (T : Table) : Type 0 where
+  pub beside : neighbour P c l.dir ≡ Some n
   pub dir_in : l.dir < P.dirs
   pub back_is : l.back ≡ opposite l.dir
-  pub place_is : row + l.offset ≡ place_in T.values T.dirs cell (l.offset / P.dirs) (opposite l.dir)
-  pub inside : row + l.offset < length T.counts
-  pub some : 0 < slice_index T.counts (row + l.offset) % 32768
-  pub side : SideStep P lowered next c v cell (l.offset / P.dirs) (opposite l.dir) T
+  pub place_is : i ≡ place_in T.values T.dirs n (l.offset / P.dirs) (opposite l.dir)
+  pub place_of : i ≡ place P n (l.offset / P.dirs) (opposite l.dir)
+  pub inside : i < length T.counts
+  pub some : 0 < slice_index T.counts i % 32768
+  pub side : SideStep P lowered next c v n (l.offset / P.dirs) (opposite l.dir) T
 
-link_step : (b : Board) (T : Table) (head c v k row n : ℕ) (ls : List Link)
-    → IsWorking b T head c v (link_places b.problem.now c (take k ls)) → ls ≡ links_of b.problem.now v → k < length ls → neighbour b.problem.now c (get_or ls k no_link).dir ≡ Some n → row ≡ place b.problem.now n 0 0
-    → LinkStep b.problem.now (link_places b.problem.now c (take k ls)) (link_places b.problem.now c (take (k + 1) ls)) c v row (get_or ls k no_link) T
-link_step b T head c v k row n ls h e l beside begins =
+link_step : (b : Board) (T : Table) (head c v k n row : ℕ) (ls : List Link)
+    → IsWorking b T head c v (link_places b.problem.now c (take k ls)) → ls ≡ links_of b.problem.now v → k < length ls → neighbour b.problem.now c (get_or ls k no_link).dir ≡ Some n → row ≡ values b.problem.now * b.problem.now.dirs
+    → LinkStep b.problem.now (link_places b.problem.now c (take k ls)) (link_places b.problem.now c (take (k + 1) ls)) c v n (n * row + (get_or ls k no_link).offset) (get_or ls k no_link) T
+link_step b T head c v k n row ls h e l beside wide =
     let P = b.problem.now in
     let p = h.board.traced.problem in
     let x = get_or ls k no_link in
@@ -286,13 +274,15 @@ link_step b T head c v k row n ls h e l beside begins =
     let part : times (place P n w turned) (lowered ++ place P n w turned ∷ []) ≤ times (place P n w turned) (places_of P c v) =
     omega (arith, ap (times (place P n w turned)) next, part-le P c v (k + 1) (place P n w turned) ls e) in
     let above = still_counts P p (counted b head) lowered T c v n w turned h.counters h.still_counted hn hw hb part in
-    let place_is : row + x.offset ≡ place_in T.values T.dirs n w turned = ap (λ i. i + x.offset) begins ∙ at ∙ place-is P T h.counters.fits n w turned in
+    let begins : n * row ≡ place P n 0 0 = ap (λ m. n * m) wide ∙ omega (arith, place_in-row (values P) P.dirs n 0 0) in
+    let place_of : n * row + x.offset ≡ place P n w turned = ap (λ i. i + x.offset) begins ∙ at in
+    let place_is : n * row + x.offset ≡ place_in T.values T.dirs n w turned = place_of ∙ place-is P T h.counters.fits n w turned in
     record {
-      cell = n;
       beside = beside;
       dir_in = s.dir_in;
       back_is = s.back_is;
       place_is = place_is;
+      place_of = place_of;
       inside = subst (λ i. i < length T.counts) (sym place_is) (counted-in T n w turned above);
       some = subst (λ i. 0 < slice_index T.counts i % 32768) (sym place_is) above;
       side = record {
@@ -306,17 +296,20 @@ link_step b T head c v k row n ls h e l beside begins =
       };
     }
 
--- the same, where the facts are those of the board at entry
-pub link_at : (b a : Board) (T : Table) (head c v k row : ℕ) (ls : List Link) (rows : List ℕ) → b.problem ≡ a.problem
-    → IsWorking b T head c v (link_places b.problem.now c (take k ls)) → ls ≡ links_of a.problem.now v → k < length ls → AreRows a.problem.now c rows → row ≡ slice_index rows (get_or ls k no_link).dir → row ≢ 2 ^ 64 - 1
-    → LinkStep b.problem.now (link_places b.problem.now c (take k ls)) (link_places b.problem.now c (take (k + 1) ls)) c v row (get_or ls k no_link) T
-link_at b a T head c v k row ls rows same h e l begin is ne =
+-- the same, where the facts are those of the board and the table at entry
+pub link_at : (b a : Board) (T A : Table) (head c v k n row : ℕ) (ls : List Link) (entries : List ℕ) → b.problem ≡ a.problem → FitsTable a.problem.now A
+    → IsWorking b T head c v (link_places b.problem.now c (take k ls)) → ls ≡ links_of a.problem.now v → k < length ls
+    → entries ≡ beside a.problem.now c → row ≡ A.values * A.dirs → n ≡ slice_index entries (get_or ls k no_link).dir → n < a.problem.now.cells
+    → LinkStep b.problem.now (link_places b.problem.now c (take k ls)) (link_places b.problem.now c (take (k + 1) ls)) c v n (n * row + (get_or ls k no_link).offset) (get_or ls k no_link) T
+link_at b a T A head c v k n row ls entries same fits h e l table wide is inside =
     let N = ap (λ p. p.now) same in
     let x = get_or ls k no_link in
     let e' = e ∙ ap (λ P. links_of P v) (sym N) in
-    let begin' = subst (λ P. AreRows P c rows) (sym N) begin in
-    let to = row_some b.problem.now c x.dir row (is ∙ begin' x.dir (is_link b.problem.now h.board.traced.problem v k ls e' l).dir_in) ne in
-    link_step b T head c v k row to.0 ls h e' l to.1 to.2
+    let hd = (is_link b.problem.now h.board.traced.problem v k ls e' l).dir_in in
+    let entry = is ∙ ap (λ xs. slice_index xs x.dir) (table ∙ ap (λ P. beside P c) (sym N)) in
+    let some : n ≢ NO_CELL = let few = few_cells a.problem.now (subst IsProblem N h.board.traced.problem) in omega (arith, inside, few) in
+    let wide' : row ≡ values b.problem.now * b.problem.now.dirs = wide ∙ (λ i. fits.same_values i * fits.same_dirs i) ∙ ap (λ P. values P * P.dirs) (sym N) in
+    link_step b T head c v k n row ls h e' l (named_neighbour b.problem.now h.board.traced.problem c x.dir n (working-range h).0 hd entry some) wide'
 
 -- the table with the counter at a link's place lowered
 pub lowered-at : (T T' : Table) (i n w d : ℕ) → i ≡ place_in T.values T.dirs n w d → T' ≡ record T { counts = slice_set T.counts i (slice_index T.counts i - 1) } → T' ≡ with_count T n w d (entry_of T n w d - 1)

@@ -1,5 +1,5 @@
 -- What may stand beside each value, of all directions in one list.
-use Rattle.std.specs.Prelude.{◌≡◌, ℕ, zero, suc, ◌+◌, ◌-◌, ◌^◌, ◌<◌, ◌≤◌, List, [], ◌∷◌, ◌++◌, length, map, slice_index, Option, Some, None}
+use Rattle.std.specs.Prelude.{◌≡◌, ℕ, zero, suc, ◌+◌, ◌≤◌, List, [], ◌∷◌, ◌++◌, length, map, slice_index, Option, Some, None}
 use Rattle.wfc_model.specs.Direction.{opposite}
 use Rattle.wfc_problem.specs.Network.{Network, values, neighbour, supports_of}
 use Rattle.wfc_domains.specs.Counters.{place}
@@ -47,16 +47,3 @@ link_place P l (Some n) = (place P n 0 0 + l.offset) ∷ []
 abbrev pub link_places : Network → ℕ → List Link → List ℕ
 link_places P c [] = []
 link_places P c (l ∷ ls) = link_place P l (neighbour P c l.dir) ++ link_places P c ls
-
--- where the counters of a neighbour begin in the table, and the greatest number where there is none
-abbrev pub row_at : Network → Option ℕ → ℕ
-row_at P None = 2 ^ 64 - 1
-row_at P (Some n) = place P n 0 0
-
--- that of each neighbour of c
-abbrev pub AreRows : Network → ℕ → List ℕ → Type 0
-AreRows P c rows = (d : ℕ) → d < P.dirs → slice_index rows d ≡ row_at P (neighbour P c d)
-
--- the neighbours of c, each at its direction
-abbrev pub AreNexts : Network → ℕ → List ℕ → Type 0
-AreNexts P c nexts = (d n : ℕ) → d < P.dirs → neighbour P c d ≡ Some n → slice_index nexts d ≡ n

@@ -5,22 +5,19 @@ ghost use Rattle.wfc_model.specs.Direction.{opposite};
 ghost use Rattle.wfc_problem.specs.Network.{values, neighbour, supports_of, in_base};
 ghost use Rattle.wfc_domains.specs.declared.Verdict.TheVariants.{Alive};
 ghost use Rattle.wfc_domains.specs.Domains.{has};
-ghost use Rattle.wfc_domains.specs.Counters.{FitsTable, count_of, counts_of, cost_at, cost_of};
+ghost use Rattle.wfc_domains.specs.Counters.{FitsTable, count_of, counts_of, cost_at, cost_of, place};
 ghost use Rattle.wfc_domains.specs.Removals.{without};
 ghost use Rattle.wfc_domains.specs.Store.{IsOpening};
 ghost use Rattle.wfc_domains.specs.Board.{Grows, IsFresh, IsTraced};
 ghost use Rattle.wfc_ac4.specs.Places.{places_upto, side_places, places_of};
-ghost use Rattle.wfc_ac4.specs.Links.{AreLinks, AreNexts, AreRows, links_of, row_at};
+ghost use Rattle.wfc_ac4.specs.Links.{AreLinks, links_of};
 ghost use Rattle.wfc_ac4.specs.State.{IsWorking, IsBetween, IsRolled, IsRaising, IsScanned, AreLowered, counted};
 ghost use Rattle.wfc_ac4.specs.Flight.{front_cost, GoesOn, Recounts, HasNoMore, IsShorter, IsRolledTo, IsFirstBare, IsStruck};
 
 use crate::links::{Link, Links};
 use std::sync::ledger::Ledger;
 use wfc_domains::{Board, Cause, Counters, Steps, is_alive};
-use wfc_problem::{NO_CELL, opposite};
-
-/// Where the entries of a neighbour begin that is not there.
-const NO_ROW: usize = usize::MAX;
+use wfc_problem::opposite;
 
 /// A board with its counters, and how many removals of its log are worked off.
 #[derive(Drop)]
@@ -44,83 +41,10 @@ fn value_at(offset: u16, dirs: u8) -> u16
 }
 
 impl<'p> Flight<'p> {
-    /// Where the entries of the neighbour of a cell in a direction begin in the table, `NO_ROW` where there is none.
+    /// Removes the value to which a link leads at a neighbour, if it stands there and no cell is empty: its counter for
+    /// the way back, which stands at `at`, came to 0.
     #[inline]
-    fn row_beside(&self, cell: u32, dir: u8) -> usize
-        requires cell_in { cell < self.now.board.problem.now.cells }
-        requires dir_in { dir < self.now.board.problem.now.dirs }
-        requires fits { FitsTable self.now.board.problem.now self.now.counters }
-        ensures row { result ≡ row_at self.now.board.problem.now
-            (neighbour self.now.board.problem.now cell dir) }
-    {
-        match self.board.problem.neighbour(cell, dir) {
-            Some(next) => self.counters.row(next),
-            None => NO_ROW,
-        }
-    }
-
-    /// Where the entries of each neighbour of a cell begin in the table. There are four directions or six.
-    #[inline]
-    fn rows(&self, cell: u32) -> [usize; 6]
-        requires cell_in { cell < self.now.board.problem.now.cells }
-        requires fits { FitsTable self.now.board.problem.now self.now.counters }
-        ensures rows { AreRows self.now.board.problem.now cell result }
-    {
-        let dirs = self.board.problem.dirs();
-        let mut rows = [
-            self.row_beside(cell, 0),
-            self.row_beside(cell, 1),
-            self.row_beside(cell, 2),
-            self.row_beside(cell, 3),
-            NO_ROW,
-            NO_ROW,
-        ];
-        if dirs == 6 {
-            rows[4] = self.row_beside(cell, 4);
-            rows[5] = self.row_beside(cell, 5);
-        }
-        rows
-    }
-
-    /// The neighbour of a cell in each direction, `NO_CELL` where there is none. There are four directions or six.
-    #[inline]
-    fn nexts(&self, cell: u32) -> [u32; 6]
-        requires cell_in { cell < self.now.board.problem.now.cells }
-        ensures nexts { AreNexts self.now.board.problem.now cell result }
-    {
-        let dirs = self.board.problem.dirs();
-        let mut nexts = [
-            self.next_beside(cell, 0),
-            self.next_beside(cell, 1),
-            self.next_beside(cell, 2),
-            self.next_beside(cell, 3),
-            NO_CELL,
-            NO_CELL,
-        ];
-        if dirs == 6 {
-            nexts[4] = self.next_beside(cell, 4);
-            nexts[5] = self.next_beside(cell, 5);
-        }
-        nexts
-    }
-
-    /// The neighbour of a cell in a direction, `NO_CELL` where there is none.
-    #[inline]
-    fn next_beside(&self, cell: u32, dir: u8) -> u32
-        requires cell_in { cell < self.now.board.problem.now.cells }
-        requires dir_in { dir < self.now.board.problem.now.dirs }
-        ensures next { (n : ℕ) → neighbour self.now.board.problem.now cell dir ≡ Some n → result ≡ n }
-    {
-        match self.board.problem.neighbour(cell, dir) {
-            Some(next) => next,
-            None => NO_CELL,
-        }
-    }
-
-    /// Removes the value to which a link leads at a neighbour, if it stands there and no cell is empty: it has no
-    /// support left on the way back.
-    #[inline]
-    fn strike(&mut self, next: u32, link: Link)
+    fn strike(&mut self, next: u32, link: Link, at: usize)
         requires traced { IsTraced self.old.board }
         requires fits { FitsTable self.old.board.problem.now self.old.counters }
         requires next_in { next < self.old.board.problem.now.cells }
@@ -128,6 +52,8 @@ impl<'p> Flight<'p> {
         requires back_in { link.back < self.old.board.problem.now.dirs }
         requires value_in { link.offset / self.old.board.problem.now.dirs
             < values self.old.board.problem.now }
+        requires at { at ≡ place self.old.board.problem.now next (link.offset /
+            self.old.board.problem.now.dirs) link.back }
         ensures struck { IsStruck self.old self.new next (link.offset / self.old.board.problem.now.dirs)
             (opposite link.dir) }
     {
@@ -135,11 +61,12 @@ impl<'p> Flight<'p> {
         let value = value_at(link.offset, problem.dirs());
         if self.board.domains.has(next, value) && is_alive(self.board.verdict) {
             self.board.remove(next, value, Cause::Arc(link.back));
-            self.counters.mark(next, value);
+            self.counters.mark_at(at - link.back as usize, next, value);
         }
     }
 
-    /// Lowers the counters that count a removal, and removes what has no support left.
+    /// Lowers the counters that count a removal, and removes what has no support left. An entry beside the cell that names
+    /// no cell is above all their numbers.
     fn work_links<L: Ledger>(&mut self, cell: u32, value: u16, links: &[Link], steps: &mut Steps<L>)
         requires links { links.now ≡ links_of self.old.board.problem.now value }
         requires working { IsWorking self.old.board self.old.counters self.old.head cell value [] }
@@ -148,13 +75,16 @@ impl<'p> Flight<'p> {
         ensures goes_on { GoesOn self.old self.new }
         ensures steps { steps.new ≡ steps.old + cost_at self.old.board.problem.now cell value }
     {
-        let nexts = self.nexts(cell);
-        let rows = self.rows(cell);
+        let problem = self.board.problem;
+        let beside = problem.beside(cell);
+        let row_len = self.counters.row_len();
+        let cells = problem.cells();
         for link in links {
-            let row = rows[link.dir as usize];
-            if row != NO_ROW {
-                if self.counters.down_at(row + link.offset as usize, steps) {
-                    self.strike(nexts[link.dir as usize], *link);
+            let next = beside[link.dir as usize];
+            if next < cells {
+                let place = next as usize * row_len + link.offset as usize;
+                if self.counters.down_at(place, steps) {
+                    self.strike(next, *link, place);
                 }
             }
         }
@@ -165,6 +95,7 @@ impl<'p> Flight<'p> {
         requires between { IsBetween self.old.board self.old.counters self.old.head }
         requires linked { AreLinks self.old.board.problem.now links.now }
         requires pending { self.old.head < length self.old.board.trail.removals }
+        requires recent { self.old.board.trail.start ≤ self.old.head }
         ensures between { IsBetween self.new.board self.new.counters self.new.head }
         ensures grows { Grows self.old.board self.new.board }
         ensures head { self.new.head ≡ self.old.head + 1 }
@@ -181,6 +112,7 @@ impl<'p> Flight<'p> {
     pub fn close<L: Ledger>(&mut self, links: &Links, steps: &mut Steps<L>)
         requires between { IsBetween self.old.board self.old.counters self.old.head }
         requires linked { AreLinks self.old.board.problem.now links.now }
+        requires recent { self.old.board.trail.start ≤ self.old.head }
         ensures between { IsBetween self.new.board self.new.counters self.new.head }
         ensures closed { self.new.board.verdict ≡ Alive → self.new.head
             ≡ length self.new.board.trail.removals }

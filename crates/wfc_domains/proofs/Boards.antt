@@ -2,6 +2,7 @@
 use Rattle.std.proofs.Common.{◌≡◌, ◌≢◌, ℕ, ◌+◌, ◌-◌, ◌<◌, ◌≤◌, false, cond, List, [], ◌∷◌, ◌++◌, length, take, drop, refl, sym, ◌∙◌, ap, subst, arith, inl, inr}
 use Rattle.std.specs.Prelude.{not, ◌&&◌, ◌==◌, IsTrue, filter, slice_index}
 use Rattle.std.specs.List.{range_with_len}
+use Rattle.std.proofs.lemmas.List.FromFn.{get_or-map-range_with_len}
 use Rattle.std.proofs.lemmas.Bool.{cases_lt, cases_eq, cond-true, cond-false, eq-eqb, ne_eqb}
 use Rattle.std.proofs.lemmas.List.{take-append-le, drop-append-le, length-append, length_push, take_at, take_all, drop_all, get_or_append_left, get_or_push, get_or_past, append_assoc, append-nil}
 use Rattle.wfc_problem.specs.Network.{Network, values, in_base, IsProblem}
@@ -15,11 +16,12 @@ use Rattle.wfc_domains.specs.declared.Verdict.{Verdict}
 use Rattle.wfc_domains.specs.declared.Verdict.TheVariants.{Alive, Dead}
 use Rattle.wfc_domains.specs.declared.board.Board.{Board}
 use Rattle.wfc_domains.specs.Domains.{Flags, has, size_of, less, IsLess, base_of}
-use Rattle.wfc_domains.specs.Log.{extent_of, IsInside, IsCauseBelow}
+use Rattle.wfc_domains.specs.Log.{extent_of, IsInside, IsCauseBelow, IsLogged, cells_of, sizes_after}
 use Rattle.wfc_domains.specs.Removals.{without, IsCause, IsRemoved, AreRemoved}
 use Rattle.wfc_domains.specs.Store.{StoreView, IsSound, mark_of, left_of, before_of}
 use Rattle.wfc_domains.specs.Board.{view_of, AreStood, IsTraced, HasLevels, IsBoard, lost, Grows}
 use Rattle.wfc_domains.proofs.Problems.{base-in, base_table, depth-few, few_pairs}
+use Rattle.wfc_domains.proofs.SizeLemmas.{stood-sizes}
 use Rattle.wfc_domains.proofs.Removals.{less-gone, less-back, without-within, without-append, without-push, without-split, without-in, stood-push, stood-front, stood-room, stood-few, size-less, size-other, removed-push}
 
 -- ---- sizes
@@ -279,17 +281,32 @@ log-few b t =
     let P = b.problem.now in
     omega (arith, stood-few P (in_base P) b.trail.removals (λ c v s. base-in P t.problem c v s) t.stood, depth-few P t.problem, few_pairs P t.problem)
 
--- a removal of the problem's cells, values and directions is inside the log's
-pub board-inside : (b : Board) → IsTraced b → (c v : ℕ) (cause : Cause) → c < b.problem.now.cells → v < values b.problem.now → IsCauseBelow b.problem.now.dirs cause → IsInside b.trail.extent c v cause
-board-inside b t c v cause hc hv hd = subst (λ e. IsInside e c v cause) (sym t.extent) (record { cell_in = hc; value_in = hv; cause_in = hd })
-
--- the log's values are those of the domains
-pub board-values : (b : Board) → IsTraced b → b.trail.extent.values ≡ b.domains.values
-board-values b t = ap (λ e. e.values) t.extent ∙ sym t.same_values
-
 -- a value that stands is one of the problem
 pub stands-in : (b : Board) → IsTraced b → (c v : ℕ) → IsTrue (has b.domains c v) → (c < b.problem.now.cells) × (v < values b.problem.now)
 stands-in b t c v stands = without-in b.problem.now t.problem b.trail.removals c v (ap (λ f. f c v) (sym t.stands) ∙ stands)
+
+-- the sizes that the log left are those of the domains
+board-sizes : (b : Board) → IsTraced b → (c : ℕ) → c < b.problem.now.cells → size_of b.domains c ≡ slice_index (sizes_after b.trail.extent.sizes (cells_of b.trail.removals)) c
+board-sizes b t c hc =
+    let P = b.problem.now in
+    let rs = b.trail.removals in
+    let E = without (in_base P) rs in
+    size-at P b.domains E c t.same_values t.stands
+    ∙ sym (get_or-map-range_with_len (size_at P E) 0 P.cells c c 0 hc (omega arith))
+    ∙ sym (ap (λ s. slice_index s c) (ap (λ e. sizes_after e.sizes (cells_of rs)) t.extent ∙ stood-sizes P (in_base P) rs (λ k v s. base-in P t.problem k v s) t.stood))
+
+-- the removal of a value that stands can be logged
+pub board-logged : (b : Board) → IsTraced b → (c v : ℕ) (cause : Cause) → IsTrue (has b.domains c v) → IsCauseBelow b.problem.now.dirs cause
+    → IsLogged b.trail.extent (sizes_after b.trail.extent.sizes (cells_of b.trail.removals)) (record { cell = c; value = v; before = size_of b.domains c; cause = cause })
+board-logged b t c v cause stands hd =
+    let P = b.problem.now in
+    let range = stands-in b t c v stands in
+    let falls = size-less P (has b.domains) c v range.1 stands in
+    record {
+      inside = subst (λ e. IsInside e c v cause) (sym t.extent) (record { cell_in = range.0; value_in = range.1; cause_in = hd });
+      before = board-sizes b t c range.0;
+      some = omega (arith, falls, size-at P b.domains (has b.domains) c t.same_values refl);
+    }
 
 -- what was removed is gone, and what was gone stays so
 pub lost-gone : {D D' : Flags} {c v : ℕ} → IsLess D D' c v → has D' c v ≡ false

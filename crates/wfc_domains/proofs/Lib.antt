@@ -4,9 +4,13 @@ pub mod Problems
 pub mod Places
 pub mod HalfLemmas
 pub mod Marking
+pub mod FourMarks
 pub mod Loading
 pub mod Removals
+pub mod SizeLemmas
 pub mod NumberedLemmas
+pub mod PackedLemmas
+pub mod OlderLemmas
 pub mod Boards
 pub mod Sound
 pub mod Cuts

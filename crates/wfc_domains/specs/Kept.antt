@@ -1,25 +1,29 @@
 -- What holds of the parts that removals of earlier levels are kept in.
-use Rattle.std.specs.Prelude.{◌≡◌, ◌+◌, ◌*◌, ◌<◌, ◌≤◌, ◌^◌, IsTrue, IsFalse, vec_len, vec_capacity}
+use Rattle.std.specs.Prelude.{ℕ, ◌<◌, ◌≤◌, ◌^◌, List, All, length, slice_index}
 use Rattle.wfc_domains.specs.Log.{Extent}
-use Rattle.wfc_domains.specs.Numbered.{Earlier, numbered_removals, place_count}
+use Rattle.wfc_domains.specs.Numbered.{Earlier, place_count, placed_removals, first_sizes}
 use Rattle.wfc_domains.specs.declared.older.Older.TheInside.{Inside}
 
--- the extent that numbers are read by
+-- the sizes before all removals, from those that they left
+abbrev pub sizes_in : Inside → List ℕ
+sizes_in a = first_sizes a.values a.dirs a.sizes.items a.numbers.numbers
+
+-- the cells, values, directions and first sizes
 abbrev pub extent_in : Inside → Extent
-extent_in a = record { cells = a.cells; values = a.values; dirs = a.dirs }
+extent_in a = record { cells = length a.sizes.items; values = a.values; dirs = a.dirs; sizes = sizes_in a }
 
 -- what contracts see of the removals that are kept as numbers
 abbrev pub older_view : Inside → Earlier
-older_view a = record { room = a.room; extent = extent_in a; removals = numbered_removals (extent_in a) a.lows.items a.highs.items }
+older_view a = record {
+  room = a.numbers.room;
+  extent = extent_in a;
+  removals = placed_removals a.values a.dirs (sizes_in a) a.numbers.numbers;
+}
 
--- each number has a low part, and a high one where they are wide; there is room for both, and no number is too large
+-- each number is one that there can be, and no cell had more than 4,096 values
 pub record AreNumbers (a : Inside) : Type 0 where
-  pub one_high_each : IsTrue a.wide → vec_len a.highs ≡ vec_len a.lows
-  pub no_highs : IsFalse a.wide → vec_len a.highs ≡ 0
-  pub lows_fit : a.room ≤ vec_capacity a.lows
-  pub highs_fit : IsTrue a.wide → a.room ≤ vec_capacity a.highs
   pub some_value : 0 < a.values
-  pub some_place : 0 < place_count (extent_in a)
-  pub few_places : place_count (extent_in a) ≤ 2 ^ 32
-  pub few : place_count (extent_in a) * (a.values + 1) ≤ 2 ^ 40
-  pub narrow : IsFalse a.wide → place_count (extent_in a) * (a.values + 1) ≤ 2 ^ 32
+  pub few_places : place_count (length a.sizes.items) a.values a.dirs ≤ 2 ^ 32
+  pub places_in : place_count (length a.sizes.items) a.values a.dirs ≤ a.numbers.limit
+  pub numbers_in : All (λ n. n < place_count (length a.sizes.items) a.values a.dirs) a.numbers.numbers
+  pub few_values : (c : ℕ) → slice_index (sizes_in a) c ≤ 4096

@@ -9,6 +9,7 @@ pub mod Store
 pub mod Loaded
 pub mod Log
 pub mod Numbered
+pub mod Packed
 pub mod Kept
 pub mod Recent
 pub mod Room

@@ -1,6 +1,6 @@
 -- What holds of the parts that a log is kept in.
-use Rattle.std.specs.Prelude.{◌+◌, ◌≤◌, ◌++◌, All, length, vec_len, vec_capacity}
-use Rattle.wfc_domains.specs.Log.{IsLogged}
+use Rattle.std.specs.Prelude.{◌+◌, ◌≤◌, ◌++◌, length, vec_len, vec_capacity}
+use Rattle.wfc_domains.specs.Log.{AreLogged}
 use Rattle.wfc_domains.specs.declared.trail.Trail.TheInside.{Inside}
 
 -- there is room for all removals, and each is one that there can be
@@ -8,4 +8,4 @@ pub record IsKept (a : Inside) : Type 0 where
   pub fits : length a.older.removals + vec_len a.recent ≤ a.room
   pub older_room : a.room ≤ a.older.room
   pub recent_room : a.room ≤ vec_capacity a.recent
-  pub logged : All (IsLogged a.older.extent) (a.older.removals ++ a.recent.items)
+  pub logged : AreLogged a.older.extent a.older.extent.sizes (a.older.removals ++ a.recent.items)

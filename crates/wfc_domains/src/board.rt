@@ -7,7 +7,7 @@ ghost use Rattle.wfc_domains.specs.declared.Verdict.TheVariants.{Alive};
 ghost use Rattle.wfc_domains.specs.Domains.{has};
 ghost use Rattle.wfc_domains.specs.Store.{IsSound};
 ghost use Rattle.wfc_domains.specs.Board.{view_of, IsBoard, IsTraced, IsCut, IsPut, Loses, Grows, Regains, IsFresh};
-ghost use Rattle.wfc_domains.specs.Log.{IsInside};
+ghost use Rattle.wfc_domains.specs.Log.{IsCauseBelow};
 
 use crate::domains::Domains;
 use crate::levels::Levels;
@@ -45,7 +45,7 @@ impl<'p> Board<'p> {
         ensures fresh { IfOk result (λ board. IsFresh board levels) }
     {
         let domains = Domains::new(alloc, problem)?;
-        let trail = Trail::new(alloc, problem, problem.depth() as usize)?;
+        let trail = Trail::new(alloc, problem, &domains, problem.depth() as usize)?;
         let levels = Levels::new(alloc, levels)?;
         let verdict = domains.verdict();
         Ok(Board {
@@ -60,13 +60,10 @@ impl<'p> Board<'p> {
     /// Removes a value that stands, and sees whether its cell is empty then.
     #[inline]
     pub fn remove(&mut self, cell: u32, value: u16, cause: Cause)
-        requires cell_in { cell < self.old.domains.cells }
-        requires value_in { value < self.old.domains.values }
+        requires traced { IsTraced self.old }
         requires stands { IsTrue (has self.old.domains cell value) }
+        requires cause_in { IsCauseBelow self.old.problem.now.dirs cause }
         requires alive { self.old.verdict ≡ Alive }
-        requires room { length self.old.trail.removals < self.old.trail.room }
-        requires inside { IsInside self.old.trail.extent cell value cause }
-        requires same_values { self.old.trail.extent.values ≡ self.old.domains.values }
         ensures removed { Loses self.old self.new cell value cause }
     {
         let before = self.domains.size(cell);

@@ -1,6 +1,6 @@
 //! Support counters: how many supports each value has left beside each cell.
 
-ghost use Rattle.std.specs.Prelude.{◌≡◌, ℕ, ◌+◌, ◌-◌, ◌*◌, ◌%◌, ◌<◌, ◌≤◌, ◌^◌, ◌↔◌, ◌⊎◌, IfOk, IfSome, IsTrue, IsFalse, All, count_by, length, slice_index, slice_set, vec_len};
+ghost use Rattle.std.specs.Prelude.{◌≡◌, ℕ, ◌+◌, ◌-◌, ◌*◌, ◌%◌, ◌<◌, ◌≤◌, ◌^◌, ◌↔◌, ◌⊎◌, IfOk, IfSome, IsTrue, IsFalse, All, count_by, length, map, slice_index, slice_set, vec_len};
 ghost use Rattle.wfc_problem.specs.Network.{values, neighbour, supports_of};
 ghost use Rattle.wfc_problem.specs.Domains.{support_count, count_at};
 ghost use Rattle.wfc_domains.specs.Counters.{FitsTable, count_of, entry_of, with_count, place_in, Marks, Unmarks, counters_of, counts_of, no_counts, place};
@@ -78,15 +78,13 @@ impl Counters {
         (cell as usize * self.values + value as usize) * self.dirs + dir
     }
 
-    /// Where the entries of a cell begin.
+    /// How many entries a cell has.
     #[inline]
-    pub fn row(&self, cell: u32) -> usize
-        requires cell_in { cell < self.now.cells }
-        ensures value { result ≡ place_in self.now.values self.now.dirs cell 0 0 }
-        ensures inside { result + self.now.values * self.now.dirs ≤ length self.now.counts }
-        ensures limit { length self.now.counts < 2 ^ 63 }
+    pub fn row_len(&self) -> usize
+        requires some_cell { 0 < self.now.cells }
+        ensures value { result ≡ self.now.values * self.now.dirs }
     {
-        cell as usize * (self.values * self.dirs)
+        self.values * self.dirs
     }
 
     /// How many supports of `value` are counted beside `cell` in direction `dir`.
@@ -309,9 +307,10 @@ impl Counters {
         self.large.len() == 0
     }
 
-    /// Marks the counts of a value at a cell, where counts can be marked.
+    /// Marks the counts of a value at a cell, which stand from `start` on, where counts can be marked.
     #[inline]
-    pub fn mark(&mut self, cell: u32, value: u16)
+    pub fn mark_at(&mut self, start: usize, cell: u32, value: u16)
+        requires start { start ≡ place_in self.old.values self.old.dirs cell value 0 }
         requires cell_in { cell < self.old.cells }
         requires value_in { value < self.old.values }
         ensures marks { Marks self.old self.new cell value }
@@ -319,7 +318,6 @@ impl Counters {
         if !self.is_narrow() {
             return;
         }
-        let start = self.start(cell, value);
         let dirs = self.dirs;
         let mut first = 0;
         if dirs >= 4 {
@@ -346,22 +344,8 @@ impl Counters {
         requires narrow { self.old.limit ≡ 127 }
         ensures marks { Marks self.old self.new cell value }
     {
-        self.mark_side(start, cell, value, 0);
-        self.mark_side(start + 1, cell, value, 1);
-        self.mark_side(start + 2, cell, value, 2);
-        self.mark_side(start + 3, cell, value, 3);
-    }
-
-    /// Where the counts of a value at a cell begin.
-    #[inline]
-    fn start(&self, cell: u32, value: u16) -> usize
-        requires cell_in { cell < self.now.cells }
-        requires value_in { value < self.now.values }
-        ensures value { result ≡ place_in self.now.values self.now.dirs cell value 0 }
-        ensures inside { result + self.now.dirs ≤ length self.now.counts }
-        ensures limit { length self.now.counts < 2 ^ 63 }
-    {
-        self.row(cell) + value as usize * self.dirs
+        let _ = (cell, value);
+        mark_all(&mut self.small[start..start + 4]);
     }
 
     /// Marks the count of a value at a cell in one direction, which stands at `place`.
@@ -407,6 +391,18 @@ impl Counters {
         let small = self.small[place];
         self.small[place] = small % HALF;
     }
+}
+
+/// Marks four counts.
+#[inline]
+fn mark_all(four: &mut [u8])
+    requires four { length four.old ≡ 4 }
+    ensures marked { four.new ≡ map (λ small. small % 128 + 128) four.old }
+{
+    four[0] = four[0] % HALF + HALF;
+    four[1] = four[1] % HALF + HALF;
+    four[2] = four[2] % HALF + HALF;
+    four[3] = four[3] % HALF + HALF;
 }
 
 /// The large part of a count. What it leaves for the small one is 0 only where the count is.

@@ -1,6 +1,7 @@
 //! Domains: which values stand at each cell.
 
-ghost use Rattle.std.specs.Prelude.{◌≡◌, ℕ, ◌+◌, ◌*◌, ◌<◌, ◌≤◌, ◌^◌, true, false, All, IsTrue, IsFalse, IfOk, count_by, length, slice_index, slice_index_or, vec_len};
+ghost use Rattle.std.specs.Prelude.{◌≡◌, ℕ, ◌+◌, ◌*◌, ◌<◌, ◌≤◌, ◌^◌, true, false, All, IsTrue, IsFalse, IfOk, count_by, length, map, slice_index, slice_index_or, vec_len};
+ghost use Rattle.std.specs.List.{range_with_len};
 ghost use Rattle.wfc_problem.specs.Network.{row_of, values};
 ghost use Rattle.wfc_problem.specs.declared.TheConstants.{MAX_VALUES};
 ghost use Rattle.wfc_domains.specs.declared.Verdict.TheVariants.{Alive, Dead};
@@ -76,6 +77,14 @@ impl Domains {
         ensures few { result ≤ MAX_VALUES }
     {
         u32::from(self.sizes[cell as usize])
+    }
+
+    /// How many values stand at each cell.
+    #[inline]
+    pub(crate) fn sizes(&self) -> &[u16]
+        ensures value { result.now ≡ map (size_of self.now) (range_with_len 0 self.now.cells) }
+    {
+        &self.sizes
     }
 
     /// How many of these values stand at `cell`.

@@ -9,6 +9,8 @@ ghost use Rattle.wfc_problem.specs.declared.Literal.TheVariants.{Is, Not};
 ghost use Rattle.wfc_domains.specs.Counters.{count_of, with_count, counts_of, no_counts, cost_at, cost_of};
 ghost use Rattle.wfc_domains.specs.Halves.{entries_from, limit_from};
 ghost use Rattle.wfc_domains.specs.Parts.{IsSplit};
+ghost use Rattle.wfc_domains.specs.Log.{AreLogged, IsLogged, extent_of, sizes_after};
+ghost use Rattle.wfc_domains.specs.Numbered.{first_sizes, numbers_from, place_number, placed_removals};
 ghost use Rattle.wfc_domains.specs.Domains.{has, size_of, flags_of, base_of, less, Fits};
 ghost use Rattle.wfc_domains.specs.Removals.{without, IsUnsupported, IsCause, AreRemoved};
 ghost use Rattle.wfc_domains.specs.Sample.{two_rows, numbered, unsupported, cut_first, later, two_levels};
@@ -99,4 +101,27 @@ pub fn entries_are_read()
     ensures split { IsSplit 255 127 }
     ensures nothing_small { IsSplit 0 1 → ⊥ }
     ensures no_room { IsSplit 1 128 → ⊥ }
+{}
+
+/// A removal tells how many values its cell had; kept as a number, it is told by what the cells have left.
+pub fn logs_are_read()
+    ensures extent { extent_of corner ≡ record {
+      cells = 4;
+      values = 3;
+      dirs = 4;
+      sizes = 2 ∷ 2 ∷ 3 ∷ 2
+          ∷ [];
+    } }
+    ensures left { sizes_after (2 ∷ 2 ∷ 3 ∷ 2 ∷ []) (2 ∷ 0 ∷ 2 ∷ []) ≡ 1 ∷ 2 ∷ 1 ∷ 2 ∷ [] }
+    ensures logged { AreLogged (extent_of corner) (2 ∷ 2 ∷ 3 ∷ 2 ∷ []) (unsupported ∷ cut_first ∷ later
+        ∷ []) }
+    ensures twice { AreLogged (extent_of corner) (2 ∷ 2 ∷ 3 ∷ 2 ∷ []) (cut_first ∷ cut_first ∷ []) → ⊥ }
+    ensures none_left { IsLogged (extent_of corner) (0 ∷ []) (record cut_first { before = 0 }) → ⊥ }
+    ensures no_direction { IsLogged (extent_of corner) (2 ∷ []) (record cut_first { cause = Arc 4 })
+        → ⊥ }
+    ensures first { first_sizes 3 4 (1 ∷ 2 ∷ 2 ∷ 2 ∷ []) (38 ∷ 4 ∷ []) ≡ 2 ∷ 2 ∷ 3 ∷ 2 ∷ [] }
+    ensures numbers { map (place_number 3 4) (unsupported ∷ cut_first ∷ []) ≡ 38 ∷ 4 ∷ [] }
+    ensures removals { placed_removals 3 4 (2 ∷ 2 ∷ 3 ∷ 2 ∷ []) (38 ∷ 4 ∷ []) ≡ unsupported ∷ cut_first
+        ∷ [] }
+    ensures parts { numbers_from (38 ∷ 4 ∷ []) (0 ∷ 1 ∷ []) ≡ 38 ∷ 65540 ∷ [] }
 {}

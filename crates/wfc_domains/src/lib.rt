@@ -8,6 +8,7 @@ mod domains;
 pub mod examples;
 mod levels;
 mod older;
+mod packed;
 mod plain;
 mod steps;
 mod store;

@@ -1,10 +1,12 @@
 //! The log of removals, with room for a fixed number of them.
 
-ghost use Rattle.std.specs.Prelude.{◌≡◌, ◌+◌, ◌-◌, ◌<◌, ◌≤◌, ◌++◌, ◌∷◌, [], length, drop, slice_get, Some, IfOk};
-ghost use Rattle.wfc_domains.specs.Log.{Log, extent_of, IsLogged};
+ghost use Rattle.std.specs.Prelude.{◌≡◌, ◌<◌, ◌≤◌, ◌++◌, ◌∷◌, [], length, drop, slice_get, Some, IfOk};
+ghost use Rattle.wfc_domains.specs.Domains.{base_of};
+ghost use Rattle.wfc_domains.specs.Log.{Log, cells_of, extent_of, sizes_after, IsLogged};
 
 use crate::Removal;
-use crate::older::{Older, add_all, copy_from};
+use crate::domains::Domains;
+use crate::older::{Older, add_all, move_from};
 use std::alloc::Global;
 use std::marker::Model;
 use wfc_outside::NoMemory;
@@ -32,8 +34,14 @@ impl Model for Trail {
 }
 
 impl Trail {
-    /// An empty log with room for so many removals of a problem.
-    pub fn new(alloc: Global, problem: &Problem, room: usize) -> Result<Trail, NoMemory>
+    /// An empty log with room for so many removals from the base domains of a problem.
+    pub fn new(
+        alloc: Global,
+        problem: &Problem,
+        domains: &Domains,
+        room: usize,
+    ) -> Result<Trail, NoMemory>
+        requires base { domains.now ≡ base_of problem.now }
         ensures ok { IfOk result (λ trail. trail ≡ record {
           room = room;
           extent = extent_of problem.now;
@@ -43,7 +51,7 @@ impl Trail {
     {
         Ok(Trail {
             room,
-            older: Older::new(alloc, problem, room)?,
+            older: Older::new(alloc, problem, domains, room)?,
             recent: Vec::with_capacity(alloc, room)?,
         })
     }
@@ -57,18 +65,14 @@ impl Trail {
         self.older.len() + self.recent.len()
     }
 
-    /// The removal at an index.
+    /// The removal of the last level at an index of the whole log.
     #[inline]
     pub fn at(&self, index: usize) -> Removal
+        requires recent { self.now.start ≤ index }
         requires index_in { index < length self.now.removals }
         ensures value { slice_get self.now.removals index ≡ Some result }
     {
-        let older = self.older.len();
-        if index < older {
-            self.older.at(index)
-        } else {
-            self.recent[index - older]
-        }
+        self.recent[index - self.older.len()]
     }
 
     /// The removals of the last level.
@@ -83,7 +87,8 @@ impl Trail {
     #[inline]
     pub fn push(&mut self, removal: Removal)
         requires room { length self.old.removals < self.old.room }
-        requires logged { IsLogged self.old.extent removal }
+        requires logged { IsLogged self.old.extent (sizes_after self.old.extent.sizes (cells_of
+            self.old.removals)) removal }
         ensures more { self.new ≡ record self.old { removals = self.old.removals ++ removal ∷ [] } }
     {
         self.recent.push_reserved(removal);
@@ -101,24 +106,8 @@ impl Trail {
     {
         match self.recent.pop() {
             Some(removal) => removal,
-            None => self.pop_older(),
+            None => self.older.pop(),
         }
-    }
-
-    /// Takes the last removal away, where it is of an earlier level.
-    fn pop_older(&mut self) -> Removal
-        requires some { 0 < length self.old.removals }
-        requires older { self.old.start ≡ length self.old.removals }
-        ensures last { self.old.removals ≡ self.new.removals ++ result ∷ [] }
-        ensures same { self.new ≡ record self.old {
-          start = self.new.start;
-          removals = self.new.removals;
-        } }
-    {
-        let last = self.older.len() - 1;
-        let removal = self.older.at(last);
-        self.older.truncate(last);
-        removal
     }
 
     /// Begins a level: all removals are of earlier levels.
@@ -135,7 +124,7 @@ impl Trail {
         ensures reopened { self.new ≡ record self.old { start = start } }
     {
         self.begin();
-        copy_from(&self.older, start, &mut self.recent);
-        self.older.truncate(start);
+        move_from(&mut self.older, start, &mut self.recent);
+        self.recent.reverse();
     }
 }

@@ -26,6 +26,7 @@ close-requires g c =
       between = put-between f.board c.put.new.self f.counters f.head h.traced h.sound alive h.counters (h.settled alive) h.marks e.board e.cut e.put.problem e.put.more e.put.removals
           (grown-within f.board c.put.new.self h.traced e.board.traced e.put.problem e.put.more e.put.removals);
       linked = subst (λ p. AreLinks p.now c.self.inside.links) (sym e.put.problem) h.linked;
+      recent = omega (arith, e.board.begun, ap (λ l. mark_of l.marks) e.put.levels, mark-push f.board.levels.marks (length f.board.trail.removals), h.settled alive);
     }
 
 pub invariant_of-self : goal.invariant_of-self

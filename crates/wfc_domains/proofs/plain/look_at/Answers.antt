@@ -1,13 +1,8 @@
 use Rattle.std.proofs.Common.{sym, ◌∙◌}
 use Rattle.std.proofs.lemmas.Bool.{true≢false}
-use Rattle.wfc_domains.proofs.Boards.{board-room, board-inside, board-values}
 use Rattle.wfc_domains.proofs.Sweeps.{lost-swept, swept-lost, first-lost, swept-next}
 use Rattle.wfc_domains.proofs.plain.look_at.Goals as goal
 use Rattle.wfc_domains.proofs.plain.look_at.Goals.{else-is_alive-via-then-is_alive+else-has, else-is_alive-via-else-is_alive}
-
-pub remove-requires-clause-room : goal.remove-requires-clause-room
-remove-requires-clause-room c =
-    board-room c.args.board.now c.requires.board.traced c.args.cell c.args.value (sym c.has.ensures.value ∙ c.if-has.true)
 
 pub returns-in-Some-clause-board : goal.returns-in-Some-clause-board
 returns-in-Some-clause-board c =
@@ -35,9 +30,3 @@ returns-else-is_alive-clause-swept c = λ start h.
       | else-is_alive-via-then-is_alive+else-has w ↦ absurd (true≢false (sym t ∙ sym w.has.ensures.value ∙ w.if-has.false))
       | else-is_alive-via-else-is_alive w ↦ absurd (true≢false (sym (c.is_alive.ensures.value.1 alive) ∙ w.if-is_alive.false))
     ])
-
-pub remove-requires-clause-inside : goal.remove-requires-clause-inside
-remove-requires-clause-inside c = board-inside c.args.board.now c.requires.board.traced _ _ _ c.requires.cell_in c.requires.value_in c.in-Some.ensures.some.dir_in
-
-pub remove-requires-clause-same_values : goal.remove-requires-clause-same_values
-remove-requires-clause-same_values c = board-values c.args.board.now c.requires.board.traced

@@ -2,17 +2,10 @@ use Rattle.std.proofs.Common.{sym, ◌∙◌, ap, arith}
 use Rattle.std.proofs.lemmas.Bool.{true≢false}
 use Rattle.wfc_problem.specs.Network.{values}
 use Rattle.wfc_domains.specs.declared.board.Board.{Board}
-use Rattle.wfc_domains.proofs.Boards.{board-room, board-inside, board-values, lost-gone}
+use Rattle.wfc_domains.proofs.Boards.{lost-gone}
 use Rattle.wfc_ac4.proofs.Opening.{scanned-removed, scanned-next}
 use Rattle.wfc_ac4.proofs.flight.Flight.look_at.Goals as goal
 use Rattle.wfc_ac4.proofs.flight.Flight.look_at.Goals.{else-is_alive-via-then-is_alive+else-has, else-is_alive-via-else-is_alive}
-
-pub remove-requires-clause-room : goal.remove-requires-clause-room
-remove-requires-clause-room c =
-    board-room c.args.self.now.board c.requires.scanned.board.traced c.args.cell c.args.value (sym c.has.ensures.value ∙ c.if-has.true)
-
-pub remove-requires-clause-inside : goal.remove-requires-clause-inside
-remove-requires-clause-inside c = board-inside c.args.self.now.board c.requires.scanned.board.traced _ _ _ c.requires.cell_in c.requires.value_in c.in-Some.ensures.some.dir_in
 
 pub returns-in-Some-clause-scanned : goal.returns-in-Some-clause-scanned
 returns-in-Some-clause-scanned c =
@@ -35,6 +28,3 @@ returns-else-is_alive-clause-scanned c =
       | else-is_alive-via-then-is_alive+else-has w ↦ absurd (true≢false (sym t ∙ sym w.has.ensures.value ∙ w.if-has.false))
       | else-is_alive-via-else-is_alive w ↦ absurd (true≢false (sym (c.is_alive.ensures.value.1 alive) ∙ w.if-is_alive.false))
     ])
-
-pub remove-requires-clause-same_values : goal.remove-requires-clause-same_values
-remove-requires-clause-same_values c = board-values c.args.self.now.board c.requires.scanned.board.traced

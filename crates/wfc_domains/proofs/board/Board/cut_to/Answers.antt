@@ -3,13 +3,9 @@ use Rattle.std.proofs.lemmas.Bool.{true≢false, cases_eq, false_from_ne_true}
 use Rattle.wfc_problem.specs.Domains.{leaves_all}
 use Rattle.wfc_domains.specs.Domains.{has}
 use Rattle.wfc_domains.specs.Board.{IsBoard, Grows}
-use Rattle.wfc_domains.proofs.Boards.{board-room, board-lost, board-inside, board-values, lost-gone, lost-stays, stands-in, grows-more, grows-lost}
+use Rattle.wfc_domains.proofs.Boards.{board-lost, lost-gone, lost-stays, stands-in, grows-more, grows-lost}
 use Rattle.wfc_domains.proofs.board.Board.cut_to.Goals as goal
 use Rattle.wfc_domains.proofs.board.Board.cut_to.Goals.{then-is_other, else-is_other}
-
-pub remove-requires-clause-room : goal.remove-requires-clause-room
-remove-requires-clause-room c =
-    board-room c.loop-other.self c.loop-other.invariant.board.traced c.args.cell c.loop-other.other (c.is_other.ensures.value.0 c.if-is_other.true).2
 
 pub loop-other-preserved : goal.loop-other-preserved
 loop-other-preserved c =
@@ -40,12 +36,3 @@ loop-other-preserved c =
             grows = h.grows;
           })
     ]
-
-pub remove-requires-clause-inside : goal.remove-requires-clause-inside
-remove-requires-clause-inside c =
-    let t = c.loop-other.invariant.board.traced in
-    let range = stands-in c.loop-other.self t c.args.cell c.loop-other.other (c.is_other.ensures.value.0 c.if-is_other.true).2 in
-    board-inside c.loop-other.self t _ _ _ range.0 range.1 tt
-
-pub remove-requires-clause-same_values : goal.remove-requires-clause-same_values
-remove-requires-clause-same_values c = board-values c.loop-other.self c.loop-other.invariant.board.traced

@@ -1,58 +1,55 @@
-use Rattle.std.proofs.Common.{◌≡◌, ◌/◌, ◌%◌, ◌∷◌, ◌++◌, [], ◌∙◌, ap, sym, arith, length}
-use Rattle.std.proofs.Math.Nat.{div-add-mod}
-use Rattle.std.proofs.lemmas.List.{nil_from_length}
-use Rattle.wfc_domains.specs.Kept.{extent_in}
-use Rattle.wfc_domains.specs.Numbered.{number_from, numbered_removal, numbered_removals}
-use Rattle.wfc_domains.proofs.NumberedLemmas.{numbered-length, numbered-push, numbered-push_low, number-back, number-few, number-parts}
+use Rattle.std.proofs.Common.{◌≡◌, ◌<◌, ◌∷◌, ◌++◌, [], ◌∙◌, ap, sym, subst, arith, length, set, ◌-◌}
+use Rattle.std.specs.Prelude.{All, slice_index}
+use Rattle.std.proofs.lemmas.List.{length-set}
+use Rattle.std.proofs.lemmas.List.Elements.{All-push}
+use Rattle.wfc_domains.specs.Kept.{sizes_in}
+use Rattle.wfc_domains.specs.Numbered.{first_sizes, placed_removals, place_count, place_number}
+use Rattle.wfc_domains.proofs.NumberedLemmas.{place-few, placed-length}
+use Rattle.wfc_domains.proofs.OlderLemmas.{first-more, left-is, removals-more}
 use Rattle.wfc_domains.proofs.older.Older.push.Goals as goal
 
-pub push_reserved-requires : goal.push_reserved-requires
-push_reserved-requires c =
+pub push-requires-clause-room : goal.push-requires-clause-room
+push-requires-clause-room c =
     let a = c.self.inside in
     let h = rw (← c.self.view_is) at c.requires.room in
-    omega (arith, h, a.lows.ok.0, c.self.invariant.lows_fit, numbered-length (extent_in a) a.lows.items a.highs.items)
+    omega (arith, h, placed-length a.values a.dirs (sizes_in a) a.numbers.numbers)
 
-pub overflow_cast-number-then-self : goal.overflow_cast-number-then-self
-overflow_cast-number-then-self c =
+pub invariant_of-self : goal.invariant_of-self
+invariant_of-self c =
     let a = c.self.inside in
-    let n = c.removal_number-number.result in
-    let logged = rw (← c.self.view_is) at c.requires.logged in
-    omega (arith, number-few (extent_in a) c.args.removal logged, c.removal_number-number.ensures.value, c.self.invariant.few, div-add-mod n 4294967296)
-
-pub push_reserved-requires-then-self : goal.push_reserved-requires-then-self
-push_reserved-requires-then-self c =
-    let a = c.self.inside in
-    let h = rw (← c.self.view_is) at c.requires.room in
-    omega (arith, h, a.lows.ok.0, c.self.invariant.highs_fit c.if-self.true, c.self.invariant.one_high_each c.if-self.true, numbered-length (extent_in a) a.lows.items a.highs.items)
-
-pub returns-then-self : goal.returns-then-self
-returns-then-self c =
-    let a = c.self.inside in
-    let e = extent_in a in
+    let h = c.self.invariant in
     let r = c.args.removal in
-    let n = c.removal_number-number.result in
+    let s = a.sizes.items in
+    let ns = a.numbers.numbers in
     let logged = rw (← c.self.view_is) at c.requires.logged in
-    let same : length a.highs.items ≡ length a.lows.items = omega (arith, a.lows.ok.0, a.highs.ok.0, c.self.invariant.one_high_each c.if-self.true) in
-    let last = ap (numbered_removal e) (number-parts n ∙ c.removal_number-number.ensures.value) ∙ number-back e r (omega arith) logged in
-    let more = ap (λ ns. numbered_removals e ns c.push_reserved-then-self.new.self.items) c.push_reserved.ensures.items
-    ∙ ap (numbered_removals e (a.lows.items ++ n % 4294967296 ∷ [])) c.push_reserved-then-self.ensures.items
-    ∙ numbered-push e a.lows.items a.highs.items _ _ same
-    ∙ ap (λ x. numbered_removals e a.lows.items a.highs.items ++ x ∷ []) last in
-    rw (← c.self.view_is) (record { more = λ i. record { room = a.room; extent = e; removals = more i } })
+    let before = logged.before ∙ ap (λ t. slice_index t r.cell) (left-is a.values a.dirs s ns) in
+    let long = length-set s r.cell (r.before - 1) in
+    let number = c.place_number.ensures.value in
+    let more : c.push.new.self.numbers ≡ ns ++ place_number a.values a.dirs r ∷ [] = ap (λ z. z.numbers) c.push.ensures.more ∙ ap (λ n. ns ++ n ∷ []) number in
+    let few : place_number a.values a.dirs r < place_count (length s) a.values a.dirs = place-few (length s) a.values a.dirs r logged.inside.cell_in logged.inside.value_in logged.inside.cause_in in
+    let all = All-push (λ n. n < place_count (length s) a.values a.dirs) ns (place_number a.values a.dirs r) h.numbers_in few in
+    let first = ap (first_sizes a.values a.dirs (set s r.cell (r.before - 1))) more ∙ first-more a.values a.dirs s ns r logged.inside.value_in logged.inside.cause_in before logged.some in
+    record {
+      some_value = h.some_value;
+      few_places = omega (arith, ap (λ k. place_count k a.values a.dirs) long, h.few_places);
+      places_in = omega (arith, ap (λ k. place_count k a.values a.dirs) long, h.places_in, ap (λ z. z.limit) c.push.ensures.more);
+      numbers_in = subst (λ k. All (λ n. n < place_count k a.values a.dirs) c.push.new.self.numbers) (sym long) (subst (All (λ n. n < place_count (length s) a.values a.dirs)) (sym more) all);
+      few_values = λ k. omega (arith, ap (λ t. slice_index t k) first, h.few_values k);
+    }
 
-pub returns-else-self : goal.returns-else-self
-returns-else-self c =
+pub returns : goal.returns
+returns c =
     let a = c.self.inside in
-    let e = extent_in a in
     let r = c.args.removal in
-    let n = c.removal_number-number.result in
+    let s = a.sizes.items in
+    let ns = a.numbers.numbers in
     let logged = rw (← c.self.view_is) at c.requires.logged in
-    let none : a.highs.items ≡ [] = nil_from_length a.highs.items (omega (arith, a.highs.ok.0, c.self.invariant.no_highs c.if-self.false)) in
-    let high : n / 4294967296 ≡ 0 = omega (arith, number-few e r logged, c.removal_number-number.ensures.value, c.self.invariant.narrow c.if-self.false, div-add-mod n 4294967296) in
-    let last = ap (λ h. numbered_removal e (number_from (n % 4294967296) h)) (sym high) ∙ ap (numbered_removal e) (number-parts n ∙ c.removal_number-number.ensures.value) ∙ number-back e r (omega arith) logged in
-    let more = ap (λ ns. numbered_removals e ns a.highs.items) c.push_reserved.ensures.items
-    ∙ ap (numbered_removals e (a.lows.items ++ n % 4294967296 ∷ [])) none
-    ∙ numbered-push_low e a.lows.items (n % 4294967296)
-    ∙ ap (λ hs. numbered_removals e a.lows.items hs ++ numbered_removal e (number_from (n % 4294967296) 0) ∷ []) (sym none)
-    ∙ ap (λ x. numbered_removals e a.lows.items a.highs.items ++ x ∷ []) last in
-    rw (← c.self.view_is) (record { more = λ i. record { room = a.room; extent = e; removals = more i } })
+    let before = logged.before ∙ ap (λ t. slice_index t r.cell) (left-is a.values a.dirs s ns) in
+    let long = length-set s r.cell (r.before - 1) in
+    let number = c.place_number.ensures.value in
+    let more : c.push.new.self.numbers ≡ ns ++ place_number a.values a.dirs r ∷ [] = ap (λ z. z.numbers) c.push.ensures.more ∙ ap (λ n. ns ++ n ∷ []) number in
+    let first = ap (first_sizes a.values a.dirs (set s r.cell (r.before - 1))) more ∙ first-more a.values a.dirs s ns r logged.inside.value_in logged.inside.cause_in before logged.some in
+    let removals : placed_removals a.values a.dirs (first_sizes a.values a.dirs (set s r.cell (r.before - 1)) c.push.new.self.numbers) c.push.new.self.numbers ≡ placed_removals a.values a.dirs (sizes_in a) ns ++ r ∷ [] =
+    ap (λ t. placed_removals a.values a.dirs t c.push.new.self.numbers) first ∙ ap (placed_removals a.values a.dirs (sizes_in a)) more ∙ removals-more a.values a.dirs s ns r logged.inside.value_in logged.inside.cause_in before in
+    let room = ap (λ z. z.room) c.push.ensures.more in
+    rw (← c.self.view_is) (record { more = λ i. record { room = room i; extent = record { cells = long i; values = a.values; dirs = a.dirs; sizes = first i }; removals = removals i } })

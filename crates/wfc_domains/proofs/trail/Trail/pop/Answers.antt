@@ -1,14 +1,14 @@
-use Rattle.std.proofs.Common.{◌++◌, sym, subst, ◌∙◌, ap, arith}
-use Rattle.std.specs.Prelude.{All}
-use Rattle.std.proofs.lemmas.List.{append_assoc}
-use Rattle.wfc_domains.specs.Log.{IsLogged}
-use Rattle.wfc_domains.proofs.NumberedLemmas.{all-front}
+use Rattle.std.proofs.Common.{◌∷◌, ◌++◌, [], sym, subst, ◌∙◌, ap, arith, length}
+use Rattle.std.proofs.lemmas.List.{append_assoc, append-nil, length-append, nil_from_length}
+use Rattle.wfc_domains.specs.Log.{Extent, AreLogged}
+use Rattle.wfc_domains.proofs.SizeLemmas.{logged-split}
 use Rattle.wfc_domains.proofs.trail.Trail.pop.Goals as goal
 
 pub invariant_of-self : goal.invariant_of-self
 invariant_of-self c =
     let a = c.self.inside in
     let h = c.self.invariant in
+    let e = a.older.extent in
     let xs = a.older.removals in
     let ys = c.pop.new.self.items in
     let split = ap (λ zs. xs ++ zs) c.pop.ensures.items ∙ sym (append_assoc xs ys _) in
@@ -16,5 +16,26 @@ invariant_of-self c =
       fits = omega (arith, h.fits, c.pop.ensures.len);
       older_room = h.older_room;
       recent_room = omega (arith, h.recent_room, c.pop.ensures.capacity);
-      logged = all-front (IsLogged a.older.extent) (xs ++ ys) _ (subst (All (IsLogged a.older.extent)) split h.logged);
+      logged = (logged-split e e.sizes (xs ++ ys) _ (subst (AreLogged e e.sizes) split h.logged)).0;
+    }
+
+pub invariant_of-self-in-None : goal.invariant_of-self-in-None
+invariant_of-self-in-None c =
+    let a = c.self.inside in
+    let h = c.self.invariant in
+    let e = a.older.extent in
+    let new = c.pop-in-None.new.self in
+    let r = c.pop-in-None.result in
+    let told = c.pop-in-None.ensures in
+    let none = nil_from_length c.pop.new.self.items (omega (arith, c.in-None.ensures.cases.1, c.pop.new.self.ok.0)) in
+    let extent = ap (λ z. z.extent) told.same in
+    let whole = subst (λ xs. AreLogged e e.sizes (xs ++ a.recent.items)) told.last h.logged in
+    let split = append_assoc new.removals (r ∷ []) a.recent.items in
+    let front = (logged-split e e.sizes new.removals (r ∷ a.recent.items) (subst (AreLogged e e.sizes) split whole)).0 in
+    let Q : Extent → Type 0 = λ x. AreLogged x x.sizes (new.removals ++ c.pop.new.self.items) in
+    record {
+      fits = omega (arith, h.fits, ap length told.last, length-append new.removals (r ∷ []), c.in-None.ensures.cases.1);
+      older_room = omega (arith, h.older_room, ap (λ z. z.room) told.same);
+      recent_room = omega (arith, h.recent_room, c.pop.ensures.capacity);
+      logged = subst Q (sym extent) (subst (AreLogged e e.sizes) (sym (ap (λ ys. new.removals ++ ys) none ∙ append-nil new.removals)) front);
     }

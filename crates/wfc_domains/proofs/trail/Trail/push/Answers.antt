@@ -1,8 +1,7 @@
 use Rattle.std.proofs.Common.{◌∷◌, ◌++◌, [], sym, subst, ◌∙◌, ap, arith}
-use Rattle.std.specs.Prelude.{All}
 use Rattle.std.proofs.lemmas.List.{append_assoc, length-append}
-use Rattle.std.proofs.lemmas.List.Elements.{All-push}
-use Rattle.wfc_domains.specs.Log.{IsLogged}
+use Rattle.wfc_domains.specs.Log.{AreLogged}
+use Rattle.wfc_domains.proofs.SizeLemmas.{logged-push}
 use Rattle.wfc_domains.proofs.trail.Trail.push.Goals as goal
 
 pub invariant_of-self : goal.invariant_of-self
@@ -13,10 +12,11 @@ invariant_of-self c =
     let logged = rw (← c.self.view_is) at c.requires.logged in
     let xs = a.older.removals in
     let ys = a.recent.items in
+    let e = a.older.extent in
     let more = append_assoc xs ys (c.args.removal ∷ []) ∙ ap (λ zs. xs ++ zs) (sym c.push_reserved.ensures.items) in
     record {
       fits = omega (arith, room, c.push_reserved.ensures.len, length-append xs ys, a.recent.ok.0);
       older_room = h.older_room;
       recent_room = omega (arith, h.recent_room, c.push_reserved.ensures.capacity);
-      logged = subst (All (IsLogged a.older.extent)) more (All-push (IsLogged a.older.extent) (xs ++ ys) c.args.removal h.logged logged);
+      logged = subst (AreLogged e e.sizes) more (logged-push e e.sizes (xs ++ ys) c.args.removal h.logged logged);
     }
