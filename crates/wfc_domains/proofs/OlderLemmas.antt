@@ -1,7 +1,7 @@
 -- Removals of earlier levels, one more and one fewer.
-use Rattle.std.proofs.Common.{◌≡◌, ◌≤◌, ℕ, ◌+◌, ◌-◌, ◌<◌, List, [], ◌∷◌, ◌++◌, length, map, set, take, refl, sym, ◌∙◌, ap, subst, arith, inl, inr}
+use Rattle.std.proofs.Common.{◌≡◌, ◌≤◌, ℕ, ◌+◌, ◌-◌, ◌<◌, List, [], ◌∷◌, ◌++◌, length, get_or, map, set, take, refl, sym, ◌∙◌, ap, subst, arith, inl, inr}
 use Rattle.std.specs.Prelude.{All, Some, slice_get, slice_index}
-use Rattle.std.proofs.lemmas.List.{get_or-set_same, get_or_past}
+use Rattle.std.proofs.lemmas.List.{get_or_read, get_or-set_same, get_or_past}
 use Rattle.std.proofs.lemmas.List.FromFn.{get_or-map-range_with_len, length-map-range_with_len}
 use Rattle.std.proofs.lemmas.Option.{get_or_from_slice_get, slice_get_within}
 use Rattle.std.proofs.lemmas.Bool.{cases_lt}
@@ -84,7 +84,7 @@ pop-removals v d s ns k n at long inside =
     ∙ ap (λ b. placed_removals v d (first_sizes v d s' front) front ++ placed_removal v d n b ∷ []) (get_or-set_same s c (slice_index s c + 1) 0 inside)
 
 -- its cell had one value more before it, and no fewer at first
-pub pop-few : (v d : ℕ) (s ns : List ℕ) (k n : ℕ) → slice_get ns k ≡ Some n → length ns ≡ k + 1 → placed_cell v d n < length s
+pop-few : (v d : ℕ) (s ns : List ℕ) (k n : ℕ) → slice_get ns k ≡ Some n → length ns ≡ k + 1 → placed_cell v d n < length s
     → slice_index s (placed_cell v d n) + 1 ≤ slice_index (first_sizes v d s ns) (placed_cell v d n)
 pop-few v d s ns k n at long inside =
     let c = placed_cell v d n in
@@ -94,6 +94,28 @@ pop-few v d s ns k n at long inside =
       get_or-set_same s c (slice_index s c + 1) 0 inside,
       ap (λ t. slice_index t c) (pop-first v d s ns k n at long),
     )
+
+-- what holds where the size x that was read at w, the cell of the last number n, is made one more
+pub record IsTakenBack (v d : ℕ) (s ns : List ℕ) (k n w x : ℕ) : Type 0 where
+  pub cell_in : placed_cell v d n < length s
+  pub before : x ≡ slice_index s (placed_cell v d n)
+  pub few : x + 1 ≤ slice_index (first_sizes v d s ns) (placed_cell v d n)
+  pub written : set s w (x + 1) ≡ more_at s (placed_cell v d n)
+  pub first : (front : List ℕ) → front ≡ take k ns → first_sizes v d (set s w (x + 1)) front ≡ first_sizes v d s ns
+
+pub taken_back : (v d : ℕ) (s ns : List ℕ) (k n w x : ℕ) → 0 < v → All (λ m. m < place_count (length s) v d) ns → slice_get ns k ≡ Some n → length ns ≡ k + 1
+    → w ≡ placed_cell v d n → x ≡ get_or s w x → IsTakenBack v d s ns k n w x
+taken_back v d s ns k n w x some all at long here reads =
+    let inside = kept-cell (length s) v d ns k n some all at in
+    let read : x ≡ slice_index s (placed_cell v d n) = get_or_read s w x (omega (arith, here, inside)) reads 0 ∙ ap (slice_index s) here in
+    let written : set s w (x + 1) ≡ more_at s (placed_cell v d n) = ap (λ y. set s w (y + 1)) read ∙ ap (λ c. set s c (slice_index s (placed_cell v d n) + 1)) here in
+    record {
+      cell_in = inside;
+      before = read;
+      few = omega (arith, read, pop-few v d s ns k n at long inside);
+      written = written;
+      first = λ front is. ap (λ t. first_sizes v d t front) written ∙ ap (first_sizes v d (more_at s (placed_cell v d n))) is ∙ pop-first v d s ns k n at long;
+    }
 
 -- ---- the sizes of the base
 
