@@ -31,20 +31,25 @@ const SQUARE: [u32; 16] = [
     NO_CELL, 2, 1, NO_CELL, 0, 3, NO_CELL, NO_CELL, NO_CELL, NO_CELL, 3, 0, 2, NO_CELL, NO_CELL, 1,
 ];
 
-/// Two values, each of which may stand beside the other alone.
-fn alternating(alloc: Global, cells: u16, neighbours: &[u32]) -> Result<Parts, AllocError> {
+/// For each of two values the other, in each of four directions.
+fn the_other(alloc: Global) -> Result<Vec<Vec<u16>>, AllocError> {
     let mut supports = Vec::new(alloc);
     for other in [1, 0] {
         for _dir in 0..4 {
             supports.push(Vec::from_slice(alloc, &[other])?)?;
         }
     }
+    Ok(supports)
+}
+
+/// Two values, each of which may stand beside the other alone.
+fn alternating(alloc: Global, cells: u16, neighbours: &[u32]) -> Result<Parts, AllocError> {
     Ok(Parts {
         cells: cells as u32,
         dirs: 4,
         neighbours: Vec::from_slice(alloc, neighbours)?,
         weights: Vec::from_slice(alloc, &[1, 1])?,
-        supports,
+        supports: the_other(alloc)?,
         base: vec![in alloc; true; cells as usize * 2]?,
     })
 }
@@ -138,6 +143,25 @@ fn play<S: Store, L: Ledger>(problem: &Problem, store: &mut S, word: u64, steps:
     }
 }
 
+/// Whether both engines have the domains that the definition gives, and the counters those of a fresh loading.
+fn both_are_closed<L: Ledger>(
+    alloc: Global,
+    problem: &Problem,
+    engine: &Ac4,
+    plain: &PlainStore,
+    steps: &mut Steps<L>,
+) -> Result<bool, Fail>
+    requires engine { engine.now.problem ≡ problem.now }
+    requires plain { plain.now.problem ≡ problem.now }
+{
+    let greatest = greatest_domains(alloc, problem, engine.standing())?;
+    Ok(
+        flags(alloc, problem, engine.domains())?.as_slice() == greatest.as_slice()
+            && flags(alloc, problem, plain.domains())?.as_slice() == greatest.as_slice()
+            && counts_afresh(alloc, problem, engine, steps)?,
+    )
+}
+
 /// Whether both engines say the same, and while they are alive what the definition says.
 fn agree<L: Ledger>(
     alloc: Global,
@@ -156,12 +180,7 @@ fn agree<L: Ledger>(
     if !alive {
         return Ok(true);
     }
-    let greatest = greatest_domains(alloc, problem, engine.standing())?;
-    Ok(
-        flags(alloc, problem, engine.domains())?.as_slice() == greatest.as_slice()
-            && flags(alloc, problem, plain.domains())?.as_slice() == greatest.as_slice()
-            && counts_afresh(alloc, problem, engine, steps)?,
-    )
+    both_are_closed(alloc, problem, engine, plain, steps)
 }
 
 /// Whether `w` may stand beside `v`, drawn from a word so that it holds both ways.
@@ -174,14 +193,8 @@ fn may(word: u64, dir: u8, v: u16, w: u16) -> bool
     (word >> bit) % 4 != 0
 }
 
-/// Three values on these cells; which may stand beside which, and the base, are drawn from two words.
-fn drawn(
-    alloc: Global,
-    cells: u16,
-    neighbours: &[u32],
-    word: u64,
-    holes: u64,
-) -> Result<Parts, AllocError> {
+/// Which of three values may stand beside which in four directions, drawn from a word.
+fn drawn_supports(alloc: Global, word: u64) -> Result<Vec<Vec<u16>>, AllocError> {
     let mut supports = Vec::new(alloc);
     for v in 0..3u16 {
         for dir in 0..4u8 {
@@ -194,17 +207,33 @@ fn drawn(
             supports.push(list)?;
         }
     }
+    Ok(supports)
+}
+
+/// A base of three values on so many cells, drawn from a word.
+fn drawn_base(alloc: Global, cells: u16, holes: u64) -> Result<Vec<bool>, AllocError> {
     let mut base = Vec::new(alloc);
     for place in 0..cells as u64 * 3 {
         base.push((holes >> (place % 60)) % 8 != 0)?;
     }
+    Ok(base)
+}
+
+/// Three values on these cells; which may stand beside which, and the base, are drawn from two words.
+fn drawn(
+    alloc: Global,
+    cells: u16,
+    neighbours: &[u32],
+    word: u64,
+    holes: u64,
+) -> Result<Parts, AllocError> {
     Ok(Parts {
         cells: cells as u32,
         dirs: 4,
         neighbours: Vec::from_slice(alloc, neighbours)?,
         weights: Vec::from_slice(alloc, &[1, 1, 1])?,
-        supports,
-        base,
+        supports: drawn_supports(alloc, word)?,
+        base: drawn_base(alloc, cells, holes)?,
     })
 }
 
@@ -214,7 +243,64 @@ fn next(word: u64) -> u64 {
         .wrapping_add(1442695040888963407)
 }
 
+/// The same assumption or undo in both engines.
+fn play_both<L: Ledger>(
+    problem: &Problem,
+    engine: &mut Ac4,
+    plain: &mut PlainStore,
+    word: u64,
+    steps: &mut Steps<L>,
+)
+    requires engine { engine.old.problem ≡ problem.now }
+    requires plain { plain.old.problem ≡ problem.now }
+    ensures engine { engine.new.problem ≡ problem.now }
+    ensures plain { plain.new.problem ≡ problem.now }
+{
+    play(problem, engine, word, steps);
+    play(problem, plain, word, steps);
+}
+
 /// Both engines through the same assumptions and undos.
+fn both_play<L: Ledger>(
+    rt: &impl Abort,
+    alloc: Global,
+    problem: &Problem,
+    seed: u64,
+    engine: &mut Ac4,
+    plain: &mut PlainStore,
+    steps: &mut Steps<L>,
+) -> Result<(), Fail>
+    requires engine { engine.old.problem ≡ problem.now }
+    requires plain { plain.old.problem ≡ problem.now }
+{
+    let mut word = next(seed);
+    for turn in 0..14u32 {
+        assert!(rt;
+            agree(alloc, problem, engine, plain, steps)?,
+            "at turn {turn} of {seed}"
+        );
+        word = next(word);
+        play_both(problem, engine, plain, word, steps);
+    }
+    Ok(())
+}
+
+/// The plain engine beside one that is open.
+fn beside_the_plain<L: Ledger>(
+    rt: &impl Abort,
+    alloc: Global,
+    problem: &Problem,
+    seed: u64,
+    engine: &mut Ac4,
+    steps: &mut Steps<L>,
+) -> Result<(), Fail>
+    requires engine { engine.old.problem ≡ problem.now }
+{
+    let mut plain = PlainStore::open(alloc, problem, 4)?;
+    both_play(rt, alloc, problem, seed, engine, &mut plain, steps)
+}
+
+/// Both engines from the opening on.
 fn side_by_side<L: Ledger>(
     rt: &impl Abort,
     alloc: Global,
@@ -228,35 +314,121 @@ fn side_by_side<L: Ledger>(
 {
     let mut steps = Steps::<L>::new(blank);
     let mut engine = Ac4::open(alloc, problem, 4)?;
-    let mut plain = PlainStore::open(alloc, problem, 4)?;
-    let mut word = next(seed);
-    for turn in 0..14u32 {
-        assert!(rt;
-            agree(alloc, problem, &engine, &plain, &mut steps)?,
-            "at turn {turn} of {seed}"
-        );
-        word = next(word);
-        play(problem, &mut engine, word, &mut steps);
-        play(problem, &mut plain, word, &mut steps);
+    beside_the_plain(rt, alloc, problem, seed, &mut engine, &mut steps)
+}
+
+/// Both engines on six random problems over these cells.
+fn on_drawn(rt: &impl Abort, alloc: Global, cells: u16, neighbours: &[u32]) -> Result<(), Fail> {
+    for seed in 1..7u64 {
+        let word = next(seed.wrapping_mul(977));
+        let parts = drawn(alloc, cells, neighbours, word >> 20, next(word) >> 3)?;
+        let problem = Problem::new(parts)?;
+        side_by_side::<Brand>(rt, alloc, &problem, seed, Blank::new(1))?;
     }
     Ok(())
 }
 
 #[test]
 fn both_engines_say_the_same(rt: HostRuntime) -> Result<(), Fail> {
-    let shapes: [(u16, &[u32]); 4] = [(3, &LINE), (9, &RINGS), (1, &OWN), (4, &SQUARE)];
-    for (cells, neighbours) in shapes {
-        for seed in 1..7u64 {
-            let word = next(seed.wrapping_mul(977));
-            let parts = drawn(rt.alloc(), cells, neighbours, word >> 20, next(word) >> 3)?;
-            let problem = Problem::new(parts)?;
-            side_by_side::<Brand>(&rt, rt.alloc(), &problem, seed, Blank::new(1))?;
-        }
-    }
+    on_drawn(&rt, rt.alloc(), 3, &LINE)?;
+    on_drawn(&rt, rt.alloc(), 9, &RINGS)?;
+    on_drawn(&rt, rt.alloc(), 1, &OWN)?;
+    on_drawn(&rt, rt.alloc(), 4, &SQUARE)
+}
+
+/// What the last level removed, and that each cell has a value left.
+fn removed(rt: &impl Abort, engine: &Ac4, wanted: &[Removal]) {
+    assert_eq!(rt; engine.verdict(), Verdict::Alive);
+    assert_eq!(rt; engine.added(), wanted);
+}
+
+/// Which values stand, and for how many more literals there is room.
+fn stands(
+    rt: &impl Abort,
+    alloc: Global,
+    problem: &Problem,
+    engine: &Ac4,
+    wanted: &[bool],
+    spare: u32,
+) -> Result<(), Fail>
+    requires problem { engine.now.problem ≡ problem.now }
+{
+    assert_eq!(rt; flags(alloc, problem, engine.domains())?.as_slice(), wanted);
+    assert_eq!(rt; engine.spare(), spare);
     Ok(())
 }
 
+/// Gives the first cell value 0.
+fn begin<L: Ledger>(problem: &Problem, engine: &mut Ac4, steps: &mut Steps<L>)
+    requires problem { engine.old.problem ≡ problem.now }
+    requires cells { 0 < problem.now.cells }
+    requires values { 0 < values problem.now }
+    ensures problem { engine.new.problem ≡ problem.now }
+{
+    act(problem, engine, Literal::Is { cell: 0, value: 0 }, steps);
+}
+
+/// The undo of the only literal that stands: nothing was removed before it, and these values stand.
+fn undo_all<L: Ledger>(
+    rt: &impl Abort,
+    alloc: Global,
+    problem: &Problem,
+    engine: &mut Ac4,
+    steps: &mut Steps<L>,
+    wanted: &[bool],
+    spare: u32,
+) -> Result<(), Fail>
+    requires problem { engine.old.problem ≡ problem.now }
+    ensures problem { engine.new.problem ≡ problem.now }
+{
+    go_back(problem, engine, steps);
+    removed(rt, engine, &[]);
+    stands(rt, alloc, problem, engine, wanted, spare)
+}
+
+/// What follows from value 0 at the first of three cells in a row.
+const CLOSED: [Removal; 3] = [
+    Removal {
+        cell: 0,
+        value: 1,
+        before: 2,
+        cause: Cause::Assumed,
+    },
+    Removal {
+        cell: 1,
+        value: 0,
+        before: 2,
+        cause: Cause::Arc(0),
+    },
+    Removal {
+        cell: 2,
+        value: 1,
+        before: 2,
+        cause: Cause::Arc(0),
+    },
+];
+
 /// The worked example: three cells in a row, and the first is given a value.
+fn line_is_closed<L: Ledger>(
+    rt: &impl Abort,
+    alloc: Global,
+    problem: &Problem,
+    engine: &mut Ac4,
+    steps: &mut Steps<L>,
+) -> Result<(), Fail>
+    requires cells { problem.now.cells ≡ 3 }
+    requires values { values problem.now ≡ 2 }
+    requires problem { engine.old.problem ≡ problem.now }
+{
+    removed(rt, engine, &[]);
+    begin(problem, engine, steps);
+    removed(rt, engine, &CLOSED);
+    let closed = [true, false, false, true, true, false];
+    stands(rt, alloc, problem, engine, &closed, 5)?;
+    undo_all(rt, alloc, problem, engine, steps, &[true; 6], 6)
+}
+
+/// The same, from the opening on.
 fn closes_the_line<L: Ledger>(
     rt: &impl Abort,
     alloc: Global,
@@ -271,41 +443,7 @@ fn closes_the_line<L: Ledger>(
 {
     let mut steps = Steps::<L>::new(blank);
     let mut engine = Ac4::open(alloc, problem, 6)?;
-    assert_eq!(rt; engine.verdict(), Verdict::Alive);
-    assert!(rt; engine.added().is_empty());
-    act(
-        problem,
-        &mut engine,
-        Literal::Is { cell: 0, value: 0 },
-        &mut steps,
-    );
-    assert_eq!(rt; engine.verdict(), Verdict::Alive);
-    let arc = Cause::Arc(0);
-    let wanted = [(0, 1, Cause::Assumed), (1, 0, arc), (2, 1, arc)];
-    assert_eq!(rt; engine.added().len(), 3);
-    for (removal, (cell, value, cause)) in engine.added().iter().zip(wanted) {
-        assert_eq!(rt;
-            *removal,
-            Removal {
-                cell,
-                value,
-                before: 2,
-                cause
-            }
-        );
-    }
-    assert_eq!(rt;
-        flags(alloc, problem, engine.domains())?.as_slice(),
-        [true, false, false, true, true, false].as_slice()
-    );
-    assert_eq!(rt; engine.spare(), 5);
-    go_back(problem, &mut engine, &mut steps);
-    assert_eq!(rt;
-        flags(alloc, problem, engine.domains())?.as_slice(),
-        [true; 6].as_slice()
-    );
-    assert_eq!(rt; engine.spare(), 6);
-    Ok(())
+    line_is_closed(rt, alloc, problem, &mut engine, &mut steps)
 }
 
 #[test]
@@ -316,7 +454,42 @@ fn a_line_is_closed(rt: HostRuntime) -> Result<(), Fail> {
     closes_the_line::<Brand>(&rt, rt.alloc(), &problem, Blank::new(1))
 }
 
+/// Each counter is 1.
+fn counts_one(rt: &impl Abort, problem: &Problem, engine: &Ac4)
+    requires cells { problem.now.cells ≡ 9 }
+    requires values { values problem.now ≡ 2 }
+    requires problem { engine.now.problem ≡ problem.now }
+{
+    let counters = engine.counters();
+    for cell in 0..9u32 {
+        for value in 0..2u16 {
+            for dir in 0..problem.dirs() {
+                assert_eq!(rt; counters.get(cell, value, dir), 1);
+            }
+        }
+    }
+}
+
 /// On rings of three no value can stand; after the undo each counter is 1 again.
+fn rings_are_undone<L: Ledger>(
+    rt: &impl Abort,
+    alloc: Global,
+    problem: &Problem,
+    engine: &mut Ac4,
+    steps: &mut Steps<L>,
+) -> Result<(), Fail>
+    requires cells { problem.now.cells ≡ 9 }
+    requires values { values problem.now ≡ 2 }
+    requires problem { engine.old.problem ≡ problem.now }
+{
+    begin(problem, engine, steps);
+    assert!(rt; !is_alive(engine.verdict()));
+    undo_all(rt, alloc, problem, engine, steps, &[true; 18], 3)?;
+    counts_one(rt, problem, engine);
+    Ok(())
+}
+
+/// The same, from the opening on.
 fn undoes_the_rings<L: Ledger>(
     rt: &impl Abort,
     alloc: Global,
@@ -331,29 +504,7 @@ fn undoes_the_rings<L: Ledger>(
 {
     let mut steps = Steps::<L>::new(blank);
     let mut engine = Ac4::open(alloc, problem, 3)?;
-    act(
-        problem,
-        &mut engine,
-        Literal::Is { cell: 0, value: 0 },
-        &mut steps,
-    );
-    assert!(rt; !is_alive(engine.verdict()));
-    go_back(problem, &mut engine, &mut steps);
-    assert_eq!(rt; engine.verdict(), Verdict::Alive);
-    assert!(rt; engine.added().is_empty());
-    assert_eq!(rt;
-        flags(alloc, problem, engine.domains())?.as_slice(),
-        [true; 18].as_slice()
-    );
-    let counters = engine.counters();
-    for cell in 0..9u32 {
-        for value in 0..2u16 {
-            for dir in 0..problem.dirs() {
-                assert_eq!(rt; counters.get(cell, value, dir), 1);
-            }
-        }
-    }
-    Ok(())
+    rings_are_undone(rt, alloc, problem, &mut engine, &mut steps)
 }
 
 #[test]
@@ -364,24 +515,6 @@ fn a_dead_level_is_undone(rt: HostRuntime) -> Result<(), Fail> {
     undoes_the_rings::<Brand>(&rt, rt.alloc(), &problem, Blank::new(1))
 }
 
-#[test]
-fn a_large_problem_opens(rt: HostRuntime) -> Result<(), Fail> {
-    let parts = Parts {
-        cells: 60_000,
-        dirs: 6,
-        neighbours: vec![in rt.alloc(); NO_CELL; 360_000]?,
-        weights: vec![in rt.alloc(); 1; 3]?,
-        supports: lists(rt.alloc())?,
-        base: vec![in rt.alloc(); true; 180_000]?,
-    };
-    let problem = Problem::new(parts)?;
-    let engine = Ac4::open(rt.alloc(), &problem, problem.depth())?;
-    assert_eq!(rt; engine.verdict(), Verdict::Alive);
-    let plain = PlainStore::open(rt.alloc(), &problem, problem.depth())?;
-    assert_eq!(rt; plain.spare(), 180_000);
-    Ok(())
-}
-
 /// No value supports another in any of six directions.
 fn lists(alloc: Global) -> Result<Vec<Vec<u16>>, AllocError> {
     let mut supports = Vec::new(alloc);
@@ -389,4 +522,37 @@ fn lists(alloc: Global) -> Result<Vec<Vec<u16>>, AllocError> {
         supports.push(Vec::new(alloc))?;
     }
     Ok(supports)
+}
+
+/// No cell has a neighbour, and each has all of three values.
+fn large(alloc: Global) -> Result<Parts, AllocError> {
+    Ok(Parts {
+        cells: 60_000,
+        dirs: 6,
+        neighbours: vec![in alloc; NO_CELL; 360_000]?,
+        weights: vec![in alloc; 1; 3]?,
+        supports: lists(alloc)?,
+        base: vec![in alloc; true; 180_000]?,
+    })
+}
+
+/// The engine opens with all the levels that there may be.
+fn opens_counted(rt: &impl Abort, alloc: Global, problem: &Problem) -> Result<(), Fail> {
+    let engine = Ac4::open(alloc, problem, problem.depth())?;
+    assert_eq!(rt; engine.verdict(), Verdict::Alive);
+    Ok(())
+}
+
+/// The plain engine has room for as many.
+fn opens_plain(rt: &impl Abort, alloc: Global, problem: &Problem) -> Result<(), Fail> {
+    let plain = PlainStore::open(alloc, problem, problem.depth())?;
+    assert_eq!(rt; plain.spare(), 180_000);
+    Ok(())
+}
+
+#[test]
+fn a_large_problem_opens(rt: HostRuntime) -> Result<(), Fail> {
+    let problem = Problem::new(large(rt.alloc())?)?;
+    opens_counted(&rt, rt.alloc(), &problem)?;
+    opens_plain(&rt, rt.alloc(), &problem)
 }

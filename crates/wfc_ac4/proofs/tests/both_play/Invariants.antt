@@ -1,5 +1,5 @@
 use Rattle.std.proofs.Common.{◌≡◌}
-use Rattle.wfc_ac4.proofs.tests.side_by_side.Given as goal
+use Rattle.wfc_ac4.proofs.tests.both_play.Given as goal
 
 abbrev pub invariant-loop-turn : goal.invariant-loop-turn
 invariant-loop-turn g l = record {
