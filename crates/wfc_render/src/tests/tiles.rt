@@ -56,33 +56,59 @@ fn text_of(
     Ok(tile_bytes(alloc, &laid, set, &picture)?)
 }
 
+/// The tile set with pictures of characters.
+fn drawn(rt: &impl Abort, alloc: Global) -> Result<TileSet, TileFault> {
+    let mut set = set_of(rt, alloc, GRIDS)?;
+    take(rt, alloc, &mut set, b"ab\ncd\n")?;
+    take(rt, alloc, &mut set, b"-+\n -\n")?;
+    Ok(set)
+}
+
+/// The tile set with a picture of colours.
+fn coloured(rt: &impl Abort, alloc: Global) -> Result<TileSet, TileFault> {
+    let mut set = set_of(rt, alloc, COLOURS)?;
+    take(rt, alloc, &mut set, b"P3 1 1 9 1 2 3")?;
+    Ok(set)
+}
+
+/// Whether a map of a variant and a hole is written so in a form.
+fn is_written(
+    rt: &impl Abort,
+    alloc: Global,
+    set: &TileSet,
+    v: u16,
+    form: Form,
+    wanted: &[u8],
+) -> Result<(), Fail> {
+    let text = text_of(rt, alloc, set, v, form)?;
+    assert_eq!(rt; text.as_slice(), wanted, "of {v} as {form:?}");
+    Ok(())
+}
+
 #[test]
 fn writes_maps_of_tiles(rt: HostRuntime) -> Result<(), Fail> {
-    let mut set = set_of(&rt, rt.alloc(), GRIDS)?;
-    take(&rt, rt.alloc(), &mut set, b"ab\ncd\n")?;
-    take(&rt, rt.alloc(), &mut set, b"-+\n -\n")?;
-    let cases: [(u16, Form, &[u8]); 4] = [
-        (1, Form::Grid, b"bd  \nac  \n"),
-        (4, Form::Grid, b"ba  \ndc  \n"),
-        (9, Form::Grid, b"+-  \n-   \n"),
-        (9, Form::Cells, b"9 -\n"),
-    ];
-    for (v, form, wanted) in cases {
-        let text = text_of(&rt, rt.alloc(), &set, v, form)?;
-        assert_eq!(rt; text.as_slice(), wanted, "of {v} as {form:?}");
-    }
-    let mut set = set_of(&rt, rt.alloc(), COLOURS)?;
-    take(&rt, rt.alloc(), &mut set, b"P3 1 1 9 1 2 3")?;
-    let cases: [(Form, &[u8]); 3] = [
-        (Form::P6, b"P6\n2 1\n9\n\x01\x02\x03\x00\x00\x00"),
-        (Form::P3, b"P3\n2 1\n9\n1 2 3\n0 0 0\n"),
-        (Form::Cells, b"0 -\n"),
-    ];
-    for (form, wanted) in cases {
-        let text = text_of(&rt, rt.alloc(), &set, 0, form)?;
-        assert_eq!(rt; text.as_slice(), wanted, "as {form:?}");
-    }
-    Ok(())
+    let alloc = rt.alloc();
+    let set = drawn(&rt, alloc)?;
+    is_written(&rt, alloc, &set, 1, Form::Grid, b"bd  \nac  \n")?;
+    is_written(&rt, alloc, &set, 4, Form::Grid, b"ba  \ndc  \n")?;
+    is_written(&rt, alloc, &set, 9, Form::Grid, b"+-  \n-   \n")?;
+    is_written(&rt, alloc, &set, 9, Form::Cells, b"9 -\n")
+}
+
+#[test]
+fn writes_maps_of_coloured_tiles(rt: HostRuntime) -> Result<(), Fail> {
+    let alloc = rt.alloc();
+    let set = coloured(&rt, alloc)?;
+    is_written(
+        &rt,
+        alloc,
+        &set,
+        0,
+        Form::P6,
+        b"P6\n2 1\n9\n\x01\x02\x03\x00\x00\x00",
+    )?;
+    is_written(&rt, alloc, &set, 0, Form::P3, b"P3\n2 1\n9\n1 2 3\n0 0 0\n")?;
+    is_written(&rt, alloc, &set, 0, Form::Cells, b"0 -\n")
 }
 
 /// The text of a map with the same variant at each place.
@@ -118,35 +144,66 @@ fn times(alloc: Global, bytes: &[u8], count: u32) -> Result<Vec<u8>, AllocError>
     Ok(text)
 }
 
-#[test]
-fn writes_large_maps_of_tiles(rt: HostRuntime) -> Result<(), Fail> {
-    let mut set = set_of(&rt, rt.alloc(), GRIDS)?;
-    take(&rt, rt.alloc(), &mut set, b"ab\ncd\n")?;
-    take(&rt, rt.alloc(), &mut set, b"-+\n -\n")?;
-    let mut rows = times(rt.alloc(), b"bd", 2048)?;
-    rows.push(b'\n')?;
-    rows.extend_from_slice(&times(rt.alloc(), b"ac", 2048)?)?;
-    rows.push(b'\n')?;
-    let wanted = times(rt.alloc(), &rows, 1024)?;
-    assert!(rt; even_text_of(&rt, rt.alloc(), &set, 1, 2048, 1024, Form::Grid)? == wanted);
-    let mut row = times(rt.alloc(), b"9 ", 2047)?;
-    row.extend_from_slice(b"9\n")?;
-    let wanted = times(rt.alloc(), &row, 1024)?;
-    assert!(rt; even_text_of(&rt, rt.alloc(), &set, 9, 2048, 1024, Form::Cells)? == wanted);
+/// Whether a map of 2,048 by 1,024 places, all of a variant, is written so in a form.
+fn is_large(
+    rt: &impl Abort,
+    alloc: Global,
+    set: &TileSet,
+    v: u16,
+    form: Form,
+    wanted: &[u8],
+) -> Result<(), Fail> {
+    let text = even_text_of(rt, alloc, set, v, 2048, 1024, form)?;
+    assert!(rt; text.as_slice() == wanted);
+    Ok(())
+}
+
+/// Writes so many times the same bytes, and the end of a line.
+fn push_line(
+    text: &mut Vec<u8>,
+    alloc: Global,
+    bytes: &[u8],
+    count: u32,
+) -> Result<(), AllocError> {
+    text.extend_from_slice(&times(alloc, bytes, count)?)?;
+    text.push(b'\n')?;
     Ok(())
 }
 
 #[test]
+fn writes_large_maps_of_tiles(rt: HostRuntime) -> Result<(), Fail> {
+    let alloc = rt.alloc();
+    let mut rows = Vec::new(alloc);
+    push_line(&mut rows, alloc, b"bd", 2048)?;
+    push_line(&mut rows, alloc, b"ac", 2048)?;
+    let wanted = times(alloc, &rows, 1024)?;
+    is_large(&rt, alloc, &drawn(&rt, alloc)?, 1, Form::Grid, &wanted)
+}
+
+#[test]
+fn writes_large_maps_of_tiles_as_numbers(rt: HostRuntime) -> Result<(), Fail> {
+    let alloc = rt.alloc();
+    let mut row = times(alloc, b"9 ", 2047)?;
+    row.extend_from_slice(b"9\n")?;
+    let wanted = times(alloc, &row, 1024)?;
+    is_large(&rt, alloc, &drawn(&rt, alloc)?, 9, Form::Cells, &wanted)
+}
+
+/// A picture of 2,048 by 1,024 pixels, all alike, behind what stands before them.
+fn even_picture(alloc: Global, head: &[u8], pixel: &[u8]) -> Result<Vec<u8>, AllocError> {
+    let mut text = Vec::from_slice(alloc, head)?;
+    text.extend_from_slice(&times(alloc, pixel, 2_097_152)?)?;
+    Ok(text)
+}
+
+#[test]
 fn writes_large_maps_of_coloured_tiles(rt: HostRuntime) -> Result<(), Fail> {
-    let mut set = set_of(&rt, rt.alloc(), COLOURS)?;
-    take(&rt, rt.alloc(), &mut set, b"P3 1 1 9 1 2 3")?;
-    let mut raw = Vec::from_slice(rt.alloc(), b"P6\n2048 1024\n9\n")?;
-    raw.extend_from_slice(&times(rt.alloc(), b"\x01\x02\x03", 2_097_152)?)?;
-    assert!(rt; even_text_of(&rt, rt.alloc(), &set, 0, 2048, 1024, Form::P6)? == raw);
-    let mut plain = Vec::from_slice(rt.alloc(), b"P3\n2048 1024\n9\n")?;
-    plain.extend_from_slice(&times(rt.alloc(), b"1 2 3\n", 2_097_152)?)?;
-    assert!(rt; even_text_of(&rt, rt.alloc(), &set, 0, 2048, 1024, Form::P3)? == plain);
-    Ok(())
+    let alloc = rt.alloc();
+    let set = coloured(&rt, alloc)?;
+    let raw = even_picture(alloc, b"P6\n2048 1024\n9\n", b"\x01\x02\x03")?;
+    is_large(&rt, alloc, &set, 0, Form::P6, &raw)?;
+    let plain = even_picture(alloc, b"P3\n2048 1024\n9\n", b"1 2 3\n")?;
+    is_large(&rt, alloc, &set, 0, Form::P3, &plain)
 }
 
 /// A document of so many tiles without symmetry, of the weights 1, 2 and so on, each of which may follow itself.
@@ -163,31 +220,44 @@ fn many(alloc: Global, tiles: u32) -> Result<String, AllocError> {
     Ok(text)
 }
 
-/// As many variants as there may be. A turn by a half and a reflection leave the two ends of such a pair side
-/// by side, and these make the even variants of variant 0; the others make the odd ones, one above the other.
-#[test]
-fn tells_what_a_large_tile_set_allows(rt: HostRuntime) -> Result<(), Fail> {
-    let text = many(rt.alloc(), 512)?;
-    let set = set_of(&rt, rt.alloc(), text.as_str())?;
-    let mut wanted = String::new(rt.alloc());
-    wanted.push_str("tiles 512\nvariants 4096\n")?;
+/// Writes the lines of the variants.
+fn push_variants(text: &mut String) -> Result<(), AllocError> {
     for v in 0..4096_u32 {
         let tile = v / 8;
         let weight = tile + 1;
         let index = v % 8;
-        write!(wanted, "{v} {weight}: t{tile}/{index}\n")?;
+        write!(text, "{v} {weight}: t{tile}/{index}\n")?;
     }
-    wanted.push_str("across 2048\n")?;
+    Ok(())
+}
+
+/// Writes the pairs of each second variant with itself, from this one on.
+fn push_pairs(text: &mut String, first: u8) -> Result<(), AllocError> {
     for k in 0..2048_u32 {
-        let v = 2 * k;
-        write!(wanted, "{v} {v}\n")?;
+        let v = 2 * k + u32::from(first);
+        write!(text, "{v} {v}\n")?;
     }
-    wanted.push_str("down 2048\n")?;
-    for k in 0..2048_u32 {
-        let v = 2 * k + 1;
-        write!(wanted, "{v} {v}\n")?;
-    }
+    Ok(())
+}
+
+/// What is told of as many variants as there may be. A turn by a half and a reflection leave the two ends of such a pair
+/// side by side, and these make the even variants of variant 0; the others make the odd ones, one above the other.
+fn many_told(alloc: Global) -> Result<String, AllocError> {
+    let mut text = String::new(alloc);
+    text.push_str("tiles 512\nvariants 4096\n")?;
+    push_variants(&mut text)?;
+    text.push_str("across 2048\n")?;
+    push_pairs(&mut text, 0)?;
+    text.push_str("down 2048\n")?;
+    push_pairs(&mut text, 1)?;
+    Ok(text)
+}
+
+#[test]
+fn tells_what_a_large_tile_set_allows(rt: HostRuntime) -> Result<(), Fail> {
+    let text = many(rt.alloc(), 512)?;
+    let set = set_of(&rt, rt.alloc(), text.as_str())?;
     let found = learned_tiles(rt.alloc(), &set)?;
-    assert!(rt; found.as_slice() == wanted.as_bytes());
+    assert!(rt; found.as_slice() == many_told(rt.alloc())?.as_bytes());
     Ok(())
 }
