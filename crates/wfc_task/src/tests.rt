@@ -41,6 +41,9 @@ struct Row {
     number: u32,
 }
 
+/// The rules that have a chooser.
+const KINDS: [RuleKind; 2] = [RuleKind::Scanline, RuleKind::Fewest];
+
 /// The checkers of two by two, windows of two by two, and a map of two by two.
 const CHECKERS: Row = Row {
     file: "chk.txt",
@@ -222,239 +225,123 @@ fn task(
     requires source { IsSourceAsked request.now }
     requires output { IsOutputAsked request.now }
 {
-    let kinds = [RuleKind::Scanline, RuleKind::Fewest];
     match command {
-        CommandKind::Learn => Ok(learned_sizes(&learn_task(alloc, request, folder)?)),
-        CommandKind::Fill => Ok(filled_sizes(&fill_task(alloc, request, &kinds, folder)?)),
-        CommandKind::Domains => {
-            let task = domains_task(alloc, request, folder)?;
-            let values = task.problem.values();
-            Ok((values, 0, 0, task.problem.cells(), task.steps.len()))
-        }
-        CommandKind::Demo => {
-            let task = demo_task(alloc, request, &kinds, folder)?;
-            Ok((task.patterns.count(), 0, 0, task.problem.cells(), 0))
-        }
-        CommandKind::Refute => {
-            let problem = refute_task(alloc, request, &kinds, folder)?;
-            Ok((problem.values(), 0, 0, problem.cells(), 0))
-        }
-        CommandKind::Upgrade => {
-            let task = upgrade_task(alloc, request, folder)?;
-            let bytes = task.refutation.len();
-            Ok((task.problem.values(), 0, 0, task.problem.cells(), bytes))
-        }
-        CommandKind::Check => {
-            let found = check_task(alloc, request, folder)?;
-            Ok((0, 0, 0, 0, if found.is_none() { 1 } else { 0 }))
-        }
+        CommandKind::Learn => learn(alloc, request, folder),
+        CommandKind::Fill => fill(alloc, request, folder),
+        CommandKind::Domains => domains(alloc, request, folder),
+        CommandKind::Demo => demo(alloc, request, folder),
+        CommandKind::Refute => refute(alloc, request, folder),
+        CommandKind::Upgrade => upgrade(alloc, request, folder),
+        CommandKind::Check => check(alloc, request, folder),
     }
+}
+
+fn learn(alloc: Global, request: &Request, folder: &mut MemoryFolder) -> Result<Sizes, Fault>
+    requires source { IsSourceAsked request.now }
+    requires output { IsOutputAsked request.now }
+{
+    Ok(learned_sizes(&learn_task(alloc, request, folder)?))
+}
+
+fn fill(alloc: Global, request: &Request, folder: &mut MemoryFolder) -> Result<Sizes, Fault>
+    requires source { IsSourceAsked request.now }
+    requires output { IsOutputAsked request.now }
+{
+    Ok(filled_sizes(&fill_task(alloc, request, &KINDS, folder)?))
+}
+
+fn domains(alloc: Global, request: &Request, folder: &mut MemoryFolder) -> Result<Sizes, Fault>
+    requires source { IsSourceAsked request.now }
+    requires output { IsOutputAsked request.now }
+{
+    let task = domains_task(alloc, request, folder)?;
+    let values = task.problem.values();
+    Ok((values, 0, 0, task.problem.cells(), task.steps.len()))
+}
+
+fn demo(alloc: Global, request: &Request, folder: &mut MemoryFolder) -> Result<Sizes, Fault>
+    requires source { IsSourceAsked request.now }
+    requires output { IsOutputAsked request.now }
+{
+    let task = demo_task(alloc, request, &KINDS, folder)?;
+    Ok((task.patterns.count(), 0, 0, task.problem.cells(), 0))
+}
+
+fn refute(alloc: Global, request: &Request, folder: &mut MemoryFolder) -> Result<Sizes, Fault>
+    requires source { IsSourceAsked request.now }
+    requires output { IsOutputAsked request.now }
+{
+    let problem = refute_task(alloc, request, &KINDS, folder)?;
+    Ok((problem.values(), 0, 0, problem.cells(), 0))
+}
+
+fn upgrade(alloc: Global, request: &Request, folder: &mut MemoryFolder) -> Result<Sizes, Fault>
+    requires source { IsSourceAsked request.now }
+    requires output { IsOutputAsked request.now }
+{
+    let task = upgrade_task(alloc, request, folder)?;
+    let bytes = task.refutation.len();
+    Ok((task.problem.values(), 0, 0, task.problem.cells(), bytes))
+}
+
+fn check(alloc: Global, request: &Request, folder: &mut MemoryFolder) -> Result<Sizes, Fault>
+    requires source { IsSourceAsked request.now }
+    requires output { IsOutputAsked request.now }
+{
+    let found = check_task(alloc, request, folder)?;
+    Ok((0, 0, 0, 0, if found.is_none() { 1 } else { 0 }))
 }
 
 fn refused(refusal: Refusal) -> Fault {
     Fault::Refused { refusal }
 }
 
-#[test]
-fn comes_to_tasks(rt: HostRuntime) -> Result<(), Fail> {
-    let wrapped = Row {
-        wrap_in: true,
-        ..CHECKERS
-    };
-    let cases: [(CommandKind, Row, Sizes); 13] = [
-        (CommandKind::Fill, CHECKERS, (1, 1, 2, 1, 0)),
-        (
-            CommandKind::Fill,
-            Row {
-                width: 3,
-                height: 3,
-                pins: Some("p.txt"),
-                ..wrapped
-            },
-            (2, 2, 2, 4, 0),
-        ),
-        (
-            CommandKind::Fill,
-            Row {
-                width: 3,
-                height: 4,
-                wrap_out: true,
-                rule: RuleKind::Scanline,
-                form: Some(Form::Cells),
-                ..wrapped
-            },
-            (2, 2, 2, 12, 0),
-        ),
-        (
-            CommandKind::Domains,
-            Row {
-                width: 4,
-                steps: Some("s.txt"),
-                ..wrapped
-            },
-            (2, 0, 0, 3, 4),
-        ),
-        (CommandKind::Domains, CHECKERS, (1, 0, 0, 1, 0)),
-        (CommandKind::Refute, CHECKERS, (1, 0, 0, 1, 0)),
-        (CommandKind::Upgrade, stepped("s.txt"), (2, 0, 0, 3, 32)),
-        (CommandKind::Check, stepped("s.txt"), (0, 0, 0, 0, 0)),
-        (
-            CommandKind::Check,
-            Row {
-                width: 3,
-                steps: Some("x.txt"),
-                ..CHECKERS
-            },
-            (0, 0, 0, 0, 1),
-        ),
-        (CommandKind::Learn, wrapped, (2, 2, 2, 0, 0)),
-        (
-            CommandKind::Learn,
-            Row {
-                symmetry: 8,
-                ..CHECKERS
-            },
-            (2, 4, 2, 0, 0),
-        ),
-        (CommandKind::Demo, CHECKERS, (9, 0, 0, 2116, 0)),
-        (
-            CommandKind::Demo,
-            Row {
-                number: 6,
-                ..CHECKERS
-            },
-            (16, 0, 0, 2116, 0),
-        ),
-    ];
-    for (command, row, wanted) in cases {
-        assert_eq!(rt; run(&rt, rt.alloc(), command, row)?, Ok(wanted));
-    }
+/// The task of a row comes to this.
+fn comes_to(
+    rt: &(impl Abort + AllocGlobal),
+    command: CommandKind,
+    row: Row,
+    wanted: Sizes,
+) -> Result<(), Fail> {
+    assert_eq!(rt; run(rt, rt.alloc(), command, row)?, Ok(wanted));
     Ok(())
 }
 
-/// Rows that have a fault, each with the first one.
-fn faulty() -> [(CommandKind, Row, Fault); 20] {
-    let fill = CommandKind::Fill;
-    let learn = CommandKind::Learn;
-    let domains = CommandKind::Domains;
-    [
-        (
-            fill,
-            Row {
-                width: 1,
-                ..CHECKERS
-            },
-            build(BuildFault::SizeBelowN),
-        ),
-        (
-            fill,
-            pinned("z.txt"),
-            build(BuildFault::UnknownSymbol { line: 1 }),
-        ),
-        (
-            fill,
-            pinned("o.txt"),
-            build(BuildFault::PinOutside { line: 1 }),
-        ),
-        (
-            fill,
-            pinned("b.txt"),
-            refused(Refusal::Pins {
-                fault: PinFault::BadLine { line: 1 },
-            }),
-        ),
-        (learn, sampled("e.txt"), grid(GridFault::Empty)),
-        (learn, sampled("r.txt"), grid(GridFault::Ragged { line: 2 })),
-        (
-            fill,
-            sampled("a.txt"),
-            refused(Refusal::Learn {
-                fault: LearnFault::SampleBelowN,
-            }),
-        ),
-        (
-            fill,
-            Row {
-                source: SourceModel::Overlap { n: 1 },
-                width: 4096,
-                height: 2049,
-                ..sampled("a.txt")
-            },
-            build(BuildFault::TooLarge { product: 8_392_704 }),
-        ),
-        (fill, sampled("none.txt"), missing(Source::Sample)),
-        (
-            fill,
-            Row {
-                rule: RuleKind::Ranked,
-                ..sampled("none.txt")
-            },
-            refused(Refusal::Chooser {
-                rule: RuleKind::Ranked,
-            }),
-        ),
-        (
-            fill,
-            Row {
-                form: Some(Form::P6),
-                ..pinned("none.txt")
-            },
-            refused(Refusal::Render {
-                fault: RenderFault::FormDiffers,
-            }),
-        ),
-        (fill, pinned("none.txt"), missing(Source::Pins)),
-        (
-            domains,
-            stepped("u.txt"),
-            refused(Refusal::Steps {
-                fault: StepFault::NothingToUndo { line: 1 },
-            }),
-        ),
-        (
-            domains,
-            stepped("w.txt"),
-            refused(Refusal::Steps {
-                fault: StepFault::BadLine { line: 1 },
-            }),
-        ),
-        (
-            domains,
-            stepped("c.txt"),
-            refused(Refusal::Range {
-                fault: RangeFault::OutOfRange { line: 1 },
-            }),
-        ),
-        (domains, stepped("none.txt"), missing(Source::Steps)),
-        (
-            domains,
-            Row {
-                pins: Some("z.txt"),
-                ..stepped("u.txt")
-            },
-            build(BuildFault::UnknownSymbol { line: 1 }),
-        ),
-        (
-            CommandKind::Refute,
-            Row {
-                rule: RuleKind::Ranked,
-                ..sampled("none.txt")
-            },
-            refused(Refusal::Chooser {
-                rule: RuleKind::Ranked,
-            }),
-        ),
-        (
-            CommandKind::Upgrade,
-            stepped("none.txt"),
-            missing(Source::Refutation),
-        ),
-        (
-            CommandKind::Upgrade,
-            sampled("none.txt"),
-            missing(Source::Sample),
-        ),
-    ]
+/// The task of a row has this fault first.
+fn refuses(
+    rt: &(impl Abort + AllocGlobal),
+    command: CommandKind,
+    row: Row,
+    fault: Fault,
+) -> Result<(), Fail> {
+    assert_eq!(rt; run(rt, rt.alloc(), command, row)?, Err(fault));
+    Ok(())
+}
+
+#[test]
+fn comes_to_tasks(rt: HostRuntime) -> Result<(), Fail> {
+    comes_to(&rt, CommandKind::Fill, CHECKERS, (1, 1, 2, 1, 0))?;
+    comes_to(&rt, CommandKind::Fill, pinned("p.txt"), (2, 2, 2, 4, 0))?;
+    comes_to(&rt, CommandKind::Fill, ring_in_cells(), (2, 2, 2, 12, 0))?;
+    comes_to(&rt, CommandKind::Learn, wrapped(), (2, 2, 2, 0, 0))?;
+    comes_to(&rt, CommandKind::Learn, turned(), (2, 4, 2, 0, 0))?;
+    comes_to(&rt, CommandKind::Demo, CHECKERS, (9, 0, 0, 2116, 0))?;
+    comes_to(&rt, CommandKind::Demo, numbered(6), (16, 0, 0, 2116, 0))
+}
+
+#[test]
+fn comes_to_tasks_of_steps_and_refutations(rt: HostRuntime) -> Result<(), Fail> {
+    comes_to(&rt, CommandKind::Domains, stepped("s.txt"), (2, 0, 0, 3, 4))?;
+    comes_to(&rt, CommandKind::Domains, CHECKERS, (1, 0, 0, 1, 0))?;
+    comes_to(&rt, CommandKind::Refute, CHECKERS, (1, 0, 0, 1, 0))?;
+    comes_to(
+        &rt,
+        CommandKind::Upgrade,
+        stepped("s.txt"),
+        (2, 0, 0, 3, 32),
+    )?;
+    comes_to(&rt, CommandKind::Check, stepped("s.txt"), (0, 0, 0, 0, 0))?;
+    comes_to(&rt, CommandKind::Check, refuted(), (0, 0, 0, 0, 1))
 }
 
 fn missing(source: Source) -> Fault {
@@ -504,10 +391,212 @@ fn sampled(file: &'static str) -> Row {
     }
 }
 
+/// The checkers wrapped.
+fn wrapped() -> Row {
+    Row {
+        wrap_in: true,
+        ..CHECKERS
+    }
+}
+
+/// The checkers wrapped, and a map of three by four that is a ring, of which the cells are put in the order of the lines.
+fn ring_in_cells() -> Row {
+    Row {
+        width: 3,
+        height: 4,
+        wrap_out: true,
+        rule: RuleKind::Scanline,
+        form: Some(Form::Cells),
+        ..wrapped()
+    }
+}
+
+/// The checkers with all of their images.
+fn turned() -> Row {
+    Row {
+        symmetry: 8,
+        ..CHECKERS
+    }
+}
+
+/// A demonstration of this number.
+fn numbered(number: u32) -> Row {
+    Row { number, ..CHECKERS }
+}
+
+/// A map of three by two, and its refutation.
+fn refuted() -> Row {
+    Row {
+        width: 3,
+        steps: Some("x.txt"),
+        ..CHECKERS
+    }
+}
+
+/// A map that is narrower than a window.
+fn narrow() -> Row {
+    Row {
+        width: 1,
+        ..CHECKERS
+    }
+}
+
+/// A map of windows of one by one with more values than a problem has.
+fn large() -> Row {
+    Row {
+        source: SourceModel::Overlap { n: 1 },
+        width: 4096,
+        height: 2049,
+        ..sampled("a.txt")
+    }
+}
+
+/// A map from a sample that isn't there, by a rule that has no chooser.
+fn ranked() -> Row {
+    Row {
+        rule: RuleKind::Ranked,
+        ..sampled("none.txt")
+    }
+}
+
+/// A map of symbols in a form of colours, and pins that aren't there.
+fn in_colours() -> Row {
+    Row {
+        form: Some(Form::P6),
+        ..pinned("none.txt")
+    }
+}
+
+/// Pins and steps that both have a fault.
+fn pinned_and_stepped() -> Row {
+    Row {
+        pins: Some("z.txt"),
+        ..stepped("u.txt")
+    }
+}
+
+/// The rule has no chooser.
+fn unchosen() -> Fault {
+    refused(Refusal::Chooser {
+        rule: RuleKind::Ranked,
+    })
+}
+
+/// The form isn't of the model.
+fn unrendered() -> Fault {
+    refused(Refusal::Render {
+        fault: RenderFault::FormDiffers,
+    })
+}
+
+fn pins(fault: PinFault) -> Fault {
+    refused(Refusal::Pins { fault })
+}
+
+fn steps(fault: StepFault) -> Fault {
+    refused(Refusal::Steps { fault })
+}
+
+fn range(fault: RangeFault) -> Fault {
+    refused(Refusal::Range { fault })
+}
+
+fn learned(fault: LearnFault) -> Fault {
+    refused(Refusal::Learn { fault })
+}
+
 #[test]
 fn refuses_by_the_first_fault(rt: HostRuntime) -> Result<(), Fail> {
-    for (command, row, fault) in faulty() {
-        assert_eq!(rt; run(&rt, rt.alloc(), command, row)?, Err(fault));
-    }
-    Ok(())
+    let fill = CommandKind::Fill;
+    let learn = CommandKind::Learn;
+    refuses(&rt, fill, narrow(), build(BuildFault::SizeBelowN))?;
+    refuses(&rt, learn, sampled("e.txt"), grid(GridFault::Empty))?;
+    refuses(
+        &rt,
+        learn,
+        sampled("r.txt"),
+        grid(GridFault::Ragged { line: 2 }),
+    )?;
+    refuses(
+        &rt,
+        fill,
+        sampled("a.txt"),
+        learned(LearnFault::SampleBelowN),
+    )?;
+    refuses(
+        &rt,
+        fill,
+        large(),
+        build(BuildFault::TooLarge { product: 8_392_704 }),
+    )?;
+    refuses(&rt, fill, sampled("none.txt"), missing(Source::Sample))?;
+    refuses(&rt, fill, ranked(), unchosen())
+}
+
+#[test]
+fn refuses_pins_by_the_first_fault(rt: HostRuntime) -> Result<(), Fail> {
+    let fill = CommandKind::Fill;
+    refuses(
+        &rt,
+        fill,
+        pinned("z.txt"),
+        build(BuildFault::UnknownSymbol { line: 1 }),
+    )?;
+    refuses(
+        &rt,
+        fill,
+        pinned("o.txt"),
+        build(BuildFault::PinOutside { line: 1 }),
+    )?;
+    refuses(
+        &rt,
+        fill,
+        pinned("b.txt"),
+        pins(PinFault::BadLine { line: 1 }),
+    )?;
+    refuses(&rt, fill, in_colours(), unrendered())?;
+    refuses(&rt, fill, pinned("none.txt"), missing(Source::Pins))
+}
+
+#[test]
+fn refuses_steps_by_the_first_fault(rt: HostRuntime) -> Result<(), Fail> {
+    let domains = CommandKind::Domains;
+    refuses(
+        &rt,
+        domains,
+        stepped("u.txt"),
+        steps(StepFault::NothingToUndo { line: 1 }),
+    )?;
+    refuses(
+        &rt,
+        domains,
+        stepped("w.txt"),
+        steps(StepFault::BadLine { line: 1 }),
+    )?;
+    refuses(
+        &rt,
+        domains,
+        stepped("c.txt"),
+        range(RangeFault::OutOfRange { line: 1 }),
+    )?;
+    refuses(&rt, domains, stepped("none.txt"), missing(Source::Steps))?;
+    refuses(
+        &rt,
+        domains,
+        pinned_and_stepped(),
+        build(BuildFault::UnknownSymbol { line: 1 }),
+    )
+}
+
+#[test]
+fn refuses_refutations_by_the_first_fault(rt: HostRuntime) -> Result<(), Fail> {
+    let upgrade = CommandKind::Upgrade;
+    refuses(&rt, CommandKind::Refute, ranked(), unchosen())?;
+    refuses(
+        &rt,
+        upgrade,
+        stepped("none.txt"),
+        missing(Source::Refutation),
+    )?;
+    refuses(&rt, upgrade, sampled("none.txt"), missing(Source::Sample))
 }

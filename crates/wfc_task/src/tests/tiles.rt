@@ -1,6 +1,8 @@
 //! Tasks of tile sets, of their pictures and of masks, by tables.
 
-use super::{Row, build, missing, refused, request_of, run};
+use super::{
+    Row, build, comes_to, missing, pins, refused, refuses, request_of, unchosen, unrendered,
+};
 use crate::{Fault, Refusal, Source, shape};
 use std::test::Fail;
 use wfc_choose::RuleKind;
@@ -102,203 +104,78 @@ fn behind(pins: &'static str) -> Row {
     }
 }
 
-#[test]
-fn comes_to_tasks_of_tiles(rt: HostRuntime) -> Result<(), Fail> {
-    let square = Row {
-        width: 2,
-        height: 2,
+/// Lines on a map of so many cells, of which the refutation is one of two by two.
+fn squared(width: u32, height: u32) -> Row {
+    Row {
+        width,
+        height,
         steps: Some("square.proof"),
         ..LINES
-    };
-    let cases = [
-        (CommandKind::Learn, LINES, (2, 1, 0, 0, 0)),
-        (CommandKind::Learn, made_of("corner.toml"), (4, 7, 1, 0, 0)),
-        (CommandKind::Fill, LINES, (2, 1, 0, 3, 0)),
-        (CommandKind::Fill, made_of("corner.toml"), (4, 7, 1, 3, 0)),
-        (
-            CommandKind::Fill,
-            holed("line.pins", "m.txt"),
-            (2, 1, 0, 2, 0),
-        ),
-        (
-            CommandKind::Fill,
-            Row {
-                width: 1024,
-                height: 1024,
-                wrap_out: true,
-                ..LINES
-            },
-            (2, 1, 0, 1_048_576, 0),
-        ),
-        (
-            CommandKind::Domains,
-            Row {
-                steps: Some("one.steps"),
-                ..masked("m.txt")
-            },
-            (2, 0, 0, 2, 1),
-        ),
-        (CommandKind::Refute, masked("m.txt"), (2, 0, 0, 2, 0)),
-        (CommandKind::Check, square, (0, 0, 0, 0, 1)),
-        (
-            CommandKind::Check,
-            Row {
-                width: 4,
-                height: 1,
-                ..square
-            },
-            (0, 0, 0, 0, 0),
-        ),
-        (CommandKind::Upgrade, square, (2, 0, 0, 4, 56)),
-    ];
-    for (command, row, wanted) in cases {
-        assert_eq!(rt; run(&rt, rt.alloc(), command, row)?, Ok(wanted));
     }
-    Ok(())
 }
 
-/// Rows of a document and its pictures that have a fault, each with the first one.
-fn faulty_sets() -> [(CommandKind, Row, Fault); 8] {
+/// Lines on a large map that is a ring.
+fn ring() -> Row {
+    Row {
+        width: 1024,
+        height: 1024,
+        wrap_out: true,
+        ..LINES
+    }
+}
+
+/// Lines with a hole, and one step.
+fn stepped() -> Row {
+    Row {
+        steps: Some("one.steps"),
+        ..masked("m.txt")
+    }
+}
+
+/// Lines with pins of a variant that isn't there.
+fn pinned() -> Row {
+    Row {
+        pins: Some("other.pins"),
+        ..LINES
+    }
+}
+
+/// A document that isn't there, and a rule that has no chooser.
+fn ranked() -> Row {
+    Row {
+        rule: RuleKind::Ranked,
+        ..made_of("none.toml")
+    }
+}
+
+/// This row in a form of colours.
+fn in_colours(row: Row) -> Row {
+    Row {
+        form: Some(Form::P6),
+        ..row
+    }
+}
+
+#[test]
+fn comes_to_tasks_of_tiles(rt: HostRuntime) -> Result<(), Fail> {
     let fill = CommandKind::Fill;
     let learn = CommandKind::Learn;
-    [
-        (
-            fill,
-            Row {
-                rule: RuleKind::Ranked,
-                ..made_of("none.toml")
-            },
-            refused(Refusal::Chooser {
-                rule: RuleKind::Ranked,
-            }),
-        ),
-        (fill, made_of("none.toml"), missing(Source::Sample)),
-        (learn, made_of("chk.txt"), tiles(TileFault::Toml)),
-        (
-            learn,
-            made_of("lost.toml"),
-            missing(Source::Picture { tile: 1 }),
-        ),
-        (
-            learn,
-            made_of("apart.toml"),
-            tiles(TileFault::SizeDiffers { tile: 1 }),
-        ),
-        // The pictures are read before the layout is looked at, and the layout is looked at before the pins file is read.
-        (
-            fill,
-            Row {
-                form: Some(Form::P6),
-                ..made_of("lost.toml")
-            },
-            missing(Source::Picture { tile: 1 }),
-        ),
-        (
-            fill,
-            Row {
-                form: Some(Form::P6),
-                ..holed("none.txt", "none.txt")
-            },
-            refused(Refusal::Render {
-                fault: RenderFault::FormDiffers,
-            }),
-        ),
-        (
-            CommandKind::Refute,
-            Row {
-                rule: RuleKind::Ranked,
-                ..made_of("none.toml")
-            },
-            refused(Refusal::Chooser {
-                rule: RuleKind::Ranked,
-            }),
-        ),
-    ]
+    comes_to(&rt, learn, LINES, (2, 1, 0, 0, 0))?;
+    comes_to(&rt, learn, made_of("corner.toml"), (4, 7, 1, 0, 0))?;
+    comes_to(&rt, fill, LINES, (2, 1, 0, 3, 0))?;
+    comes_to(&rt, fill, made_of("corner.toml"), (4, 7, 1, 3, 0))?;
+    comes_to(&rt, fill, holed("line.pins", "m.txt"), (2, 1, 0, 2, 0))?;
+    comes_to(&rt, fill, ring(), (2, 1, 0, 1_048_576, 0))
 }
 
-/// Rows of pins and a mask that have a fault, each with the first one.
-fn faulty_masks() -> [(CommandKind, Row, Fault); 15] {
-    let fill = CommandKind::Fill;
-    [
-        (fill, holed("none.txt", "none.txt"), missing(Source::Pins)),
-        (
-            fill,
-            holed("b.txt", "none.txt"),
-            refused(Refusal::Pins {
-                fault: PinFault::BadLine { line: 1 },
-            }),
-        ),
-        (fill, holed("hole.pins", "none.txt"), missing(Source::Mask)),
-        (
-            fill,
-            masked("r.txt"),
-            refused(Refusal::Grid {
-                source: Source::Mask,
-                fault: GridFault::Ragged { line: 2 },
-            }),
-        ),
-        (
-            fill,
-            masked("half.txt"),
-            mask(MaskFault::SizeDiffers {
-                width: 2,
-                height: 1,
-            }),
-        ),
-        (
-            fill,
-            masked("odd.txt"),
-            mask(MaskFault::BadSymbol { line: 1, column: 2 }),
-        ),
-        (fill, masked("holes.txt"), mask(MaskFault::AllHoles)),
-        // The mask is held to the sides before there is a problem, and the problem has a size before the pins mean something.
-        (
-            fill,
-            large(holed("other.pins", "m.txt")),
-            mask(MaskFault::SizeDiffers {
-                width: 3,
-                height: 1,
-            }),
-        ),
-        (
-            fill,
-            large(Row {
-                pins: Some("other.pins"),
-                ..LINES
-            }),
-            build(BuildFault::TooLarge { product: 8_396_800 }),
-        ),
-        (
-            fill,
-            holed("o.txt", "m.txt"),
-            build(BuildFault::PinOutside { line: 1 }),
-        ),
-        (
-            fill,
-            holed("hole.pins", "m.txt"),
-            build(BuildFault::PinInHole { line: 1 }),
-        ),
-        (
-            fill,
-            holed("other.pins", "m.txt"),
-            build(BuildFault::UnknownSymbol { line: 1 }),
-        ),
-        (
-            CommandKind::Domains,
-            behind("line.pins"),
-            missing(Source::Steps),
-        ),
-        (
-            CommandKind::Check,
-            behind("hole.pins"),
-            build(BuildFault::PinInHole { line: 1 }),
-        ),
-        (
-            CommandKind::Upgrade,
-            behind("line.pins"),
-            missing(Source::Refutation),
-        ),
-    ]
+#[test]
+fn comes_to_steps_and_refutations_of_tiles(rt: HostRuntime) -> Result<(), Fail> {
+    let check = CommandKind::Check;
+    comes_to(&rt, CommandKind::Domains, stepped(), (2, 0, 0, 2, 1))?;
+    comes_to(&rt, CommandKind::Refute, masked("m.txt"), (2, 0, 0, 2, 0))?;
+    comes_to(&rt, check, squared(2, 2), (0, 0, 0, 0, 1))?;
+    comes_to(&rt, check, squared(4, 1), (0, 0, 0, 0, 0))?;
+    comes_to(&rt, CommandKind::Upgrade, squared(2, 2), (2, 0, 0, 4, 56))
 }
 
 fn tiles(fault: TileFault) -> Fault {
@@ -309,20 +186,131 @@ fn mask(fault: MaskFault) -> Fault {
     refused(Refusal::Mask { fault })
 }
 
+/// A mask of these sides, which are not the map's.
+fn apart(width: u32, height: u32) -> Fault {
+    mask(MaskFault::SizeDiffers { width, height })
+}
+
+/// A mask of which the second line is shorter.
+fn ragged() -> Fault {
+    refused(Refusal::Grid {
+        source: Source::Mask,
+        fault: GridFault::Ragged { line: 2 },
+    })
+}
+
+/// A document and its pictures.
 #[test]
 fn refuses_sets_by_the_first_fault(rt: HostRuntime) -> Result<(), Fail> {
-    for (command, row, fault) in faulty_sets() {
-        assert_eq!(rt; run(&rt, rt.alloc(), command, row)?, Err(fault));
-    }
-    Ok(())
+    let fill = CommandKind::Fill;
+    let learn = CommandKind::Learn;
+    refuses(&rt, fill, ranked(), unchosen())?;
+    refuses(&rt, fill, made_of("none.toml"), missing(Source::Sample))?;
+    refuses(&rt, learn, made_of("chk.txt"), tiles(TileFault::Toml))?;
+    refuses(
+        &rt,
+        learn,
+        made_of("lost.toml"),
+        missing(Source::Picture { tile: 1 }),
+    )?;
+    refuses(
+        &rt,
+        learn,
+        made_of("apart.toml"),
+        tiles(TileFault::SizeDiffers { tile: 1 }),
+    )?;
+    // The pictures are read before the layout is looked at, and the layout is looked at before the pins file is read.
+    refuses(
+        &rt,
+        fill,
+        in_colours(made_of("lost.toml")),
+        missing(Source::Picture { tile: 1 }),
+    )?;
+    refuses(
+        &rt,
+        fill,
+        in_colours(holed("none.txt", "none.txt")),
+        unrendered(),
+    )?;
+    refuses(&rt, CommandKind::Refute, ranked(), unchosen())
 }
 
 #[test]
 fn refuses_masks_by_the_first_fault(rt: HostRuntime) -> Result<(), Fail> {
-    for (command, row, fault) in faulty_masks() {
-        assert_eq!(rt; run(&rt, rt.alloc(), command, row)?, Err(fault));
-    }
-    Ok(())
+    let fill = CommandKind::Fill;
+    let line = PinFault::BadLine { line: 1 };
+    refuses(
+        &rt,
+        fill,
+        holed("none.txt", "none.txt"),
+        missing(Source::Pins),
+    )?;
+    refuses(&rt, fill, holed("b.txt", "none.txt"), pins(line))?;
+    refuses(
+        &rt,
+        fill,
+        holed("hole.pins", "none.txt"),
+        missing(Source::Mask),
+    )?;
+    refuses(&rt, fill, masked("r.txt"), ragged())?;
+    refuses(&rt, fill, masked("half.txt"), apart(2, 1))?;
+    refuses(
+        &rt,
+        fill,
+        masked("odd.txt"),
+        mask(MaskFault::BadSymbol { line: 1, column: 2 }),
+    )?;
+    refuses(&rt, fill, masked("holes.txt"), mask(MaskFault::AllHoles))
+}
+
+#[test]
+fn refuses_pins_of_tiles_by_the_first_fault(rt: HostRuntime) -> Result<(), Fail> {
+    let fill = CommandKind::Fill;
+    // The mask is held to the sides before there is a problem, and the problem has a size before the pins mean something.
+    refuses(&rt, fill, large(holed("other.pins", "m.txt")), apart(3, 1))?;
+    refuses(
+        &rt,
+        fill,
+        large(pinned()),
+        build(BuildFault::TooLarge { product: 8_396_800 }),
+    )?;
+    refuses(
+        &rt,
+        fill,
+        holed("o.txt", "m.txt"),
+        build(BuildFault::PinOutside { line: 1 }),
+    )?;
+    refuses(
+        &rt,
+        fill,
+        holed("hole.pins", "m.txt"),
+        build(BuildFault::PinInHole { line: 1 }),
+    )?;
+    refuses(
+        &rt,
+        fill,
+        holed("other.pins", "m.txt"),
+        build(BuildFault::UnknownSymbol { line: 1 }),
+    )
+}
+
+/// The steps and the refutation come behind the pins.
+#[test]
+fn refuses_files_behind_the_pins_by_the_first_fault(rt: HostRuntime) -> Result<(), Fail> {
+    let hole = BuildFault::PinInHole { line: 1 };
+    refuses(
+        &rt,
+        CommandKind::Domains,
+        behind("line.pins"),
+        missing(Source::Steps),
+    )?;
+    refuses(&rt, CommandKind::Check, behind("hole.pins"), build(hole))?;
+    refuses(
+        &rt,
+        CommandKind::Upgrade,
+        behind("line.pins"),
+        missing(Source::Refutation),
+    )
 }
 
 #[test]
