@@ -6,6 +6,7 @@ use super::{shape, side_by_side, text};
 use crate::stream::{LineEnd, Stream};
 use crate::{CheckFault, check};
 use std::alloc::Global;
+use std::process::Abort;
 use std::test::Fail;
 use wfc_outside::MemoryFolder;
 
@@ -22,42 +23,96 @@ fn folder(alloc: Global, piece: usize, strokes: &str) -> Result<MemoryFolder, Fa
     Ok(folder)
 }
 
+/// The answer to a file given in pieces of this size.
+fn is_accepted(rt: &impl Abort, alloc: Global, piece: usize) -> Result<(), Fail> {
+    assert!(rt; 1 <= piece);
+    let problem = side_by_side(alloc)?;
+    let mut folder = folder(alloc, piece, RIGHT)?;
+    let answer = check(alloc, &problem, &shape(), &mut folder, "r.txt");
+    assert_eq!(rt; answer, Ok(()), "{piece}");
+    Ok(())
+}
+
 /// The answer is the same however little is given at a time.
 #[test]
 fn pieces_of_any_size_are_read(rt: HostRuntime) -> Result<(), Fail> {
-    let problem = side_by_side(rt.alloc())?;
     for piece in [1, 2, 7, 64, 5000] {
-        let mut folder = folder(rt.alloc(), piece, RIGHT)?;
-        assert_eq!(rt;
-            check(rt.alloc(), &problem, &shape(), &mut folder, "r.txt"),
-            Ok(()),
-            "{piece}"
-        );
+        is_accepted(&rt, rt.alloc(), piece)?;
     }
     Ok(())
 }
 
-/// A file that isn't there, a reading that fails, and a line at fault before the reading that would fail.
+/// The answer to a file of a folder.
+fn answer(
+    alloc: Global,
+    folder: &mut MemoryFolder,
+    name: &str,
+) -> Result<Result<(), CheckFault>, Fail> {
+    let problem = side_by_side(alloc)?;
+    Ok(check(alloc, &problem, &shape(), folder, name))
+}
+
+/// A file that isn't there, and a reading that fails.
 #[test]
 fn faults_of_files_are_told(rt: HostRuntime) -> Result<(), Fail> {
-    let problem = side_by_side(rt.alloc())?;
     let mut missing = folder(rt.alloc(), 9, RIGHT)?;
-    assert_eq!(rt;
-        check(rt.alloc(), &problem, &shape(), &mut missing, "s.txt"),
-        Err(CheckFault::Missing)
-    );
+    let told = answer(rt.alloc(), &mut missing, "s.txt")?;
+    assert_eq!(rt; told, Err(CheckFault::Missing));
     let mut failing = folder(rt.alloc(), 40, RIGHT)?;
     failing.fail_at(2)?;
-    assert_eq!(rt;
-        check(rt.alloc(), &problem, &shape(), &mut failing, "r.txt"),
-        Err(CheckFault::Failed)
-    );
+    let told = answer(rt.alloc(), &mut failing, "r.txt")?;
+    assert_eq!(rt; told, Err(CheckFault::Failed));
+    Ok(())
+}
+
+/// A line at fault before the reading that would fail.
+#[test]
+fn the_rest_of_a_wrong_file_is_not_read(rt: HostRuntime) -> Result<(), Fail> {
     let mut wrong = folder(rt.alloc(), 40, WRONG)?;
     wrong.fail_at(2)?;
-    let answer = check(rt.alloc(), &problem, &shape(), &mut wrong, "r.txt");
+    let answer = answer(rt.alloc(), &mut wrong, "r.txt")?;
     assert!(rt;
         matches!(answer, Err(CheckFault::Rejected { line: 3, .. })),
         "the rest isn't read"
+    );
+    Ok(())
+}
+
+/// The next line of a stream ends so, and has these bytes.
+fn is_next(
+    rt: &impl Abort,
+    stream: &mut Stream<'_>,
+    folder: &mut MemoryFolder,
+    line: &mut Vec<u8>,
+    end: LineEnd,
+    bytes: &[u8],
+) {
+    assert_eq!(rt; stream.next_line(folder, line), Ok(end));
+    assert_eq!(rt; line.as_slice(), bytes);
+}
+
+/// Reads a file of which six bytes may be given, in pieces of this size.
+fn is_cut(rt: &impl Abort, alloc: Global, piece: usize) -> Result<(), Fail> {
+    assert!(rt; 1 <= piece);
+    let mut folder = folder(alloc, piece, "ab//cdef/")?;
+    let mut stream = Stream::new(alloc, "r.txt", 6)?;
+    let mut line = Vec::new(alloc);
+    is_next(
+        rt,
+        &mut stream,
+        &mut folder,
+        &mut line,
+        LineEnd::Feed,
+        b"ab",
+    );
+    is_next(rt, &mut stream, &mut folder, &mut line, LineEnd::Feed, b"");
+    is_next(
+        rt,
+        &mut stream,
+        &mut folder,
+        &mut line,
+        LineEnd::Over,
+        b"cd",
     );
     Ok(())
 }
@@ -66,16 +121,48 @@ fn faults_of_files_are_told(rt: HostRuntime) -> Result<(), Fail> {
 #[test]
 fn no_more_is_given_than_may_be(rt: HostRuntime) -> Result<(), Fail> {
     for piece in [1, 3, 100] {
-        let mut folder = folder(rt.alloc(), piece, "ab//cdef/")?;
-        let mut stream = Stream::new(rt.alloc(), "r.txt", 6)?;
-        let mut line = Vec::new(rt.alloc());
-        assert_eq!(rt; stream.next_line(&mut folder, &mut line), Ok(LineEnd::Feed));
-        assert_eq!(rt; line.as_slice(), b"ab".as_slice());
-        assert_eq!(rt; stream.next_line(&mut folder, &mut line), Ok(LineEnd::Feed));
-        assert_eq!(rt; line.as_slice(), b"".as_slice());
-        assert_eq!(rt; stream.next_line(&mut folder, &mut line), Ok(LineEnd::Over));
-        assert_eq!(rt; line.as_slice(), b"cd".as_slice());
+        is_cut(&rt, rt.alloc(), piece)?;
     }
+    Ok(())
+}
+
+/// Lines of 64 bytes and of 65, in pieces of this size.
+fn is_too_long(rt: &impl Abort, alloc: Global, piece: usize) -> Result<(), Fail> {
+    assert!(rt; 1 <= piece);
+    let mut folder = folder(
+        alloc,
+        piece,
+        "xxxxxxxxxxxxxxxxxxxxxxxxxxxxxxxxxxxxxxxxxxxxxxxxxxxxxxxxxxxxxxxx/xxxxxxxxxxxxxxxxxxxxxxxxxxxxxxxxxxxxxxxxxxxxxxxxxxxxxxxxxxxxxxxxx",
+    )?;
+    let mut stream = Stream::new(alloc, "r.txt", 1000)?;
+    let mut line = Vec::new(alloc);
+    is_next(
+        rt,
+        &mut stream,
+        &mut folder,
+        &mut line,
+        LineEnd::Feed,
+        &[b'x'; 64],
+    );
+    assert_eq!(rt; stream.next_line(&mut folder, &mut line), Ok(LineEnd::Long));
+    Ok(())
+}
+
+/// A file that ends without a line feed, in pieces of this size.
+fn is_open(rt: &impl Abort, alloc: Global, piece: usize) -> Result<(), Fail> {
+    assert!(rt; 1 <= piece);
+    let mut folder = folder(alloc, piece, "ab/c")?;
+    let mut stream = Stream::new(alloc, "r.txt", 1000)?;
+    let mut line = Vec::new(alloc);
+    is_next(
+        rt,
+        &mut stream,
+        &mut folder,
+        &mut line,
+        LineEnd::Feed,
+        b"ab",
+    );
+    is_next(rt, &mut stream, &mut folder, &mut line, LineEnd::End, b"c");
     Ok(())
 }
 
@@ -83,21 +170,8 @@ fn no_more_is_given_than_may_be(rt: HostRuntime) -> Result<(), Fail> {
 #[test]
 fn lines_end_in_their_ways(rt: HostRuntime) -> Result<(), Fail> {
     for piece in [1, 50, 100] {
-        let mut long = folder(
-            rt.alloc(),
-            piece,
-            "xxxxxxxxxxxxxxxxxxxxxxxxxxxxxxxxxxxxxxxxxxxxxxxxxxxxxxxxxxxxxxxx/xxxxxxxxxxxxxxxxxxxxxxxxxxxxxxxxxxxxxxxxxxxxxxxxxxxxxxxxxxxxxxxxx",
-        )?;
-        let mut stream = Stream::new(rt.alloc(), "r.txt", 1000)?;
-        let mut line = Vec::new(rt.alloc());
-        assert_eq!(rt; stream.next_line(&mut long, &mut line), Ok(LineEnd::Feed));
-        assert_eq!(rt; line.len(), 64);
-        assert_eq!(rt; stream.next_line(&mut long, &mut line), Ok(LineEnd::Long));
-        let mut open = folder(rt.alloc(), piece, "ab/c")?;
-        let mut stream = Stream::new(rt.alloc(), "r.txt", 1000)?;
-        assert_eq!(rt; stream.next_line(&mut open, &mut line), Ok(LineEnd::Feed));
-        assert_eq!(rt; stream.next_line(&mut open, &mut line), Ok(LineEnd::End));
-        assert_eq!(rt; line.as_slice(), b"c".as_slice());
+        is_too_long(&rt, rt.alloc(), piece)?;
+        is_open(&rt, rt.alloc(), piece)?;
     }
     Ok(())
 }

@@ -3,6 +3,7 @@
 use super::ring;
 use crate::{Checker, Progress, Reject, is_proof};
 use std::alloc::Global;
+use std::process::Abort;
 use std::test::Fail;
 use wfc_proof::{Line, read_line_2};
 
@@ -15,69 +16,99 @@ fn lines(alloc: Global, strokes: &str) -> Result<Vec<Line>, Fail> {
     Ok(lines)
 }
 
+/// A line with its answer.
+fn answers(
+    rt: &impl Abort,
+    checker: &mut Checker<'_>,
+    line: &str,
+    want: Result<Progress, Reject>,
+) -> Result<(), Fail> {
+    let got = checker.line(read_line_2(line.as_bytes())?);
+    assert_eq!(rt; got, want, "{line}");
+    Ok(())
+}
+
+/// A line that is taken, and leaves a branch open.
+fn goes_on(rt: &impl Abort, checker: &mut Checker<'_>, line: &str) -> Result<(), Fail> {
+    answers(rt, checker, line, Ok(Progress::Going))
+}
+
+/// Lines that are refused at the base, and a value that is tried there.
+fn tries(rt: &impl Abort, checker: &mut Checker<'_>) -> Result<(), Fail> {
+    answers(rt, checker, "q", Err(Reject::NotClosed))?;
+    answers(rt, checker, "r 0 0 0 4", Err(Reject::IndexRange))?;
+    answers(rt, checker, "r 0 0 0 1", Err(Reject::NoNeighbour))?;
+    answers(
+        rt,
+        checker,
+        "r 0 0 0 2",
+        Err(Reject::HasSupport { value: 1 }),
+    )?;
+    answers(rt, checker, "x 0", Err(Reject::NotEmpty { value: 0 }))?;
+    goes_on(rt, checker, "t 0 0")?;
+    answers(rt, checker, "t 0 0", Err(Reject::OnlyValue))
+}
+
+/// The first branch, in which cell 0 has the value.
+fn refutes_the_first(rt: &impl Abort, checker: &mut Checker<'_>) -> Result<(), Fail> {
+    answers(
+        rt,
+        checker,
+        "r 1 0 1 0",
+        Err(Reject::HasSupport { value: 0 }),
+    )?;
+    goes_on(rt, checker, "r 1 0 0 0")?;
+    answers(rt, checker, "r 1 0 0 0", Err(Reject::NotStanding))?;
+    goes_on(rt, checker, "r 2 0 0 2")?;
+    goes_on(rt, checker, "r 2 1 1 0")?;
+    goes_on(rt, checker, "x 2")
+}
+
+/// The second branch, in which cell 0 doesn't have the value.
+fn refutes_the_second(rt: &impl Abort, checker: &mut Checker<'_>) -> Result<(), Fail> {
+    answers(rt, checker, "q", Err(Reject::NotClosed))?;
+    answers(rt, checker, "r 0 0 0 0", Err(Reject::NotStanding))?;
+    goes_on(rt, checker, "r 1 1 1 0")?;
+    goes_on(rt, checker, "r 2 1 1 2")?;
+    goes_on(rt, checker, "r 2 0 0 0")?;
+    answers(rt, checker, "x 2", Ok(Progress::Closed))
+}
+
 /// Each line with its answer, from the base on.
 #[test]
 fn lines_are_answered(rt: HostRuntime) -> Result<(), Fail> {
     let problem = ring(rt.alloc())?;
     let mut checker = Checker::open(rt.alloc(), &problem)?;
-    let going = Ok(Progress::Going);
-    let table = [
-        ("q", Err(Reject::NotClosed)),
-        ("r 0 0 0 4", Err(Reject::IndexRange)),
-        ("r 0 0 0 1", Err(Reject::NoNeighbour)),
-        ("r 0 0 0 2", Err(Reject::HasSupport { value: 1 })),
-        ("x 0", Err(Reject::NotEmpty { value: 0 })),
-        ("t 0 0", going),
-        ("t 0 0", Err(Reject::OnlyValue)),
-        ("r 1 0 1 0", Err(Reject::HasSupport { value: 0 })),
-        ("r 1 0 0 0", going),
-        ("r 1 0 0 0", Err(Reject::NotStanding)),
-        ("r 2 0 0 2", going),
-        ("r 2 1 1 0", going),
-        ("x 2", going),
-        ("q", Err(Reject::NotClosed)),
-        ("r 0 0 0 0", Err(Reject::NotStanding)),
-        ("r 1 1 1 0", going),
-        ("r 2 1 1 2", going),
-        ("r 2 0 0 0", going),
-        ("x 2", Ok(Progress::Closed)),
-        ("x 2", Err(Reject::AfterEnd)),
-        ("q", Ok(Progress::Ended)),
-        ("q", Err(Reject::AfterEnd)),
-    ];
-    for (line, answer) in table {
-        assert_eq!(rt;
-            checker.line(read_line_2(line.as_bytes())?),
-            answer,
-            "{line}"
-        );
-    }
+    tries(&rt, &mut checker)?;
+    refutes_the_first(&rt, &mut checker)?;
+    refutes_the_second(&rt, &mut checker)?;
+    answers(&rt, &mut checker, "x 2", Err(Reject::AfterEnd))?;
+    answers(&rt, &mut checker, "q", Ok(Progress::Ended))?;
+    answers(&rt, &mut checker, "q", Err(Reject::AfterEnd))
+}
+
+/// Whether the lines that strokes part are a proof.
+fn is_one(rt: &impl Abort, alloc: Global, strokes: &str, want: bool) -> Result<(), Fail> {
+    let problem = ring(alloc)?;
+    let lines = lines(alloc, strokes)?;
+    let got = is_proof(alloc, &problem, &lines)?;
+    assert_eq!(rt; got, want, "{strokes}");
     Ok(())
 }
 
 /// Both branches are needed, and the end.
 #[test]
 fn lists_of_lines_are_proofs(rt: HostRuntime) -> Result<(), Fail> {
-    let problem = ring(rt.alloc())?;
-    let table = [
-        (
-            "t 0 0/r 1 0 0 0/r 2 0 0 2/r 2 1 1 0/x 2/r 1 1 1 0/r 2 1 1 2/r 2 0 0 0/x 2/q",
-            true,
-        ),
-        (
-            "t 0 0/r 1 0 0 0/r 2 0 0 2/r 2 1 1 0/x 2/r 1 1 1 0/r 2 1 1 2/r 2 0 0 0/x 2",
-            false,
-        ),
-        ("t 0 0/r 1 0 0 0/r 2 0 0 2/r 2 1 1 0/x 2/q", false),
-        ("r 1 0 0 0/r 2 0 0 2/r 2 1 1 0/x 2/q", false),
-    ];
-    for (strokes, answer) in table {
-        let lines = lines(rt.alloc(), strokes)?;
-        assert_eq!(rt;
-            is_proof(rt.alloc(), &problem, &lines)?,
-            answer,
-            "{strokes}"
-        );
-    }
-    Ok(())
+    let whole = "t 0 0/r 1 0 0 0/r 2 0 0 2/r 2 1 1 0/x 2/r 1 1 1 0/r 2 1 1 2/r 2 0 0 0/x 2/q";
+    let unended = "t 0 0/r 1 0 0 0/r 2 0 0 2/r 2 1 1 0/x 2/r 1 1 1 0/r 2 1 1 2/r 2 0 0 0/x 2";
+    let half = "t 0 0/r 1 0 0 0/r 2 0 0 2/r 2 1 1 0/x 2/q";
+    is_one(&rt, rt.alloc(), whole, true)?;
+    is_one(&rt, rt.alloc(), unended, false)?;
+    is_one(&rt, rt.alloc(), half, false)?;
+    is_one(
+        &rt,
+        rt.alloc(),
+        "r 1 0 0 0/r 2 0 0 2/r 2 1 1 0/x 2/q",
+        false,
+    )
 }

@@ -2,7 +2,10 @@
 
 use super::{ring, shape, side_by_side, text};
 use crate::{CheckFault, Reject, check_bytes};
+use std::alloc::Global;
+use std::process::Abort;
 use std::test::Fail;
+use wfc_problem::Problem;
 use wfc_proof::Shape;
 
 fn bad(line: u64) -> Result<(), CheckFault> {
@@ -13,158 +16,203 @@ fn rejected(line: u64, reject: Reject) -> Result<(), CheckFault> {
     Err(CheckFault::Rejected { line, reject })
 }
 
-/// A text of format 1 for two cells side by side, with what is answered to it.
+/// A problem, and the head that a text about it begins with.
+#[derive(Drop)]
+struct About {
+    problem: Problem,
+    head: &'static str,
+}
+
+/// Texts of format 1 for two cells side by side.
+fn about_two(alloc: Global) -> Result<About, Fail> {
+    Ok(About {
+        problem: side_by_side(alloc)?,
+        head: "wfc-refutation 1/cells 2 values 1/",
+    })
+}
+
+/// What is answered to a text that goes on behind its head.
+fn answered(
+    rt: &impl Abort,
+    alloc: Global,
+    about: &About,
+    strokes: &str,
+    want: Result<(), CheckFault>,
+) -> Result<(), Fail> {
+    let mut bytes = text(alloc, about.head)?;
+    bytes.extend_from_slice(&text(alloc, strokes)?)?;
+    assert!(rt; bytes.len() < 1000);
+    let got = check_bytes(alloc, &about.problem, &shape(), &bytes);
+    assert_eq!(rt; got, want, "{strokes}");
+    Ok(())
+}
+
+/// What is answered to heads for two cells side by side.
 #[test]
-fn hostile_texts_are_answered(rt: HostRuntime) -> Result<(), Fail> {
-    let problem = side_by_side(rt.alloc())?;
-    let shape = shape();
+fn hostile_heads_are_answered(rt: HostRuntime) -> Result<(), Fail> {
+    let alloc = rt.alloc();
+    let about = About {
+        problem: side_by_side(alloc)?,
+        head: "",
+    };
     let differ = Err(CheckFault::HeaderDiffers {
         cells: 2,
         values: 2,
     });
-    let table = [
-        ("", bad(1)),
-        ("wfc-refutation 3/", bad(1)),
-        ("wfc-refutation 1", bad(1)),
-        ("wfc-refutation 1/", Err(CheckFault::NotEnded)),
-        ("wfc-refutation 1/cells 02 values 1/", bad(2)),
-        ("wfc-refutation 1/cells 4294967296 values 1/", bad(2)),
-        ("wfc-refutation 1/cells 2 values 2/", differ),
-        (
-            "wfc-refutation 1/cells 2 values 1/",
-            Err(CheckFault::NotEnded),
-        ),
-        (
-            "wfc-refutation 1/cells 2 values 1/x 0/",
-            rejected(3, Reject::NotEmpty { value: 0 }),
-        ),
-        ("wfc-refutation 1/cells 2 values 1/r 1 0 0/x 1/q/", Ok(())),
-        (
-            "wfc-refutation 1/cells 2 values 1/r 0 0 2/r 0 0 2/",
-            rejected(4, Reject::NotStanding),
-        ),
-        (
-            "wfc-refutation 1/cells 2 values 1/r 2 0 2/",
-            rejected(3, Reject::IndexRange),
-        ),
-        (
-            "wfc-refutation 1/cells 2 values 1/r 0 1 2/",
-            rejected(3, Reject::IndexRange),
-        ),
-        (
-            "wfc-refutation 1/cells 2 values 1/r 0 0 4/",
-            rejected(3, Reject::IndexRange),
-        ),
-        (
-            "wfc-refutation 1/cells 2 values 1/t 0 0/",
-            rejected(3, Reject::OnlyValue),
-        ),
-        (
-            "wfc-refutation 1/cells 2 values 1/s/",
-            rejected(3, Reject::NotClosed),
-        ),
-        (
-            "wfc-refutation 1/cells 2 values 1/r 0 0 2/q/",
-            rejected(4, Reject::NotClosed),
-        ),
-        (
-            "wfc-refutation 1/cells 2 values 1/r 0 0 2/x 0/x 0/",
-            rejected(5, Reject::AfterEnd),
-        ),
-        (
-            "wfc-refutation 1/cells 2 values 1/r 0 0 2/x 0/s/",
-            rejected(5, Reject::AfterEnd),
-        ),
-        (
-            "wfc-refutation 1/cells 2 values 1/r 0 0 2/x 0/q/q/",
-            rejected(6, Reject::AfterEnd),
-        ),
-        ("wfc-refutation 1/cells 2 values 1/r 0 0 2/x 0/q/z/", bad(6)),
-        ("wfc-refutation 1/cells 2 values 1/r  0 0 2/", bad(3)),
-        ("wfc-refutation 1/cells 2 values 1/r 0 0 0 2/", bad(3)),
-        ("wfc-refutation 1/cells 2 values 1/r 0 0 2/x 0/q", bad(5)),
-        (
-            "wfc-refutation 1/cells 2 values 1/xxxxxxxxxxxxxxxxxxxxxxxxxxxxxxxxxxxxxxxxxxxxxxxxxxxxxxxxxxxxxxxxx/",
-            bad(3),
-        ),
-    ];
-    for (strokes, answer) in table {
-        let bytes = text(rt.alloc(), strokes)?;
-        assert!(rt; bytes.len() < 1000);
-        assert_eq!(rt;
-            check_bytes(rt.alloc(), &problem, &shape, &bytes),
-            answer,
-            "{strokes}"
-        );
-    }
-    Ok(())
+    let unended = Err(CheckFault::NotEnded);
+    answered(&rt, alloc, &about, "", bad(1))?;
+    answered(&rt, alloc, &about, "wfc-refutation 3/", bad(1))?;
+    answered(&rt, alloc, &about, "wfc-refutation 1", bad(1))?;
+    answered(&rt, alloc, &about, "wfc-refutation 1/", unended)?;
+    answered(
+        &rt,
+        alloc,
+        &about,
+        "wfc-refutation 1/cells 02 values 1/",
+        bad(2),
+    )?;
+    answered(
+        &rt,
+        alloc,
+        &about,
+        "wfc-refutation 1/cells 4294967296 values 1/",
+        bad(2),
+    )?;
+    answered(
+        &rt,
+        alloc,
+        &about,
+        "wfc-refutation 1/cells 2 values 2/",
+        differ,
+    )?;
+    answered(
+        &rt,
+        alloc,
+        &about,
+        "wfc-refutation 1/cells 2 values 1/",
+        unended,
+    )
+}
+
+/// What is answered to texts whose lines don't stand, or are no line.
+#[test]
+fn hostile_texts_are_answered(rt: HostRuntime) -> Result<(), Fail> {
+    let alloc = rt.alloc();
+    let about = about_two(alloc)?;
+    let out = rejected(3, Reject::IndexRange);
+    answered(
+        &rt,
+        alloc,
+        &about,
+        "x 0/",
+        rejected(3, Reject::NotEmpty { value: 0 }),
+    )?;
+    answered(
+        &rt,
+        alloc,
+        &about,
+        "r 0 0 2/r 0 0 2/",
+        rejected(4, Reject::NotStanding),
+    )?;
+    answered(&rt, alloc, &about, "r 2 0 2/", out)?;
+    answered(&rt, alloc, &about, "r 0 1 2/", out)?;
+    answered(&rt, alloc, &about, "r 0 0 4/", out)?;
+    answered(&rt, alloc, &about, "t 0 0/", rejected(3, Reject::OnlyValue))?;
+    answered(&rt, alloc, &about, "r  0 0 2/", bad(3))?;
+    answered(&rt, alloc, &about, "r 0 0 0 2/", bad(3))?;
+    answered(
+        &rt,
+        alloc,
+        &about,
+        "xxxxxxxxxxxxxxxxxxxxxxxxxxxxxxxxxxxxxxxxxxxxxxxxxxxxxxxxxxxxxxxxx/",
+        bad(3),
+    )
+}
+
+/// What is answered to texts that end at once, too early, or not where they should.
+#[test]
+fn hostile_ends_are_answered(rt: HostRuntime) -> Result<(), Fail> {
+    let alloc = rt.alloc();
+    let about = about_two(alloc)?;
+    let after = rejected(5, Reject::AfterEnd);
+    answered(&rt, alloc, &about, "r 1 0 0/x 1/q/", Ok(()))?;
+    answered(&rt, alloc, &about, "s/", rejected(3, Reject::NotClosed))?;
+    answered(
+        &rt,
+        alloc,
+        &about,
+        "r 0 0 2/q/",
+        rejected(4, Reject::NotClosed),
+    )?;
+    answered(&rt, alloc, &about, "r 0 0 2/x 0/x 0/", after)?;
+    answered(&rt, alloc, &about, "r 0 0 2/x 0/s/", after)?;
+    answered(
+        &rt,
+        alloc,
+        &about,
+        "r 0 0 2/x 0/q/q/",
+        rejected(6, Reject::AfterEnd),
+    )?;
+    answered(&rt, alloc, &about, "r 0 0 2/x 0/q/z/", bad(6))?;
+    answered(&rt, alloc, &about, "r 0 0 2/x 0/q", bad(5))
 }
 
 /// The head of format 2 names the shape, and a removal is of neighbouring values.
 #[test]
 fn texts_of_format_2_are_answered(rt: HostRuntime) -> Result<(), Fail> {
-    let problem = side_by_side(rt.alloc())?;
-    let shape = shape();
+    let alloc = rt.alloc();
+    let about = About {
+        problem: side_by_side(alloc)?,
+        head: "wfc-refutation 2/cells 2 values 1/",
+    };
     let differ = Err(CheckFault::OptionsDiffer {
         found: Shape {
             symmetry: 8,
-            ..shape
+            ..shape()
         },
     });
-    let table = [
-        ("for 2 3 2 1 1 0 0/r 0 0 0 2/x 0/q/", Ok(())),
-        ("for 2 3 2 1 8 0 0/r 0 0 0 2/x 0/q/", differ),
-        ("for 7 3 2 1 1 0 0/", bad(3)),
-        ("for 2 3 2 1 1 0 2/", bad(3)),
-        ("for 2 3 2 1 01 0 0/", bad(3)),
-        ("for 2 3 2 1 1 0 0/r 0 1 0 2/", bad(4)),
-        ("for 2 3 2 1 1 0 0/r 0 0 2/", bad(4)),
-        (
-            "for 2 3 2 1 1 0 0/r 0 0 2 2/",
-            rejected(4, Reject::IndexRange),
-        ),
-    ];
-    for (strokes, answer) in table {
-        let mut bytes = text(rt.alloc(), "wfc-refutation 2/cells 2 values 1/")?;
-        bytes.extend_from_slice(&text(rt.alloc(), strokes)?)?;
-        assert!(rt; bytes.len() < 1000);
-        assert_eq!(rt;
-            check_bytes(rt.alloc(), &problem, &shape, &bytes),
-            answer,
-            "{strokes}"
-        );
-    }
-    Ok(())
+    let out = rejected(4, Reject::IndexRange);
+    answered(
+        &rt,
+        alloc,
+        &about,
+        "for 2 3 2 1 1 0 0/r 0 0 0 2/x 0/q/",
+        Ok(()),
+    )?;
+    answered(
+        &rt,
+        alloc,
+        &about,
+        "for 2 3 2 1 8 0 0/r 0 0 0 2/x 0/q/",
+        differ,
+    )?;
+    answered(&rt, alloc, &about, "for 7 3 2 1 1 0 0/", bad(3))?;
+    answered(&rt, alloc, &about, "for 2 3 2 1 1 0 2/", bad(3))?;
+    answered(&rt, alloc, &about, "for 2 3 2 1 01 0 0/", bad(3))?;
+    answered(&rt, alloc, &about, "for 2 3 2 1 1 0 0/r 0 1 0 2/", bad(4))?;
+    answered(&rt, alloc, &about, "for 2 3 2 1 1 0 0/r 0 0 2/", bad(4))?;
+    answered(&rt, alloc, &about, "for 2 3 2 1 1 0 0/r 0 0 2 2/", out)
 }
 
 /// A value is tried, and both branches are refuted; an end after the first is refused, and so is a removal whose support
 /// goes later.
 #[test]
 fn branches_are_refuted(rt: HostRuntime) -> Result<(), Fail> {
-    let problem = ring(rt.alloc())?;
-    let table = [
-        (
-            "t 0 0/r 1 0 0/r 2 0 2/r 2 1 0/x 2/r 1 1 0/r 2 1 2/r 2 0 0/x 2/q/",
-            Ok(()),
-        ),
-        (
-            "t 0 0/r 1 0 0/r 2 0 2/r 2 1 0/x 2/q/",
-            rejected(8, Reject::NotClosed),
-        ),
-        (
-            "t 0 0/r 2 1 0/r 1 0 0/",
-            rejected(4, Reject::HasSupport { value: 0 }),
-        ),
-    ];
-    for (strokes, answer) in table {
-        let mut bytes = text(rt.alloc(), "wfc-refutation 1/cells 3 values 2/")?;
-        bytes.extend_from_slice(&text(rt.alloc(), strokes)?)?;
-        assert!(rt; bytes.len() < 1000);
-        assert_eq!(rt;
-            check_bytes(rt.alloc(), &problem, &shape(), &bytes),
-            answer,
-            "{strokes}"
-        );
-    }
-    Ok(())
+    let alloc = rt.alloc();
+    let about = About {
+        problem: ring(alloc)?,
+        head: "wfc-refutation 1/cells 3 values 2/",
+    };
+    let both = "t 0 0/r 1 0 0/r 2 0 2/r 2 1 0/x 2/r 1 1 0/r 2 1 2/r 2 0 0/x 2/q/";
+    let first = "t 0 0/r 1 0 0/r 2 0 2/r 2 1 0/x 2/q/";
+    let later = "t 0 0/r 2 1 0/r 1 0 0/";
+    answered(&rt, alloc, &about, both, Ok(()))?;
+    answered(&rt, alloc, &about, first, rejected(8, Reject::NotClosed))?;
+    answered(
+        &rt,
+        alloc,
+        &about,
+        later,
+        rejected(4, Reject::HasSupport { value: 0 }),
+    )
 }
