@@ -4,34 +4,44 @@ use super::counted_bytes;
 use crate::{
     DiskFolder, FolderFault, MAX_FILE_BYTES, SinkFault, StderrSink, StdoutSink, read_all, write_all,
 };
+use std::alloc::Global;
 use std::io::ErrorKind;
+use std::process::Abort;
+use std::rt::Files;
 use std::test::Fail;
 use std::{fs, io};
 
+/// What a folder gives from a place on, as much as there is room for, is this piece, or it fails so.
+fn gives<R: Files>(
+    rt: &impl Abort,
+    folder: &mut DiskFolder<'_, R>,
+    name: &str,
+    at: u64,
+    room: usize,
+    want: Result<&[u8], FolderFault>,
+) {
+    let mut buf = [0; 8];
+    assert!(rt; room <= 8);
+    let got = match folder.read_at(name, at, &mut buf[..room]) {
+        Ok(count) => Ok(&buf[..count]),
+        Err(fault) => Err(fault),
+    };
+    assert_eq!(rt; got, want, "{name} at {at}");
+}
+
 #[test]
 fn files_on_disk_are_read(rt: HostRuntime) -> Result<(), Fail> {
-    let name = "wfc_outside_some_file";
+    let (name, none) = ("wfc_outside_some_file", "wfc_outside_no_file");
     fs::write(&rt, name, "some bytes")?;
     let mut folder = DiskFolder::new(&rt);
-    let mut buf = [0; 8];
-    let rows: [(&str, u64, Result<&[u8], FolderFault>); 5] = [
-        (name, 5, Ok(b"bytes")),
-        (name, 10, Ok(b"")),
-        ("wfc_outside_no_file", 0, Err(FolderFault::Missing)),
-        (".", 0, Err(FolderFault::Failed)),
-        (name, 0, Ok(b"some byt")),
-    ];
-    for (name, at, want) in rows {
-        let got = match folder.read_at(name, at, &mut buf) {
-            Ok(count) => Ok(&buf[..count]),
-            Err(fault) => Err(fault),
-        };
-        assert_eq!(rt; got, want, "{name} at {at}");
-    }
+    gives(&rt, &mut folder, name, 5, 8, Ok(b"bytes"));
+    gives(&rt, &mut folder, name, 10, 8, Ok(b""));
+    gives(&rt, &mut folder, none, 0, 8, Err(FolderFault::Missing));
+    gives(&rt, &mut folder, ".", 0, 8, Err(FolderFault::Failed));
+    gives(&rt, &mut folder, name, 0, 8, Ok(b"some byt"));
     let whole = read_all(rt.alloc(), &mut folder, name, 10);
     fs::remove_file(&rt, name)?;
-    let whole = whole.expect(&rt, "the file is there");
-    assert_eq!(rt; whole.as_slice(), b"some bytes".as_slice());
+    assert_eq!(rt; whole?.as_slice(), b"some bytes".as_slice());
     Ok(())
 }
 
@@ -53,40 +63,42 @@ fn a_file_replaced_meanwhile_is_read_as_it_was(rt: HostRuntime) -> Result<(), Fa
     fs::write(&rt, name, "the old bytes")?;
     fs::write(&rt, other, "all new bytes")?;
     let mut folder = DiskFolder::new(&rt);
-    let mut buf = [0; 4];
-    assert_eq!(rt; folder.read_at(name, 0, &mut buf), Ok(4));
-    assert_eq!(rt; &buf, b"the ");
+    gives(&rt, &mut folder, name, 0, 4, Ok(b"the "));
     fs::rename(&rt, other, name)?;
-    assert_eq!(rt; folder.read_at(name, 4, &mut buf), Ok(4));
-    assert_eq!(rt; &buf, b"old ");
+    gives(&rt, &mut folder, name, 4, 4, Ok(b"old "));
     // It is opened anew after another name was asked for.
-    assert_eq!(rt;
-        folder.read_at(other, 0, &mut buf),
-        Err(FolderFault::Missing)
-    );
-    assert_eq!(rt; folder.read_at(name, 4, &mut buf), Ok(4));
+    gives(&rt, &mut folder, other, 0, 4, Err(FolderFault::Missing));
+    gives(&rt, &mut folder, name, 4, 4, Ok(b"new "));
     fs::remove_file(&rt, name)?;
-    assert_eq!(rt; &buf, b"new ");
+    Ok(())
+}
+
+/// A name of so many bytes.
+fn name_of(alloc: Global, count: usize) -> Result<String, Fail> {
+    let name = String::from_utf8(vec![in alloc; b'a'; count]?);
+    Ok(name.ok().ok_or("the name is no text")?)
+}
+
+/// A name of so many bytes fails so.
+fn name_fails<R: Files>(
+    rt: &impl Abort,
+    alloc: Global,
+    folder: &mut DiskFolder<'_, R>,
+    count: usize,
+    fault: FolderFault,
+) -> Result<(), Fail> {
+    let name = name_of(alloc, count)?;
+    let got = folder.read_at(&name, 0, &mut [0; 4]);
+    assert_eq!(rt; got, Err(fault), "{count} bytes");
     Ok(())
 }
 
 #[test]
 fn a_name_that_is_too_long_has_failed(rt: HostRuntime) -> Result<(), Fail> {
     let mut folder = DiskFolder::new(&rt);
-    let mut buf = [0; 4];
-    for count in [255, 300, 4096, 4097, 5000] {
-        let name = String::from_utf8(vec![in rt.alloc(); b'a'; count]?);
-        let name = name.ok().expect(&rt, "the name is text");
-        let fault = if count == 255 {
-            FolderFault::Missing
-        } else {
-            FolderFault::Failed
-        };
-        assert_eq!(rt;
-            folder.read_at(&name, 0, &mut buf),
-            Err(fault),
-            "{count} bytes"
-        );
+    name_fails(&rt, rt.alloc(), &mut folder, 255, FolderFault::Missing)?;
+    for count in [300, 4096, 4097, 5000] {
+        name_fails(&rt, rt.alloc(), &mut folder, count, FolderFault::Failed)?;
     }
     Ok(())
 }
@@ -136,48 +148,54 @@ fn streams_take_what_their_writer_takes(rt: HostRuntime) -> Result<(), Fail> {
     assert_eq!(rt; write_all(&mut sink, b"a map"), Ok(()));
     assert_eq!(rt; sink.finish(), Ok(()));
     assert_eq!(rt; out.as_slice(), b"a map".as_slice());
+    Ok(())
+}
 
+#[test]
+fn a_stream_fails_where_its_writer_takes_nothing(rt: HostRuntime) {
     let mut stuck = StderrSink::new(Stuck);
     assert_eq!(rt; stuck.write(b""), Ok(0));
     assert_eq!(rt; stuck.write(b"x"), Err(SinkFault::Failed));
     assert_eq!(rt; stuck.finish(), Err(SinkFault::Failed));
-    Ok(())
+}
+
+/// A writer with so much room is given a map byte by byte, and has taken this.
+fn takes_one_by_one(
+    rt: &impl Abort,
+    alloc: Global,
+    room: usize,
+    want: Result<(), SinkFault>,
+    taken: &[u8],
+) {
+    let mut writer = OneByOne {
+        taken: Vec::new(alloc),
+        room,
+    };
+    let mut sink = StdoutSink::new(&mut writer);
+    assert_eq!(rt; write_all(&mut sink, b"a map"), want);
+    assert_eq!(rt; sink.finish(), Ok(()));
+    assert_eq!(rt; writer.taken.as_slice(), taken);
 }
 
 #[test]
-fn a_writer_may_take_one_byte_a_call(rt: HostRuntime) -> Result<(), Fail> {
-    let rows: [(usize, Result<(), SinkFault>, &[u8]); 3] = [
-        (9, Ok(()), b"a map"),
-        (5, Ok(()), b"a map"),
-        (3, Err(SinkFault::Failed), b"a m"),
-    ];
-    for (room, want, taken) in rows {
-        let mut writer = OneByOne {
-            taken: Vec::new(rt.alloc()),
-            room,
-        };
-        let mut sink = StdoutSink::new(&mut writer);
-        assert_eq!(rt; write_all(&mut sink, b"a map"), want);
-        assert_eq!(rt; sink.finish(), Ok(()));
-        assert_eq!(rt; writer.taken.as_slice(), taken);
-    }
-    Ok(())
+fn a_writer_may_take_one_byte_a_call(rt: HostRuntime) {
+    takes_one_by_one(&rt, rt.alloc(), 9, Ok(()), b"a map");
+    takes_one_by_one(&rt, rt.alloc(), 5, Ok(()), b"a map");
+    takes_one_by_one(&rt, rt.alloc(), 3, Err(SinkFault::Failed), b"a m");
 }
 
 #[test]
-fn the_real_streams_are_written(rt: HostRuntime) -> Result<(), Fail> {
+fn the_real_streams_are_written(rt: HostRuntime) {
     let mut out = StdoutSink::new(rt.stdout());
-    assert_eq!(rt;
-        write_all(&mut out, b"a line on the standard output\n"),
-        Ok(())
-    );
+    let told = write_all(&mut out, b"a line on the standard output\n");
+    assert_eq!(rt; told, Ok(()));
     assert_eq!(rt; out.finish(), Ok(()));
+}
 
+#[test]
+fn the_real_error_stream_is_written(rt: HostRuntime) {
     let mut err = StderrSink::new(rt.stderr());
-    assert_eq!(rt;
-        write_all(&mut err, b"a line on the error stream\n"),
-        Ok(())
-    );
+    let told = write_all(&mut err, b"a line on the error stream\n");
+    assert_eq!(rt; told, Ok(()));
     assert_eq!(rt; err.finish(), Ok(()));
-    Ok(())
 }

@@ -1,8 +1,27 @@
 //! Folders and sinks in memory.
 
 use super::folder_of;
-use crate::{FolderFault, MemorySink, SinkFault, write_all};
+use crate::{FolderFault, MemoryFolder, MemorySink, SinkFault, write_all};
+use std::process::Abort;
 use std::test::Fail;
+
+/// What a folder gives from a place on, as much as there is room for, is this piece, or it fails so.
+fn gives(
+    rt: &impl Abort,
+    folder: &mut MemoryFolder,
+    name: &str,
+    at: u64,
+    room: usize,
+    want: Result<&[u8], FolderFault>,
+) {
+    let mut buf = [0; 8];
+    assert!(rt; room <= 8);
+    let got = match folder.read_at(name, at, &mut buf[..room]) {
+        Ok(count) => Ok(&buf[..count]),
+        Err(fault) => Err(fault),
+    };
+    assert_eq!(rt; got, want, "{name} at {at}");
+}
 
 #[test]
 fn memory_folder_gives_pieces(rt: HostRuntime) -> Result<(), Fail> {
@@ -10,60 +29,58 @@ fn memory_folder_gives_pieces(rt: HostRuntime) -> Result<(), Fail> {
     let mut folder = folder_of(rt.alloc(), 3, &files)?;
     folder.fail_at(8)?;
     folder.fail_at(9)?;
-    let rows: [(&str, u64, usize, Result<&[u8], FolderFault>); 10] = [
-        ("a", 0, 8, Ok(b"wor")),
-        ("a", 3, 8, Ok(b"ld!")),
-        ("a", 4, 1, Ok(b"d")),
-        ("a", 6, 8, Ok(b"")),
-        ("a", 9, 8, Ok(b"")),
-        ("b", 0, 8, Ok(b"")),
-        ("c", 0, 8, Err(FolderFault::Missing)),
-        ("a", 0, 8, Err(FolderFault::Failed)),
-        ("c", 0, 8, Err(FolderFault::Missing)),
-        ("a", 5, 8, Ok(b"!")),
-    ];
-    let mut buf = [0; 8];
-    for (name, at, room, want) in rows {
-        assert!(rt; room <= 8);
-        let got = match folder.read_at(name, at, &mut buf[..room]) {
-            Ok(count) => Ok(&buf[..count]),
-            Err(fault) => Err(fault),
-        };
-        assert_eq!(rt; got, want, "{name} at {at}");
-    }
+    gives(&rt, &mut folder, "a", 0, 8, Ok(b"wor"));
+    gives(&rt, &mut folder, "a", 3, 8, Ok(b"ld!"));
+    gives(&rt, &mut folder, "a", 4, 1, Ok(b"d"));
+    gives(&rt, &mut folder, "a", 6, 8, Ok(b""));
+    gives(&rt, &mut folder, "a", 9, 8, Ok(b""));
+    gives(&rt, &mut folder, "b", 0, 8, Ok(b""));
+    gives(&rt, &mut folder, "c", 0, 8, Err(FolderFault::Missing));
+    gives(&rt, &mut folder, "a", 0, 8, Err(FolderFault::Failed));
+    gives(&rt, &mut folder, "c", 0, 8, Err(FolderFault::Missing));
+    gives(&rt, &mut folder, "a", 5, 8, Ok(b"!"));
     Ok(())
+}
+
+/// A sink takes so many of the bytes, or fails so.
+fn takes(rt: &impl Abort, sink: &mut MemorySink, bytes: &[u8], want: Result<usize, SinkFault>) {
+    assert_eq!(rt; sink.write(bytes), want);
+}
+
+/// A sink finishes or fails so, and has these bytes.
+fn finishes(rt: &impl Abort, sink: &mut MemorySink, want: Result<(), SinkFault>, bytes: &[u8]) {
+    assert_eq!(rt; sink.finish(), want);
+    assert_eq!(rt; sink.bytes(), bytes);
 }
 
 #[test]
 fn memory_sink_takes_pieces(rt: HostRuntime) -> Result<(), Fail> {
     let mut sink = MemorySink::new(rt.alloc(), 2, 5)?;
     sink.fail_at(3)?;
-    let rows: [(&[u8], Result<usize, SinkFault>); 7] = [
-        (b"abc", Ok(2)),
-        (b"", Ok(0)),
-        (b"x", Err(SinkFault::Failed)),
-        (b"cd", Ok(2)),
-        (b"ef", Ok(1)),
-        (b"f", Err(SinkFault::Failed)),
-        (b"", Ok(0)),
-    ];
-    for (bytes, want) in rows {
-        assert_eq!(rt; sink.write(bytes), want);
-    }
-    assert_eq!(rt; sink.finish(), Ok(()));
-    assert_eq!(rt; sink.bytes(), b"abcde".as_slice());
+    takes(&rt, &mut sink, b"abc", Ok(2));
+    takes(&rt, &mut sink, b"", Ok(0));
+    takes(&rt, &mut sink, b"x", Err(SinkFault::Failed));
+    takes(&rt, &mut sink, b"cd", Ok(2));
+    takes(&rt, &mut sink, b"ef", Ok(1));
+    takes(&rt, &mut sink, b"f", Err(SinkFault::Failed));
+    takes(&rt, &mut sink, b"", Ok(0));
+    finishes(&rt, &mut sink, Ok(()), b"abcde");
     Ok(())
+}
+
+/// A sink takes all of the bytes.
+fn takes_all(rt: &impl Abort, sink: &mut MemorySink, bytes: &[u8]) {
+    assert_eq!(rt; write_all(sink, bytes), Ok(()));
 }
 
 #[test]
 fn a_sink_fails_to_finish_where_asked(rt: HostRuntime) -> Result<(), Fail> {
     let mut sink = MemorySink::new(rt.alloc(), 2, 9)?;
-    assert_eq!(rt; sink.finish(), Ok(()));
+    finishes(&rt, &mut sink, Ok(()), b"");
     sink.fail_finish();
-    assert_eq!(rt; write_all(&mut sink, b"abc"), Ok(()));
-    assert_eq!(rt; sink.finish(), Err(SinkFault::Failed));
-    assert_eq!(rt; write_all(&mut sink, b"d"), Ok(()));
-    assert_eq!(rt; sink.finish(), Err(SinkFault::Failed));
-    assert_eq!(rt; sink.bytes(), b"abcd".as_slice());
+    takes_all(&rt, &mut sink, b"abc");
+    finishes(&rt, &mut sink, Err(SinkFault::Failed), b"abc");
+    takes_all(&rt, &mut sink, b"d");
+    finishes(&rt, &mut sink, Err(SinkFault::Failed), b"abcd");
     Ok(())
 }

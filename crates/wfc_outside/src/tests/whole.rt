@@ -7,51 +7,72 @@ use crate::{
     Folder, FolderFault, MAX_FILE_BYTES, MemoryFolder, MemorySink, ReadFault, SinkFault, read_all,
     write_all,
 };
+use std::alloc::Global;
+use std::process::Abort;
 use std::test::Fail;
+
+/// A file that is read whole within a limit has these bytes, or isn't read so.
+fn reads(
+    rt: &impl Abort,
+    alloc: Global,
+    folder: &mut MemoryFolder,
+    name: &str,
+    limit: u64,
+    want: Result<&[u8], ReadFault>,
+) {
+    assert!(rt; limit <= 16777216);
+    let got = read_all(alloc, folder, name, limit);
+    let got = match &got {
+        Ok(bytes) => Ok(bytes.as_slice()),
+        Err(fault) => Err(*fault),
+    };
+    assert_eq!(rt; got, want, "{name} within {limit}");
+}
+
+/// Reads files whole that are given in pieces of this size.
+fn reads_by_pieces(rt: &impl Abort, alloc: Global, piece: usize) -> Result<(), Fail> {
+    assert!(rt; 1 <= piece);
+    let files: [(&str, &[u8]); 2] = [("ten", b"0123456789"), ("empty", b"")];
+    let mut folder = folder_of(alloc, piece, &files)?;
+    reads(rt, alloc, &mut folder, "ten", 10, Ok(b"0123456789"));
+    reads(rt, alloc, &mut folder, "ten", 11, Ok(b"0123456789"));
+    reads(rt, alloc, &mut folder, "ten", 9, Err(ReadFault::TooLong));
+    reads(rt, alloc, &mut folder, "ten", 0, Err(ReadFault::TooLong));
+    reads(rt, alloc, &mut folder, "empty", 0, Ok(b""));
+    reads(rt, alloc, &mut folder, "empty", 16777216, Ok(b""));
+    reads(rt, alloc, &mut folder, "other", 10, Err(ReadFault::Missing));
+    Ok(())
+}
 
 #[test]
 fn whole_files_are_read(rt: HostRuntime) -> Result<(), Fail> {
-    let files: [(&str, &[u8]); 2] = [("ten", b"0123456789"), ("empty", b"")];
-    let rows: [(&str, u64, &[u8], Option<ReadFault>); 7] = [
-        ("ten", 10, b"0123456789", None),
-        ("ten", 11, b"0123456789", None),
-        ("ten", 9, b"", Some(ReadFault::TooLong)),
-        ("ten", 0, b"", Some(ReadFault::TooLong)),
-        ("empty", 0, b"", None),
-        ("empty", 16777216, b"", None),
-        ("other", 10, b"", Some(ReadFault::Missing)),
-    ];
     for piece in [1, 3, 100] {
-        let mut folder = folder_of(rt.alloc(), piece, &files)?;
-        for (name, limit, bytes, fault) in rows {
-            assert!(rt; limit <= 16777216);
-            match read_all(rt.alloc(), &mut folder, name, limit) {
-                Ok(got) => {
-                    assert_eq!(rt; fault, None, "{name} within {limit}");
-                    assert_eq!(rt; got.as_slice(), bytes, "{name} within {limit}");
-                }
-                Err(got) => assert_eq!(rt; Some(got), fault, "{name} within {limit}"),
-            }
-        }
+        reads_by_pieces(&rt, rt.alloc(), piece)?;
     }
+    Ok(())
+}
+
+/// The file of ten bytes, read in pieces of one byte where a call fails, isn't read so, or is read.
+fn fails_at(
+    rt: &impl Abort,
+    alloc: Global,
+    call: u64,
+    want: Option<ReadFault>,
+) -> Result<(), Fail> {
+    let mut folder = folder_of(alloc, 1, &[("ten", b"0123456789")])?;
+    folder.fail_at(call)?;
+    let got = read_all(alloc, &mut folder, "ten", 10);
+    assert_eq!(rt; got.err(), want, "call {call}");
     Ok(())
 }
 
 #[test]
 fn each_failing_call_fails_the_reading(rt: HostRuntime) -> Result<(), Fail> {
     // Ten pieces of one byte, and one call more that finds the end.
-    for call in 1..=12 {
-        let mut folder = folder_of(rt.alloc(), 1, &[("ten", b"0123456789")])?;
-        folder.fail_at(call)?;
-        let got = read_all(rt.alloc(), &mut folder, "ten", 10);
-        let fault = if call <= 11 {
-            Some(ReadFault::Failed)
-        } else {
-            None
-        };
-        assert_eq!(rt; got.err(), fault, "call {call}");
+    for call in 1..=11 {
+        fails_at(&rt, rt.alloc(), call, Some(ReadFault::Failed))?;
     }
-    Ok(())
+    fails_at(&rt, rt.alloc(), 12, None)
 }
 
 #[test]
@@ -65,15 +86,25 @@ fn a_long_file_is_read_in_large_pieces(rt: HostRuntime) -> Result<(), Fail> {
     Ok(())
 }
 
+/// A folder with a file that is as long as one that is read whole may be.
+fn longest(alloc: Global) -> Result<MemoryFolder, Fail> {
+    let mut folder = MemoryFolder::new(alloc, usize::MAX);
+    let name = String::from_str(alloc, "longest")?;
+    folder.add(name, vec![in alloc; 7; MAX_FILE_BYTES as usize]?)?;
+    Ok(folder)
+}
+
 #[test]
 fn the_longest_file_is_read(rt: HostRuntime) -> Result<(), Fail> {
-    let mut folder = MemoryFolder::new(rt.alloc(), usize::MAX);
-    let name = String::from_str(rt.alloc(), "longest")?;
-    folder.add(name, vec![in rt.alloc(); 7; MAX_FILE_BYTES as usize]?)?;
-    match read_all(rt.alloc(), &mut folder, "longest", MAX_FILE_BYTES) {
-        Ok(bytes) => assert_eq!(rt; bytes.len() as u64, MAX_FILE_BYTES),
-        Err(fault) => assert!(rt; false, "{fault}"),
-    }
+    let mut folder = longest(rt.alloc())?;
+    let bytes = read_all(rt.alloc(), &mut folder, "longest", MAX_FILE_BYTES)?;
+    assert_eq!(rt; bytes.len() as u64, MAX_FILE_BYTES);
+    Ok(())
+}
+
+#[test]
+fn the_longest_file_is_too_long_for_less(rt: HostRuntime) -> Result<(), Fail> {
+    let mut folder = longest(rt.alloc())?;
     let got = read_all(rt.alloc(), &mut folder, "longest", MAX_FILE_BYTES - 1);
     assert_eq!(rt; got.err(), Some(ReadFault::TooLong));
     Ok(())
@@ -97,47 +128,74 @@ impl Folder for Recorder {
     }
 }
 
+/// Whether the file of ten bytes is read within a limit, whether every name that is asked for is `ten`, and the end of the
+/// farthest piece.
+fn asked(
+    rt: &impl Abort,
+    alloc: Global,
+    piece: usize,
+    limit: u64,
+) -> Result<(bool, bool, u64), Fail> {
+    assert!(rt; 1 <= piece && limit <= 200000);
+    let files: [(&str, &[u8]); 2] = [("one", b"1"), ("ten", b"0123456789")];
+    let mut folder = Recorder {
+        folder: folder_of(alloc, piece, &files)?,
+        farthest: 0,
+        only_ten: true,
+    };
+    let got = read_all(alloc, &mut folder, "ten", limit);
+    Ok((got.is_ok(), folder.only_ten, folder.farthest))
+}
+
+/// Reads the file of ten bytes within a limit, which must ask for no more than may be.
+fn asks_within(rt: &impl Abort, alloc: Global, piece: usize, limit: u64) -> Result<(), Fail> {
+    let (read, only_ten, farthest) = asked(rt, alloc, piece, limit)?;
+    assert!(rt; only_ten && read == (limit >= 10), "within {limit}");
+    assert!(rt;
+        farthest <= limit.saturating_add(1),
+        "{farthest} within {limit}"
+    );
+    Ok(())
+}
+
 #[test]
 fn nothing_but_one_byte_past_the_limit_is_asked_for(rt: HostRuntime) -> Result<(), Fail> {
-    let files: [(&str, &[u8]); 2] = [("one", b"1"), ("ten", b"0123456789")];
     for piece in [1, 3, 100] {
         for limit in [0, 1, 9, 10, 11, 12, 65534, 65535, 65536, 200000] {
-            let mut folder = Recorder {
-                folder: folder_of(rt.alloc(), piece, &files)?,
-                farthest: 0,
-                only_ten: true,
-            };
-            let got = read_all(rt.alloc(), &mut folder, "ten", limit);
-            assert_eq!(rt; got.is_ok(), limit >= 10, "within {limit}");
-            assert!(rt; folder.only_ten);
-            assert!(rt;
-                folder.farthest <= limit + 1,
-                "{} within {limit}",
-                folder.farthest
-            );
+            asks_within(&rt, rt.alloc(), piece, limit)?;
         }
     }
     Ok(())
 }
 
+/// Writes bytes whole into a sink that fails at a call, and looks at what it has taken.
+fn writes(
+    rt: &impl Abort,
+    mut sink: MemorySink,
+    fails: u64,
+    bytes: &[u8],
+    want: Result<(), SinkFault>,
+    taken: &[u8],
+) -> Result<(), Fail> {
+    sink.fail_at(fails)?;
+    assert_eq!(rt; write_all(&mut sink, bytes), want);
+    assert_eq!(rt; sink.bytes(), taken);
+    Ok(())
+}
+
 #[test]
 fn whole_pieces_are_written(rt: HostRuntime) -> Result<(), Fail> {
-    let rows: [(usize, usize, u64, &[u8], Result<(), SinkFault>); 5] = [
-        (1, 9, 0, b"a legal map", Err(SinkFault::Failed)),
-        (1, 11, 0, b"a legal map", Ok(())),
-        (4, 11, 2, b"a legal map", Err(SinkFault::Failed)),
-        (4, 11, 4, b"a legal map", Ok(())),
-        (4, 0, 0, b"", Ok(())),
-    ];
-    let taken: [&[u8]; 5] = [b"a legal m", b"a legal map", b"a le", b"a legal map", b""];
-    for ((piece, room, fails, bytes, want), taken) in rows.into_iter().zip(taken) {
-        assert!(rt; 1 <= piece);
-        let mut sink = MemorySink::new(rt.alloc(), piece, room)?;
-        sink.fail_at(fails)?;
-        assert_eq!(rt; write_all(&mut sink, bytes), want);
-        assert_eq!(rt; sink.bytes(), taken);
-    }
-    Ok(())
+    let (text, failed) = (b"a legal map", Err(SinkFault::Failed));
+    let sink = MemorySink::new(rt.alloc(), 1, 9)?;
+    writes(&rt, sink, 0, text, failed, b"a legal m")?;
+    let sink = MemorySink::new(rt.alloc(), 1, 11)?;
+    writes(&rt, sink, 0, text, Ok(()), b"a legal map")?;
+    let sink = MemorySink::new(rt.alloc(), 4, 11)?;
+    writes(&rt, sink, 2, text, failed, b"a le")?;
+    let sink = MemorySink::new(rt.alloc(), 4, 11)?;
+    writes(&rt, sink, 4, text, Ok(()), b"a legal map")?;
+    let sink = MemorySink::new(rt.alloc(), 4, 0)?;
+    writes(&rt, sink, 0, b"", Ok(()), b"")
 }
 
 #[test]
