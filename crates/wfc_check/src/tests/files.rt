@@ -23,13 +23,22 @@ fn folder(alloc: Global, piece: usize, strokes: &str) -> Result<MemoryFolder, Fa
     Ok(folder)
 }
 
+/// The answer to a file of a folder.
+fn answer(
+    alloc: Global,
+    folder: &mut MemoryFolder,
+    name: &str,
+) -> Result<Result<(), CheckFault>, Fail> {
+    let problem = side_by_side(alloc)?;
+    Ok(check(alloc, &problem, &shape(), folder, name))
+}
+
 /// The answer to a file given in pieces of this size.
 fn is_accepted(rt: &impl Abort, alloc: Global, piece: usize) -> Result<(), Fail> {
     assert!(rt; 1 <= piece);
-    let problem = side_by_side(alloc)?;
     let mut folder = folder(alloc, piece, RIGHT)?;
-    let answer = check(alloc, &problem, &shape(), &mut folder, "r.txt");
-    assert_eq!(rt; answer, Ok(()), "{piece}");
+    let told = answer(alloc, &mut folder, "r.txt")?;
+    assert_eq!(rt; told, Ok(()), "{piece}");
     Ok(())
 }
 
@@ -40,16 +49,6 @@ fn pieces_of_any_size_are_read(rt: HostRuntime) -> Result<(), Fail> {
         is_accepted(&rt, rt.alloc(), piece)?;
     }
     Ok(())
-}
-
-/// The answer to a file of a folder.
-fn answer(
-    alloc: Global,
-    folder: &mut MemoryFolder,
-    name: &str,
-) -> Result<Result<(), CheckFault>, Fail> {
-    let problem = side_by_side(alloc)?;
-    Ok(check(alloc, &problem, &shape(), folder, name))
 }
 
 /// A file that isn't there, and a reading that fails.

@@ -75,24 +75,32 @@ fn refutes_the_second(rt: &impl Abort, checker: &mut Checker<'_>) -> Result<(), 
 }
 
 /// Each line with its answer, from the base on.
+fn refutes(rt: &impl Abort, checker: &mut Checker<'_>) -> Result<(), Fail> {
+    tries(rt, checker)?;
+    refutes_the_first(rt, checker)?;
+    refutes_the_second(rt, checker)?;
+    answers(rt, checker, "x 2", Err(Reject::AfterEnd))?;
+    answers(rt, checker, "q", Ok(Progress::Ended))?;
+    answers(rt, checker, "q", Err(Reject::AfterEnd))
+}
+
 #[test]
 fn lines_are_answered(rt: HostRuntime) -> Result<(), Fail> {
     let problem = ring(rt.alloc())?;
     let mut checker = Checker::open(rt.alloc(), &problem)?;
-    tries(&rt, &mut checker)?;
-    refutes_the_first(&rt, &mut checker)?;
-    refutes_the_second(&rt, &mut checker)?;
-    answers(&rt, &mut checker, "x 2", Err(Reject::AfterEnd))?;
-    answers(&rt, &mut checker, "q", Ok(Progress::Ended))?;
-    answers(&rt, &mut checker, "q", Err(Reject::AfterEnd))
+    refutes(&rt, &mut checker)
 }
 
 /// Whether the lines that strokes part are a proof.
-fn is_one(rt: &impl Abort, alloc: Global, strokes: &str, want: bool) -> Result<(), Fail> {
+fn is_one(alloc: Global, strokes: &str) -> Result<bool, Fail> {
     let problem = ring(alloc)?;
     let lines = lines(alloc, strokes)?;
-    let got = is_proof(alloc, &problem, &lines)?;
-    assert_eq!(rt; got, want, "{strokes}");
+    Ok(is_proof(alloc, &problem, &lines)?)
+}
+
+/// Lines that are a proof, or none.
+fn proves(rt: &impl Abort, alloc: Global, strokes: &str, want: bool) -> Result<(), Fail> {
+    assert_eq!(rt; is_one(alloc, strokes)?, want, "{strokes}");
     Ok(())
 }
 
@@ -102,10 +110,10 @@ fn lists_of_lines_are_proofs(rt: HostRuntime) -> Result<(), Fail> {
     let whole = "t 0 0/r 1 0 0 0/r 2 0 0 2/r 2 1 1 0/x 2/r 1 1 1 0/r 2 1 1 2/r 2 0 0 0/x 2/q";
     let unended = "t 0 0/r 1 0 0 0/r 2 0 0 2/r 2 1 1 0/x 2/r 1 1 1 0/r 2 1 1 2/r 2 0 0 0/x 2";
     let half = "t 0 0/r 1 0 0 0/r 2 0 0 2/r 2 1 1 0/x 2/q";
-    is_one(&rt, rt.alloc(), whole, true)?;
-    is_one(&rt, rt.alloc(), unended, false)?;
-    is_one(&rt, rt.alloc(), half, false)?;
-    is_one(
+    proves(&rt, rt.alloc(), whole, true)?;
+    proves(&rt, rt.alloc(), unended, false)?;
+    proves(&rt, rt.alloc(), half, false)?;
+    proves(
         &rt,
         rt.alloc(),
         "r 1 0 0 0/r 2 0 0 2/r 2 1 1 0/x 2/q",
