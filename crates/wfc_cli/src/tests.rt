@@ -140,9 +140,39 @@ pub fn check<F: Folder>(
 ) -> Result<(), Fail> {
     let (line, status, answer, told) = row;
     let got = status_of(rt.alloc(), line, folder, &mut out, &mut err)?;
+    has_status(rt, line, got, status);
+    has_bytes(rt, line, &out, answer.as_bytes());
+    has_bytes(rt, line, &err, told.as_bytes());
+    Ok(())
+}
+
+/// A command line has this status.
+pub fn has_status(rt: &impl Abort, line: &str, got: u8, status: u8) {
     assert_eq!(rt; got, status, "{line}");
-    assert_eq!(rt; out.bytes(), answer.as_bytes(), "{line}");
-    assert_eq!(rt; err.bytes(), told.as_bytes(), "{line}");
+}
+
+/// A sink of a command line took these bytes.
+pub fn has_bytes(rt: &impl Abort, line: &str, sink: &MemorySink, bytes: &[u8]) {
+    assert_eq!(rt; sink.bytes(), bytes, "{line}");
+}
+
+/// A sink of a command line took a front of these bytes, and so many of them.
+pub fn has_front(rt: &impl Abort, line: &str, sink: &MemorySink, bytes: &[u8], count: usize) {
+    assert_eq!(rt; sink.bytes().len(), count, "{line}");
+    assert!(rt; bytes.starts_with(sink.bytes()), "{line}");
+}
+
+/// A command line that runs over these devices has this status.
+pub fn runs_to(
+    rt: &(impl Abort + AllocGlobal),
+    line: &str,
+    folder: &mut MemoryFolder,
+    out: &mut MemorySink,
+    err: &mut MemorySink,
+    status: u8,
+) -> Result<(), Fail> {
+    let got = status_of(rt.alloc(), line, folder, out, err)?;
+    has_status(rt, line, got, status);
     Ok(())
 }
 

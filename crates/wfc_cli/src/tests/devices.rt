@@ -3,7 +3,7 @@
 ghost use Rattle.std.specs.Prelude.{◌≤◌};
 ghost use Rattle.wfc_outside.specs.MemoryFolder.{seen_folder};
 
-use super::{check, folder_of, sink_of, status_of};
+use super::{check, folder_of, has_bytes, has_front, runs_to, sink_of};
 use crate::refuse;
 use std::process::Abort;
 use std::test::Fail;
@@ -78,7 +78,7 @@ fn sinks_fail_to_finish(rt: HostRuntime) -> Result<(), Fail> {
 /// A command line, and what a sink takes of its answer that has room for so many bytes.
 type Cut = (&'static str, usize, &'static str);
 
-const CUTS: [Cut; 7] = [
+static CUTS: [Cut; 7] = [
     ("refute chk.txt 2 3 2 --format 1", 0, ""),
     ("refute chk.txt 2 3 2 --format 1", 17, "wfc-refutation 1\n"),
     (
@@ -107,14 +107,20 @@ const CUTS: [Cut; 7] = [
 /// A refutation is put while the run is made: a sink with too little room has a front of it.
 #[test]
 fn refutations_are_cut_off(rt: HostRuntime) -> Result<(), Fail> {
-    for (line, room, front) in CUTS {
-        let mut folder = folder_of(rt.alloc(), 100)?;
-        let out = MemorySink::new(rt.alloc(), 5, room)?;
-        let err = sink_of(rt.alloc(), 100)?;
-        let row = (line, 5, front, "wfc: device Failed out\n");
-        check(&rt, row, &mut folder, out, err)?;
+    for cut in &CUTS {
+        is_cut_off(&rt, *cut)?;
     }
     Ok(())
+}
+
+/// A sink with too little room for a refutation has a front of it.
+fn is_cut_off(rt: &(impl Abort + AllocGlobal), cut: Cut) -> Result<(), Fail> {
+    let (line, room, front) = cut;
+    let mut folder = folder_of(rt.alloc(), 100)?;
+    let out = MemorySink::new(rt.alloc(), 5, room)?;
+    let err = sink_of(rt.alloc(), 100)?;
+    let row = (line, 5, front, "wfc: device Failed out\n");
+    check(rt, row, &mut folder, out, err)
 }
 
 /// A folder in memory that counts its calls that ask for another file than the two named ones.
@@ -179,22 +185,17 @@ fn towns_are_filled(rt: HostRuntime) -> Result<(), Fail> {
     let mut cut = MemorySink::new(rt.alloc(), 100, 4000)?;
     cut.fail_at(2)?;
     let mut err = sink_of(rt.alloc(), 100)?;
-    assert_eq!(rt;
-        status_of(rt.alloc(), TOWN, &mut folder, &mut whole, &mut err)?,
-        0
-    );
-    assert_eq!(rt;
-        status_of(rt.alloc(), TOWN, &mut folder, &mut again, &mut err)?,
-        0
-    );
-    assert_eq!(rt;
-        status_of(rt.alloc(), TOWN, &mut folder, &mut cut, &mut err)?,
-        5
-    );
-    assert_eq!(rt; err.bytes(), b"wfc: device Failed out\n".as_slice());
-    assert_eq!(rt; whole.bytes().len(), 2352);
-    assert_eq!(rt; again.bytes(), whole.bytes());
-    assert_eq!(rt; cut.bytes().len(), 100);
-    assert!(rt; whole.bytes().starts_with(cut.bytes()));
+    runs_to(&rt, TOWN, &mut folder, &mut whole, &mut err, 0)?;
+    runs_to(&rt, TOWN, &mut folder, &mut again, &mut err, 0)?;
+    runs_to(&rt, TOWN, &mut folder, &mut cut, &mut err, 5)?;
+    has_bytes(&rt, TOWN, &err, b"wfc: device Failed out\n");
+    are_of_a_town(&rt, &whole, &again, &cut);
     Ok(())
+}
+
+/// What three sinks took of a town: the whole answer, the same again, and a front of it.
+fn are_of_a_town(rt: &impl Abort, whole: &MemorySink, again: &MemorySink, cut: &MemorySink) {
+    assert_eq!(rt; whole.bytes().len(), 2352);
+    has_bytes(rt, TOWN, again, whole.bytes());
+    has_front(rt, TOWN, cut, whole.bytes(), 100);
 }

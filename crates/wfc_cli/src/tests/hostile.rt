@@ -2,7 +2,7 @@
 
 ghost use Rattle.std.specs.Prelude.{◌≤◌};
 
-use super::{check, folder_of, status_of};
+use super::{check, folder_of, has_bytes, has_front, has_status, runs_to, status_of};
 use std::alloc::{AllocError, Global};
 use std::process::Abort;
 use std::test::Fail;
@@ -54,9 +54,8 @@ fn whole(rt: &(impl Abort + AllocGlobal), line: &str, piece: usize) -> Result<Me
     let mut folder = folder_with_town(rt.alloc(), piece)?;
     let mut out = sink_with_room(rt.alloc(), piece)?;
     let mut err = sink_with_room(rt.alloc(), piece)?;
-    let status = status_of(rt.alloc(), line, &mut folder, &mut out, &mut err)?;
-    assert_eq!(rt; status, 0, "{line}");
-    assert_eq!(rt; err.bytes().len(), 0, "{line}");
+    runs_to(rt, line, &mut folder, &mut out, &mut err, 0)?;
+    has_bytes(rt, line, &err, b"");
     Ok(out)
 }
 
@@ -65,25 +64,44 @@ fn whole(rt: &(impl Abort + AllocGlobal), line: &str, piece: usize) -> Result<Me
 fn check_reads(rt: &(impl Abort + AllocGlobal), line: &str, calls: u64) -> Result<(), Fail> {
     let answer = whole(rt, line, 4000)?;
     for call in 1..MOST_CALLS {
-        let mut folder = folder_with_town(rt.alloc(), 5)?;
-        folder.fail_at(call)?;
-        let mut out = sink_with_room(rt.alloc(), 100)?;
-        let mut err = sink_with_room(rt.alloc(), 100)?;
-        let status = status_of(rt.alloc(), line, &mut folder, &mut out, &mut err)?;
-        if status == 0 {
+        if is_behind_the_reads(rt, line, call, &answer)? {
             assert_eq!(rt; call - 1, calls, "{line}");
-            assert_eq!(rt; out.bytes(), answer.bytes(), "{line}");
             return Ok(());
         }
-        assert_eq!(rt; status, 5, "{line}");
-        assert_eq!(rt; out.bytes().len(), 0, "{line}");
-        assert!(rt; err.bytes().starts_with(b"wfc: device Failed "), "{line}");
-        assert!(rt;
-            err.bytes() != b"wfc: device Failed out\n".as_slice(),
-            "{line}"
-        );
     }
     fail(rt, line)
+}
+
+/// Whether a call of `read_at` is behind the last one: then nothing fails. Where it's none, it fails, and nothing is
+/// written.
+fn is_behind_the_reads(
+    rt: &(impl Abort + AllocGlobal),
+    line: &str,
+    call: u64,
+    answer: &MemorySink,
+) -> Result<bool, Fail> {
+    let mut folder = folder_with_town(rt.alloc(), 5)?;
+    folder.fail_at(call)?;
+    let mut out = sink_with_room(rt.alloc(), 100)?;
+    let mut err = sink_with_room(rt.alloc(), 100)?;
+    let status = status_of(rt.alloc(), line, &mut folder, &mut out, &mut err)?;
+    if status == 0 {
+        has_bytes(rt, line, &out, answer.bytes());
+        return Ok(true);
+    }
+    has_status(rt, line, status, 5);
+    has_bytes(rt, line, &out, b"");
+    tells_of_a_file(rt, line, &err);
+    Ok(false)
+}
+
+/// It's told of a file, and not of the output, that it failed.
+fn tells_of_a_file(rt: &impl Abort, line: &str, err: &MemorySink) {
+    assert!(rt; err.bytes().starts_with(b"wfc: device Failed "), "{line}");
+    assert!(rt;
+        err.bytes() != b"wfc: device Failed out\n".as_slice(),
+        "{line}"
+    );
 }
 
 /// Each call of `write` of the output fails in turn, where each takes so many bytes: with status 5, and what it took is
@@ -98,27 +116,40 @@ fn check_writes(
 {
     let answer = whole(rt, line, 4000)?;
     for call in 1..MOST_CALLS {
-        let mut folder = folder_with_town(rt.alloc(), 100)?;
-        let mut out = sink_with_room(rt.alloc(), piece)?;
-        out.fail_at(call)?;
-        let mut err = sink_with_room(rt.alloc(), 100)?;
-        let status = status_of(rt.alloc(), line, &mut folder, &mut out, &mut err)?;
-        if status == 0 {
+        if is_behind_the_writes(rt, line, piece, call, &answer)? {
             assert_eq!(rt; call - 1, calls, "{line}");
-            assert_eq!(rt; out.bytes(), answer.bytes(), "{line}");
             return Ok(());
         }
-        let taken = (call - 1).saturating_mul(piece as u64);
-        assert_eq!(rt; status, 5, "{line}");
-        assert_eq!(rt; out.bytes().len() as u64, taken, "{line}");
-        assert!(rt; answer.bytes().starts_with(out.bytes()), "{line}");
-        assert_eq!(rt;
-            err.bytes(),
-            b"wfc: device Failed out\n".as_slice(),
-            "{line}"
-        );
     }
     fail(rt, line)
+}
+
+/// Whether a call of `write` is behind the last one: then nothing fails. Where it's none, it fails, and the calls in
+/// front of it took so many bytes each.
+fn is_behind_the_writes(
+    rt: &(impl Abort + AllocGlobal),
+    line: &str,
+    piece: usize,
+    call: u64,
+    answer: &MemorySink,
+) -> Result<bool, Fail>
+    requires some { 1 ≤ piece }
+    requires counted { 1 ≤ call }
+{
+    let mut folder = folder_with_town(rt.alloc(), 100)?;
+    let mut out = sink_with_room(rt.alloc(), piece)?;
+    out.fail_at(call)?;
+    let mut err = sink_with_room(rt.alloc(), 100)?;
+    let status = status_of(rt.alloc(), line, &mut folder, &mut out, &mut err)?;
+    if status == 0 {
+        has_bytes(rt, line, &out, answer.bytes());
+        return Ok(true);
+    }
+    has_status(rt, line, status, 5);
+    let taken = (call - 1).saturating_mul(piece as u64);
+    has_front(rt, line, &out, answer.bytes(), taken as usize);
+    has_bytes(rt, line, &err, b"wfc: device Failed out\n");
+    Ok(false)
 }
 
 /// Fails the test of a line that has more calls than any.
@@ -171,11 +202,9 @@ fn a_full_output_has_a_front(rt: HostRuntime) -> Result<(), Fail> {
     let mut folder = folder_with_town(rt.alloc(), 100)?;
     let mut out = MemorySink::new(rt.alloc(), 4000, 100)?;
     let mut err = sink_with_room(rt.alloc(), 100)?;
-    let status = status_of(rt.alloc(), TOWN, &mut folder, &mut out, &mut err)?;
-    assert_eq!(rt; status, 5);
-    assert_eq!(rt; out.bytes().len(), 100);
-    assert!(rt; answer.bytes().starts_with(out.bytes()));
-    assert_eq!(rt; err.bytes(), b"wfc: device Failed out\n".as_slice());
+    runs_to(&rt, TOWN, &mut folder, &mut out, &mut err, 5)?;
+    has_front(&rt, TOWN, &out, answer.bytes(), 100);
+    has_bytes(&rt, TOWN, &err, b"wfc: device Failed out\n");
     Ok(())
 }
 

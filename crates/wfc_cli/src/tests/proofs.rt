@@ -1,6 +1,6 @@
 //! Refutations that are written, read again and brought to format 2.
 
-use super::{folder_of, status_of};
+use super::{folder_of, has_bytes, has_status, status_of};
 use std::alloc::Global;
 use std::process::Abort;
 use std::test::Fail;
@@ -40,32 +40,57 @@ fn line_of(alloc: Global, command: &str, words: &str, name: &str) -> Result<Stri
     Ok(line)
 }
 
+/// What a command writes over this folder, with status 0; it has these words behind it, and then these ones.
+fn answer(
+    rt: &(impl Abort + AllocGlobal),
+    folder: &mut MemoryFolder,
+    command: &str,
+    size: &str,
+    rest: &str,
+) -> Result<MemorySink, Fail> {
+    let line = line_of(rt.alloc(), command, size, rest)?;
+    let (status, answer) = written(rt.alloc(), folder, &line)?;
+    has_status(rt, &line, status, 0);
+    Ok(answer)
+}
+
+/// A refutation in this file is accepted, and brought to this one in format 2.
+fn is_accepted(
+    rt: &(impl Abort + AllocGlobal),
+    folder: &mut MemoryFolder,
+    size: &str,
+    name: &str,
+    shaped: &MemorySink,
+) -> Result<(), Fail> {
+    let accepted = answer(rt, folder, "check", size, name)?;
+    has_bytes(rt, name, &accepted, b"accepted\n");
+    let upgraded = answer(rt, folder, "upgrade", size, name)?;
+    has_bytes(rt, name, &upgraded, shaped.bytes());
+    Ok(())
+}
+
 /// What `refute` writes of a map of this size is accepted in both formats, and the one is brought to the other.
 fn check_refuted(rt: &(impl Abort + AllocGlobal), size: &str, least: usize) -> Result<(), Fail> {
-    let alloc = rt.alloc();
-    let mut folder = folder_of(alloc, 4000)?;
-    let refute = line_of(alloc, "refute", size, " --wrap-in --wrap-out --format 1")?;
-    let (status, plain) = written(alloc, &mut folder, &refute)?;
-    assert_eq!(rt; status, 0);
+    let mut folder = folder_of(rt.alloc(), 4000)?;
+    let rest = " --wrap-in --wrap-out --format 1";
+    let plain = answer(rt, &mut folder, "refute", size, rest)?;
     assert!(rt; plain.bytes().len() >= least);
-    let refute = line_of(alloc, "refute", size, " --wrap-in --wrap-out")?;
-    let (status, shaped) = written(alloc, &mut folder, &refute)?;
-    assert_eq!(rt; status, 0);
-    let mut folder = folder_with(alloc, plain.bytes(), shaped.bytes())?;
-    for name in [
+    let shaped = answer(rt, &mut folder, "refute", size, " --wrap-in --wrap-out")?;
+    let mut folder = folder_with(rt.alloc(), plain.bytes(), shaped.bytes())?;
+    is_accepted(
+        rt,
+        &mut folder,
+        size,
         " --wrap-in --wrap-out plain",
+        &shaped,
+    )?;
+    is_accepted(
+        rt,
+        &mut folder,
+        size,
         " --wrap-in --wrap-out shaped",
-    ] {
-        let check = line_of(alloc, "check", size, name)?;
-        let (status, answer) = written(alloc, &mut folder, &check)?;
-        assert_eq!(rt; status, 0);
-        assert_eq!(rt; answer.bytes(), b"accepted\n".as_slice());
-        let upgrade = line_of(alloc, "upgrade", size, name)?;
-        let (status, upgraded) = written(alloc, &mut folder, &upgrade)?;
-        assert_eq!(rt; status, 0);
-        assert_eq!(rt; upgraded.bytes(), shaped.bytes());
-    }
-    Ok(())
+        &shaped,
+    )
 }
 
 /// Rings of an odd length have no map: a small one, and one whose proof has some hundred lines.
