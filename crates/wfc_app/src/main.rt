@@ -9,6 +9,9 @@ ghost use Rattle.wfc_cli.specs.Answer.{IsAnswer, devices};
 ghost use Rattle.wfc_cli.specs.Reply.{Tells, said_of_words};
 ghost use Rattle.wfc_app.specs.Unread.{unread_fault};
 
+#[cfg(test)]
+mod tests;
+
 use std::alloc::Global;
 use std::process::ExitCode;
 use std::rt::Env;

@@ -22,8 +22,6 @@ pub mod laws;
 mod lines;
 mod reply;
 mod runs;
-#[cfg(test)]
-mod tests;
 
 use deliver::{deliver, refuse_words};
 use std::alloc::Global;

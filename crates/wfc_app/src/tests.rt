@@ -8,7 +8,7 @@ mod proofs;
 mod rows;
 mod tiles;
 
-use crate::run;
+use wfc_cli::run;
 use std::alloc::{AllocError, Global};
 use std::process::Abort;
 use std::test::Fail;
