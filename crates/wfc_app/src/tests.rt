@@ -8,11 +8,11 @@ mod proofs;
 mod rows;
 mod tiles;
 
-use wfc_cli::run;
 use std::alloc::{AllocError, Global};
 use std::process::Abort;
 use std::test::Fail;
 use wfc_choose::{Buckets, Chooser, Scanning};
+use wfc_cli::run;
 use wfc_outside::{Folder, MemoryFolder, MemorySink};
 
 /// The files of the tests.

@@ -4,9 +4,9 @@ ghost use Rattle.std.specs.Prelude.{◌≤◌};
 ghost use Rattle.wfc_outside.specs.MemoryFolder.{seen_folder};
 
 use super::{check, folder_of, has_bytes, has_front, runs_to, sink_of};
-use wfc_cli::refuse;
 use std::process::Abort;
 use std::test::Fail;
+use wfc_cli::refuse;
 use wfc_outside::{Folder, FolderFault, MemoryFolder, MemorySink};
 use wfc_words::CommandFault;
 
