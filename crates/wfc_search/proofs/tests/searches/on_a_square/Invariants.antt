@@ -1,4 +1,4 @@
-use Rattle.wfc_search.proofs.tests.searches.both_fewest_along_a_search.Given as goal
+use Rattle.wfc_search.proofs.tests.searches.on_a_square.Given as goal
 
 -- the ledger is that of the blank
 abbrev pub ghosts-ends_agree : goal.ghosts-ends_agree

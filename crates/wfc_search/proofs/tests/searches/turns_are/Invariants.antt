@@ -1,4 +1,4 @@
-use Rattle.wfc_search.proofs.tests.searches.turns_in_a_ring.Given as goal
+use Rattle.wfc_search.proofs.tests.searches.turns_are.Given as goal
 
 -- the ledger is that of the blank
 abbrev pub ghosts-two_turns : goal.ghosts-two_turns

@@ -1,4 +1,4 @@
-use Rattle.wfc_search.proofs.tests.searches.rings_of_three.Given as goal
+use Rattle.wfc_search.proofs.tests.searches.a_ring_ends.Given as goal
 
 -- the ledger is that of the blank
 abbrev pub ghosts-ring_ends : goal.ghosts-ring_ends
