@@ -32,17 +32,17 @@ fn painted_masked(
     Ok(tiles_of_masked(alloc, mask, assignment)?)
 }
 
-/// What stands at a place of a map.
-fn shown_at(rt: &impl Abort, picture: &Picture, x: u32, y: u32) -> u32 {
+/// Whether this stands at a place of a map.
+fn shows_at(rt: &impl Abort, picture: &Picture, x: u32, y: u32, wanted: u32) {
     assert!(rt; x < picture.width() && y < picture.height());
-    picture.at(x, y)
+    assert_eq!(rt; picture.at(x, y), wanted, "at {x}, {y}");
 }
 
 /// Whether a map has these sides, and shows this at these places.
 fn shows(rt: &impl Abort, picture: &Picture, sides: (u32, u32), wanted: &[(u32, u32, u32)]) {
     assert_eq!(rt; (picture.width(), picture.height()), sides);
     for (x, y, number) in wanted {
-        assert_eq!(rt; shown_at(rt, picture, *x, *y), *number, "at {x}, {y}");
+        shows_at(rt, picture, *x, *y, *number);
     }
 }
 

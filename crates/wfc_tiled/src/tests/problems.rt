@@ -36,68 +36,67 @@ fn lie_beside(
     Ok(())
 }
 
-/// Maps without holes, and what lies beside their cells.
-const PLAIN: [(Sides, &[u32]); 4] = [
-    ((1, 2, true), &[0, 1, 0, 1, 1, 0, 1, 0]),
-    ((1, 2, false), &[NONE, 1, NONE, NONE, NONE, NONE, NONE, 0]),
-    ((1, 1, true), &[0, 0, 0, 0]),
-    ((2, 1, false), &[NONE, NONE, 1, NONE, 0, NONE, NONE, NONE]),
-];
-
-#[test]
-fn places_side_by_side(rt: HostRuntime) -> Result<(), Fail> {
-    let tiles = lines(&rt, rt.alloc())?;
-    for (sides, wanted) in PLAIN {
-        let problem = problem_of(&rt, rt.alloc(), &tiles, sides, b"")?;
-        lie_beside(&rt, rt.alloc(), &problem, wanted)?;
-    }
+/// Whether these lie beside the places of a map without holes.
+fn lie_in(
+    rt: &impl Abort,
+    alloc: Global,
+    tiles: &TileSet,
+    sides: Sides,
+    wanted: &[u32],
+) -> Result<(), Fail> {
+    let problem = problem_of(rt, alloc, tiles, sides, b"")?;
+    lie_beside(rt, alloc, &problem, wanted)?;
     Ok(())
 }
 
-/// What lies beside the places of three by two with holes at (1, 0) and (0, 1), flat and wrapped.
-const AROUND_HOLES: [(bool, &[u32]); 2] = [
-    (
-        false,
-        &[
-            NONE, NONE, NONE, NONE, NONE, 3, NONE, NONE, NONE, NONE, 3, NONE, 2, NONE, NONE, 1,
-        ],
-    ),
-    (
-        true,
-        &[
-            1, NONE, NONE, NONE, NONE, 3, 0, 3, NONE, NONE, 3, NONE, 2, 1, NONE, 1,
-        ],
-    ),
-];
+#[test]
+fn places_side_by_side(rt: HostRuntime) -> Result<(), Fail> {
+    let alloc = rt.alloc();
+    let tiles = lines(&rt, alloc)?;
+    lie_in(&rt, alloc, &tiles, (1, 2, true), &[0, 1, 0, 1, 1, 0, 1, 0])?;
+    lie_in(
+        &rt,
+        alloc,
+        &tiles,
+        (1, 2, false),
+        &[NONE, 1, NONE, NONE, NONE, NONE, NONE, 0],
+    )?;
+    lie_in(&rt, alloc, &tiles, (1, 1, true), &[0, 0, 0, 0])?;
+    lie_in(
+        &rt,
+        alloc,
+        &tiles,
+        (2, 1, false),
+        &[NONE, NONE, 1, NONE, 0, NONE, NONE, NONE],
+    )
+}
+
+/// Whether these lie beside the places of a map of three by two with holes at (1, 0) and (0, 1).
+fn lie_around_holes(
+    rt: &impl Abort,
+    alloc: Global,
+    tiles: &TileSet,
+    wrap: bool,
+    wanted: &[u32],
+) -> Result<(), Fail> {
+    let mask = mask_of(rt, alloc, b".#.\n#..\n", 3, 2)?;
+    let problem = masked_problem_of(rt, alloc, tiles, &mask, wrap, b"")?;
+    lie_beside(rt, alloc, &problem, wanted)?;
+    Ok(())
+}
 
 #[test]
 fn holes_are_no_neighbours(rt: HostRuntime) -> Result<(), Fail> {
     let tiles = lines(&rt, rt.alloc())?;
-    let mask = mask_of(&rt, rt.alloc(), b".#.\n#..\n", 3, 2)?;
-    for (wrap, wanted) in AROUND_HOLES {
-        let problem = masked_problem_of(&rt, rt.alloc(), &tiles, &mask, wrap, b"")?;
-        lie_beside(&rt, rt.alloc(), &problem, wanted)?;
-    }
-    Ok(())
+    let flat = [
+        NONE, NONE, NONE, NONE, NONE, 3, NONE, NONE, NONE, NONE, 3, NONE, 2, NONE, NONE, 1,
+    ];
+    lie_around_holes(&rt, rt.alloc(), &tiles, false, &flat)?;
+    let wrapped = [
+        1, NONE, NONE, NONE, NONE, 3, 0, 3, NONE, NONE, 3, NONE, 2, 1, NONE, 1,
+    ];
+    lie_around_holes(&rt, rt.alloc(), &tiles, true, &wrapped)
 }
-
-/// Lines of pins for three by two with holes at (1, 0) and (0, 1), and for each of the four cells
-/// whether the line may lie there and whether it may stand.
-const PINNED: [(&[u8], [bool; 8]); 4] = [
-    (b"", [true; 8]),
-    (
-        b"pin 0 0 line/0\nban 2 1 line/0\n",
-        [true, false, true, true, true, true, false, true],
-    ),
-    (
-        b"ban 2 0 line/0\nban 2 0 line/1\n",
-        [true, true, false, false, true, true, true, true],
-    ),
-    (
-        b"pin 1 1 line/1\nban 1 1 line/0\n",
-        [true, true, true, true, false, true, true, true],
-    ),
-];
 
 /// Whether the base of a problem is this one.
 fn has_base(rt: &impl Abort, problem: &Problem, wanted: &[bool]) {
@@ -111,29 +110,51 @@ fn has_base(rt: &impl Abort, problem: &Problem, wanted: &[bool]) {
     assert!(rt; wanted.next() == None);
 }
 
-#[test]
-fn pins_and_bans(rt: HostRuntime) -> Result<(), Fail> {
-    let tiles = lines(&rt, rt.alloc())?;
-    let mask = mask_of(&rt, rt.alloc(), b".#.\n#..\n", 3, 2)?;
-    for (text, wanted) in PINNED {
-        let problem = masked_problem_of(&rt, rt.alloc(), &tiles, &mask, true, text)?;
-        has_base(&rt, &problem, &wanted);
-    }
+/// Whether lines of pins, for three by two with holes at (1, 0) and (0, 1), leave this base: for each
+/// of the four cells whether the line may lie there and whether it may stand.
+fn leave(
+    rt: &impl Abort,
+    alloc: Global,
+    tiles: &TileSet,
+    text: &[u8],
+    wanted: &[bool],
+) -> Result<(), Fail> {
+    let mask = mask_of(rt, alloc, b".#.\n#..\n", 3, 2)?;
+    let problem = masked_problem_of(rt, alloc, tiles, &mask, true, text)?;
+    has_base(rt, &problem, wanted);
     Ok(())
 }
 
-/// Variants of the thirty, directions, and what may stand there.
-const FITTING: [(u16, u8, &[u16]); 9] = [
-    (0, 0, &[0, 28]),
-    (0, 1, &[14]),
-    (9, 3, &[17]),
-    (24, 1, &[19, 26, 29]),
-    (24, 2, &[]),
-    (28, 0, &[2, 4, 25, 26]),
-    (28, 1, &[16, 20]),
-    (28, 2, &[0, 6, 24, 27]),
-    (28, 3, &[18, 22]),
-];
+#[test]
+fn pins_and_bans(rt: HostRuntime) -> Result<(), Fail> {
+    let alloc = rt.alloc();
+    let tiles = lines(&rt, alloc)?;
+    leave(&rt, alloc, &tiles, b"", &[true; 8])?;
+    let left = [true, false, true, true, true, true, false, true];
+    leave(
+        &rt,
+        alloc,
+        &tiles,
+        b"pin 0 0 line/0\nban 2 1 line/0\n",
+        &left,
+    )?;
+    let left = [true, true, false, false, true, true, true, true];
+    leave(
+        &rt,
+        alloc,
+        &tiles,
+        b"ban 2 0 line/0\nban 2 0 line/1\n",
+        &left,
+    )?;
+    let left = [true, true, true, true, false, true, true, true];
+    leave(
+        &rt,
+        alloc,
+        &tiles,
+        b"pin 1 1 line/1\nban 1 1 line/0\n",
+        &left,
+    )
+}
 
 /// Whether these may stand beside a variant in a direction.
 fn fit(rt: &impl Abort, problem: &Problem, value: u16, dir: u8, wanted: &[u16]) {
@@ -149,14 +170,17 @@ fn variants_that_fit(rt: HostRuntime) -> Result<(), Fail> {
     let tiles = many(&rt, rt.alloc())?;
     let problem = problem_of(&rt, rt.alloc(), &tiles, (2, 1, false), b"")?;
     assert_eq!(rt; problem.values(), 30);
-    for (value, dir, wanted) in FITTING {
-        fit(&rt, &problem, value, dir, wanted);
-    }
+    fit(&rt, &problem, 0, 0, &[0, 28]);
+    fit(&rt, &problem, 0, 1, &[14]);
+    fit(&rt, &problem, 9, 3, &[17]);
+    fit(&rt, &problem, 24, 1, &[19, 26, 29]);
+    fit(&rt, &problem, 24, 2, &[]);
+    fit(&rt, &problem, 28, 0, &[2, 4, 25, 26]);
+    fit(&rt, &problem, 28, 1, &[16, 20]);
+    fit(&rt, &problem, 28, 2, &[0, 6, 24, 27]);
+    fit(&rt, &problem, 28, 3, &[18, 22]);
     Ok(())
 }
-
-/// Variants of the thirty, and what they weigh.
-const WEIGHTS: [(u16, u32); 5] = [(0, 3), (7, 3), (8, 1), (27, 2), (29, 1_000_000)];
 
 /// Whether a variant has this weight.
 fn weighs(rt: &impl Abort, problem: &Problem, value: u16, wanted: u32) {
@@ -168,9 +192,11 @@ fn weighs(rt: &impl Abort, problem: &Problem, value: u16, wanted: u32) {
 fn weights_of_tiles(rt: HostRuntime) -> Result<(), Fail> {
     let tiles = many(&rt, rt.alloc())?;
     let problem = problem_of(&rt, rt.alloc(), &tiles, (1, 1, false), b"")?;
-    for (value, wanted) in WEIGHTS {
-        weighs(&rt, &problem, value, wanted);
-    }
+    weighs(&rt, &problem, 0, 3);
+    weighs(&rt, &problem, 7, 3);
+    weighs(&rt, &problem, 8, 1);
+    weighs(&rt, &problem, 27, 2);
+    weighs(&rt, &problem, 29, 1_000_000);
     Ok(())
 }
 
@@ -223,12 +249,22 @@ fn striped(rt: &impl Abort, alloc: Global, tiles: &TileSet, wrap: bool) -> Resul
     )
 }
 
+/// Whether the problem of the mask of strips has so many ways from cell to cell.
+fn is_striped(
+    rt: &impl Abort,
+    alloc: Global,
+    tiles: &TileSet,
+    wrap: bool,
+    ways: u32,
+) -> Result<(), Fail> {
+    let problem = striped(rt, alloc, tiles, wrap)?;
+    is_as_large(rt, &problem, 262_144, ways, 7_864_290);
+    Ok(())
+}
+
 #[test]
 fn a_large_map_with_holes(rt: HostRuntime) -> Result<(), Fail> {
     let tiles = many(&rt, rt.alloc())?;
-    for (wrap, ways) in [(true, 917_504), (false, 915_456)] {
-        let problem = striped(&rt, rt.alloc(), &tiles, wrap)?;
-        is_as_large(&rt, &problem, 262_144, ways, 7_864_290);
-    }
-    Ok(())
+    is_striped(&rt, rt.alloc(), &tiles, true, 917_504)?;
+    is_striped(&rt, rt.alloc(), &tiles, false, 915_456)
 }
