@@ -7,6 +7,7 @@ use crate::{
     write_header_2, write_line,
 };
 use std::alloc::{AllocError, Global};
+use std::process::Abort;
 use std::test::Fail;
 use wfc_outside::{MemorySink, SinkFault};
 use wfc_problem::{NO_CELL, Parts, Problem};
@@ -19,37 +20,37 @@ fn tell<J: Journal>(journal: &mut J, line: Line) -> Result<(), JournalFault>
     journal.line(line)
 }
 
+/// A quiet journal takes this line.
+fn takes_quietly(rt: &impl Abort, line: Line)
+    requires whole { IsWhole line }
+{
+    assert_eq!(rt; tell(&mut Quiet, line), Ok(()));
+}
+
 #[test]
-fn a_quiet_journal_takes_every_line(rt: HostRuntime) -> Result<(), Fail> {
-    let mut journal = Quiet;
-    let told = [
-        tell(
-            &mut journal,
-            Line::Remove {
-                cell: 1,
-                value: 2,
-                dir: 3,
-            },
-        ),
-        tell(
-            &mut journal,
-            Line::Span {
-                cell: 1,
-                first: 2,
-                last: 5,
-                dir: 3,
-            },
-        ),
-        tell(&mut journal, Line::Try { cell: 1, value: 2 }),
-        tell(&mut journal, Line::Empty { cell: 1 }),
-        tell(&mut journal, Line::End),
-        tell(&mut journal, Line::Found),
-        tell(&mut journal, Line::Out),
-    ];
-    for taken in told {
-        assert_eq!(rt; taken, Ok(()));
-    }
-    Ok(())
+fn a_quiet_journal_takes_every_line(rt: HostRuntime) {
+    takes_quietly(
+        &rt,
+        Line::Remove {
+            cell: 1,
+            value: 2,
+            dir: 3,
+        },
+    );
+    takes_quietly(
+        &rt,
+        Line::Span {
+            cell: 1,
+            first: 2,
+            last: 5,
+            dir: 3,
+        },
+    );
+    takes_quietly(&rt, Line::Try { cell: 1, value: 2 });
+    takes_quietly(&rt, Line::Empty { cell: 1 });
+    takes_quietly(&rt, Line::End);
+    takes_quietly(&rt, Line::Found);
+    takes_quietly(&rt, Line::Out);
 }
 
 const REMOVE: Line = Line::Remove {
@@ -70,39 +71,80 @@ const TRY: Line = Line::Try {
     value: 65_535,
 };
 
+/// A line as both formats read it.
+fn reads_as(
+    rt: &impl Abort,
+    bytes: &[u8],
+    one: Result<Line, LineFault>,
+    two: Result<Line, LineFault>,
+) {
+    let read = (read_line(bytes), read_line_2(bytes));
+    assert_eq!(rt; read, (one, two), "of {bytes:?}");
+}
+
+/// A line that both formats read alike.
+fn reads_alike(rt: &impl Abort, bytes: &[u8], line: Line) {
+    reads_as(rt, bytes, Ok(line), Ok(line));
+}
+
+/// Bytes that are no line of either format.
+fn reads_none(rt: &impl Abort, bytes: &[u8]) {
+    reads_as(rt, bytes, Err(LineFault::BadLine), Err(LineFault::BadLine));
+}
+
 #[test]
 fn reads_lines(rt: HostRuntime) {
     let none = Err(LineFault::BadLine);
-    let cases: [(&[u8], Result<Line, LineFault>, Result<Line, LineFault>); 16] = [
-        (b"r 10 2 3", Ok(REMOVE), none),
-        (b"r 10 2 40 3", none, Ok(SPAN)),
-        (b"r 10 40 2 3", none, none),
-        (b"t 4294967295 65535", Ok(TRY), Ok(TRY)),
-        (b"t 4294967296 65535", none, none),
-        (b"t 4294967295 65536", none, none),
-        (b"r 0 0 256", none, none),
-        (
-            b"x 0",
-            Ok(Line::Empty { cell: 0 }),
-            Ok(Line::Empty { cell: 0 }),
-        ),
-        (b"x 00", none, none),
-        (b"x  0", none, none),
-        (b"x 0 ", none, none),
-        (b"q", Ok(Line::End), Ok(Line::End)),
-        (b"s", Ok(Line::Found), Ok(Line::Found)),
-        (b"o", Ok(Line::Out), Ok(Line::Out)),
-        (b"q\r", none, none),
-        (b"", none, none),
-    ];
-    for (bytes, one, two) in cases {
-        assert_eq!(rt; read_line(bytes), one, "of {bytes:?}");
-        assert_eq!(rt; read_line_2(bytes), two, "of {bytes:?}");
-    }
+    reads_as(&rt, b"r 10 2 3", Ok(REMOVE), none);
+    reads_as(&rt, b"r 10 2 40 3", none, Ok(SPAN));
+    reads_alike(&rt, b"t 4294967295 65535", TRY);
+    reads_alike(&rt, b"x 0", Line::Empty { cell: 0 });
+    reads_alike(&rt, b"q", Line::End);
+    reads_alike(&rt, b"s", Line::Found);
+    reads_alike(&rt, b"o", Line::Out);
+}
+
+#[test]
+fn reads_what_is_no_line(rt: HostRuntime) {
+    reads_none(&rt, b"r 10 40 2 3");
+    reads_none(&rt, b"t 4294967296 65535");
+    reads_none(&rt, b"t 4294967295 65536");
+    reads_none(&rt, b"r 0 0 256");
+    reads_none(&rt, b"x 00");
+    reads_none(&rt, b"x  0");
+    reads_none(&rt, b"x 0 ");
+    reads_none(&rt, b"q\r");
+    reads_none(&rt, b"");
+}
+
+#[test]
+fn reads_formats(rt: HostRuntime) {
+    let none = Err(LineFault::BadLine);
+    assert_eq!(rt; read_format(b"wfc-refutation 1"), Ok(Format::One));
+    assert_eq!(rt; read_format(b"wfc-refutation 2"), Ok(Format::Two));
+    assert_eq!(rt; read_format(b"wfc-refutation 3"), none);
+}
+
+#[test]
+fn reads_numbers_of_heads(rt: HostRuntime) {
+    let none = Err(LineFault::BadLine);
+    let numbers = Numbers {
+        cells: 2,
+        values: 4_294_967_295,
+    };
+    assert_eq!(rt; read_numbers(b"cells 2 values 4294967295"), Ok(numbers));
+    assert_eq!(rt; read_numbers(b"cells 02 values 1"), none);
+    assert_eq!(rt; read_numbers(b"cells 2 values 1 "), none);
+}
+
+/// A shape, or none.
+fn reads_shape(rt: &impl Abort, bytes: &[u8], want: Result<Shape, LineFault>) {
+    assert_eq!(rt; read_shape(bytes), want);
 }
 
 #[test]
 fn reads_heads(rt: HostRuntime) {
+    let none = Err(LineFault::BadLine);
     let shape = Shape {
         n: 2,
         width: 3,
@@ -112,25 +154,21 @@ fn reads_heads(rt: HostRuntime) {
         wrap_in: true,
         wrap_out: false,
     };
-    let numbers = Numbers {
-        cells: 2,
-        values: 4_294_967_295,
-    };
-    assert_eq!(rt; read_format(b"wfc-refutation 1"), Ok(Format::One));
-    assert_eq!(rt; read_format(b"wfc-refutation 2"), Ok(Format::Two));
-    assert_eq!(rt; read_format(b"wfc-refutation 3"), Err(LineFault::BadLine));
-    assert_eq!(rt; read_numbers(b"cells 2 values 4294967295"), Ok(numbers));
-    assert_eq!(rt; read_numbers(b"cells 02 values 1"), Err(LineFault::BadLine));
-    assert_eq!(rt; read_numbers(b"cells 2 values 1 "), Err(LineFault::BadLine));
-    assert_eq!(rt; read_shape(b"for 2 3 4 1 8 1 0"), Ok(shape));
-    assert_eq!(rt; read_shape(b"for 7 3 4 1 8 1 0"), Err(LineFault::BadLine));
-    assert_eq!(rt; read_shape(b"for 2 3 4 1 256 1 0"), Err(LineFault::BadLine));
-    assert_eq!(rt; read_shape(b"for 2 3 4 1 8 1 2"), Err(LineFault::BadLine));
+    reads_shape(&rt, b"for 2 3 4 1 8 1 0", Ok(shape));
+    reads_shape(&rt, b"for 7 3 4 1 8 1 0", none);
+    reads_shape(&rt, b"for 2 3 4 1 256 1 0", none);
+    reads_shape(&rt, b"for 2 3 4 1 8 1 2", none);
 }
 
-#[test]
-fn writes_heads_and_lines(rt: HostRuntime) -> Result<(), Fail> {
-    let mut sink = MemorySink::new(rt.alloc(), 7, 200)?;
+/// A sink takes this line.
+fn writes(rt: &impl Abort, sink: &mut MemorySink, line: Line)
+    requires whole { IsWhole line }
+{
+    assert_eq!(rt; write_line(sink, line), Ok(()));
+}
+
+/// A sink takes the heads of both formats.
+fn writes_heads(rt: &impl Abort, sink: &mut MemorySink) {
     let shape = Shape {
         n: 0,
         width: 2,
@@ -140,15 +178,21 @@ fn writes_heads_and_lines(rt: HostRuntime) -> Result<(), Fail> {
         wrap_in: false,
         wrap_out: true,
     };
-    assert_eq!(rt; write_header(&mut sink, 4, 2), Ok(()));
-    assert_eq!(rt; write_header_2(&mut sink, &shape, 12, 65_535), Ok(()));
-    assert_eq!(rt; write_line(&mut sink, REMOVE), Ok(()));
-    assert_eq!(rt; write_line(&mut sink, SPAN), Ok(()));
-    assert_eq!(rt; write_line(&mut sink, TRY), Ok(()));
-    assert_eq!(rt; write_line(&mut sink, Line::Empty { cell: 7 }), Ok(()));
-    assert_eq!(rt; write_line(&mut sink, Line::End), Ok(()));
-    assert_eq!(rt; write_line(&mut sink, Line::Found), Ok(()));
-    assert_eq!(rt; write_line(&mut sink, Line::Out), Ok(()));
+    assert_eq!(rt; write_header(sink, 4, 2), Ok(()));
+    assert_eq!(rt; write_header_2(sink, &shape, 12, 65_535), Ok(()));
+}
+
+#[test]
+fn writes_heads_and_lines(rt: HostRuntime) -> Result<(), Fail> {
+    let mut sink = MemorySink::new(rt.alloc(), 7, 200)?;
+    writes_heads(&rt, &mut sink);
+    writes(&rt, &mut sink, REMOVE);
+    writes(&rt, &mut sink, SPAN);
+    writes(&rt, &mut sink, TRY);
+    writes(&rt, &mut sink, Line::Empty { cell: 7 });
+    writes(&rt, &mut sink, Line::End);
+    writes(&rt, &mut sink, Line::Found);
+    writes(&rt, &mut sink, Line::Out);
     let wanted: &[u8] =
         b"wfc-refutation 1\ncells 4 values 2\nwfc-refutation 2\ncells 12 values 65535\nfor 0 2 2 1 1 0 1\nr 10 2 3\nr 10 2 40 3\nt 4294967295 65535\nx 7\nq\ns\no\n";
     assert_eq!(rt; sink.bytes(), wanted);
@@ -260,16 +304,18 @@ fn a_journal_over_a_full_sink_fails(rt: HostRuntime) -> Result<(), Fail> {
     let problem = Problem::new(pair(rt.alloc())?)?;
     let mut short = MemorySink::new(rt.alloc(), 7, 30)?;
     assert!(rt; ProofJournal::begin(&mut short, &problem).is_err());
-    assert_eq!(rt;
-        short.bytes(),
-        b"wfc-refutation 1\ncells 2 value".as_slice()
-    );
+    let wanted = b"wfc-refutation 1\ncells 2 value".as_slice();
+    assert_eq!(rt; short.bytes(), wanted);
+    Ok(())
+}
+
+#[test]
+fn a_journal_whose_sink_is_full_later_fails(rt: HostRuntime) -> Result<(), Fail> {
+    let problem = Problem::new(pair(rt.alloc())?)?;
     let mut sink = MemorySink::new(rt.alloc(), 7, 60)?;
     let mut journal = SpanJournal::begin(&mut sink, &problem, &SHAPE)?;
-    assert_eq!(rt;
-        tell_turn(&mut journal, Line::Out),
-        Err(JournalFault::Failed)
-    );
+    let told = tell_turn(&mut journal, Line::Out);
+    assert_eq!(rt; told, Err(JournalFault::Failed));
     assert_eq!(rt;
         sink.bytes(),
         b"wfc-refutation 2\ncells 2 values 1\nfor 0 2 1 1 1 0 0\nr 1 4 7 ".as_slice()
