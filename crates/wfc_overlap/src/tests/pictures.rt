@@ -75,20 +75,30 @@ fn paints(
     Ok(())
 }
 
+/// Paints an assignment of the checkerboard's patterns.
+fn paints_letters(
+    rt: &impl Abort,
+    alloc: Global,
+    sides: Sides,
+    assignment: &[u16],
+    wanted: &[u32],
+) -> Result<(), Fail> {
+    let patterns = checkerboard(rt, alloc)?;
+    paints(rt, alloc, &patterns, sides, assignment, wanted)
+}
+
 #[test]
 fn checkerboards(rt: HostRuntime) -> Result<(), Fail> {
-    let patterns = checkerboard(&rt, rt.alloc())?;
-    let rows: [(Sides, &[u16], &[u32]); 5] = [
-        ((2, 2, false), &[0], &[0, 1, 1, 0]),
-        ((2, 2, true), &[0, 1, 1, 0], &[0, 1, 1, 0]),
-        ((3, 2, false), &[1, 0], &[1, 0, 1, 0, 1, 0]),
-        ((4, 2, false), &[0, 1, 0], &[0, 1, 0, 1, 1, 0, 1, 0]),
-        ((3, 3, false), &[0, 1, 1, 0], &[0, 1, 0, 1, 0, 1, 0, 1, 0]),
-    ];
-    for (sides, assignment, wanted) in rows {
-        paints(&rt, rt.alloc(), &patterns, sides, assignment, wanted)?;
-    }
-    Ok(())
+    let alloc = rt.alloc();
+    let square = [0, 1, 1, 0];
+    paints_letters(&rt, alloc, (2, 2, false), &[0], &square)?;
+    paints_letters(&rt, alloc, (2, 2, true), &[0, 1, 1, 0], &square)?;
+    let row = [1, 0, 1, 0, 1, 0];
+    paints_letters(&rt, alloc, (3, 2, false), &[1, 0], &row)?;
+    let long = [0, 1, 0, 1, 1, 0, 1, 0];
+    paints_letters(&rt, alloc, (4, 2, false), &[0, 1, 0], &long)?;
+    let odd = [0, 1, 0, 1, 0, 1, 0, 1, 0];
+    paints_letters(&rt, alloc, (3, 3, false), &[0, 1, 1, 0], &odd)
 }
 
 #[test]

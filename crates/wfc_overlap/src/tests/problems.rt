@@ -14,20 +14,6 @@ use wfc_pattern::Patterns;
 use wfc_picture::Palette;
 use wfc_problem::Problem;
 
-/// Outputs of the checkerboard with lines of pins, and the base of each. Three by three has four
-/// places, and the pixel in the middle is in all four windows, each time at another entry. Two by
-/// two that wraps has four as well, and each pixel is in each window.
-const PINNED: [(Sides, &[u8], &[u8]); 8] = [
-    ((3, 3, false), b"pin 0 0 a", b"10111111"),
-    ((3, 3, false), b"pin 0 0 a\npin 0 0 b", b"00111111"),
-    ((3, 3, false), b"pin 2 0 b\nban 0 2 a", b"11101011"),
-    ((3, 3, false), b"pin 1 1 a\n", b"10010110"),
-    ((3, 3, false), b"ban 1 1 a", b"01101001"),
-    ((2, 2, false), b"", b"11"),
-    ((2, 2, true), b"pin 0 0 a", b"10010110"),
-    ((4, 2, false), b"", b"111111"),
-];
-
 /// Whether the base of the checkerboard's problem is this one.
 fn has_base(
     rt: &impl Abort,
@@ -43,29 +29,58 @@ fn has_base(
     Ok(())
 }
 
-#[test]
-fn pins_and_bans(rt: HostRuntime) -> Result<(), Fail> {
-    let palette = letters(rt.alloc())?;
-    for (sides, text, wanted) in PINNED {
-        has_base(&rt, rt.alloc(), &palette, sides, text, wanted)?;
-    }
-    Ok(())
+/// The same with the letters of the sample.
+fn leaves(
+    rt: &impl Abort,
+    alloc: Global,
+    sides: Sides,
+    text: &[u8],
+    wanted: &[u8],
+) -> Result<(), Fail> {
+    let palette = letters(alloc)?;
+    has_base(rt, alloc, &palette, sides, text, wanted)
 }
 
-/// Lines with a blank and with a colour, and the base of each.
-const SPELLED: [(&[u8], &[u8]); 3] = [
-    (b"pin 0 0 \\s", b"10"),
-    (b"pin 1 0 \\s", b"01"),
-    (b"ban 0 0 255,0,7", b"10"),
-];
+/// Three by three has four places, and the pixel in the middle is in all four windows, each time
+/// at another entry.
+#[test]
+fn pins_and_bans(rt: HostRuntime) -> Result<(), Fail> {
+    let alloc = rt.alloc();
+    let sides = (3, 3, false);
+    leaves(&rt, alloc, sides, b"pin 0 0 a", b"10111111")?;
+    leaves(&rt, alloc, sides, b"pin 0 0 a\npin 0 0 b", b"00111111")?;
+    leaves(&rt, alloc, sides, b"pin 2 0 b\nban 0 2 a", b"11101011")?;
+    leaves(&rt, alloc, sides, b"pin 1 1 a\n", b"10010110")?;
+    leaves(&rt, alloc, sides, b"ban 1 1 a", b"01101001")
+}
 
+/// Two by two that wraps has four places as well, and each pixel is in each window.
+#[test]
+fn pins_of_other_outputs(rt: HostRuntime) -> Result<(), Fail> {
+    let alloc = rt.alloc();
+    leaves(&rt, alloc, (2, 2, false), b"", b"11")?;
+    leaves(&rt, alloc, (2, 2, true), b"pin 0 0 a", b"10010110")?;
+    leaves(&rt, alloc, (4, 2, false), b"", b"111111")
+}
+
+/// Whether a line on a blank or a colour leaves this base.
+fn leaves_of_blank_and_red(
+    rt: &impl Abort,
+    alloc: Global,
+    text: &[u8],
+    wanted: &[u8],
+) -> Result<(), Fail> {
+    let palette = blank_and_red(alloc)?;
+    has_base(rt, alloc, &palette, (2, 2, false), text, wanted)
+}
+
+/// Lines with a blank and with a colour.
 #[test]
 fn symbols(rt: HostRuntime) -> Result<(), Fail> {
-    let palette = blank_and_red(rt.alloc())?;
-    for (text, wanted) in SPELLED {
-        has_base(&rt, rt.alloc(), &palette, (2, 2, false), text, wanted)?;
-    }
-    Ok(())
+    let alloc = rt.alloc();
+    leaves_of_blank_and_red(&rt, alloc, b"pin 0 0 \\s", b"10")?;
+    leaves_of_blank_and_red(&rt, alloc, b"pin 1 0 \\s", b"01")?;
+    leaves_of_blank_and_red(&rt, alloc, b"ban 0 0 255,0,7", b"10")
 }
 
 /// Whether the cells have these beside them.
@@ -135,8 +150,12 @@ fn support_alike(
 #[test]
 fn pairs_that_agree(rt: HostRuntime) -> Result<(), Fail> {
     let patterns = checkerboard(&rt, rt.alloc())?;
-    support_alike(&rt, rt.alloc(), &patterns, &EACH_OTHER)?;
-    // The only pattern disagrees with itself.
+    support_alike(&rt, rt.alloc(), &patterns, &EACH_OTHER)
+}
+
+/// The only pattern disagrees with itself.
+#[test]
+fn a_pair_that_disagrees(rt: HostRuntime) -> Result<(), Fail> {
     let patterns = flat_checkerboard(&rt, rt.alloc())?;
     support_alike(&rt, rt.alloc(), &patterns, &NOTHING)
 }
@@ -155,13 +174,17 @@ fn pairs_that_were_not_seen(rt: HostRuntime) -> Result<(), Fail> {
     support_alike(&rt, rt.alloc(), &patterns, &EVERYTHING)
 }
 
+/// Whether the values have these weights.
+fn weigh(rt: &impl Abort, alloc: Global, patterns: &Patterns, wanted: &[u32]) -> Result<(), Fail> {
+    let problem = problem_of(rt, alloc, patterns, (2, 2, false))?;
+    assert!(rt; weights_of(alloc, &problem)?.as_slice() == wanted);
+    Ok(())
+}
+
 #[test]
 fn weights(rt: HostRuntime) -> Result<(), Fail> {
     let patterns = in_a_row(&rt, rt.alloc())?;
-    let problem = problem_of(&rt, rt.alloc(), &patterns, (2, 2, false))?;
-    let weights = weights_of(rt.alloc(), &problem)?;
-    assert!(rt; weights.as_slice() == [2, 1, 1].as_slice());
-    Ok(())
+    weigh(&rt, rt.alloc(), &patterns, &[2, 1, 1])
 }
 
 /// So many lines that keep the pixel in the corner.
@@ -190,15 +213,24 @@ fn large_outputs(rt: HostRuntime) -> Result<(), Fail> {
     Ok(())
 }
 
+/// Whether some value may stand beside each, in each direction.
+fn all_are_supported(rt: &impl Abort, alloc: Global, problem: &Problem) -> Result<(), Fail> {
+    let lists = supports_of(alloc, problem)?;
+    assert!(rt; lists.iter().all(|list| !list.is_empty()));
+    Ok(())
+}
+
+/// Whether the problem of these patterns has as many values, and each window was learned beside the next one.
+fn has_all_patterns(rt: &impl Abort, alloc: Global, patterns: &Patterns) -> Result<(), Fail> {
+    let problem = problem_of(rt, alloc, patterns, (48, 42, true))?;
+    assert!(rt; problem.cells() == 2016);
+    assert!(rt; problem.values() == patterns.count());
+    all_are_supported(rt, alloc, &problem)
+}
+
 #[test]
 fn many_patterns(rt: HostRuntime) -> Result<(), Fail> {
     let patterns = noise(&rt, rt.alloc())?;
     assert!(rt; patterns.count() > 3500);
-    let problem = problem_of(&rt, rt.alloc(), &patterns, (48, 42, true))?;
-    assert!(rt; problem.cells() == 2016);
-    assert!(rt; problem.values() == patterns.count());
-    // Each window was learned beside the next one.
-    let lists = supports_of(rt.alloc(), &problem)?;
-    assert!(rt; lists.iter().all(|list| !list.is_empty()));
-    Ok(())
+    has_all_patterns(&rt, rt.alloc(), &patterns)
 }

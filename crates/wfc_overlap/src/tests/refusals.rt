@@ -8,57 +8,6 @@ use std::test::Fail;
 use wfc_picture::Palette;
 use wfc_pins::BuildFault;
 
-/// Outputs of the checkerboard with lines of pins, and why each is refused.
-const REFUSED: [(Sides, &[u8], BuildFault); 11] = [
-    (
-        (3, 3, false),
-        b"pin 0 0 z",
-        BuildFault::UnknownSymbol { line: 1 },
-    ),
-    (
-        (3, 3, false),
-        b"pin 3 0 a",
-        BuildFault::PinOutside { line: 1 },
-    ),
-    // Of one line, a place outside comes first.
-    (
-        (3, 3, false),
-        b"pin 3 0 z",
-        BuildFault::PinOutside { line: 1 },
-    ),
-    (
-        (3, 3, true),
-        b"ban 0 3 a",
-        BuildFault::PinOutside { line: 1 },
-    ),
-    (
-        (3, 3, false),
-        b"ban 2 2 aa",
-        BuildFault::UnknownSymbol { line: 1 },
-    ),
-    // The first line at fault, by its number in the file.
-    (
-        (3, 3, false),
-        b"#\nban 0 0 c\npin 9 9 a",
-        BuildFault::UnknownSymbol { line: 2 },
-    ),
-    (
-        (3, 3, false),
-        b"\npin 9 9 a\npin 0 0 c",
-        BuildFault::PinOutside { line: 2 },
-    ),
-    // A side below that of a window comes before anything else, and too many pairs before the
-    // lines.
-    ((1, 2, false), b"pin 9 9 z", BuildFault::SizeBelowN),
-    ((2, 1, true), b"pin 9 9 z", BuildFault::SizeBelowN),
-    ((4096, 1, true), b"pin 9 9 z", BuildFault::SizeBelowN),
-    (
-        (4096, 1026, false),
-        b"pin 9999 0 z",
-        BuildFault::TooLarge { product: 8_394_750 },
-    ),
-];
-
 /// Whether the checkerboard has no problem with the lines, and for this reason.
 fn is_refused(
     rt: &impl Abort,
@@ -74,13 +23,52 @@ fn is_refused(
     Ok(())
 }
 
+/// Whether the checkerboard has no output of three by three with the lines, since a place lies outside.
+fn lies_outside(
+    rt: &impl Abort,
+    alloc: Global,
+    text: &[u8],
+    wrap: bool,
+    line: u32,
+) -> Result<(), Fail> {
+    let palette = letters(alloc)?;
+    let wanted = BuildFault::PinOutside { line };
+    is_refused(rt, alloc, &palette, (3, 3, wrap), text, wanted)
+}
+
+/// Whether the checkerboard has no output of three by three with the lines, since a symbol is unknown.
+fn is_unknown(rt: &impl Abort, alloc: Global, text: &[u8], line: u32) -> Result<(), Fail> {
+    let palette = letters(alloc)?;
+    let wanted = BuildFault::UnknownSymbol { line };
+    is_refused(rt, alloc, &palette, (3, 3, false), text, wanted)
+}
+
 #[test]
 fn refusals(rt: HostRuntime) -> Result<(), Fail> {
-    let palette = letters(rt.alloc())?;
-    for (sides, text, wanted) in REFUSED {
-        is_refused(&rt, rt.alloc(), &palette, sides, text, wanted)?;
-    }
-    Ok(())
+    let alloc = rt.alloc();
+    is_unknown(&rt, alloc, b"pin 0 0 z", 1)?;
+    lies_outside(&rt, alloc, b"pin 3 0 a", false, 1)?;
+    // Of one line, a place outside comes first.
+    lies_outside(&rt, alloc, b"pin 3 0 z", false, 1)?;
+    lies_outside(&rt, alloc, b"ban 0 3 a", true, 1)?;
+    is_unknown(&rt, alloc, b"ban 2 2 aa", 1)?;
+    // The first line at fault, by its number in the file.
+    is_unknown(&rt, alloc, b"#\nban 0 0 c\npin 9 9 a", 2)?;
+    lies_outside(&rt, alloc, b"\npin 9 9 a\npin 0 0 c", false, 2)
+}
+
+/// A side below that of a window comes before anything else, and too many pairs before the lines.
+#[test]
+fn refusals_before_the_lines(rt: HostRuntime) -> Result<(), Fail> {
+    let alloc = rt.alloc();
+    let palette = letters(alloc)?;
+    let (text, below) = (b"pin 9 9 z", BuildFault::SizeBelowN);
+    is_refused(&rt, alloc, &palette, (1, 2, false), text, below)?;
+    is_refused(&rt, alloc, &palette, (2, 1, true), text, below)?;
+    is_refused(&rt, alloc, &palette, (4096, 1, true), text, below)?;
+    let text = b"pin 9999 0 z";
+    let many = BuildFault::TooLarge { product: 8_394_750 };
+    is_refused(&rt, alloc, &palette, (4096, 1026, false), text, many)
 }
 
 /// Lines whose words spell no symbol of a palette of a blank and a red.
