@@ -176,19 +176,44 @@ fn unread_words_are_told(rt: HostRuntime) -> Result<(), Fail> {
 
 const TOWN: &str = "fill town.txt 3 48 48 --symmetry 8 --wrap-in --seed 1 --budget 0";
 
+/// Fills a town into this sink, with this status and these bytes on the error stream.
+fn fill_a_town(
+    rt: &(impl Abort + AllocGlobal),
+    folder: &mut MemoryFolder,
+    sink: &mut MemorySink,
+    status: u8,
+    told: &[u8],
+) -> Result<(), Fail> {
+    let mut err = sink_of(rt.alloc(), 100)?;
+    runs_to(rt, TOWN, folder, sink, &mut err, status)?;
+    has_bytes(rt, TOWN, &err, told);
+    Ok(())
+}
+
+/// What a sink that takes so many bytes at a time and fails at a call took of a town.
+fn town_of(
+    rt: &(impl Abort + AllocGlobal),
+    folder: &mut MemoryFolder,
+    piece: usize,
+    fails: u64,
+    status: u8,
+    told: &[u8],
+) -> Result<MemorySink, Fail>
+    requires some { 1 ≤ piece }
+{
+    let mut sink = MemorySink::new(rt.alloc(), piece, 4000)?;
+    sink.fail_at(fails)?;
+    fill_a_town(rt, folder, &mut sink, status, told)?;
+    Ok(sink)
+}
+
 /// A town is filled without a retraction, at each run in the same way. A sink that fails has a front of it.
 #[test]
 fn towns_are_filled(rt: HostRuntime) -> Result<(), Fail> {
     let mut folder = folder_of(rt.alloc(), 16)?;
-    let mut whole = MemorySink::new(rt.alloc(), 4000, 4000)?;
-    let mut again = MemorySink::new(rt.alloc(), 7, 4000)?;
-    let mut cut = MemorySink::new(rt.alloc(), 100, 4000)?;
-    cut.fail_at(2)?;
-    let mut err = sink_of(rt.alloc(), 100)?;
-    runs_to(&rt, TOWN, &mut folder, &mut whole, &mut err, 0)?;
-    runs_to(&rt, TOWN, &mut folder, &mut again, &mut err, 0)?;
-    runs_to(&rt, TOWN, &mut folder, &mut cut, &mut err, 5)?;
-    has_bytes(&rt, TOWN, &err, b"wfc: device Failed out\n");
+    let whole = town_of(&rt, &mut folder, 4000, 0, 0, b"")?;
+    let again = town_of(&rt, &mut folder, 7, 0, 0, b"")?;
+    let cut = town_of(&rt, &mut folder, 100, 2, 5, b"wfc: device Failed out\n")?;
     are_of_a_town(&rt, &whole, &again, &cut);
     Ok(())
 }

@@ -349,6 +349,20 @@ fn ends_agree<S: Store, T: Store, L: Ledger>(
     Ok(())
 }
 
+/// The counting engine beside this store.
+fn beside_the_counting<S: Store>(
+    rt: &impl Abort,
+    alloc: Global,
+    problem: &Problem,
+    store: S,
+    seed: u64,
+) -> Result<(), Fail>
+    requires store { IsOpened (S.view store) problem.now (depth_of problem.now) }
+{
+    let counting = Ac4::open(alloc, problem, problem.depth())?;
+    ends_agree::<_, _, Brand>(rt, alloc, problem, store, counting, seed, Blank::new(1))
+}
+
 /// Both engines and choosers on a square whose sides are joined.
 fn on_a_square(
     rt: &impl Abort,
@@ -359,8 +373,7 @@ fn on_a_square(
 ) -> Result<(), Fail> {
     let problem = Problem::new(grid(alloc, side, side, values, true)?)?;
     let plain = PlainStore::open(alloc, &problem, problem.depth())?;
-    let counted = Ac4::open(alloc, &problem, problem.depth())?;
-    ends_agree::<_, _, Brand>(rt, alloc, &problem, plain, counted, seed, Blank::new(1))
+    beside_the_counting(rt, alloc, &problem, plain, seed)
 }
 
 #[test]
@@ -376,8 +389,7 @@ fn both_engines_and_choosers(rt: HostRuntime) -> Result<(), Fail> {
 fn on_many_cells(rt: &impl Abort, alloc: Global, values: u16, seed: u64) -> Result<(), Fail> {
     let problem = Problem::new(grid(alloc, 40, 30, values, true)?)?;
     let one = Ac4::open(alloc, &problem, problem.depth())?;
-    let other = Ac4::open(alloc, &problem, problem.depth())?;
-    ends_agree::<_, _, Brand>(rt, alloc, &problem, one, other, seed, Blank::new(1))
+    beside_the_counting(rt, alloc, &problem, one, seed)
 }
 
 #[test]

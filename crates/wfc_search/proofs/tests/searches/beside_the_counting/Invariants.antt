@@ -1,4 +1,4 @@
-use Rattle.wfc_search.proofs.tests.searches.on_many_cells.Given as goal
+use Rattle.wfc_search.proofs.tests.searches.beside_the_counting.Given as goal
 
 -- the ledger is that of the blank
 abbrev pub ghosts-ends_agree : goal.ghosts-ends_agree
