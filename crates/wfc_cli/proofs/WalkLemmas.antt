@@ -180,10 +180,10 @@ walk_next lines i d old new before behind inside walks walk =
 
 -- the first block was put, and those that are left make all of them
 pub blocks_start : (P Q : Network) (count cells : ℕ) (lines : List StepLine) → Q ≡ P → count ≡ values P → cells ≡ P.cells
-    → (old mid new : SinkView) (result : Result (Unit {0}) SinkFault) → mid ≡ after_bytes old (block_text 0 (shown Q []) count cells) → Puts mid new (left_text P count cells lines 0) result → Puts old new (steps_text P lines) result
+    → (old mid new : SinkView) (result : Result (Unit {0}) SinkFault) → mid ≡ after_bytes old (block_text 0 (shown Q []) count cells) → Puts mid new (left_text Q count cells lines 0) result → Puts old new (steps_text P lines) result
 blocks_start P Q count cells lines same counted as_many old mid new result put rest =
-    subst (λ text. Puts old new text result) (λ i. block_text 0 (shown P []) (counted i) (as_many i) ++ left_text P (counted i) (as_many i) lines 0)
-    (puts_on old mid new (block_text 0 (shown P []) count cells) (left_text P count cells lines 0) result (put ∙ ap (λ R. after_bytes old (block_text 0 (shown R []) count cells)) same) rest)
+    subst (λ text. Puts old new text result) (λ i. block_text 0 (shown (same i) []) (counted i) (as_many i) ++ left_text (same i) (counted i) (as_many i) lines 0)
+    (puts_on old mid new (block_text 0 (shown Q []) count cells) (left_text Q count cells lines 0) result put rest)
 
 -- the fault of the first block
 pub start_out : (P Q : Network) (count cells : ℕ) (lines : List StepLine) → Q ≡ P → count ≡ values P → cells ≡ P.cells

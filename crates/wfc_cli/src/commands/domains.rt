@@ -15,7 +15,7 @@ ghost use Rattle.wfc_task.specs.Asked.{IsOutputAsked, IsSourceAsked};
 ghost use Rattle.wfc_words.specs.declared.kinds.CommandKind.TheVariants as commands;
 ghost use Rattle.wfc_cli.specs.Answers.{after_step, root_verdict, shown, steps_text};
 ghost use Rattle.wfc_cli.specs.Ending.{EndsPut};
-ghost use Rattle.wfc_cli.specs.Walk.{IsWalk, WalksTo};
+ghost use Rattle.wfc_cli.specs.Walk.{IsWalk, WalksTo, left_text};
 
 use crate::reply::{Stop, Verdict, exhausted};
 use std::alloc::Global;
@@ -121,6 +121,32 @@ impl<'p> Walk<'p> {
         }
     }
 
+    /// Makes a step and puts its block.
+    fn make<O: Sink, L: Ledger>(
+        &mut self,
+        out: &mut O,
+        step: Step,
+        steps: &mut Steps<L>,
+        number: u32,
+        count: u16,
+        cells: u32,
+    ) -> Result<(), SinkFault>
+        requires inside { IsStepIn self.old.engine.problem step }
+        requires spare { 0 < self.old.engine.spare }
+        requires room { self.old.beside < 2 ^ 32 }
+        requires values { count ≡ values self.old.engine.problem }
+        requires cells { cells ≡ self.old.engine.problem.cells }
+        ensures walks { WalksTo self.old.engine self.old.beside self.new.engine self.new.beside step }
+        ensures problem { self.new.engine.problem ≡ self.old.engine.problem }
+        ensures spare { self.old.engine.spare ≤ self.new.engine.spare + 1 }
+        ensures beside { self.new.beside ≤ self.old.beside + 1 }
+        ensures put { (standing : List Literal) → IsWalk self.new.engine self.new.beside standing
+            → Puts (O.seen out.old) (O.seen out.new) (block_text number (shown self.new.engine.problem standing) count cells) result }
+    {
+        self.step(step, steps);
+        self.put(out, number, count, cells)
+    }
+
     /// Makes a step.
     fn step<L: Ledger>(&mut self, step: Step, steps: &mut Steps<L>)
         requires inside { IsStepIn self.old.engine.problem step }
@@ -190,14 +216,37 @@ fn put_blocks<O: Sink, L: Ledger>(
 {
     let count = problem.values();
     let cells = problem.cells();
+    walk.put(out, 0, count, cells)?;
+    put_steps::<O, L>(out, walk, lines, count, cells, blank)
+}
+
+/// Makes each step and puts its block.
+fn put_steps<O: Sink, L: Ledger>(
+    out: &mut O,
+    walk: Walk<'_>,
+    lines: &[StepLine],
+    count: u16,
+    cells: u32,
+    blank: Blank,
+) -> Result<(), SinkFault>
+    requires name { blank.name ≡ L.name }
+    requires parts { blank.parts ≡ L.parts }
+    requires some { 0 < blank.parts }
+    requires begun { IsWalk walk.engine walk.beside [] }
+    requires none { walk.beside ≡ 0 }
+    requires values { count ≡ values walk.engine.problem }
+    requires cells { cells ≡ walk.engine.problem.cells }
+    requires inside { All (λ (line : StepLine). IsStepIn walk.engine.problem line.step) lines.now }
+    requires spare { length lines.now ≤ walk.engine.spare }
+    requires few { length lines.now < 2 ^ 32 }
+    ensures put { Puts (O.seen out.old) (O.seen out.new) (left_text walk.entry.engine.problem count cells lines.now 0) result }
+{
     let mut walk = walk;
     let mut steps = Steps::<L>::new(blank);
     let mut number: u32 = 0;
-    walk.put(out, 0, count, cells)?;
     for line in lines {
-        walk.step(line.step, &mut steps);
         number += 1;
-        walk.put(out, number, count, cells)?;
+        walk.make(out, line.step, &mut steps, number, count, cells)?;
     }
     Ok(())
 }

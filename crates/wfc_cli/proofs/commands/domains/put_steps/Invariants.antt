@@ -3,15 +3,15 @@ use Rattle.std.proofs.Common.{◌≡◌, ◌+◌, ◌≤◌, [], Result, length,
 use Rattle.wfc_outside.specs.Sink.{SinkView, Puts}
 use Rattle.wfc_outside.specs.declared.SinkFault.{SinkFault}
 use Rattle.wfc_cli.specs.Walk.{IsWalk, left_text, stood}
-use Rattle.wfc_cli.proofs.commands.domains.put_blocks.Given as goal
+use Rattle.wfc_cli.proofs.commands.domains.put_steps.Given as goal
 
 abbrev pub invariant-loop-line : goal.invariant-loop-line
 invariant-loop-line g l = record {
   walks : IsWalk l.walk.engine l.walk.beside (stood [] (take l.line-index l.lines));
-  problem : l.walk.engine.problem ≡ l.problem;
+  problem : l.walk.engine.problem ≡ l.initial.walk.engine.problem;
   spare : length l.lines ≤ l.walk.engine.spare + l.line-index;
   beside : l.walk.beside ≤ l.line-index;
   number : l.number ≡ l.line-index;
-  rest : (new : SinkView) (result : Result (Unit {0}) SinkFault) → Puts (g.O.Sink.seen l.out) new (left_text l.problem l.count l.cells l.lines l.line-index) result
-      → Puts (g.O.Sink.seen l.initial.out) new (left_text l.problem l.count l.cells l.lines 0) result;
+  rest : (new : SinkView) (result : Result (Unit {0}) SinkFault) → Puts (g.O.Sink.seen l.out) new (left_text l.initial.walk.engine.problem l.count l.cells l.lines l.line-index) result
+      → Puts (g.O.Sink.seen l.initial.out) new (left_text l.initial.walk.engine.problem l.count l.cells l.lines 0) result;
 }
