@@ -1,9 +1,10 @@
 //! The run of a problem.
 
-ghost use Rattle.std.specs.Prelude.{◌≡◌, ◌<◌, IfOk, Some};
-ghost use Rattle.wfc_search.specs.Search.{IsReady, assignment_of};
+ghost use Rattle.std.specs.Prelude.{◌≡◌, ◌<◌, [], IfOk, Some};
+ghost use Rattle.rand_core.specs.Stream.{Stream};
+ghost use Rattle.wfc_search.specs.Search.{IsEnd, IsGoing, IsReady, assignment_of};
 ghost use Rattle.wfc_search.specs.Shown.{shown};
-ghost use Rattle.wfc_cli.specs.Runs.{IsHeld, IsLegalEnd, IsRan};
+ghost use Rattle.wfc_cli.specs.Runs.{IsHeld, IsLegalEnd, IsRan, seeded};
 
 use rand_core::SeedableRng;
 use rand_pcg::Pcg64;
@@ -65,18 +66,71 @@ fn run_counted<L: Ledger>(
     ensures ran { IfOk result (IsRan problem.now (told chooser).rule budget seed) }
     ensures legal { IfOk result (λ ran. IsLegalEnd problem.now ran.end) }
 {
+    let mut search = opened(alloc, problem, chooser, budget)?;
+    let outcome = seeded_outcome::<L>(&mut search, seed, blank);
+    ran_of(alloc, problem, &search, outcome)
+}
+
+/// A search that has made no turn. It takes all its memory here.
+pub(crate) fn opened<'p>(
+    alloc: Global,
+    problem: &'p Problem,
+    chooser: Box<dyn Chooser>,
+    budget: u32,
+) -> Result<Search<'p, Ac4<'p>>, NoMemory>
+    ensures ready { IfOk result (λ made. IsReady (shown (λ store. store) made (told made.chooser))) }
+    ensures going { IfOk result (λ made. IsGoing made.course) }
+    ensures problem { IfOk result (λ made. made.problem.now ≡ problem.now) }
+    ensures standing { IfOk result (λ made. made.store.standing ≡ []) }
+    ensures rule { IfOk result (λ made. (told made.chooser).rule ≡ (told chooser).rule) }
+    ensures budget { IfOk result (λ made. made.course.budget ≡ budget) }
+    ensures retractions { IfOk result (λ made. made.course.retractions ≡ 0) }
+{
     let Ok(store) = Ac4::open(alloc, problem, problem.depth()) else {
         return Err(NoMemory);
     };
-    let Ok(mut search) = Search::open(alloc, problem, store, chooser, budget) else {
+    let Ok(search) = Search::open(alloc, problem, store, chooser, budget) else {
         return Err(NoMemory);
     };
+    Ok(search)
+}
+
+/// Makes the turns of a search, with the words that a seed gives.
+fn seeded_outcome<L: Ledger>(search: &mut Search<'_, Ac4<'_>>, seed: u64, blank: Blank) -> Outcome
+    requires name { blank.name ≡ L.name }
+    requires parts { blank.parts ≡ L.parts }
+    requires some { 0 < blank.parts }
+    requires ready { IsReady (shown (λ store. store) search.old ((⟦<dyn Chooser as Chooser>⟧ search.old.chooser.vtable).told search.old.chooser.value)) }
+    requires going { IsGoing search.old.course }
+    ensures end { (left : Stream) × IsEnd
+        (shown (λ store. store) search.old ((⟦<dyn Chooser as Chooser>⟧ search.old.chooser.vtable).told search.old.chooser.value)) (seeded seed) result
+        (shown (λ store. store) search.new ((⟦<dyn Chooser as Chooser>⟧ search.new.chooser.vtable).told search.new.chooser.value)) left }
+    ensures outcome { search.new.course.outcome ≡ Some result }
+    ensures ready { IsReady (shown (λ store. store) search.new ((⟦<dyn Chooser as Chooser>⟧ search.new.chooser.vtable).told search.new.chooser.value)) }
+    ensures problem { search.new.problem.now ≡ search.old.problem.now }
+{
     let mut words = Pcg64::seed_from_u64(seed);
     let mut steps = Steps::<L>::new(blank);
     let Ok(outcome) = search.run(&mut words, &mut Quiet, &mut steps) else {
         unreachable!();
     };
-    let end = end_of(alloc, problem, &search, outcome)?;
+    outcome
+}
+
+/// What a search came to.
+fn ran_of(
+    alloc: Global,
+    problem: &Problem,
+    search: &Search<'_, Ac4<'_>>,
+    outcome: Outcome,
+) -> Result<Ran, NoMemory>
+    requires ready { IsReady (shown (λ store. store) search.now ((⟦<dyn Chooser as Chooser>⟧ search.now.chooser.vtable).told search.now.chooser.value)) }
+    requires problem { search.now.problem.now ≡ problem.now }
+    requires outcome { search.now.course.outcome ≡ Some outcome }
+    ensures end { IfOk result (λ ran. IsHeld problem.now search.now.store.standing outcome ran.end) }
+    ensures retractions { IfOk result (λ ran. ran.retractions ≡ search.now.course.retractions) }
+{
+    let end = end_of(alloc, problem, search, outcome)?;
     Ok(Ran {
         end,
         retractions: search.retractions(),

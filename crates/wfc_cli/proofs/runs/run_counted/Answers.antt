@@ -1,13 +1,15 @@
-use Rattle.std.proofs.Common.{refl, ap, ◌∙◌}
-use Rattle.wfc_domains.specs.Store.{StoreView}
-use Rattle.wfc_cli.proofs.RunLemmas.{is_ran, ran_legal, seeded_is}
+use Rattle.std.proofs.Common.{refl, subst, ◌∙◌}
+use Rattle.wfc_problem.specs.Network.{IsProblem}
+use Rattle.wfc_cli.proofs.RunLemmas.{answers_legal, answers_ran}
 use Rattle.wfc_cli.proofs.runs.run_counted.Goals as goal
 
 pub returns-clause-ran : goal.returns-clause-ran
 returns-clause-ran g c =
-    is_ran c.args.problem.now _ _ _ c.args.budget _ c.args.seed _ _ c.in-Ok-run.outcome _ (c.in-Ok-run.ensures.end 0).1 c.in-Ok-open.ensures.problem c.in-Ok-open.ensures.rule c.in-Ok-open.ensures.budget
-    (ap (λ (v : StoreView). v.standing) c.in-Ok-open.ensures.store ∙ c.in-Ok.ensures.opened.standing) c.in-Ok-open.ensures.retractions refl (seeded_is _ c.args.seed c.seed_from_u64-words.ensures)
-    c.in_ok-end.ensures.end c.retractions.ensures.value
+    let made = c.in_ok-search.ensures in
+    answers_ran c.args.problem.now _ _ _ c.args.budget _ c.args.seed _ _ c.seeded_outcome-outcome.result c.ran_of.result (c.seeded_outcome-outcome.ensures.end.1 0).1 made.problem made.rule made.budget made.standing made.retractions refl refl
+    c.ran_of.ensures.end c.ran_of.ensures.retractions
 
 pub returns-clause-legal : goal.returns-clause-legal
-returns-clause-legal g c = ran_legal c.args.problem.now c.depth.ensures.problem _ _ _ _ (returns-clause-ran g c)
+returns-clause-legal g c =
+    let made = c.in_ok-search.ensures in
+    answers_legal c.args.problem.now (subst IsProblem (made.ready.problem ∙ made.problem) made.ready.keeps.sound.problem) _ _ _ _ (returns-clause-ran g c)
