@@ -1,6 +1,6 @@
 //! The command `refute`: the lines of a run, put while it is made.
 
-ghost use Rattle.std.specs.Prelude.{◌≡◌, ◌≤◌, ◌<◌, true, map, IfOk, OnOk, OnErr};
+ghost use Rattle.std.specs.Prelude.{◌≡◌, ◌≤◌, ◌<◌, [], true, map, IfOk, OnOk, OnErr};
 ghost use Rattle.wfc_outside.specs.Sink.{Puts};
 ghost use Rattle.wfc_proof.specs.Heads.{head_2_text, head_text};
 ghost use Rattle.wfc_proof.specs.ProofText.{head_in};
@@ -14,9 +14,11 @@ ghost use Rattle.wfc_task.specs.Checking.{shape_of};
 ghost use Rattle.wfc_words.specs.declared.kinds.CommandKind.TheVariants as commands;
 ghost use Rattle.wfc_cli.specs.Ending.{EndsPut};
 ghost use Rattle.wfc_cli.specs.Refuting.{CutsFrom, IsShortStop, PutsFrom, Refutes, refute_verdict, written_format};
+ghost use Rattle.wfc_cli.specs.Runs.{seeded};
 
 use crate::choosers::{first_of, kinds};
 use crate::reply::{Stop, Verdict, exhausted};
+use crate::runs::opened;
 use rand_core::{Rng, SeedableRng};
 use rand_pcg::Pcg64;
 use std::alloc::Global;
@@ -87,19 +89,10 @@ fn refuted<O: Sink, L: Ledger>(
     requires side { side_of request.now.source ≤ 6 }
     ensures refutes { Refutes (told chooser).rule request.now problem.now (O.seen out.old) (O.seen out.new) result }
 {
-    let Ok(store) = Ac4::open(alloc, problem, problem.depth()) else {
+    let Ok(mut search) = opened(alloc, problem, chooser, request.budget) else {
         return Err(short());
     };
-    let Ok(mut search) = Search::open(alloc, problem, store, chooser, request.budget) else {
-        return Err(short());
-    };
-    put_head(out, request, problem)?;
-    let mut words = Pcg64::seed_from_u64(request.seed);
-    let mut steps = Steps::<L>::new(blank);
-    match put_run(request.format, &mut search, &mut words, out, &mut steps) {
-        Ok(outcome) => Ok(outcome),
-        Err(_) => Err(Stop::Cut),
-    }
+    put_refutation::<O, L>(request, problem, &mut search, out, blank)
 }
 
 /// There is no answer for want of memory.
@@ -108,6 +101,34 @@ fn short() -> Stop
 {
     Stop::Unanswered {
         fault: exhausted(NoMemory),
+    }
+}
+
+/// Puts the head and the lines of a search that has made no turn.
+fn put_refutation<O: Sink, L: Ledger>(
+    request: &Request,
+    problem: &Problem,
+    search: &mut Search<'_, Ac4<'_>>,
+    out: &mut O,
+    blank: Blank,
+) -> Result<Outcome, Stop>
+    requires name { blank.name ≡ L.name }
+    requires parts { blank.parts ≡ L.parts }
+    requires some { 0 < blank.parts }
+    requires side { side_of request.now.source ≤ 6 }
+    requires ready { IsReady (shown (λ store. store) search.old ((⟦<dyn Chooser as Chooser>⟧ search.old.chooser.vtable).told search.old.chooser.value)) }
+    requires going { IsGoing search.old.course }
+    requires problem { search.old.problem.now ≡ problem.now }
+    requires standing { search.old.store.standing ≡ [] }
+    requires budget { search.old.course.budget ≡ request.now.budget }
+    requires retractions { search.old.course.retractions ≡ 0 }
+    ensures refutes { Refutes ((⟦<dyn Chooser as Chooser>⟧ search.old.chooser.vtable).told search.old.chooser.value).rule request.now problem.now
+        (O.seen out.old) (O.seen out.new) result }
+{
+    put_head(out, request, problem)?;
+    match put_seeded::<O, L>(request.format, request.seed, search, out, blank) {
+        Ok(outcome) => Ok(outcome),
+        Err(_) => Err(Stop::Cut),
     }
 }
 
@@ -155,6 +176,32 @@ fn put_shaped_head<O: Sink>(
         Ok(()) => Ok(()),
         Err(fault) => Err(fault),
     }
+}
+
+/// Makes the run with the words that a seed gives, and puts its lines in the format of this number.
+fn put_seeded<O: Sink, L: Ledger>(
+    format: u8,
+    seed: u64,
+    search: &mut Search<'_, Ac4<'_>>,
+    out: &mut O,
+    blank: Blank,
+) -> Result<Outcome, JournalFault>
+    requires name { blank.name ≡ L.name }
+    requires parts { blank.parts ≡ L.parts }
+    requires some { 0 < blank.parts }
+    requires ready { IsReady (shown (λ store. store) search.old ((⟦<dyn Chooser as Chooser>⟧ search.old.chooser.vtable).told search.old.chooser.value)) }
+    requires going { IsGoing search.old.course }
+    requires bare { IsBare (written_format format) (O.seen out.old).told }
+    ensures put { IfOk result (λ outcome. PutsFrom (written_format format)
+        (shown (λ store. store) search.old ((⟦<dyn Chooser as Chooser>⟧ search.old.chooser.vtable).told search.old.chooser.value))
+        (seeded seed) outcome (O.seen out.old) (O.seen out.new)) }
+    ensures cut { OnErr result (CutsFrom (written_format format)
+        (shown (λ store. store) search.old ((⟦<dyn Chooser as Chooser>⟧ search.old.chooser.vtable).told search.old.chooser.value))
+        (seeded seed) (O.seen out.old) (O.seen out.new)) }
+{
+    let mut words = Pcg64::seed_from_u64(seed);
+    let mut steps = Steps::<L>::new(blank);
+    put_run(format, search, &mut words, out, &mut steps)
 }
 
 /// Makes the run, and puts its lines in the format of this number.
