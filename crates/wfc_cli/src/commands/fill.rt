@@ -4,10 +4,11 @@ ghost use Rattle.std.specs.Prelude.{◌≡◌, true, IfOk, Contains, Some, map};
 ghost use Rattle.wfc_problem.specs.Assignment.{IsLegalAssignment};
 ghost use Rattle.wfc_task.specs.Asked.{IsOutputAsked, IsSourceAsked};
 ghost use Rattle.wfc_task.specs.Filling.{IsFilling, IsFillingBy, IsTileFilling};
+ghost use Rattle.wfc_task.specs.Made.{filled_by};
 ghost use Rattle.wfc_task.specs.Tiling.{masked};
 ghost use Rattle.wfc_tiled.specs.Maps.{tile_map};
 ghost use Rattle.wfc_words.specs.declared.kinds.CommandKind.TheVariants.{Fill};
-ghost use Rattle.wfc_cli.specs.Answer.{Ends};
+ghost use Rattle.wfc_cli.specs.Answer.{Ends, Replies};
 ghost use Rattle.wfc_cli.specs.Answers.{fill_by, picture_text, tiles_text};
 ghost use Rattle.wfc_cli.specs.Choosers.{kinds_of};
 ghost use Rattle.wfc_cli.specs.Held.{problem_in, text_in};
@@ -46,7 +47,23 @@ pub(super) fn fill<F: Folder>(
         Err(cause) => return Err(exhausted(cause)),
     };
     let filled = fill_task(alloc, request, &kinds, folder)?;
-    match answer(alloc, request, choosers, &filled) {
+    replied(alloc, request, choosers, &filled)
+}
+
+/// The reply with the text of the map in which the run ends.
+fn replied(
+    alloc: Global,
+    request: &Request,
+    choosers: Vec<Box<dyn Chooser>>,
+    filled: &Filled,
+) -> Result<Answer, Fault>
+    requires chooser { Contains (kinds_of (map (λ chooser. (told chooser).rule) choosers.items)) request.now.rule }
+    requires output { IsOutputAsked request.now }
+    requires filling { IsFillingBy request.now filled.now }
+    ensures replies { Replies (map (λ chooser. (told chooser).rule) choosers.items) request.now
+        (filled_by request.now filled.now) (reply_view result) }
+{
+    match answer(alloc, request, choosers, filled) {
         Ok(answer) => Ok(answer),
         Err(cause) => Err(exhausted(cause)),
     }

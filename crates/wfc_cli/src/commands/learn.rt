@@ -3,8 +3,10 @@
 ghost use Rattle.std.specs.Prelude.{◌≡◌, true, IfOk, List};
 ghost use Rattle.wfc_choose.specs.Pick.{Rule};
 ghost use Rattle.wfc_task.specs.Asked.{IsSourceAsked};
+ghost use Rattle.wfc_task.specs.Made.{learned_by};
+ghost use Rattle.wfc_words.specs.RequestView.{RequestView};
 ghost use Rattle.wfc_words.specs.declared.kinds.CommandKind.TheVariants.{Learn};
-ghost use Rattle.wfc_cli.specs.Answer.{Ends};
+ghost use Rattle.wfc_cli.specs.Answer.{Ends, Replies};
 ghost use Rattle.wfc_cli.specs.Held.{rules_text};
 ghost use Rattle.wfc_cli.specs.Reply.{done_with};
 ghost use Rattle.wfc_cli.specs.ReplyView.{answer_view, reply_view};
@@ -28,7 +30,15 @@ pub(super) fn learn<F: Folder>(
         → Ends rules request.now (F.seen folder.old) (F.seen folder.new) (reply_view result) }
 {
     let learned = learn_task(alloc, request, folder)?;
-    match answer(alloc, &learned) {
+    replied(alloc, &learned)
+}
+
+/// The reply with the text of the rules.
+fn replied(alloc: Global, learned: &Learned) -> Result<Answer, Fault>
+    ensures replies { (rules : List Rule) (asked : RequestView)
+        → Replies rules asked (learned_by learned.now) (reply_view result) }
+{
+    match answer(alloc, learned) {
         Ok(answer) => Ok(answer),
         Err(cause) => Err(exhausted(cause)),
     }

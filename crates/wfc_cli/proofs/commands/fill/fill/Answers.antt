@@ -2,24 +2,15 @@ use Rattle.std.proofs.Common.{◌∙◌, Ok}
 use Rattle.wfc_task.specs.Made.{filled_by}
 use Rattle.wfc_words.specs.declared.kinds.CommandKind.TheVariants as commands
 use Rattle.wfc_cli.proofs.EndLemmas.{ends_short, ends_with}
-use Rattle.wfc_cli.proofs.HeldLemmas.{fill_said}
 use Rattle.wfc_cli.proofs.commands.fill.fill.Goals as goal
 
 pub returns-in-Err : goal.returns-in-Err
 returns-in-Err g c = record { ends = ends_short _ _ _ c.exhausted.result c.exhausted.ensures.short }
-
-pub returns-in-Ok-answer : goal.returns-in-Ok-answer
-returns-in-Ok-answer g c =
-    let kinds = c.deref-2.ensures.value ∙ (rw c.deref.ensures.value at c.in-Ok.ensures.value) in
-    record {
-      ends = ends_with _ c.args.request.now commands.Fill _ _ _ (Ok (filled_by c.args.request.now c.in_ok-filled.filled)) _ c.requires.fill kinds c.in_ok-filled.ensures.goes
-          (fill_said _ c.args.request.now c.in_ok-filled.filled _ c.in-Ok-answer.ensures.answers);
-    }
 
 pub returns : goal.returns
 returns g c =
     let kinds = c.deref-2.ensures.value ∙ (rw c.deref.ensures.value at c.in-Ok.ensures.value) in
     record {
       ends = ends_with _ c.args.request.now commands.Fill _ _ _ (Ok (filled_by c.args.request.now c.in_ok-filled.filled)) _ c.requires.fill kinds c.in_ok-filled.ensures.goes
-          c.exhausted-in-Err-answer.ensures.short;
+          c.replied.ensures.replies;
     }
