@@ -19,7 +19,7 @@ use crate::choosers::{first_of, kinds};
 use crate::reply::{Answer, Verdict, exhausted};
 use crate::runs::{End, run};
 use std::alloc::Global;
-use wfc_choose::Chooser;
+use wfc_choose::{Chooser, RuleKind};
 use wfc_outside::{Folder, NoMemory};
 use wfc_overlap::picture_of;
 use wfc_picture::Picture;
@@ -46,7 +46,25 @@ pub(super) fn fill<F: Folder>(
         Ok(kinds) => kinds,
         Err(cause) => return Err(exhausted(cause)),
     };
-    let filled = fill_task(alloc, request, &kinds, folder)?;
+    filled_with(alloc, request, choosers, &kinds, folder)
+}
+
+/// The same with the kinds of the choosers.
+fn filled_with<F: Folder>(
+    alloc: Global,
+    request: &Request,
+    choosers: Vec<Box<dyn Chooser>>,
+    kinds: &[RuleKind],
+    folder: &mut F,
+) -> Result<Answer, Fault>
+    requires fill { request.now.command ≡ Fill }
+    requires source { IsSourceAsked request.now }
+    requires output { IsOutputAsked request.now }
+    requires kinds { kinds.now ≡ kinds_of (map (λ chooser. (told chooser).rule) choosers.items) }
+    ensures ends { Ends (map (λ chooser. (told chooser).rule) choosers.items) request.now
+        (F.seen folder.old) (F.seen folder.new) (reply_view result) }
+{
+    let filled = fill_task(alloc, request, kinds, folder)?;
     replied(alloc, request, choosers, &filled)
 }
 
