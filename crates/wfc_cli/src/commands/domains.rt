@@ -121,6 +121,32 @@ impl<'p> Walk<'p> {
         }
     }
 
+    /// Makes each step and puts its block.
+    fn make_each<O: Sink, L: Ledger>(
+        &mut self,
+        out: &mut O,
+        lines: &[StepLine],
+        steps: &mut Steps<L>,
+        count: u16,
+        cells: u32,
+    ) -> Result<(), SinkFault>
+        requires begun { IsWalk self.old.engine self.old.beside [] }
+        requires none { self.old.beside ≡ 0 }
+        requires values { count ≡ values self.old.engine.problem }
+        requires cells { cells ≡ self.old.engine.problem.cells }
+        requires inside { All (λ (line : StepLine). IsStepIn self.old.engine.problem line.step) lines.now }
+        requires spare { length lines.now ≤ self.old.engine.spare }
+        requires few { length lines.now < 2 ^ 32 }
+        ensures put { Puts (O.seen out.old) (O.seen out.new) (left_text self.old.engine.problem count cells lines.now 0) result }
+    {
+        let mut number: u32 = 0;
+        for line in lines {
+            number += 1;
+            self.make(out, line.step, steps, number, count, cells)?;
+        }
+        Ok(())
+    }
+
     /// Makes a step and puts its block.
     fn make<O: Sink, L: Ledger>(
         &mut self,
@@ -220,7 +246,7 @@ fn put_blocks<O: Sink, L: Ledger>(
     put_steps::<O, L>(out, walk, lines, count, cells, blank)
 }
 
-/// Makes each step and puts its block.
+/// Makes each step, counted in a ledger of its own, and puts its block.
 fn put_steps<O: Sink, L: Ledger>(
     out: &mut O,
     walk: Walk<'_>,
@@ -243,10 +269,5 @@ fn put_steps<O: Sink, L: Ledger>(
 {
     let mut walk = walk;
     let mut steps = Steps::<L>::new(blank);
-    let mut number: u32 = 0;
-    for line in lines {
-        number += 1;
-        walk.make(out, line.step, &mut steps, number, count, cells)?;
-    }
-    Ok(())
+    walk.make_each(out, lines, &mut steps, count, cells)
 }

@@ -2,7 +2,7 @@ use Rattle.std.proofs.Common.{◌+◌, ◌∙◌, [], take, ap, refl, Ok, Err, a
 use Rattle.std.proofs.lemmas.Result.{err_from_is_err_and}
 use Rattle.wfc_cli.specs.Walk.{stood}
 use Rattle.wfc_cli.proofs.WalkLemmas.{blocks_end, next_on, next_out, walk_next}
-use Rattle.wfc_cli.proofs.commands.domains.put_steps.Goals as goal
+use Rattle.wfc_cli.proofs.commands.domains.Walk.make_each.Goals as goal
 
 pub loop-line-init : goal.loop-line-init
 loop-line-init g c = record {
@@ -22,7 +22,7 @@ returns-in_err-make g c =
     let walk = walk_next lines i _ _ _ _ _ c.loop-line-test.true c.in_err-make.ensures.walks c.loop-line.invariant.walks in
     record {
       put = rw p.1 (c.loop-line.invariant.rest _ (Err c.in_err-make.field-0.0)
-          (next_out c.args.walk.engine.problem c.make.new.self.engine.problem c.args.count c.args.cells lines i c.loop-line.number c.loop-line-test.true (c.in_err-make.ensures.problem ∙ c.loop-line.invariant.problem) c.loop-line.invariant.number _ _
+          (next_out c.args.self.now.engine.problem c.make.new.self.engine.problem c.args.count c.args.cells lines i c.loop-line.number c.loop-line-test.true (c.in_err-make.ensures.problem ∙ c.loop-line.invariant.problem) c.loop-line.invariant.number _ _
           (c.in_err-make.ensures.put (stood [] (take (i + 1) lines)) walk)));
     }
 
@@ -38,11 +38,11 @@ loop-line-preserved g c =
       beside = omega (arith, c.in_ok-make.ensures.beside, c.loop-line.invariant.beside);
       number = ap (λ n. n + 1) c.loop-line.invariant.number;
       rest = λ new result rest. c.loop-line.invariant.rest new result
-          (next_on c.args.walk.engine.problem c.make.new.self.engine.problem c.args.count c.args.cells lines i c.loop-line.number c.loop-line-test.true (c.in_ok-make.ensures.problem ∙ c.loop-line.invariant.problem) c.loop-line.invariant.number _ _ new result
+          (next_on c.args.self.now.engine.problem c.make.new.self.engine.problem c.args.count c.args.cells lines i c.loop-line.number c.loop-line-test.true (c.in_ok-make.ensures.problem ∙ c.loop-line.invariant.problem) c.loop-line.invariant.number _ _ new result
           (c.in_ok-make.ensures.put (stood [] (take (i + 1) lines)) walk) rest);
     }
 
 pub returns : goal.returns
 returns g c = record {
-  put = c.loop-line.invariant.rest _ (Ok tt) (blocks_end c.args.walk.engine.problem c.args.count c.args.cells c.args.lines.now c.loop-line.line-index _ c.loop-line-test.false);
+  put = c.loop-line.invariant.rest _ (Ok tt) (blocks_end c.args.self.now.engine.problem c.args.count c.args.cells c.args.lines.now c.loop-line.line-index _ c.loop-line-test.false);
 }
