@@ -8,7 +8,7 @@ ghost use Rattle.wfc_domains.specs.Domains.{has};
 ghost use Rattle.wfc_domains.specs.Counters.{FitsTable, count_of, counts_of, cost_at, cost_of, place};
 ghost use Rattle.wfc_domains.specs.Removals.{without};
 ghost use Rattle.wfc_domains.specs.Store.{IsOpening};
-ghost use Rattle.wfc_domains.specs.Board.{Grows, IsFresh, IsTraced};
+ghost use Rattle.wfc_domains.specs.Board.{Grows, HasValues, IsFresh, IsTraced};
 ghost use Rattle.wfc_ac4.specs.Places.{places_upto, side_places, places_of};
 ghost use Rattle.wfc_ac4.specs.Links.{AreLinks, links_of};
 ghost use Rattle.wfc_ac4.specs.State.{IsWorking, IsBetween, IsRolled, IsRaising, IsScanned, AreLowered, counted};
@@ -46,6 +46,7 @@ impl<'p> Flight<'p> {
     #[inline]
     fn strike(&mut self, next: u32, link: Link, at: usize)
         requires traced { IsTraced self.old.board }
+        requires filled { self.old.board.verdict ≡ Alive → HasValues self.old.board }
         requires fits { FitsTable self.old.board.problem.now self.old.counters }
         requires next_in { next < self.old.board.problem.now.cells }
         requires back { link.back ≡ opposite link.dir }

@@ -31,9 +31,9 @@ stood_more D [] e = last_of (D e.cell e.value)
 stood_more D (x ∷ es) e = ap (λ b. D x.cell x.value && b) (stood_more (behind D x) es e) ∙ both_of (D x.cell x.value) (are_stood (behind D x) es) (left D (x ∷ es) e.cell e.value)
 
 -- entries only take away
-within_at : (b : Bool) (D B : Test) (c v : ℕ) → Within D B → Within (cond b D (cut D (Not c v))) B
+within_at : (b : Bool) (D B : Test) (c v : ℕ) → Within D B → Within (cond b D (cut D (Not v c))) B
 within_at true D B c v within = within
-within_at false D B c v within = cut_within D B (Not c v) within
+within_at false D B c v within = cut_within D B (Not v c) within
 
 pub left_within : (D B : Test) (es : List Entry) → Within D B → Within (left D es) B
 left_within D B [] within = within
@@ -45,7 +45,7 @@ left_inside P p es c v t = base_inside P p c v (left_within (in_base P) (in_base
 
 -- each entry takes a pair or adds a branch
 room_at : (b : Bool) (P : Network) → IsProblem P → (D : Test) → Within D (in_base P) → (W : List Test) (c v : ℕ) → D c v ≡ true
-    → pairs P (cond b D (cut D (Not c v))) + length W + 1 ≤ pairs P D + length (cond b (cut D (Not c v) ∷ W) W)
+    → pairs P (cond b D (cut D (Not v c))) + length W + 1 ≤ pairs P D + length (cond b (cut D (Not v c) ∷ W) W)
 room_at true P p D within W c v t = omega arith
 room_at false P p D within W c v t = omega (arith, not_less P p D within c v t)
 

@@ -63,7 +63,7 @@ flag_set n flags c v rows b c' v' whole hc hv = elim (cases_eq c' c) [
 
 -- a value is taken away
 pub flag_removed : (n : ℕ) (flags : List Bool) (D : Test) (c v rows : ℕ) → length flags ≡ rows * n → c < rows → v < n
-    → ((x w : ℕ) → has_flag n flags x w ≡ D x w) → (c' v' : ℕ) → has_flag n (set flags (c * n + v) false) c' v' ≡ cut D (Not c v) c' v'
+    → ((x w : ℕ) → has_flag n flags x w ≡ D x w) → (c' v' : ℕ) → has_flag n (set flags (c * n + v) false) c' v' ≡ cut D (Not v c) c' v'
 flag_removed n flags D c v rows whole hc hv each c' v' =
     flag_set n flags c v rows false c' v' whole hc hv ∙ ap (λ x. cond ((c' == c) && (v' == v)) false x) (each c' v') ∙ off ((c' == c) && (v' == v)) (D c' v')
   where
@@ -72,7 +72,7 @@ flag_removed n flags D c v rows whole hc hv each c' v' =
 
 -- and comes back
 pub flag_restored : (n : ℕ) (flags : List Bool) (D : Test) (c v rows : ℕ) → length flags ≡ rows * n → c < rows → v < n → D c v ≡ true
-    → ((x w : ℕ) → has_flag n flags x w ≡ cut D (Not c v) x w) → (c' v' : ℕ) → has_flag n (set flags (c * n + v) true) c' v' ≡ D c' v'
+    → ((x w : ℕ) → has_flag n flags x w ≡ cut D (Not v c) x w) → (c' v' : ℕ) → has_flag n (set flags (c * n + v) true) c' v' ≡ D c' v'
 flag_restored n flags D c v rows whole hc hv t each c' v' =
     flag_set n flags c v rows true c' v' whole hc hv ∙ ap (λ x. cond ((c' == c) && (v' == v)) true x) (each c' v')
     ∙ on ((c' == c) && (v' == v)) (D c' v') (λ both.

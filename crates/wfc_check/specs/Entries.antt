@@ -8,7 +8,7 @@ use Rattle.wfc_check.specs.declared.trail.Entry.{Entry}
 
 -- the domains behind an entry: without its value, unless a branch waits there
 abbrev pub behind : Test → Entry → Test
-behind D e = if e.waits then D else cut D (Not e.cell e.value)
+behind D e = if e.waits then D else cut D (Not e.value e.cell)
 
 -- the domains behind all entries
 abbrev pub left : Test → List Entry → Test
@@ -17,7 +17,7 @@ left D (e ∷ es) = left (behind D e) es
 
 -- the branches that wait, with those before the entries behind them: an entry's branch is without its value
 abbrev pub put_off : Test → List Test → Entry → List Test
-put_off D waits e = if e.waits then cut D (Not e.cell e.value) ∷ waits else waits
+put_off D waits e = if e.waits then cut D (Not e.value e.cell) ∷ waits else waits
 
 -- the branches that wait behind all entries, the innermost first
 abbrev pub waiting : Test → List Test → List Entry → List Test
@@ -49,10 +49,10 @@ with_more t e = record t { entries = t.entries ++ e ∷ [] }
 -- the branch of this entry waited innermost, and the trail is as it was where the branch was put off
 pub record Resumes (old new : TrailView) (entry : Entry) : Type 0 where
   pub stands : IsTrue (standing new entry.cell entry.value)
-  pub waited : waits_of old ≡ cut (standing new) (Not entry.cell entry.value) ∷ waits_of new
+  pub waited : waits_of old ≡ cut (standing new) (Not entry.value entry.cell) ∷ waits_of new
 
 -- the branch with the value came first, and that without it waits
 pub record Branches (old new : TrailView) (cell value : ℕ) : Type 0 where
   pub problem : new.problem ≡ old.problem
-  pub first : standing new ≡ cut (standing old) (Is cell value)
-  pub second : waits_of new ≡ cut (standing old) (Not cell value) ∷ waits_of old
+  pub first : standing new ≡ cut (standing old) (Is value cell)
+  pub second : waits_of new ≡ cut (standing old) (Not value cell) ∷ waits_of old

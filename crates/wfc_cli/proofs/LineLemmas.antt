@@ -52,32 +52,31 @@ use Rattle.wfc_task.specs.CheckGiven.{IsCheckTask}
 use Rattle.wfc_task.specs.Checking.{refutation_name}
 use Rattle.wfc_task.specs.Demo.{demo_patterns, demo_problem}
 use Rattle.wfc_task.specs.Fault.{build_class, class_status, colours_class, grid_class, learn_class, mask_class, pins_class, ppm_class, status_of, steps_class, tiles_class}
-use Rattle.wfc_task.specs.Plan.{Goes, IsShort}
+use Rattle.wfc_task.specs.Plan.{Goes}
 use Rattle.wfc_task.specs.Task.{plan_of}
 use Rattle.wfc_task.specs.declared.fault.Fault.{Fault}
 use Rattle.wfc_task.specs.declared.fault.Fault.TheVariants.{Unread, Refused}
-use Rattle.wfc_task.specs.declared.fault.Refusal.{Refusal}
 use Rattle.wfc_task.specs.declared.fault.Refusal.TheVariants as refused
 use Rattle.wfc_task.specs.declared.fault.Source.{Source}
 use Rattle.wfc_task.specs.declared.fault.Source.TheVariants as source
 use Rattle.wfc_task.proofs.CallerLemmas.{check_given, domains_given, refute_given, upgrade_given}
 use Rattle.wfc_cli.specs.Answer.{AnswersAsked, Devices, Ends, IsAnswer, IsAnswerTo, IsRefusedCall}
-use Rattle.wfc_cli.specs.Answers.{Answers, check_answer, demo_answer, demo_budget, demo_text, domains_answer, outcome_status, root_verdict, verdict_of}
+use Rattle.wfc_cli.specs.Answers.{Answers, check_answer, demo_answer, demo_budget, domains_answer, verdict_of}
 use Rattle.wfc_cli.specs.Choosers.{kinds_of}
 use Rattle.wfc_cli.specs.Claims.{IsCommand}
 use Rattle.wfc_cli.specs.CutClaims.{demonstration}
-use Rattle.wfc_cli.specs.ErrorLine.{command_status, fault_text, grid_text, name_of, refusal_text, unread_text}
-use Rattle.wfc_cli.specs.LineClaims.{IsApartFromErr, IsNoText, IsReason, TellsReason, TellsStatus, TellsWords, beside, budget_by, says_fault, says_file, says_no, says_out, says_short, says_spent}
+use Rattle.wfc_cli.specs.ErrorLine.{fault_text, grid_text, name_of, unread_text}
+use Rattle.wfc_cli.specs.LineClaims.{IsApartFromErr, IsNoText, TellsReason, TellsStatus, TellsWords, beside, budget_by, says_fault, says_file, says_no, says_out, says_short, says_spent}
 use Rattle.wfc_cli.specs.Refuting.{RefutesFront, RefutesWhole, refute_verdict}
-use Rattle.wfc_cli.specs.Reply.{Answered, CutsOff, Delivers, IsDelivered, IsTold, Reply, TakesWhole, Tells, said_of, verdict_status, verdict_text}
+use Rattle.wfc_cli.specs.Reply.{Answered, Delivers, IsTold, Reply, TakesWhole, Tells, said_of, verdict_status, verdict_text}
 use Rattle.wfc_cli.specs.Runs.{end_of}
-use Rattle.wfc_cli.specs.Theorem.{IsGiven, task_of}
+use Rattle.wfc_cli.specs.Theorem.{IsGiven}
 use Rattle.wfc_cli.specs.UpgradeClaims.{UpgradeWork}
 use Rattle.wfc_cli.specs.Upgrading.{first_fault, upgrade_answer}
 use Rattle.wfc_cli.specs.declared.reply.Verdict.{Verdict}
 use Rattle.wfc_cli.specs.declared.reply.Verdict.TheVariants as verdict
 use Rattle.wfc_cli.proofs.CommandLemmas.{HasAnswered, answered_task, demo_given, fill_answered, has_learned, planned}
-use Rattle.wfc_cli.proofs.ReachLemmas.{IsStopped, goes_stopped}
+use Rattle.wfc_cli.proofs.ReachLemmas.{goes_stopped}
 use Rattle.wfc_cli.proofs.RefuteLemmas.{has_refuted}
 use Rattle.wfc_cli.proofs.TheoremLemmas.{FaultOf, command_between, cut_counted, fault_between, fault_from, file_fault, of_plan, of_task, refused_status, told_reply}
 use Rattle.wfc_cli.proofs.UpgradeLemmas.{has_upgraded}

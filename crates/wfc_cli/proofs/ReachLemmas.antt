@@ -1,10 +1,10 @@
 -- Which file a plan comes to that ends with a fault of a device.
-use Rattle.std.proofs.Common.{◌≡◌, ℕ, ◌⊎◌, inl, inr, List, Option, Some, Result, Ok, Err, ap, sym, ◌∙◌, subst, refl, arith}
+use Rattle.std.proofs.Common.{◌≡◌, ℕ, ◌⊎◌, inl, inr, List, Option, Some, Result, Err, ap, sym, ◌∙◌, subst, refl, arith}
 use Rattle.wfc_outside.specs.Folder.{File, FolderView, IsFaultOf}
 use Rattle.wfc_outside.specs.declared.whole.ReadFault.{ReadFault}
 use Rattle.wfc_outside.specs.declared.whole.ReadFault.TheVariants as reading
 use Rattle.wfc_task.specs.Fault.{class_of, class_status, reading_status, status_of}
-use Rattle.wfc_task.specs.Plan.{CausesUnread, Follows, Goes, IsHindered, IsShort, Plan, ToldEnd, done, outcome, read, refuse}
+use Rattle.wfc_task.specs.Plan.{CausesUnread, Follows, Goes, IsShort, Plan, ToldEnd, done, outcome, read, refuse}
 use Rattle.wfc_task.specs.declared.fault.Class.{Class}
 use Rattle.wfc_task.specs.declared.fault.Class.TheVariants.{Input, Memory, NoChooser}
 use Rattle.wfc_task.specs.declared.fault.Fault.{Fault}

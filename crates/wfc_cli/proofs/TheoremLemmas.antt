@@ -12,7 +12,7 @@ use Rattle.wfc_words.specs.RequestView.{RequestView}
 use Rattle.wfc_words.specs.declared.fault.CommandFault.{CommandFault}
 use Rattle.wfc_words.specs.declared.fault.CommandFault.TheVariants as words_fault
 use Rattle.wfc_task.specs.Fault.{class_of, class_status, reading_status, status_of}
-use Rattle.wfc_task.specs.Plan.{Goes, IsShort, Plan, refuse}
+use Rattle.wfc_task.specs.Plan.{Goes, IsShort}
 use Rattle.wfc_task.specs.Task.{Task, plan_of}
 use Rattle.wfc_task.specs.declared.fault.Fault.{Fault}
 use Rattle.wfc_task.specs.declared.fault.Fault.TheVariants.{Unread, Refused}

@@ -32,10 +32,10 @@ ghost use Rattle.wfc_cli.specs.declared.reply.Verdict.TheVariants as verdicts;
 pub fn standings_by_example()
     ensures none { standings [] [] ≡ [] ∷ [] }
     ensures undone { standings []
-        (record { line = 1; step = Assume (Is 0 0) } ∷ record { line = 2; step = Assume (Not 2 1) }
-        ∷ record { line = 5; step = Undo } ∷ []) ≡ [] ∷ (Is 0 0 ∷ []) ∷ (Is 0 0 ∷ Not 2 1 ∷ []) ∷ (Is 0 0 ∷ []) ∷ [] }
-    ensures all_undone { standings (Is 7 3 ∷ []) (record { line = 1; step = Undo } ∷ record { line = 2; step = Assume (Is 1 0) } ∷ [])
-        ≡ (Is 7 3 ∷ []) ∷ [] ∷ (Is 1 0 ∷ []) ∷ [] }
+        (record { line = 1; step = Assume (Is 0 0) } ∷ record { line = 2; step = Assume (Not 1 2) }
+        ∷ record { line = 5; step = Undo } ∷ []) ≡ [] ∷ (Is 0 0 ∷ []) ∷ (Is 0 0 ∷ Not 1 2 ∷ []) ∷ (Is 0 0 ∷ []) ∷ [] }
+    ensures all_undone { standings (Is 3 7 ∷ []) (record { line = 1; step = Undo } ∷ record { line = 2; step = Assume (Is 0 1) } ∷ [])
+        ≡ (Is 3 7 ∷ []) ∷ [] ∷ (Is 0 1 ∷ []) ∷ [] }
 {}
 
 /// The four lines of a demonstration, by example.

@@ -100,13 +100,16 @@ fn seeded_outcome<L: Ledger>(search: &mut Search<'_, Ac4<'_>>, seed: u64, blank:
     requires name { blank.name ≡ L.name }
     requires parts { blank.parts ≡ L.parts }
     requires some { 0 < blank.parts }
-    requires ready { IsReady (shown (λ store. store) search.old ((⟦<dyn Chooser as Chooser>⟧ search.old.chooser.vtable).told search.old.chooser.value)) }
+    requires ready { IsReady (shown (λ store. store) search.old
+        ((⟦<dyn Chooser as Chooser>⟧ search.old.chooser.vtable).told search.old.chooser.value)) }
     requires going { IsGoing search.old.course }
     ensures end { (left : Stream) × IsEnd
-        (shown (λ store. store) search.old ((⟦<dyn Chooser as Chooser>⟧ search.old.chooser.vtable).told search.old.chooser.value)) (seeded seed) result
+        (shown (λ store. store) search.old
+        ((⟦<dyn Chooser as Chooser>⟧ search.old.chooser.vtable).told search.old.chooser.value)) (seeded seed) result
         (shown (λ store. store) search.new ((⟦<dyn Chooser as Chooser>⟧ search.new.chooser.vtable).told search.new.chooser.value)) left }
     ensures outcome { search.new.course.outcome ≡ Some result }
-    ensures ready { IsReady (shown (λ store. store) search.new ((⟦<dyn Chooser as Chooser>⟧ search.new.chooser.vtable).told search.new.chooser.value)) }
+    ensures ready { IsReady (shown (λ store. store) search.new
+        ((⟦<dyn Chooser as Chooser>⟧ search.new.chooser.vtable).told search.new.chooser.value)) }
     ensures problem { search.new.problem.now ≡ search.old.problem.now }
 {
     let mut words = Pcg64::seed_from_u64(seed);
@@ -124,7 +127,8 @@ fn ran_of(
     search: &Search<'_, Ac4<'_>>,
     outcome: Outcome,
 ) -> Result<Ran, NoMemory>
-    requires ready { IsReady (shown (λ store. store) search.now ((⟦<dyn Chooser as Chooser>⟧ search.now.chooser.vtable).told search.now.chooser.value)) }
+    requires ready { IsReady (shown (λ store. store) search.now
+        ((⟦<dyn Chooser as Chooser>⟧ search.now.chooser.vtable).told search.now.chooser.value)) }
     requires problem { search.now.problem.now ≡ problem.now }
     requires outcome { search.now.course.outcome ≡ Some outcome }
     ensures end { IfOk result (λ ran. IsHeld problem.now search.now.store.standing outcome ran.end) }
@@ -144,7 +148,8 @@ fn end_of(
     search: &Search<'_, Ac4<'_>>,
     outcome: Outcome,
 ) -> Result<End, NoMemory>
-    requires ready { IsReady (shown (λ store. store) search.now ((⟦<dyn Chooser as Chooser>⟧ search.now.chooser.vtable).told search.now.chooser.value)) }
+    requires ready { IsReady (shown (λ store. store) search.now
+        ((⟦<dyn Chooser as Chooser>⟧ search.now.chooser.vtable).told search.now.chooser.value)) }
     requires problem { search.now.problem.now ≡ problem.now }
     requires outcome { search.now.course.outcome ≡ Some outcome }
     ensures end { IfOk result (IsHeld problem.now search.now.store.standing outcome) }
@@ -164,7 +169,8 @@ fn assignment(
     problem: &Problem,
     search: &Search<'_, Ac4<'_>>,
 ) -> Result<Vec<u16>, NoMemory>
-    requires ready { IsReady (shown (λ store. store) search.now ((⟦<dyn Chooser as Chooser>⟧ search.now.chooser.vtable).told search.now.chooser.value)) }
+    requires ready { IsReady (shown (λ store. store) search.now
+        ((⟦<dyn Chooser as Chooser>⟧ search.now.chooser.vtable).told search.now.chooser.value)) }
     requires problem { search.now.problem.now ≡ problem.now }
     requires map { search.now.course.outcome ≡ Some Outcome.Map }
     ensures value { IfOk result (λ values. values.items ≡ assignment_of problem.now search.now.store.standing) }

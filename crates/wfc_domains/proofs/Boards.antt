@@ -19,7 +19,7 @@ use Rattle.wfc_domains.specs.Domains.{Flags, has, size_of, less, IsLess, base_of
 use Rattle.wfc_domains.specs.Log.{extent_of, IsInside, IsCauseBelow, IsLogged, cells_of, sizes_after}
 use Rattle.wfc_domains.specs.Removals.{without, IsCause, IsRemoved, AreRemoved}
 use Rattle.wfc_domains.specs.Store.{StoreView, IsSound, mark_of, left_of, before_of}
-use Rattle.wfc_domains.specs.Board.{view_of, AreStood, IsTraced, HasLevels, IsBoard, lost, Grows}
+use Rattle.wfc_domains.specs.Board.{view_of, AreStood, IsTraced, HasLevels, HasValues, IsBoard, lost, Grows}
 use Rattle.wfc_domains.proofs.Problems.{base-in, base_table, depth-few, few_pairs}
 use Rattle.wfc_domains.proofs.SizeLemmas.{stood-sizes}
 use Rattle.wfc_domains.proofs.Removals.{less-gone, less-back, without-within, without-append, without-push, without-split, without-in, stood-push, stood-front, stood-room, stood-few, size-less, size-other, removed-push}
@@ -266,10 +266,12 @@ grows-lost b D cell value cause = record { problem = refl; levels = refl; more =
 
 -- ---- room
 
--- where a value stands there is room for its removal
-pub board-room : (b : Board) → IsTraced b → (c v : ℕ) → IsTrue (has b.domains c v) → length b.trail.removals < b.trail.room
-board-room b t c v stands =
-    omega (arith, stood-room b.problem.now t.problem b.trail.removals c v t.stood (ap (λ f. f c v) (sym t.stands) ∙ stands), t.room)
+-- where each cell has a value there is room for a removal
+pub board-room : (b : Board) → IsTraced b → HasValues b → length b.trail.removals < b.trail.room
+board-room b t filled =
+    let P = b.problem.now in
+    let left = left_of (view_of b) in
+    omega (arith, stood-room P t.problem b.trail.removals t.stood (λ c l. omega (arith, filled c l, size-at P b.domains left c t.same_values t.stands)), t.room)
 
 -- a log has at most as many removals as there are pairs
 pub log-depth : (b : Board) → IsTraced b → length b.trail.removals ≤ depth_of b.problem.now
@@ -326,7 +328,7 @@ grown-within old new t t' same more e c v stands =
 
 -- a board with nothing removed and no literal
 pub board-emptied : (b : Board) → IsTraced b → b.trail.removals ≡ [] → b.trail.start ≡ 0 → b.levels.standing ≡ [] → b.levels.marks ≡ []
-    → (b.verdict ≡ Alive → (c : ℕ) → c < b.problem.now.cells → 0 < size_of b.domains c)
+    → (b.verdict ≡ Alive → HasValues b)
     → ((cell : ℕ) → b.verdict ≡ Dead cell → (cell < b.problem.now.cells) × (size_of b.domains cell ≡ 0))
     → IsBoard b
 board-emptied b t no_removals no_start no_literals no_marks filled empty = record {
@@ -346,8 +348,8 @@ board-emptied b t no_removals no_start no_literals no_marks filled empty = recor
     none : drop (mark_of b.levels.marks) b.trail.removals ≡ []
     none = drop_all (mark_of b.levels.marks) b.trail.removals (omega (arith, ap length no_removals))
 
-pub board-fresh : (b : Board) → IsProblem b.problem.now → b.domains ≡ base_of b.problem.now → b.trail.removals ≡ [] → b.trail.start ≡ 0 → depth_of b.problem.now ≤ b.trail.room → b.trail.extent ≡ extent_of b.problem.now → b.levels.standing ≡ [] → b.levels.marks ≡ []
-    → (b.verdict ≡ Alive → (c : ℕ) → c < b.problem.now.cells → 0 < size_of b.domains c)
+pub board-fresh : (b : Board) → IsProblem b.problem.now → b.domains ≡ base_of b.problem.now → b.trail.removals ≡ [] → b.trail.start ≡ 0 → depth_of b.problem.now + 1 ≤ b.trail.room + b.problem.now.cells → b.trail.extent ≡ extent_of b.problem.now → b.levels.standing ≡ [] → b.levels.marks ≡ []
+    → (b.verdict ≡ Alive → HasValues b)
     → ((cell : ℕ) → b.verdict ≡ Dead cell → (cell < b.problem.now.cells) × (size_of b.domains cell ≡ 0))
     → IsBoard b
 board-fresh b p is_base no_removals no_start room extent no_literals no_marks filled empty = board-emptied b (record {

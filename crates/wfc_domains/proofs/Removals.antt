@@ -1,12 +1,12 @@
 -- Removals in order: what they leave, what stood, and how many they can be.
-use Rattle.std.proofs.Common.{◌≡◌, ◌≢◌, ℕ, ◌+◌, ◌<◌, ◌≤◌, Bool, true, false, List, [], ◌∷◌, ◌++◌, length, take, drop, refl, sym, ◌∙◌, ap, arith}
+use Rattle.std.proofs.Common.{◌≡◌, ◌≢◌, ℕ, suc, ◌+◌, ◌<◌, ◌≤◌, Bool, true, false, List, [], ◌∷◌, ◌++◌, length, take, drop, get_or, refl, sym, ◌∙◌, ap, subst, arith}
 use Rattle.std.specs.Prelude.{not, ◌&&◌, ◌==◌, IsTrue, count_by}
-use Rattle.std.specs.List.{range_with_len}
+use Rattle.std.specs.List.{range_with_len, sum_by}
 use Rattle.std.specs.List.Sorted.{IsStrictlyIncreasing}
 use Rattle.std.proofs.lemmas.Bool.{false≢true, and_parts, eqb-true, eq-eqb}
 use Rattle.std.proofs.lemmas.Bool.Decides.{nat_tests}
 use Rattle.std.proofs.lemmas.List.{take-append-drop}
-use Rattle.std.proofs.lemmas.List.Sums.{length-filter}
+use Rattle.std.proofs.lemmas.List.Sums.{length-filter, sum_by-cons}
 use Rattle.std.proofs.lemmas.List.FromFn.{length-range_with_len}
 use Rattle.wfc_lists.specs.Counts.{but}
 use Rattle.wfc_lists.proofs.Counts.{count_by-le, count_by_agree, count_by_but, sum_by_less}
@@ -145,13 +145,30 @@ stood-few P D (r ∷ rs) inside s =
     let rest = stood-few P (less D r.cell r.value) rs (λ c v t. inside c v (less-within D r.cell r.value c v t)) s.1 in
     omega arith
 
--- where a value still stands, there is room for one more
-pub stood-room : (P : Network) → IsProblem P → (rs : List Removal) (c v : ℕ) → AreStood (in_base P) rs → IsTrue (without (in_base P) rs c v) → length rs < depth_of P
-stood-room P p rs c v s t =
-    let few = stood-few P (in_base P) rs (λ c' v' t'. base-in P p c' v' t') s in
-    let range = without-in P p rs c v t in
-    let fewer = pairs-less P (without (in_base P) rs) c v range.0 range.1 t in
-    omega arith
+-- a sum of terms above 0 is no less than their number
+terms-few : (f : ℕ → ℕ) (xs : List ℕ) → ((i : ℕ) → i < length xs → 0 < f (get_or xs i 0)) → length xs ≤ sum_by f xs
+terms-few f [] each = omega arith
+terms-few f (x ∷ xs) each =
+    let rest = terms-few f xs (λ i l. each (suc i) (omega arith)) in
+    omega (arith, each 0 (omega arith), sum_by-cons f x xs)
+
+-- where each cell has a value there are as many pairs as cells, or more
+pub pairs-filled : (P : Network) (D : Test) → ((c : ℕ) → c < P.cells → 0 < size_at P D c) → P.cells ≤ pairs P D
+pairs-filled P D filled =
+    let xs = range_with_len 0 (values P) in
+    let e = length-range_with_len 0 P.cells in
+    omega (
+      arith,
+      e,
+      terms-few (λ c. count_by (D c) xs) (range_with_len 0 P.cells)
+          (λ i l. subst (λ c. 0 < count_by (D c) xs) (sym (range_at P.cells i (omega arith))) (omega (arith, filled i (omega arith), length-filter (D i) xs))),
+    )
+
+-- then there are so many removals fewer than pairs
+pub stood-room : (P : Network) → IsProblem P → (rs : List Removal) → AreStood (in_base P) rs
+    → ((c : ℕ) → c < P.cells → 0 < size_at P (without (in_base P) rs) c) → length rs + P.cells ≤ depth_of P
+stood-room P p rs s filled =
+    omega (arith, stood-few P (in_base P) rs (λ c v t. base-in P p c v t) s, pairs-filled P (without (in_base P) rs) filled)
 
 -- ---- what was removed for a cause
 

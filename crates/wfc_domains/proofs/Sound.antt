@@ -212,16 +212,16 @@ move-cut : (old new : Board) (ls : List Literal) → new.problem ≡ old.problem
 move-cut old new ls same e within =
     subst (λ xs. Within (has new.domains) (base_with new.problem.now xs)) (sym e) (subst (λ P. Within (has new.domains) (base_with P ls)) (sym (ap (λ p. p.now) same)) within)
 
-pub put-is : (old new : Board) (l : Literal) (cell value : ℕ) → l ≡ Is cell value → IsTraced old → IsSound (view_of old) → old.verdict ≡ Alive → IsTraced new → new.problem ≡ old.problem → (more : List Removal) → new.trail.removals ≡ old.trail.removals ++ more
+pub put-is : (old new : Board) (l : Literal) (cell value : ℕ) → l ≡ Is value cell → IsTraced old → IsSound (view_of old) → old.verdict ≡ Alive → IsTraced new → new.problem ≡ old.problem → (more : List Removal) → new.trail.removals ≡ old.trail.removals ++ more
     → new.levels.standing ≡ old.levels.standing ++ l ∷ [] → (new.verdict ≡ Alive → (other : ℕ) → IsTrue (has new.domains cell other) → other ≡ value) → IsCut new
 put-is old new l cell value is t sound alive t' same more e standing alone still =
-    move-cut old new (old.levels.standing ++ Is cell value ∷ []) same (standing ∙ ap (λ x. old.levels.standing ++ x ∷ []) is)
+    move-cut old new (old.levels.standing ++ Is value cell ∷ []) same (standing ∙ ap (λ x. old.levels.standing ++ x ∷ []) is)
     (cut_is old.problem.now old.levels.standing cell value (has new.domains) (later-cut old new t sound alive t' same more e) (alone still))
 
-pub put-not : (old new : Board) (l : Literal) (cell value : ℕ) → l ≡ Not cell value → IsTraced old → IsSound (view_of old) → old.verdict ≡ Alive → IsTraced new → new.problem ≡ old.problem → (more : List Removal) → new.trail.removals ≡ old.trail.removals ++ more
+pub put-not : (old new : Board) (l : Literal) (cell value : ℕ) → l ≡ Not value cell → IsTraced old → IsSound (view_of old) → old.verdict ≡ Alive → IsTraced new → new.problem ≡ old.problem → (more : List Removal) → new.trail.removals ≡ old.trail.removals ++ more
     → new.levels.standing ≡ old.levels.standing ++ l ∷ [] → has new.domains cell value ≡ false → IsCut new
 put-not old new l cell value is t sound alive t' same more e standing gone still =
-    move-cut old new (old.levels.standing ++ Not cell value ∷ []) same (standing ∙ ap (λ x. old.levels.standing ++ x ∷ []) is)
+    move-cut old new (old.levels.standing ++ Not value cell ∷ []) same (standing ∙ ap (λ x. old.levels.standing ++ x ∷ []) is)
     (cut_not old.problem.now old.levels.standing cell value (has new.domains) (later-cut old new t sound alive t' same more e) gone)
 
 -- ---- an opening

@@ -1,5 +1,5 @@
 -- What holds of a board: domains, the log that led to them, and the levels of literals.
-use Rattle.std.specs.Prelude.{◌≡◌, ℕ, ◌-◌, ◌*◌, ◌<◌, ◌≤◌, List, [], ◌∷◌, ◌++◌, ◌==◌, if◌then◌else◌, length, take, slice_index, IsTrue}
+use Rattle.std.specs.Prelude.{◌≡◌, ℕ, ◌+◌, ◌-◌, ◌*◌, ◌<◌, ◌≤◌, List, [], ◌∷◌, ◌++◌, ◌==◌, if◌then◌else◌, length, take, slice_index, IsTrue}
 use Rattle.wfc_problem.specs.Network.{values, in_base, IsProblem}
 use Rattle.wfc_problem.specs.Domains.{Test, Within, base_with}
 use Rattle.wfc_problem.specs.Rounds.{depth_of}
@@ -37,8 +37,12 @@ pub record IsTraced (b : Board) : Type 0 where
   pub whole : length b.domains.flags ≡ b.problem.now.cells * values b.problem.now
   pub stands : has b.domains ≡ left_of (view_of b)
   pub stood : AreStood (in_base b.problem.now) b.trail.removals
-  pub room : depth_of b.problem.now ≤ b.trail.room
+  pub room : depth_of b.problem.now + 1 ≤ b.trail.room + b.problem.now.cells
   pub extent : b.trail.extent ≡ extent_of b.problem.now
+
+-- each cell has a value left
+abbrev pub HasValues : Board → Type 0
+HasValues b = (c : ℕ) → c < b.problem.now.cells → 0 < size_of b.domains c
 
 -- the store as it was before literal k was put on, but for the levels that were spare
 abbrev pub view_at : StoreView → ℕ → ℕ → StoreView
@@ -64,7 +68,7 @@ pub record IsBoard (b : Board) : Type 0 where
   pub levels : HasLevels (view_of b)
   pub added : AreRemoved b.problem.now b.levels.standing (before_of (view_of b)) (added_of (view_of b))
   pub begun : b.trail.start ≡ mark_of b.levels.marks
-  pub filled : b.verdict ≡ Alive → (c : ℕ) → c < b.problem.now.cells → 0 < size_of b.domains c
+  pub filled : b.verdict ≡ Alive → HasValues b
   pub empty : (cell : ℕ) → b.verdict ≡ Dead cell → (cell < b.problem.now.cells) × (size_of b.domains cell ≡ 0)
 
 -- no value stands that the literals cut

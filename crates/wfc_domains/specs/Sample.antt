@@ -34,7 +34,7 @@ later = record { cell = 3; value = 2; before = 2; cause = Assumed }
 abbrev pub two_levels : StoreView
 two_levels = record {
   problem = corner;
-  standing = Is 0 1 ∷ Not 3 2 ∷ [];
+  standing = Is 1 0 ∷ Not 2 3 ∷ [];
   spare = 4;
   removals = unsupported ∷ cut_first ∷ later ∷ [];
   marks = 1 ∷ 2 ∷ [];

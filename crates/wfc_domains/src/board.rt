@@ -6,7 +6,7 @@ ghost use Rattle.wfc_problem.specs.Network.{values};
 ghost use Rattle.wfc_domains.specs.declared.Verdict.TheVariants.{Alive};
 ghost use Rattle.wfc_domains.specs.Domains.{has};
 ghost use Rattle.wfc_domains.specs.Store.{IsSound};
-ghost use Rattle.wfc_domains.specs.Board.{view_of, IsBoard, IsTraced, IsCut, IsPut, Loses, Grows, Regains, IsFresh};
+ghost use Rattle.wfc_domains.specs.Board.{view_of, IsBoard, IsTraced, IsCut, IsPut, Loses, HasValues, Grows, Regains, IsFresh};
 ghost use Rattle.wfc_domains.specs.Log.{IsCauseBelow};
 
 use crate::domains::Domains;
@@ -45,7 +45,8 @@ impl<'p> Board<'p> {
         ensures fresh { IfOk result (λ board. IsFresh board levels) }
     {
         let domains = Domains::new(alloc, problem)?;
-        let trail = Trail::new(alloc, problem, &domains, problem.depth() as usize)?;
+        let removals = (problem.depth() + 1).saturating_sub(problem.cells());
+        let trail = Trail::new(alloc, problem, &domains, removals as usize)?;
         let levels = Levels::new(alloc, levels)?;
         let verdict = domains.verdict();
         Ok(Board {
@@ -64,6 +65,7 @@ impl<'p> Board<'p> {
         requires stands { IsTrue (has self.old.domains cell value) }
         requires cause_in { IsCauseBelow self.old.problem.now.dirs cause }
         requires alive { self.old.verdict ≡ Alive }
+        requires filled { HasValues self.old }
         ensures removed { Loses self.old self.new cell value cause }
     {
         let before = self.domains.size(cell);

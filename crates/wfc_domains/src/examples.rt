@@ -41,9 +41,9 @@ pub fn removals_are_judged()
     ensures bare { IsUnsupported corner (in_base corner) 2 1 3 }
     ensures supported { IsUnsupported corner (in_base corner) 2 0 3 → ⊥ }
     ensures no_neighbour { IsUnsupported corner (in_base corner) 2 1 0 → ⊥ }
-    ensures assumed { IsCause corner (Is 0 1 ∷ []) (in_base corner) 0 0 Assumed }
-    ensures assumed_not { IsCause corner (Is 0 1 ∷ []) (in_base corner) 0 1 Assumed → ⊥ }
-    ensures cut_first { IsCause corner (Is 0 1 ∷ []) (in_base corner) 2 1 (Arc 3) → ⊥ }
+    ensures assumed { IsCause corner (Is 1 0 ∷ []) (in_base corner) 0 0 Assumed }
+    ensures assumed_not { IsCause corner (Is 1 0 ∷ []) (in_base corner) 0 1 Assumed → ⊥ }
+    ensures cut_first { IsCause corner (Is 1 0 ∷ []) (in_base corner) 2 1 (Arc 3) → ⊥ }
     ensures removed { AreRemoved corner [] (in_base corner) (unsupported ∷ []) }
     ensures before { AreRemoved corner [] (in_base corner) (record unsupported { before = 2 } ∷ [])
         → ⊥ }
@@ -60,7 +60,7 @@ pub fn levels_are_read()
         ∷ [] }
     ensures last { without_last two_levels ≡ record {
       problem = corner;
-      standing = Is 0 1 ∷ [];
+      standing = Is 1 0 ∷ [];
       spare = 5;
       removals = unsupported ∷ cut_first ∷ [];
       marks = 1 ∷ [];

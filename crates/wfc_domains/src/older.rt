@@ -71,7 +71,7 @@ fn place_number(removal: Removal, values: u16, dirs: u8) -> u32
 }
 
 /// Adds removals.
-pub fn add_all(older: &mut Older, removals: &[Removal])
+fn add_all(older: &mut Older, removals: &[Removal])
     requires room { length older.old.removals + length removals.now ≤ older.old.room }
     requires logged { AreLogged older.old.extent (sizes_after older.old.extent.sizes (cells_of
         older.old.removals)) removals.now }
@@ -80,6 +80,19 @@ pub fn add_all(older: &mut Older, removals: &[Removal])
     for removal in removals {
         older.push(*removal);
     }
+}
+
+/// Moves all removals of a list behind the others.
+pub fn move_to(older: &mut Older, list: &mut Vec<Removal>)
+    requires room { length older.old.removals + vec_len list.old ≤ older.old.room }
+    requires logged { AreLogged older.old.extent (sizes_after older.old.extent.sizes (cells_of
+        older.old.removals)) list.old.items }
+    ensures more { older.new ≡ record older.old { removals = older.old.removals ++ list.old.items } }
+    ensures empty { list.new.items ≡ [] }
+    ensures capacity { vec_capacity list.new ≡ vec_capacity list.old }
+{
+    add_all(older, list);
+    list.clear();
 }
 
 /// Moves the removals from an index on to an empty list, the last first.

@@ -1,34 +1,46 @@
 //! The log of removals, with room for a fixed number of them.
 
-ghost use Rattle.std.specs.Prelude.{◌≡◌, ◌<◌, ◌≤◌, ◌++◌, ◌∷◌, [], length, drop, slice_get, Some, IfOk};
+ghost use Rattle.std.specs.Prelude.{◌≡◌, ◌+◌, ◌<◌, ◌≤◌, ◌++◌, ◌∷◌, [], length, drop, slice_get, Some, IfOk};
 ghost use Rattle.wfc_domains.specs.Domains.{base_of};
 ghost use Rattle.wfc_domains.specs.Log.{Log, cells_of, extent_of, sizes_after, IsLogged};
 
 use crate::Removal;
 use crate::domains::Domains;
-use crate::older::{Older, add_all, move_from};
+use crate::older::{Older, move_from, move_to};
 use std::alloc::Global;
 use std::marker::Model;
 use wfc_outside::NoMemory;
 use wfc_problem::Problem;
 
-/// What was removed, in order. The removals of the last level can be read as a list; those of earlier levels take less
-/// memory. It takes its memory where it is made.
+/// The most bytes that a log takes where it keeps earlier removals as numbers: twelve and four for each removal that
+/// there is room for, and two for each cell.
+const MOST_BYTES: u64 = 100_663_296;
+
+/// What was removed, in order. The removals of the last level can be read as a list. Those of earlier levels are kept as
+/// numbers, so that less of the memory is ever written; where all numbers beside a whole list would be more than
+/// `MOST_BYTES`, the list keeps them too. It takes its memory where it is made.
 #[derive(Drop)]
 pub struct Trail {
     room: usize,
+    numbered: bool,
     older: Older,
-    recent: Vec<Removal>,
+    earlier: usize,
+    list: Vec<Removal>,
 }
 
 impl Model for Trail {
-    ghost use Rattle.std.specs.Prelude.{◌++◌, length};
+    ghost use Rattle.std.specs.Prelude.{◌+◌, ◌++◌, length};
     ghost use Rattle.wfc_domains.specs.Log.{Log};
     ghost use Rattle.wfc_domains.specs.Recent.{IsKept};
 
     ghost Value = { Log };
 
-    ghost view = { λ a. record { room = a.room; extent = a.older.extent; start = length a.older.removals; removals = a.older.removals ++ a.recent.items } };
+    ghost view = { λ a. record {
+      room = a.room;
+      extent = a.older.extent;
+      start = length a.older.removals + a.earlier;
+      removals = a.older.removals ++ a.list.items;
+    } };
 
     ghost invariant = { IsKept };
 }
@@ -49,10 +61,15 @@ impl Trail {
           removals = [];
         }) }
     {
+        let most = MOST_BYTES.saturating_sub(2 * u64::from(problem.cells())) / 16;
+        let numbered = room as u64 <= most;
+        let numbers = if numbered { room } else { 0 };
         Ok(Trail {
             room,
-            older: Older::new(alloc, problem, domains, room)?,
-            recent: Vec::with_capacity(alloc, room)?,
+            numbered,
+            older: Older::new(alloc, problem, domains, numbers)?,
+            earlier: 0,
+            list: Vec::with_capacity(alloc, room)?,
         })
     }
 
@@ -62,7 +79,7 @@ impl Trail {
         ensures value { result ≡ length self.now.removals }
         ensures start { self.now.start ≤ result }
     {
-        self.older.len() + self.recent.len()
+        self.older.len() + self.list.len()
     }
 
     /// The removal of the last level at an index of the whole log.
@@ -72,7 +89,7 @@ impl Trail {
         requires index_in { index < length self.now.removals }
         ensures value { slice_get self.now.removals index ≡ Some result }
     {
-        self.recent[index - self.older.len()]
+        self.list[index - self.older.len()]
     }
 
     /// The removals of the last level.
@@ -80,7 +97,7 @@ impl Trail {
     pub fn last(&self) -> &[Removal]
         ensures value { result.now ≡ drop self.now.start self.now.removals }
     {
-        &self.recent
+        &self.list[self.earlier..]
     }
 
     /// One more, of the last level.
@@ -91,7 +108,7 @@ impl Trail {
             self.old.removals)) removal }
         ensures more { self.new ≡ record self.old { removals = self.old.removals ++ removal ∷ [] } }
     {
-        self.recent.push_reserved(removal);
+        self.list.push_reserved(removal);
     }
 
     /// Takes the last removal away.
@@ -104,7 +121,9 @@ impl Trail {
           removals = self.new.removals;
         } }
     {
-        match self.recent.pop() {
+        let last = self.list.pop();
+        self.earlier = self.earlier.min(self.list.len());
+        match last {
             Some(removal) => removal,
             None => self.older.pop(),
         }
@@ -114,8 +133,11 @@ impl Trail {
     pub fn begin(&mut self)
         ensures begun { self.new ≡ record self.old { start = length self.old.removals } }
     {
-        add_all(&mut self.older, &self.recent);
-        self.recent.clear();
+        if self.numbered {
+            move_to(&mut self.older, &mut self.list);
+        } else {
+            self.earlier = self.list.len();
+        }
     }
 
     /// Goes back to a level that began with so many removals.
@@ -123,8 +145,12 @@ impl Trail {
         requires within { start ≤ length self.old.removals }
         ensures reopened { self.new ≡ record self.old { start = start } }
     {
-        self.begin();
-        move_from(&mut self.older, start, &mut self.recent);
-        self.recent.reverse();
+        if self.numbered {
+            move_to(&mut self.older, &mut self.list);
+            move_from(&mut self.older, start, &mut self.list);
+            self.list.reverse();
+        } else {
+            self.earlier = start;
+        }
     }
 }

@@ -21,8 +21,8 @@ use Rattle.wfc_pins.specs.declared.steps.RangeFault.TheVariants.{OutOfRange}
 -- `forbid` that it doesn't
 abbrev pub assumed : List ℕ → Option ℕ → Option ℕ → Option Step
 assumed word (Some cell) (Some value) =
-    if bytes_eq word (codes "choose") then Some (Assume (Is cell value))
-    else (if bytes_eq word (codes "forbid") then Some (Assume (Not cell value)) else None)
+    if bytes_eq word (codes "choose") then Some (Assume (Is value cell))
+    else (if bytes_eq word (codes "forbid") then Some (Assume (Not value cell)) else None)
 assumed word _ _ = None
 
 -- what the words of a line say: `choose` or `forbid`, a cell and a value; or `undo` alone
@@ -74,8 +74,8 @@ steps_of text = steps_behind [] (read_lines text)
 
 -- whether the cell and the value of a step are in a problem
 abbrev pub fits : Network → Step → Bool
-fits P (Assume (Is cell value)) = nat_lt cell P.cells && nat_lt value (values P)
-fits P (Assume (Not cell value)) = nat_lt cell P.cells && nat_lt value (values P)
+fits P (Assume (Is value cell)) = nat_lt cell P.cells && nat_lt value (values P)
+fits P (Assume (Not value cell)) = nat_lt cell P.cells && nat_lt value (values P)
 fits P Undo = true
 
 -- the same as a fact: what is assumed speaks of a cell and a value of the problem

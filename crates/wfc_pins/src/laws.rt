@@ -30,7 +30,7 @@ pub fn pins()
 
 /// Steps in order, and the faults of a line: no step, and an `undo` too many, whichever comes first.
 pub fn steps()
-    ensures read { steps_of (codes "choose 7 2\n\nforbid 1 3\nundo") ≡ Ok (record { line = 1; step = Assume (Is 7 2) } ∷ record { line = 3; step = Assume (Not 1 3) } ∷ record { line = 4; step = Undo } ∷ []) }
+    ensures read { steps_of (codes "choose 7 2\n\nforbid 1 3\nundo") ≡ Ok (record { line = 1; step = Assume (Is 2 7) } ∷ record { line = 3; step = Assume (Not 3 1) } ∷ record { line = 4; step = Undo } ∷ []) }
     ensures undone { steps_of (codes "choose 7 2\nundo\nundo\nundo 1") ≡ Err (step_faults.NothingToUndo 3) }
     ensures bad { steps_of (codes "choose 7 2\nundo 1\nundo\nundo") ≡ Err (step_faults.BadLine 2) }
 {}

@@ -51,9 +51,9 @@ pub corner_legal : IsLegalAssignment corner (1 ∷ 2 ∷ 2 ∷ 0 ∷ [])
 corner_legal = fit_legal corner corner_problem (1 ∷ 2 ∷ 2 ∷ 0 ∷ []) refl refl
 
 -- where cell 3 has value 2 each cell has one value
-pub corner_only : HasOnly corner (greatest corner (Is 3 2 ∷ [])) (0 ∷ 1 ∷ 0 ∷ 2 ∷ [])
+pub corner_only : HasOnly corner (greatest corner (Is 2 3 ∷ [])) (0 ∷ 1 ∷ 0 ∷ 2 ∷ [])
 unfolding greatest
 corner_only =
-    only_first corner corner_problem (greatest corner (Is 3 2 ∷ [])) (greatest_base corner corner_problem (Is 3 2 ∷ [])) refl
-    (λ c l. leb-true (size_at corner (greatest corner (Is 3 2 ∷ [])) c) 1
-    (all_pass (λ c. nat_le (size_at corner (greatest corner (Is 3 2 ∷ [])) c) 1) (range_with_len 0 4) c refl (range_Contains 4 c l)))
+    only_first corner corner_problem (greatest corner (Is 2 3 ∷ [])) (greatest_base corner corner_problem (Is 2 3 ∷ [])) refl
+    (λ c l. leb-true (size_at corner (greatest corner (Is 2 3 ∷ [])) c) 1
+    (all_pass (λ c. nat_le (size_at corner (greatest corner (Is 2 3 ∷ [])) c) 1) (range_with_len 0 4) c refl (range_Contains 4 c l)))

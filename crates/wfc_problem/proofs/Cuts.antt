@@ -19,15 +19,15 @@ use Rattle.wfc_problem.proofs.Tables.{base_inside}
 -- ---- what a literal leaves
 
 -- what a choice leaves at its cell is its value
-pub leaves_is : (c v w : ℕ) → leaves (Is c v) c w ≡ true → w ≡ v
+pub leaves_is : (c v w : ℕ) → leaves (Is v c) c w ≡ true → w ≡ v
 leaves_is c v w t = grind (arith, nat_tests)
 
 -- what is ruled out isn't left
-pub leaves_not : (c v w : ℕ) → leaves (Not c v) c w ≡ true → w ≢ v
+pub leaves_not : (c v w : ℕ) → leaves (Not v c) c w ≡ true → w ≢ v
 leaves_not c v w t e = grind (arith, nat_tests)
 
 -- all else is
-pub leaves_other : (c v x w : ℕ) → (x ≡ c → w ≢ v) → leaves (Not c v) x w ≡ true
+pub leaves_other : (c v x w : ℕ) → (x ≡ c → w ≢ v) → leaves (Not v c) x w ≡ true
 leaves_other c v x w other = grind (arith, nat_tests)
 
 -- a cut takes away
@@ -78,30 +78,30 @@ pub lies_within : (a : List ℕ) (D E : Test) → Within D E → LiesIn a D → 
 lies_within a D E within lies c l = within c (slice_index a c) (lies c l)
 
 -- one that has the value lies in the domains cut to it
-pub lies_is : (a : List ℕ) (D : Test) (c v : ℕ) → LiesIn a D → slice_index a c ≡ v → LiesIn a (cut D (Is c v))
+pub lies_is : (a : List ℕ) (D : Test) (c v : ℕ) → LiesIn a D → slice_index a c ≡ v → LiesIn a (cut D (Is v c))
 lies_is a D c v lies is x l =
     and_from _ _ (lies x l) (let at : x ≡ c → slice_index a x ≡ v = λ f. ap (slice_index a) f ∙ is in grind (arith, nat_tests))
 
 -- and one that has another lies in those without it
-pub lies_not : (a : List ℕ) (D : Test) (c v : ℕ) → LiesIn a D → slice_index a c ≢ v → LiesIn a (cut D (Not c v))
+pub lies_not : (a : List ℕ) (D : Test) (c v : ℕ) → LiesIn a D → slice_index a c ≢ v → LiesIn a (cut D (Not v c))
 lies_not a D c v lies ne x l =
     and_from _ _ (lies x l) (let at : x ≡ c → slice_index a x ≢ v = λ f g. ne (sym (ap (slice_index a) f) ∙ g) in grind (arith, nat_tests))
 
 -- so it lies in the one or in the other
-pub lies_either : (a : List ℕ) (D : Test) (c v : ℕ) → LiesIn a D → LiesIn a (cut D (Is c v)) ⊎ LiesIn a (cut D (Not c v))
+pub lies_either : (a : List ℕ) (D : Test) (c v : ℕ) → LiesIn a D → LiesIn a (cut D (Is v c)) ⊎ LiesIn a (cut D (Not v c))
 lies_either a D c v lies = elim (cases_eq (slice_index a c) v) [ inl is ↦ inl (lies_is a D c v lies is) | inr ne ↦ inr (lies_not a D c v lies ne) ]
 
 -- what lies in the domains cut to a value has it
-pub lies_is_exact : (a : List ℕ) (D : Test) (c v : ℕ) → c < length a → LiesIn a (cut D (Is c v)) ↔ (LiesIn a D × (slice_index a c ≡ v))
+pub lies_is_exact : (a : List ℕ) (D : Test) (c v : ℕ) → c < length a → LiesIn a (cut D (Is v c)) ↔ (LiesIn a D × (slice_index a c ≡ v))
 lies_is_exact a D c v l = (
-  (λ lies. (lies_within a (cut D (Is c v)) D (cut_within D D (Is c v) (λ x w t. t)) lies, leaves_is c v (slice_index a c) (and_parts _ _ (lies c l)).1)),
+  (λ lies. (lies_within a (cut D (Is v c)) D (cut_within D D (Is v c) (λ x w t. t)) lies, leaves_is c v (slice_index a c) (and_parts _ _ (lies c l)).1)),
   (λ both. lies_is a D c v both.0 both.1),
 )
 
 -- and what lies in those without it has another
-pub lies_not_exact : (a : List ℕ) (D : Test) (c v : ℕ) → c < length a → LiesIn a (cut D (Not c v)) ↔ (LiesIn a D × (slice_index a c ≢ v))
+pub lies_not_exact : (a : List ℕ) (D : Test) (c v : ℕ) → c < length a → LiesIn a (cut D (Not v c)) ↔ (LiesIn a D × (slice_index a c ≢ v))
 lies_not_exact a D c v l = (
-  (λ lies. (lies_within a (cut D (Not c v)) D (cut_within D D (Not c v) (λ x w t. t)) lies, leaves_not c v (slice_index a c) (and_parts _ _ (lies c l)).1)),
+  (λ lies. (lies_within a (cut D (Not v c)) D (cut_within D D (Not v c) (λ x w t. t)) lies, leaves_not c v (slice_index a c) (and_parts _ _ (lies c l)).1)),
   (λ both. lies_not a D c v both.0 both.1),
 )
 
@@ -118,14 +118,14 @@ legal_supported P p D a legal lies c d n e =
 
 -- so none has a value without support
 pub lies_supported : (P : Network) → IsProblem P → (D : Test) (a : List ℕ) → IsLegalAssignment P a → LiesIn a D → (c v d : ℕ) → (IsSupported P D c v d → ⊥)
-    → LiesIn a (cut D (Not c v))
+    → LiesIn a (cut D (Not v c))
 lies_supported P p D a legal lies c v d bare =
     lies_not a D c v lies (λ is. bare (subst (λ (w : ℕ). IsSupported P D c w d) is (legal_supported P p D a legal lies c d)))
 
 -- and no consistent domains have it
-pub within_supported : (P : Network) (D E : Test) → Within E D → IsArcConsistent P E → (c v d : ℕ) → (IsSupported P D c v d → ⊥) → Within E (cut D (Not c v))
+pub within_supported : (P : Network) (D E : Test) → Within E D → IsArcConsistent P E → (c v d : ℕ) → (IsSupported P D c v d → ⊥) → Within E (cut D (Not v c))
 within_supported P D E within consistent c v d bare x w t =
-    and_from (D x w) (leaves (Not c v) x w) (within x w t)
+    and_from (D x w) (leaves (Not v c) x w) (within x w t)
     (leaves_other c v x w (λ is same.
     let here : E c v ≡ true = ap (λ y. E y v) (sym is) ∙ ap (E x) (sym same) ∙ t in
     bare (λ n e. let s = consistent c v d here n e in (s.0, s.1, within n s.0 s.2))))

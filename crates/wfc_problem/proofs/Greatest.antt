@@ -59,25 +59,25 @@ above_consistent P p literals D above consistent =
     greatest_same P literals D (greatest P literals) (greatest_from_holding P literals D above.within consistent above.holds) (greatest_is P p literals)
 
 -- and a value without support can be left out
-pub above_without : (P : Network) (literals : List Literal) (D : Test) → IsAbove P literals D → (c v d : ℕ) → (IsSupported P D c v d → ⊥) → IsAbove P literals (cut D (Not c v))
+pub above_without : (P : Network) (literals : List Literal) (D : Test) → IsAbove P literals D → (c v d : ℕ) → (IsSupported P D c v d → ⊥) → IsAbove P literals (cut D (Not v c))
 above_without P literals D above c v d bare = record {
-  within = cut_within D (base_with P literals) (Not c v) above.within;
+  within = cut_within D (base_with P literals) (Not v c) above.within;
   holds = λ E within consistent. within_supported P D E (above.holds E within consistent) consistent c v d bare;
 }
 
 -- ---- how many values are kept
 
 -- a choice leaves one value
-pub choice_one : (P : Network) → IsProblem P → (ls : List Literal) (c v : ℕ) → size_at P (greatest P (ls ++ Is c v ∷ [])) c ≤ 1
+pub choice_one : (P : Network) → IsProblem P → (ls : List Literal) (c v : ℕ) → size_at P (greatest P (ls ++ Is v c ∷ [])) c ≤ 1
 choice_one P p ls c v =
-    size_at_one P p (greatest P (ls ++ Is c v ∷ [])) (greatest_base P p (ls ++ Is c v ∷ [])) c v (λ w t. leaves_is c v w (greatest_leaves P p ls (Is c v) c w t))
+    size_at_one P p (greatest P (ls ++ Is v c ∷ [])) (greatest_base P p (ls ++ Is v c ∷ [])) c v (λ w t. leaves_is c v w (greatest_leaves P p ls (Is v c) c w t))
 
 -- ruling out a value that stands leaves one less
 pub ruled_out_less : (P : Network) → IsProblem P → (ls : List Literal) (c v : ℕ) → greatest P ls c v ≡ true
-    → size_at P (greatest P (ls ++ Not c v ∷ [])) c + 1 ≤ size_at P (greatest P ls) c
+    → size_at P (greatest P (ls ++ Not v c ∷ [])) c + 1 ≤ size_at P (greatest P ls) c
 ruled_out_less P p ls c v t =
-    size_at_without P p (greatest P (ls ++ Not c v ∷ [])) (greatest P ls) (greatest_base P p ls) c v t
-    (λ w s. (greatest_below P p ls (Not c v) c w s, leaves_not c v w (greatest_leaves P p ls (Not c v) c w s)))
+    size_at_without P p (greatest P (ls ++ Not v c ∷ [])) (greatest P ls) (greatest_base P p ls) c v t
+    (λ w s. (greatest_below P p ls (Not v c) c w s, leaves_not c v w (greatest_leaves P p ls (Not v c) c w s)))
 
 -- without literals no more stands than the base
 pub pairs_base : (P : Network) → IsProblem P → pairs P (greatest P []) ≤ depth_of P

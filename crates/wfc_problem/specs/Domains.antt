@@ -11,13 +11,13 @@ Test = ℕ → ℕ → Bool
 
 -- the literal's cell is one of the problem's, and its value too
 abbrev pub IsLiteralIn : Network → Literal → Type 0
-IsLiteralIn P (Is cell value) = (cell < P.cells) × (value < values P)
-IsLiteralIn P (Not cell value) = (cell < P.cells) × (value < values P)
+IsLiteralIn P (Is value cell) = (cell < P.cells) × (value < values P)
+IsLiteralIn P (Not value cell) = (cell < P.cells) × (value < values P)
 
 -- whether a literal leaves v at c: Is leaves its value alone at its cell, Not leaves all but its value
 abbrev pub leaves : Literal → Test
-leaves (Is cell value) c v = not (c == cell) || v == value
-leaves (Not cell value) c v = not (c == cell && v == value)
+leaves (Is value cell) c v = not (c == cell) || v == value
+leaves (Not value cell) c v = not (c == cell && v == value)
 
 -- whether all literals leave v at c
 abbrev pub leaves_all : List Literal → Test

@@ -94,19 +94,19 @@ pub fn assignments_are_judged()
 /// `Is` leaves its value alone at its cell, `Not` all but its value, and both leave other cells as
 /// they are.
 pub fn literals_are_applied()
-    ensures is_there { map (leaves (Is 3 2) 3) (range_with_len 0 4)
+    ensures is_there { map (leaves (Is 2 3) 3) (range_with_len 0 4)
         ≡ false ∷ false ∷ true ∷ false ∷ [] }
-    ensures is_elsewhere { map (leaves (Is 3 2) 2) (range_with_len 0 4)
+    ensures is_elsewhere { map (leaves (Is 2 3) 2) (range_with_len 0 4)
         ≡ true ∷ true ∷ true ∷ true ∷ [] }
-    ensures not_there { map (leaves (Not 3 2) 3) (range_with_len 0 4)
+    ensures not_there { map (leaves (Not 2 3) 3) (range_with_len 0 4)
         ≡ true ∷ true ∷ false ∷ true ∷ [] }
-    ensures not_elsewhere { map (leaves (Not 3 2) 2) (range_with_len 0 4)
+    ensures not_elsewhere { map (leaves (Not 2 3) 2) (range_with_len 0 4)
         ≡ true ∷ true ∷ true ∷ true ∷ [] }
-    ensures base { map (base_with corner (Not 2 1 ∷ Is 3 2 ∷ []) 2) (range_with_len 0 4)
+    ensures base { map (base_with corner (Not 1 2 ∷ Is 2 3 ∷ []) 2) (range_with_len 0 4)
         ≡ true ∷ false ∷ true ∷ false ∷ [] }
-    ensures literal_in { IsLiteralIn corner (Is 3 2) }
-    ensures cell_out { IsLiteralIn corner (Not 4 0) → ⊥ }
-    ensures value_out { IsLiteralIn corner (Is 2 3) → ⊥ }
+    ensures literal_in { IsLiteralIn corner (Is 2 3) }
+    ensures cell_out { IsLiteralIn corner (Not 0 4) → ⊥ }
+    ensures value_out { IsLiteralIn corner (Is 3 2) → ⊥ }
 {}
 
 /// Supports are counted at the neighbour, and there are none where there is no neighbour.
@@ -126,11 +126,11 @@ pub fn domains_shrink()
     ensures sizes { sizes_of corner (in_base corner) ≡ 2 ∷ 2 ∷ 3 ∷ 2 ∷ [] }
     ensures values { map (values_at corner (greatest corner [])) (range_with_len 0 4)
         ≡ (0 ∷ 1 ∷ []) ∷ (1 ∷ 2 ∷ []) ∷ (0 ∷ 2 ∷ []) ∷ (0 ∷ 2 ∷ []) ∷ [] }
-    ensures first { first_values corner (greatest corner (Is 3 2 ∷ [])) ≡ 0 ∷ 1 ∷ 0 ∷ 2 ∷ [] }
-    ensures only { HasOnly corner (greatest corner (Is 3 2 ∷ [])) (0 ∷ 1 ∷ 0 ∷ 2 ∷ []) }
+    ensures first { first_values corner (greatest corner (Is 2 3 ∷ [])) ≡ 0 ∷ 1 ∷ 0 ∷ 2 ∷ [] }
+    ensures only { HasOnly corner (greatest corner (Is 2 3 ∷ [])) (0 ∷ 1 ∷ 0 ∷ 2 ∷ []) }
     ensures several { HasOnly corner (in_base corner) (0 ∷ 1 ∷ 0 ∷ 2 ∷ []) → ⊥ }
     ensures alive { IsDead corner (greatest corner []) → ⊥ }
-    ensures dead { IsDead corner (greatest corner (Is 2 1 ∷ [])) }
+    ensures dead { IsDead corner (greatest corner (Is 1 2 ∷ [])) }
     ensures is_dead { map (λ literals. is_dead corner (greatest corner literals))
-        ([] ∷ (Is 2 1 ∷ []) ∷ []) ≡ false ∷ true ∷ [] }
+        ([] ∷ (Is 1 2 ∷ []) ∷ []) ≡ false ∷ true ∷ [] }
 {}

@@ -80,11 +80,11 @@ pub fn literals_cut_in_turn()
 /// literal or by the other.
 pub fn one_literal_holds()
     ensures either { (D : Test) (a : List ℕ) (cell value : ℕ) → LiesIn a D →
-        LiesIn a (cut D (Literal.Is cell value)) ⊎ LiesIn a (cut D (Literal.Not cell value)) }
+        LiesIn a (cut D (Literal.Is value cell)) ⊎ LiesIn a (cut D (Literal.Not value cell)) }
     ensures is_exact { (D : Test) (a : List ℕ) (cell value : ℕ) → cell < length a →
-        LiesIn a (cut D (Literal.Is cell value)) ↔ (LiesIn a D × (slice_index a cell ≡ value)) }
+        LiesIn a (cut D (Literal.Is value cell)) ↔ (LiesIn a D × (slice_index a cell ≡ value)) }
     ensures not_exact { (D : Test) (a : List ℕ) (cell value : ℕ) → cell < length a →
-        LiesIn a (cut D (Literal.Not cell value)) ↔ (LiesIn a D × (slice_index a cell ≢ value)) }
+        LiesIn a (cut D (Literal.Not value cell)) ↔ (LiesIn a D × (slice_index a cell ≢ value)) }
 {}
 
 /// A value without support in some domains is in no legal assignment within them, and in no
@@ -92,9 +92,9 @@ pub fn one_literal_holds()
 pub fn unsupported_values_go()
     ensures legal { (P : Network) → IsProblem P → (D : Test) (a : List ℕ) →
         IsLegalAssignment P a → LiesIn a D → (c v d : ℕ) → (IsSupported P D c v d → ⊥) →
-        LiesIn a (cut D (Literal.Not c v)) }
+        LiesIn a (cut D (Literal.Not v c)) }
     ensures consistent { (P : Network) (D E : Test) → Within E D → IsArcConsistent P E →
-        (c v d : ℕ) → (IsSupported P D c v d → ⊥) → Within E (cut D (Literal.Not c v)) }
+        (c v d : ℕ) → (IsSupported P D c v d → ⊥) → Within E (cut D (Literal.Not v c)) }
 {}
 
 /// A legal assignment lies within the base.

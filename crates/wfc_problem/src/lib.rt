@@ -36,11 +36,12 @@ pub const MAX_WEIGHT: u32 = 16_777_216;
 /// The entry of a neighbour table where a cell has no neighbour.
 pub const NO_CELL: u32 = 4_294_967_295;
 
-/// What a step of a search says of one cell: it has this value, or it doesn't have it.
+/// What a step of a search says of one cell: it has this value, or it doesn't have it. The value stands beside the tag,
+/// so that eight bytes hold it.
 #[derive(Clone, Copy, Debug, PartialEq, Eq)]
 pub enum Literal {
-    Is { cell: u32, value: u16 },
-    Not { cell: u32, value: u16 },
+    Is { value: u16, cell: u32 },
+    Not { value: u16, cell: u32 },
 }
 
 /// A field of `Parts`; `Cells` stands for the number of cells and that of directions.

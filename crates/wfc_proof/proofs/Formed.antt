@@ -52,20 +52,20 @@ follows_fit P p D within (remove c v d rest) h =
     let here = stands_fit P p D within c v h.0.stands in
     let way = neighbour_in P p c d h.0.next h.0.beside in (
       (here.0, here.1, omega (arith, way.1, few_dirs P p)),
-      follows_fit P p (cut D (Not c v)) (cut_within D (in_base P) (Not c v) within) rest h.1,
+      follows_fit P p (cut D (Not v c)) (cut_within D (in_base P) (Not v c) within) rest h.1,
     )
 follows_fit P p D within (split c v left right) h = (
   stands_fit P p D within c v h.0.stands,
-  fit_both (nodes left) (nodes right) (follows_fit P p (cut D (Is c v)) (cut_within D (in_base P) (Is c v) within) left h.1)
-      (follows_fit P p (cut D (Not c v)) (cut_within D (in_base P) (Not c v) within) right h.2),
+  fit_both (nodes left) (nodes right) (follows_fit P p (cut D (Is v c)) (cut_within D (in_base P) (Is v c) within) left h.1)
+      (follows_fit P p (cut D (Not v c)) (cut_within D (in_base P) (Not v c) within) right h.2),
 )
 follows_fit P p D within left_off h = tt
 
 -- a proof that closes follows
 pub closes_follows : (P : Network) (D : Test) (proof : Proof) → Closes P D proof → FollowsFrom P D proof
 closes_follows P D (empty c) h = h
-closes_follows P D (remove c v d rest) h = (h.0, closes_follows P (cut D (Not c v)) rest h.1)
-closes_follows P D (split c v left right) h = (h.0, closes_follows P (cut D (Is c v)) left h.1, closes_follows P (cut D (Not c v)) right h.2)
+closes_follows P D (remove c v d rest) h = (h.0, closes_follows P (cut D (Not v c)) rest h.1)
+closes_follows P D (split c v left right) h = (h.0, closes_follows P (cut D (Is v c)) left h.1, closes_follows P (cut D (Not v c)) right h.2)
 closes_follows P D left_off h = absurd h
 
 -- ---- lines without a span

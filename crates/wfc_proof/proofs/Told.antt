@@ -162,9 +162,9 @@ nodes_go P (n ∷ ns) ended goes e = goes refl
 nodes_go P (empties c ∷ ns) (going D waiting) goes e =
     nodes_go P ns (after_close waiting) (after_goes waiting) (step_cases P D waiting (empties c) ns ended e).1
 nodes_go P (removes c v d ∷ ns) (going D waiting) goes e =
-    nodes_go P ns (going (cut D (Not c v)) waiting) (λ f. cc) (step_cases P D waiting (removes c v d) ns ended e).1
+    nodes_go P ns (going (cut D (Not v c)) waiting) (λ f. cc) (step_cases P D waiting (removes c v d) ns ended e).1
 nodes_go P (splits c v ∷ ns) (going D waiting) goes e =
-    nodes_go P ns (going (cut D (Is c v)) (cut D (Not c v) ∷ waiting)) (λ f. cc) (step_cases P D waiting (splits c v) ns ended e).1
+    nodes_go P ns (going (cut D (Is v c)) (cut D (Not v c) ∷ waiting)) (λ f. cc) (step_cases P D waiting (splits c v) ns ended e).1
 
 -- an end follows lines that close the proof
 pub lines_end : (P : Network) (m : Point) (lines : List Line) → m ≢ ended → line_steps P m lines ≡ Ok ended

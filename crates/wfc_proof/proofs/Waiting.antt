@@ -24,28 +24,28 @@ Fits P n [] = ⊤
 Fits P n (D ∷ Ds) = (pairs P D + length Ds ≤ n) × Fits P n Ds
 
 -- what a choice leaves at its cell is its value, and what is ruled out isn't left
-left_is : (c v w : ℕ) → leaves (Is c v) c w ≡ true → w ≡ v
+left_is : (c v w : ℕ) → leaves (Is v c) c w ≡ true → w ≡ v
 left_is c v w t = grind (arith, nat_tests)
 
-left_not : (c v w : ℕ) → leaves (Not c v) c w ≡ true → w ≡ v → ⊥
+left_not : (c v w : ℕ) → leaves (Not v c) c w ≡ true → w ≡ v → ⊥
 left_not c v w t e = grind (arith, nat_tests)
 
 -- ruling out a value that stands takes a pair away
-pub not_less : (P : Network) → IsProblem P → (D : Test) → Within D (in_base P) → (c v : ℕ) → D c v ≡ true → pairs P (cut D (Not c v)) + 1 ≤ pairs P D
+pub not_less : (P : Network) → IsProblem P → (D : Test) → Within D (in_base P) → (c v : ℕ) → D c v ≡ true → pairs P (cut D (Not v c)) + 1 ≤ pairs P D
 not_less P p D within c v t =
     let inside = base_inside P p c v (within c v t) in
-    let less = size_at_without P p (cut D (Not c v)) D within c v t
-    (λ w s. let parts = and_parts (D c w) (leaves (Not c v) c w) s in (parts.0, left_not c v w parts.1)) in
-    let fewer = pairs_less P (cut D (Not c v)) D c (cut_within D D (Not c v) (λ x y s. s)) inside.0 (omega (arith, less)) in
+    let less = size_at_without P p (cut D (Not v c)) D within c v t
+    (λ w s. let parts = and_parts (D c w) (leaves (Not v c) c w) s in (parts.0, left_not c v w parts.1)) in
+    let fewer = pairs_less P (cut D (Not v c)) D c (cut_within D D (Not v c) (λ x y s. s)) inside.0 (omega (arith, less)) in
     omega (arith, fewer)
 
 -- and so does choosing one beside another
-pub is_less : (P : Network) → IsProblem P → (D : Test) → Within D (in_base P) → (c v : ℕ) → IsSplit D c v → pairs P (cut D (Is c v)) + 1 ≤ pairs P D
+pub is_less : (P : Network) → IsProblem P → (D : Test) → Within D (in_base P) → (c v : ℕ) → IsSplit D c v → pairs P (cut D (Is v c)) + 1 ≤ pairs P D
 is_less P p D within c v h =
     let inside = base_inside P p c v (within c v h.stands) in
-    let less = size_at_without P p (cut D (Is c v)) D within c h.other h.also
-    (λ w s. let parts = and_parts (D c w) (leaves (Is c v) c w) s in (parts.0, (λ e. h.differs (sym e ∙ left_is c v w parts.1)))) in
-    let fewer = pairs_less P (cut D (Is c v)) D c (cut_within D D (Is c v) (λ x y s. s)) inside.0 (omega (arith, less)) in
+    let less = size_at_without P p (cut D (Is v c)) D within c h.other h.also
+    (λ w s. let parts = and_parts (D c w) (leaves (Is v c) c w) s in (parts.0, (λ e. h.differs (sym e ∙ left_is c v w parts.1)))) in
+    let fewer = pairs_less P (cut D (Is v c)) D c (cut_within D D (Is v c) (λ x y s. s)) inside.0 (omega (arith, less)) in
     omega (arith, fewer)
 
 -- accepted nodes keep all within the base, and few enough
@@ -63,15 +63,15 @@ steps_fit P p n (D ∷ Ds) inside fits (empties c ∷ ns) E more e =
 steps_fit P p n (D ∷ Ds) inside fits (removes c v d ∷ ns) E more e =
     let s = step_cases P D Ds (removes c v d) ns (going E more) e in
     let h = accepted_removal P D c v d s.0 in
-    steps_fit P p n (cut D (Not c v) ∷ Ds) (cut_within D (in_base P) (Not c v) inside.0, inside.1)
+    steps_fit P p n (cut D (Not v c) ∷ Ds) (cut_within D (in_base P) (Not v c) inside.0, inside.1)
     (omega (arith, fits.0, not_less P p D inside.0 c v h.stands), fits.1) ns E more s.1
 steps_fit P p n (D ∷ Ds) inside fits (splits c v ∷ ns) E more e =
     let s = step_cases P D Ds (splits c v) ns (going E more) e in
     let h = accepted_split P D c v s.0 in
-    let first : pairs P (cut D (Is c v)) + length (cut D (Not c v) ∷ Ds) ≤ n = omega (arith, fits.0, is_less P p D inside.0 c v h) in
-    let second : pairs P (cut D (Not c v)) + length Ds ≤ n = omega (arith, fits.0, not_less P p D inside.0 c v h.stands) in
-    steps_fit P p n (cut D (Is c v) ∷ cut D (Not c v) ∷ Ds)
-    (cut_within D (in_base P) (Is c v) inside.0, (cut_within D (in_base P) (Not c v) inside.0, inside.1)) (first, (second, fits.1)) ns E more s.1
+    let first : pairs P (cut D (Is v c)) + length (cut D (Not v c) ∷ Ds) ≤ n = omega (arith, fits.0, is_less P p D inside.0 c v h) in
+    let second : pairs P (cut D (Not v c)) + length Ds ≤ n = omega (arith, fits.0, not_less P p D inside.0 c v h.stands) in
+    steps_fit P p n (cut D (Is v c) ∷ cut D (Not v c) ∷ Ds)
+    (cut_within D (in_base P) (Is v c) inside.0, (cut_within D (in_base P) (Not v c) inside.0, inside.1)) (first, (second, fits.1)) ns E more s.1
 
 -- so fewer branches wait than the problem has pairs
 pub waiting_few : (P : Network) → IsProblem P → (lines : List Line) (E : Test) (waiting : List Test) → line_steps P (going (in_base P) []) lines ≡ Ok (going E waiting)

@@ -182,10 +182,10 @@ pub fn removals_by_example()
 /// Why splits and empty cells are refused: another value has to stand beside the one that is tried, and the least value
 /// that stands is named.
 pub fn splits_by_example()
-    ensures splits { map (node_fault wide (cut (in_base wide) (Is 0 2)))
+    ensures splits { map (node_fault wide (cut (in_base wide) (Is 2 0)))
         (splits 0 2 ∷ splits 0 1 ∷ splits 1 2 ∷ splits 2 2 ∷ splits 0 3 ∷ [])
         ≡ Some OnlyValue ∷ Some NotStanding ∷ None ∷ Some IndexRange ∷ Some IndexRange ∷ [] }
-    ensures empties { map (node_fault wide (cut (in_base wide) (Is 0 2))) (empties 0 ∷ empties 1 ∷ empties 2 ∷ [])
+    ensures empties { map (node_fault wide (cut (in_base wide) (Is 2 0))) (empties 0 ∷ empties 1 ∷ empties 2 ∷ [])
         ≡ Some (NotEmpty 2) ∷ Some (NotEmpty 0) ∷ Some IndexRange ∷ [] }
 {}
 

@@ -11,10 +11,10 @@ use Rattle.wfc_search.proofs.Literals.{push_split, longer}
 
 -- a literal that cuts takes a pair away
 pub cut_falls : (P : Network) → IsProblem P → (ls : List Literal) (l : Literal) → Cuts P (greatest P ls) l → pairs P (greatest P (ls ++ l ∷ [])) < pairs P (greatest P ls)
-cut_falls P p ls (Is c v) cuts =
-    pairs_less P (greatest P (ls ++ Is c v ∷ [])) (greatest P ls) c (greatest_below P p ls (Is c v)) cuts.0 (omega (arith, choice_one P p ls c v, cuts.2))
-cut_falls P p ls (Not c v) cuts =
-    pairs_less P (greatest P (ls ++ Not c v ∷ [])) (greatest P ls) c (greatest_below P p ls (Not c v)) cuts.0 (omega (arith, ruled_out_less P p ls c v cuts.1))
+cut_falls P p ls (Is v c) cuts =
+    pairs_less P (greatest P (ls ++ Is v c ∷ [])) (greatest P ls) c (greatest_below P p ls (Is v c)) cuts.0 (omega (arith, choice_one P p ls c v, cuts.2))
+cut_falls P p ls (Not v c) cuts =
+    pairs_less P (greatest P (ls ++ Not v c ∷ [])) (greatest P ls) c (greatest_below P p ls (Not v c)) cuts.0 (omega (arith, ruled_out_less P p ls c v cuts.1))
 
 -- ---- grown literals
 
@@ -47,9 +47,9 @@ grown_push P ls l grown cuts before after m e = elim (push_split ls l before m a
 ]
 
 -- what rules out a choice in its stead
-pub grown_retract : (P : Network) (ls before after : List Literal) (c v : ℕ) → IsGrown P ls → ls ≡ before ++ Is c v ∷ after → IsGrown P (before ++ Not c v ∷ [])
+pub grown_retract : (P : Network) (ls before after : List Literal) (c v : ℕ) → IsGrown P ls → ls ≡ before ++ Is v c ∷ after → IsGrown P (before ++ Not v c ∷ [])
 grown_retract P ls before after c v grown e =
-    let cuts = grown before after (Is c v) e in
-    grown_push P before (Not c v)
-    (λ b a l f. grown b (a ++ Is c v ∷ after) l (e ∙ longer before b l a (Is c v ∷ after) f))
+    let cuts = grown before after (Is v c) e in
+    grown_push P before (Not v c)
+    (λ b a l f. grown b (a ++ Is v c ∷ after) l (e ∙ longer before b l a (Is v c ∷ after) f))
     (cuts.0, cuts.1)

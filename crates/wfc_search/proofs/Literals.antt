@@ -23,14 +23,14 @@ longer ls before m after more e = ap (λ (xs : List Literal). xs ++ more) e ∙ 
 pub record IsLast (ls : List Literal) (last : Choice) : Type 0 where
   pub after : List Literal
   pub none : last_choice after ≡ None
-  pub whole : ls ≡ last.before ++ Is last.cell last.value ∷ after
+  pub whole : ls ≡ last.before ++ Is last.value last.cell ∷ after
 
 -- a choice behind which there is none is the last
 last_first : (l : Literal) (ls : List Literal) (last : Choice) → last_choice ls ≡ None → choice_of l ≡ Some last → IsLast (l ∷ ls) last
-last_first (Is cell value) ls last none is =
+last_first (Is value cell) ls last none is =
     let same : record { before = []; cell = cell; value = value } ≡ last = cc in
-    subst (λ (c : Choice). IsLast (Is cell value ∷ ls) c) same (record { after = ls; none = none; whole = refl })
-last_first (Not cell value) ls last none is = cc
+    subst (λ (c : Choice). IsLast (Is value cell ∷ ls) c) same (record { after = ls; none = none; whole = refl })
+last_first (Not value cell) ls last none is = cc
 
 -- the last choice behind one more literal
 last_behind : (l : Literal) (ls : List Literal) (o : Option Choice) (last : Choice) → last_choice ls ≡ o → behind l o ≡ Some last
@@ -48,17 +48,17 @@ last_is (l ∷ ls) last is = last_behind l ls (last_choice ls) last refl is (las
 
 -- without a choice the first literal rules out
 none_behind : (l : Literal) (ls : List Literal) (o : Option Choice) → last_choice ls ≡ o → behind l o ≡ None
-    → (cell : ℕ) × (value : ℕ) × (l ≡ Not cell value) × (last_choice ls ≡ None)
-none_behind (Is cell value) ls None e is = cc
-none_behind (Not cell value) ls None e is = (cell, value, refl, e)
+    → (cell : ℕ) × (value : ℕ) × (l ≡ Not value cell) × (last_choice ls ≡ None)
+none_behind (Is value cell) ls None e is = cc
+none_behind (Not value cell) ls None e is = (cell, value, refl, e)
 none_behind l ls (Some found) e is = cc
 
 -- without a choice each literal rules out
-pub none_first : (l : Literal) (ls : List Literal) → last_choice (l ∷ ls) ≡ None → (cell : ℕ) × (value : ℕ) × (l ≡ Not cell value) × (last_choice ls ≡ None)
+pub none_first : (l : Literal) (ls : List Literal) → last_choice (l ∷ ls) ≡ None → (cell : ℕ) × (value : ℕ) × (l ≡ Not value cell) × (last_choice ls ≡ None)
 none_first l ls is = none_behind l ls (last_choice ls) refl is
 
 -- a choice behind which there is none is the last one
-pub last_choice_at : (ls : List Literal) (i : ℕ) (d : Literal) (cell value : ℕ) → i < length ls → last_choice (drop (suc i) ls) ≡ None → get_or ls i d ≡ Is cell value
+pub last_choice_at : (ls : List Literal) (i : ℕ) (d : Literal) (cell value : ℕ) → i < length ls → last_choice (drop (suc i) ls) ≡ None → get_or ls i d ≡ Is value cell
     → Some (record { before = take i ls; cell = cell; value = value }) ≡ last_choice ls
 last_choice_at [] i d cell value inside none is = absurd (omega arith)
 last_choice_at (l ∷ ls) zero d cell value inside none is = sym (ap choice_of is) ∙ sym (ap (behind l) none)

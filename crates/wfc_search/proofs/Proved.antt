@@ -56,35 +56,35 @@ accepted m = Ok m
 -- of each choice the branch without its value, the last choice first, where domains are told of the literals before
 abbrev waits : (List Literal → Test) → List Literal → List Test
 waits G [] = []
-waits G (Is c v ∷ ls) = waits (λ later. G (Is c v ∷ later)) ls ++ cut (G []) (Not c v) ∷ []
-waits G (Not c v ∷ ls) = waits (λ later. G (Not c v ∷ later)) ls
+waits G (Is v c ∷ ls) = waits (λ later. G (Is v c ∷ later)) ls ++ cut (G []) (Not v c) ∷ []
+waits G (Not v c ∷ ls) = waits (λ later. G (Not v c ∷ later)) ls
 
 -- one more choice waits first
-waits_choice : (G : List Literal → Test) (ls : List Literal) (c v : ℕ) → waits G (ls ++ Is c v ∷ []) ≡ cut (G ls) (Not c v) ∷ waits G ls
+waits_choice : (G : List Literal → Test) (ls : List Literal) (c v : ℕ) → waits G (ls ++ Is v c ∷ []) ≡ cut (G ls) (Not v c) ∷ waits G ls
 waits_choice G [] c v = refl
-waits_choice G (Is x y ∷ ls) c v = ap (λ (Ds : List Test). Ds ++ cut (G []) (Not x y) ∷ []) (waits_choice (λ later. G (Is x y ∷ later)) ls c v)
-waits_choice G (Not x y ∷ ls) c v = waits_choice (λ later. G (Not x y ∷ later)) ls c v
+waits_choice G (Is y x ∷ ls) c v = ap (λ (Ds : List Test). Ds ++ cut (G []) (Not y x) ∷ []) (waits_choice (λ later. G (Is y x ∷ later)) ls c v)
+waits_choice G (Not y x ∷ ls) c v = waits_choice (λ later. G (Not y x ∷ later)) ls c v
 
 -- without a choice none waits
 waits_nothing : (G : List Literal → Test) (ls : List Literal) → last_choice ls ≡ None → waits G ls ≡ []
 waits_nothing G [] none = refl
 waits_nothing G (l ∷ ls) none =
     let first = none_first l ls none in
-    subst (λ (m : Literal). waits G (m ∷ ls) ≡ []) (sym first.2) (waits_nothing (λ later. G (Not first.0 first.1 ∷ later)) ls first.3)
+    subst (λ (m : Literal). waits G (m ∷ ls) ≡ []) (sym first.2) (waits_nothing (λ later. G (Not first.1 first.0 ∷ later)) ls first.3)
 
 -- and none more waits
 waits_more : (G : List Literal → Test) (ls more : List Literal) → last_choice more ≡ None → waits G (ls ++ more) ≡ waits G ls
 waits_more G [] more none = waits_nothing G more none
-waits_more G (Is x y ∷ ls) more none = ap (λ (Ds : List Test). Ds ++ cut (G []) (Not x y) ∷ []) (waits_more (λ later. G (Is x y ∷ later)) ls more none)
-waits_more G (Not x y ∷ ls) more none = waits_more (λ later. G (Not x y ∷ later)) ls more none
+waits_more G (Is y x ∷ ls) more none = ap (λ (Ds : List Test). Ds ++ cut (G []) (Not y x) ∷ []) (waits_more (λ later. G (Is y x ∷ later)) ls more none)
+waits_more G (Not y x ∷ ls) more none = waits_more (λ later. G (Not y x ∷ later)) ls more none
 
 -- the branch of the last choice waits first
 waits_last : (G : List Literal → Test) (ls : List Literal) (last : Choice) → last_choice ls ≡ Some last
-    → waits G ls ≡ cut (G last.before) (Not last.cell last.value) ∷ waits G last.before
+    → waits G ls ≡ cut (G last.before) (Not last.value last.cell) ∷ waits G last.before
 waits_last G ls last found =
     let is : IsLast ls last = last_is ls last found in
-    let joined : ls ≡ (last.before ++ Is last.cell last.value ∷ []) ++ is.after = is.whole ∙ sym (append_assoc last.before (Is last.cell last.value ∷ []) is.after) in
-    ap (waits G) joined ∙ waits_more G (last.before ++ Is last.cell last.value ∷ []) is.after is.none ∙ waits_choice G last.before last.cell last.value
+    let joined : ls ≡ (last.before ++ Is last.value last.cell ∷ []) ++ is.after = is.whole ∙ sym (append_assoc last.before (Is last.value last.cell ∷ []) is.after) in
+    ap (waits G) joined ∙ waits_more G (last.before ++ Is last.value last.cell ∷ []) is.after is.none ∙ waits_choice G last.before last.cell last.value
 
 -- ---- levels
 
@@ -95,7 +95,7 @@ after_level P literals waiting dead = cond dead (after_close waiting) (going (gr
 -- removals that lead from D to E, each right at what those before it left
 abbrev LeadTo : Network → Test → List Node → Test → Type 0
 LeadTo P D [] E = D ≡ E
-LeadTo P D (removes c v d ∷ more) E = IsRemoval P D c v d × LeadTo P (cut D (Not c v)) more E
+LeadTo P D (removes c v d ∷ more) E = IsRemoval P D c v d × LeadTo P (cut D (Not v c)) more E
 LeadTo P D (splits c v ∷ more) E = ⊥
 LeadTo P D (empties c ∷ more) E = ⊥
 
@@ -105,7 +105,7 @@ removals_accepted : (P : Network) → IsProblem P → (D E : Test) (waiting : Li
 removals_accepted P p D E waiting within [] more lead = ap (λ (F : Test). node_steps P (going F waiting) more) lead
 removals_accepted P p D E waiting within (removes c v d ∷ removals) more lead =
     step_on P D waiting (removes c v d) (removals ++ more) (removal_accepted P p D within c v d lead.0)
-    ∙ removals_accepted P p (cut D (Not c v)) E waiting (cut_within D (in_base P) (Not c v) within) removals more lead.1
+    ∙ removals_accepted P p (cut D (Not v c)) E waiting (cut_within D (in_base P) (Not v c) within) removals more lead.1
 removals_accepted P p D E waiting within (splits c v ∷ removals) more lead = absurd lead
 removals_accepted P p D E waiting within (empties c ∷ removals) more lead = absurd lead
 
@@ -178,7 +178,7 @@ removed_lead P ls D (r ∷ rs) are = by r.cause are.0.cause (removed_lead P ls (
     by Assumed is rest = subst (λ E. LeadTo P E (spelled (removal_lines rs)) (left_by ls (without D (r ∷ rs)))) (cut_away ls D r.cell r.value is) rest
     by (Arc d) is rest =
         let all : left_by ls D ≡ D = all_left P ls D is.0 in
-        let next : left_by ls (less D r.cell r.value) ≡ cut (left_by ls D) (Not r.cell r.value) =
+        let next : left_by ls (less D r.cell r.value) ≡ cut (left_by ls D) (Not r.value r.cell) =
         all_left P ls (less D r.cell r.value) (less_within D (base_with P ls) r.cell r.value is.0) ∙ ap (λ E. less E r.cell r.value) (sym all) in (
           subst (λ E. IsRemoval P E r.cell r.value d) (sym all) (unsupported P D r.cell r.value d are.0.stood is.1),
           subst (λ E. LeadTo P E (spelled (removal_lines rs)) (left_by ls (without D (r ∷ rs)))) next rest,
@@ -219,7 +219,7 @@ abbrev point_of : Network → List Literal → Point
 point_of P literals = after_level P literals (waits (greatest P) literals) (is_dead P (greatest P literals))
 
 -- a cell with two values has another one
-splits_two : (P : Network) → IsProblem P → (D : Test) → Within D (in_base P) → (c v : ℕ) → Cuts P D (Is c v) → IsSplit D c v
+splits_two : (P : Network) → IsProblem P → (D : Test) → Within D (in_base P) → (c v : ℕ) → Cuts P D (Is v c) → IsSplit D c v
 splits_two P p D within c v cuts =
     let test : ℕ → Bool = λ w. w == v || not (D c w) in
     elim (cases_Bool (list_all test (range_with_len 0 (values P)))) [
@@ -279,35 +279,35 @@ level_begins P before l store sound same standing =
 choice_told : (P : Network) → IsProblem P → (rule : Rule) (s : State) (store : StoreView) (cell : ℕ) → is_dead P (greatest P s.standing) ≡ false → picked rule (sizes_of P (greatest P s.standing)) ≡ Some cell
     → (value : ℕ) → value ≡ drawn P (values_at P (greatest P s.standing) cell) (next_u64 s.words).0
     → IsStoreAt P (chosen s cell value (next_u64 s.words).1) store
-    → node_steps P (point_of P s.standing) (spelled (Try cell value ∷ level_lines store)) ≡ Ok (point_of P (s.standing ++ Is cell value ∷ []))
+    → node_steps P (point_of P s.standing) (spelled (Try cell value ∷ level_lines store)) ≡ Ok (point_of P (s.standing ++ Is value cell ∷ []))
 choice_told P p rule s store cell alive picks value draws at =
     let D : Test = greatest P s.standing in
     let W : List Test = waits (greatest P) s.standing in
-    let ls : List Literal = s.standing ++ Is cell value ∷ [] in
+    let ls : List Literal = s.standing ++ Is value cell ∷ [] in
     let within : Within D (in_base P) = greatest_base P p s.standing in
-    let cuts : Cuts P D (Is cell value) = choice_cuts P p rule s (chosen s cell value (next_u64 s.words).1) s.standing
+    let cuts : Cuts P D (Is value cell) = choice_cuts P p rule s (chosen s cell value (next_u64 s.words).1) s.standing
     (record { alive = alive; cell = cell; value = value; words = (next_u64 s.words).1; picks = picks; draws = draws; next = refl }) in
     ap (λ (b : Bool). node_steps P (after_level P s.standing W b) (spelled (Try cell value ∷ level_lines store))) alive
     ∙ step_on P D W (splits cell value) (spelled (level_lines store)) (split_accepted P p D within cell value (splits_two P p D within cell value cuts))
-    ∙ level_accepted P (cut D (Is cell value)) (cut D (Not cell value) ∷ W) store at.sound at.problem (level_begins P s.standing (Is cell value) store at.sound at.problem at.standing)
-    (cut_within D (in_base P) (Is cell value) within)
-    ∙ ap (λ (later : List Literal). accepted (after_level P later (cut D (Not cell value) ∷ W) (is_dead P (greatest P later)))) at.standing
+    ∙ level_accepted P (cut D (Is value cell)) (cut D (Not value cell) ∷ W) store at.sound at.problem (level_begins P s.standing (Is value cell) store at.sound at.problem at.standing)
+    (cut_within D (in_base P) (Is value cell) within)
+    ∙ ap (λ (later : List Literal). accepted (after_level P later (cut D (Not value cell) ∷ W) (is_dead P (greatest P later)))) at.standing
     ∙ ap (λ (Ds : List Test). accepted (after_level P ls Ds (is_dead P (greatest P ls)))) (sym (waits_choice (greatest P) s.standing cell value))
 
 -- a retraction that is told
 retraction_told : (P : Network) → IsProblem P → (s : State) (store : StoreView) (last : Choice) → is_dead P (greatest P s.standing) ≡ true → last_choice s.standing ≡ Some last
     → IsStoreAt P (retracted s last) store
-    → node_steps P (point_of P s.standing) (spelled (level_lines store)) ≡ Ok (point_of P (last.before ++ Not last.cell last.value ∷ []))
+    → node_steps P (point_of P s.standing) (spelled (level_lines store)) ≡ Ok (point_of P (last.before ++ Not last.value last.cell ∷ []))
 retraction_told P p s store last dead found at =
-    let D : Test = cut (greatest P last.before) (Not last.cell last.value) in
-    let ls : List Literal = last.before ++ Not last.cell last.value ∷ [] in
+    let D : Test = cut (greatest P last.before) (Not last.value last.cell) in
+    let ls : List Literal = last.before ++ Not last.value last.cell ∷ [] in
     let W : List Test = waits (greatest P) last.before in
     ap (λ (b : Bool). node_steps P (after_level P s.standing (waits (greatest P) s.standing) b) (spelled (level_lines store))) dead
     ∙ ap (λ (Ds : List Test). node_steps P (after_close Ds) (spelled (level_lines store))) (waits_last (greatest P) s.standing last found)
-    ∙ level_accepted P D W store at.sound at.problem (level_begins P last.before (Not last.cell last.value) store at.sound at.problem at.standing)
-    (cut_within (greatest P last.before) (in_base P) (Not last.cell last.value) (greatest_base P p last.before))
+    ∙ level_accepted P D W store at.sound at.problem (level_begins P last.before (Not last.value last.cell) store at.sound at.problem at.standing)
+    (cut_within (greatest P last.before) (in_base P) (Not last.value last.cell) (greatest_base P p last.before))
     ∙ ap (λ (later : List Literal). accepted (after_level P later W (is_dead P (greatest P later)))) at.standing
-    ∙ ap (λ (Ds : List Test). accepted (after_level P ls Ds (is_dead P (greatest P ls)))) (sym (waits_more (greatest P) last.before (Not last.cell last.value ∷ []) refl))
+    ∙ ap (λ (Ds : List Test). accepted (after_level P ls Ds (is_dead P (greatest P ls)))) (sym (waits_more (greatest P) last.before (Not last.value last.cell ∷ []) refl))
 
 -- where the budget isn't spent
 back_told : (P : Network) → IsProblem P → (s t : State) (store : StoreView) (last : Choice) (b : Bool) → is_dead P (greatest P s.standing) ≡ true → last_choice s.standing ≡ Some last
@@ -423,7 +423,7 @@ other_open P rule budget s outcome other is =
       | inr more ↦ elim more [
         | inl d ↦ absurd (other d.is)
         | inr a ↦
-            let E : Test = cut (greatest P a.last.before) (Not a.last.cell a.last.value) in
+            let E : Test = cut (greatest P a.last.before) (Not a.last.value a.last.cell) in
             let V : List Test = waits (greatest P) a.last.before in
             let first : W ≡ E ∷ V = waits_last (greatest P) s.standing a.last a.found in
             elim (cases_Bool (is_dead P D)) [

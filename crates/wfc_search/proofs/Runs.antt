@@ -55,11 +55,11 @@ next_choice : (P : Network) → IsProblem P → (rule : Rule) (budget : ℕ) (s 
     → Between P budget t × (work P budget t < work P budget s)
 next_choice P p rule budget s t b h =
     let cuts = choice_cuts P p rule s t s.standing h in
-    let grown : IsGrown P (s.standing ++ Is h.cell h.value ∷ []) = grown_push P s.standing (Is h.cell h.value) b.grown cuts in
-    let longer = length-append s.standing (Is h.cell h.value ∷ []) in
-    let few = grown_few P p (s.standing ++ Is h.cell h.value ∷ []) grown in
+    let grown : IsGrown P (s.standing ++ Is h.value h.cell ∷ []) = grown_push P s.standing (Is h.value h.cell) b.grown cuts in
+    let longer = length-append s.standing (Is h.value h.cell ∷ []) in
+    let few = grown_few P p (s.standing ++ Is h.value h.cell ∷ []) grown in
     let less = left_choice P p s.standing h.cell h.value h.alive cuts in
-    let one : length (s.standing ++ Is h.cell h.value ∷ []) ≡ length s.standing + 1 = omega (arith, longer) in
+    let one : length (s.standing ++ Is h.value h.cell ∷ []) ≡ length s.standing + 1 = omega (arith, longer) in
     subst (λ (u : State). Between P budget u × (work P budget u < work P budget s)) h.next (
       record {
         grown = grown;
@@ -86,7 +86,7 @@ next_retract P p budget s t b h =
         within = within;
         counted = omega (arith, b.counted, less);
       },
-      rw one (fall_retract (depth_of P) k (depth_of P - length s.standing) (depth_of P - length (h.last.before ++ Not h.last.cell h.last.value ∷ [])) (omega arith)),
+      rw one (fall_retract (depth_of P) k (depth_of P - length s.standing) (depth_of P - length (h.last.before ++ Not h.last.value h.last.cell ∷ [])) (omega arith)),
     )
 
 -- after either

@@ -69,7 +69,7 @@ turn_between : (P : Network) → IsProblem P → (rule : Rule) (budget : ℕ) (s
 turn_between P p rule budget s t turn b is goes = between_next P p rule budget s t b (leads_on (turn_of P rule budget s) turn t is goes)
 
 -- what a literal cuts is of the problem
-cuts_in : (P : Network) → IsProblem P → (ls : List Literal) (c v : ℕ) → Cuts P (greatest P ls) (Is c v) → (c < P.cells) × (v < values P)
+cuts_in : (P : Network) → IsProblem P → (ls : List Literal) (c v : ℕ) → Cuts P (greatest P ls) (Is v c) → (c < P.cells) × (v < values P)
 cuts_in P p ls c v cuts = base_inside P p c v (greatest_base P p ls c v cuts.1)
 
 -- without an outcome nothing is said of it
@@ -115,14 +115,14 @@ choice_turn P rule budget s cell value word left alive picks word_is value_is =
 
 -- of the search
 pub choice_made : (P : Network) (rule : Rule) (old new : StoreView) (chooser : Told) (course : Course) (words left : Stream) (cell value word : ℕ) → IsAlive P old chooser
-    → Draws P rule old words left cell value word → new.standing ≡ old.standing ++ Is cell value ∷ [] → IsTurnFrom P rule old course words (Chose cell value) new course left
+    → Draws P rule old words left cell value word → new.standing ≡ old.standing ++ Is value cell ∷ [] → IsTurnFrom P rule old course words (Chose cell value) new course left
 choice_made P rule old new chooser course words left cell value word alive d standing draws =
     choice_turn P rule course.budget (state_at old course draws words) cell value word left alive.alive d.picks d.word_is d.value_is
     ∙ ap (λ (ls : List Literal). (Chose cell value, record { standing = ls; retractions = course.retractions; draws = draws + 1; words = left })) (sym standing)
 
 -- what the choice cuts
 choice_cut : (P : Network) → IsProblem P → (rule : Rule) (old : StoreView) (chooser : Told) (words left : Stream) (cell value word : ℕ) → IsAlive P old chooser
-    → Draws P rule old words left cell value word → Cuts P (greatest P old.standing) (Is cell value)
+    → Draws P rule old words left cell value word → Cuts P (greatest P old.standing) (Is value cell)
 choice_cut P p rule old chooser words left cell value word alive d =
     let s : State = record { standing = old.standing; retractions = 0; draws = 0; words = words } in
     choice_cuts P p rule s (chosen s cell value left) old.standing
@@ -136,7 +136,7 @@ choice_in_problem P p rule old chooser words left cell value word alive d =
 
 -- the literals and the retractions after it
 choice_between : (P : Network) → IsProblem P → (rule : Rule) (old : StoreView) (chooser : Told) (course : Course) (words left : Stream) (cell value word : ℕ) → IsAlive P old chooser
-    → Draws P rule old words left cell value word → IsBetween P course.budget old.standing course.retractions → IsBetween P course.budget (old.standing ++ Is cell value ∷ []) course.retractions
+    → Draws P rule old words left cell value word → IsBetween P course.budget old.standing course.retractions → IsBetween P course.budget (old.standing ++ Is value cell ∷ []) course.retractions
 choice_between P p rule old chooser course words left cell value word alive d between =
     let s : State = state_at old course 0 words in
     turn_between P p rule course.budget s (chosen s cell value left) (Chose cell value) between
@@ -146,17 +146,17 @@ choice_between P p rule old chooser course words left cell value word alive d be
 pub choice_room : (P : Network) → IsProblem P → (rule : Rule) (old : StoreView) (chooser : Told) (course : Course) (words left : Stream) (cell value word : ℕ) → IsAlive P old chooser
     → Draws P rule old words left cell value word → HoldsBetween P old chooser course → 0 < old.spare
 choice_room P p rule old chooser course words left cell value word alive d ready =
-    let few = between_few P p course.budget course.retractions (old.standing ++ Is cell value ∷ []) (choice_between P p rule old chooser course words left cell value word alive d ready.between) in
-    omega (arith, few, ready.room, length-append old.standing (Is cell value ∷ []))
+    let few = between_few P p course.budget course.retractions (old.standing ++ Is value cell ∷ []) (choice_between P p rule old chooser course words left cell value word alive d ready.between) in
+    omega (arith, few, ready.room, length-append old.standing (Is value cell ∷ []))
 
 -- what holds after it
 pub choice_ready : (P : Network) → IsProblem P → (rule : Rule) (old new : StoreView) (chooser told : Told) (course : Course) (words left : Stream) (cell value word : ℕ) → IsAlive P old chooser
-    → Draws P rule old words left cell value word → HoldsBetween P old chooser course → course.outcome ≡ None → IsPutOn old new (Is cell value) → Keeps new told → HoldsBetween P new told course
+    → Draws P rule old words left cell value word → HoldsBetween P old chooser course → course.outcome ≡ None → IsPutOn old new (Is value cell) → Keeps new told → HoldsBetween P new told course
 choice_ready P p rule old new chooser told course words left cell value word alive d ready going put keeps = record {
   problem = put.problem ∙ ready.problem;
   keeps = keeps;
   between = subst (λ (ls : List Literal). IsBetween P course.budget ls course.retractions) (sym put.standing) (choice_between P p rule old chooser course words left cell value word alive d ready.between);
-  room = omega (arith, ready.room, put.spare, ap (λ (ls : List Literal). length ls) put.standing, length-append old.standing (Is cell value ∷ []));
+  room = omega (arith, ready.room, put.spare, ap (λ (ls : List Literal). length ls) put.standing, length-append old.standing (Is value cell ∷ []));
   outcome = no_outcome _ course.outcome going;
 }
 
@@ -164,8 +164,8 @@ choice_ready P p rule old new chooser told course words left cell value word ali
 pub record IsKnown (old : SearchView) (words left : Stream) (cell value : ℕ) : Type 0 where
   pub in_problem : (cell < old.store.problem.cells) × (value < values old.store.problem)
   pub room : 0 < old.store.spare
-  pub turn : (new : StoreView) → new.standing ≡ old.store.standing ++ Is cell value ∷ [] → IsTurnFrom old.problem old.chooser.rule old.store old.course words (Chose cell value) new old.course left
-  pub ready : (new : StoreView) (told : Told) → old.course.outcome ≡ None → IsPutOn old.store new (Is cell value) → Keeps new told → HoldsBetween old.problem new told old.course
+  pub turn : (new : StoreView) → new.standing ≡ old.store.standing ++ Is value cell ∷ [] → IsTurnFrom old.problem old.chooser.rule old.store old.course words (Chose cell value) new old.course left
+  pub ready : (new : StoreView) (told : Told) → old.course.outcome ≡ None → IsPutOn old.store new (Is value cell) → Keeps new told → HoldsBetween old.problem new told old.course
 
 -- so it is, told from the domains that are read
 pub choice_known : (old : SearchView) (D : Test) (words left : Stream) (cell value word : ℕ) → IsReady old → old.store.verdict ≡ Alive → Some cell ≡ picked old.chooser.rule old.chooser.sizes
@@ -202,11 +202,11 @@ pub retraction_in_problem : (P : Network) → IsProblem P → (old : StoreView) 
     → (last.cell < P.cells) × (last.value < values P)
 retraction_in_problem P p old course last r between =
     let l = last_is old.standing (choice_at old last) (sym r.found) in
-    cuts_in P p (take last.at old.standing) last.cell last.value (between.grown (take last.at old.standing) l.after (Is last.cell last.value) l.whole)
+    cuts_in P p (take last.at old.standing) last.cell last.value (between.grown (take last.at old.standing) l.after (Is last.value last.cell) l.whole)
 
 -- the turn that it is
 pub retraction_made : (P : Network) (rule : Rule) (old new : StoreView) (course next : Course) (words : Stream) (last : LastChoice) → Retracts P old course last
-    → new.standing ≡ take last.at old.standing ++ Not last.cell last.value ∷ [] → next.retractions ≡ course.retractions + 1 → IsTurnFrom P rule old course words (Retracted last.cell last.value) new next words
+    → new.standing ≡ take last.at old.standing ++ Not last.value last.cell ∷ [] → next.retractions ≡ course.retractions + 1 → IsTurnFrom P rule old course words (Retracted last.cell last.value) new next words
 retraction_made P rule old new course next words last r standing more draws =
     made_retraction P rule course.budget (state_at old course draws words) (choice_at old last) r.dead (sym r.found) r.left
     ∙ ap (λ (ls : List Literal). (Retracted last.cell last.value, record { standing = ls; retractions = course.retractions + 1; draws = draws; words = words })) (sym standing)
@@ -214,10 +214,10 @@ retraction_made P rule old new course next words last r standing more draws =
 
 -- what holds after it
 pub retraction_ready : (P : Network) → IsProblem P → (rule : Rule) (old mid new : StoreView) (chooser told : Told) (course next : Course) (words : Stream) (last : LastChoice) → Retracts P old course last
-    → HoldsBetween P old chooser course → course.outcome ≡ None → IsCutBack old mid last.at → IsPutOn mid new (Not last.cell last.value) → Keeps new told
+    → HoldsBetween P old chooser course → course.outcome ≡ None → IsCutBack old mid last.at → IsPutOn mid new (Not last.value last.cell) → Keeps new told
     → next ≡ record course { retractions = course.retractions + 1 } → HoldsBetween P new told next
 retraction_ready P p rule old mid new chooser told course next words last r ready going cut put keeps is =
-    let standing : new.standing ≡ take last.at old.standing ++ Not last.cell last.value ∷ [] = put.standing ∙ ap (λ (ls : List Literal). ls ++ Not last.cell last.value ∷ []) cut.standing in
+    let standing : new.standing ≡ take last.at old.standing ++ Not last.value last.cell ∷ [] = put.standing ∙ ap (λ (ls : List Literal). ls ++ Not last.value last.cell ∷ []) cut.standing in
     let more : Course = record course { retractions = course.retractions + 1 } in
     let s : State = state_at old course 0 words in
     let between : IsBetween P course.budget new.standing (course.retractions + 1) =
@@ -226,7 +226,7 @@ retraction_ready P p rule old mid new chooser told course next words last r read
       problem = put.problem ∙ cut.problem ∙ ready.problem;
       keeps = keeps;
       between = between;
-      room = omega (arith, ready.room, put.spare, cut.spare, ap (λ (ls : List Literal). length ls) standing, length-append (take last.at old.standing) (Not last.cell last.value ∷ []), length-take-le last.at old.standing (omega (arith, r.within)));
+      room = omega (arith, ready.room, put.spare, cut.spare, ap (λ (ls : List Literal). length ls) standing, length-append (take last.at old.standing) (Not last.value last.cell ∷ []), length-take-le last.at old.standing (omega (arith, r.within)));
       outcome = no_outcome _ course.outcome going;
     })
 

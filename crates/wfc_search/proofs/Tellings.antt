@@ -52,8 +52,8 @@ more_some ls l = omega (arith, length-append ls (l ∷ []))
 -- after a turn that leads on some literal stands
 leads_some : (P : Network) (rule : Rule) (budget : ℕ) (s t : State) → LeadsTo (turn_of P rule budget s) t → 0 < length t.standing
 leads_some P rule budget s t leads = elim (leads_cases P rule budget s t leads) [
-  | inl h ↦ subst (λ (u : State). 0 < length u.standing) h.next (more_some s.standing (Is h.cell h.value))
-  | inr h ↦ subst (λ (u : State). 0 < length u.standing) h.next (more_some h.last.before (Not h.last.cell h.last.value))
+  | inl h ↦ subst (λ (u : State). 0 < length u.standing) h.next (more_some s.standing (Is h.value h.cell))
+  | inr h ↦ subst (λ (u : State). 0 < length u.standing) h.next (more_some h.last.before (Not h.last.value h.last.cell))
 ]
 
 -- where a literal stands, nothing of the opening is told

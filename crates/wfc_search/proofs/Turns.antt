@@ -171,7 +171,7 @@ ended_same P rule budget s u outcome is = elim (either_turn P rule budget s) [
 -- ---- a choice
 
 -- the picked cell is one with two values or more, of which one is drawn
-pub choice_cuts : (P : Network) → IsProblem P → (rule : Rule) (s t : State) (ls : List Literal) → (h : IsChoice P rule s t (greatest P ls)) → Cuts P (greatest P ls) (Is h.cell h.value)
+pub choice_cuts : (P : Network) → IsProblem P → (rule : Rule) (s t : State) (ls : List Literal) → (h : IsChoice P rule s t (greatest P ls)) → Cuts P (greatest P ls) (Is h.value h.cell)
 choice_cuts P p rule s t ls h =
     let D : Test = greatest P ls in
     let vs : List ℕ = values_at P D h.cell in

@@ -11,8 +11,8 @@ use Rattle.wfc_search.specs.Volume.{ways, volume_of, at_least_one}
 
 -- a literal takes something away: what is ruled out stands, and so does what is chosen, beside another value
 abbrev pub Cuts : Network → Test → Literal → Type 0
-Cuts P D (Is cell value) = (cell < P.cells) × IsTrue (D cell value) × (2 ≤ size_at P D cell)
-Cuts P D (Not cell value) = (cell < P.cells) × IsTrue (D cell value)
+Cuts P D (Is value cell) = (cell < P.cells) × IsTrue (D cell value) × (2 ≤ size_at P D cell)
+Cuts P D (Not value cell) = (cell < P.cells) × IsTrue (D cell value)
 
 -- each literal cuts the greatest domains of those before it
 abbrev pub IsGrown : Network → List Literal → Type 0
@@ -26,8 +26,8 @@ HasNone P literals = (a : List ℕ) → IsLegalAssignment P a → LiesIn a (base
 
 -- each value that is ruled out has no legal assignment with the literals before it
 abbrev pub IsReasoned : Network → List Literal → Type 0
-IsReasoned P literals = (before after : List Literal) (cell value : ℕ) → literals ≡ before ++ Not cell value ∷ after
-    → HasNone P (before ++ Is cell value ∷ [])
+IsReasoned P literals = (before after : List Literal) (cell value : ℕ) → literals ≡ before ++ Not value cell ∷ after
+    → HasNone P (before ++ Is value cell ∷ [])
 
 -- how many ways these literals leave, and 1 for none
 abbrev pub ways_with : Network → List Literal → ℕ
@@ -35,8 +35,8 @@ ways_with P literals = at_least_one (ways P (greatest P literals))
 
 -- of a choice, what is counted where its value is ruled out instead
 abbrev pub other_side : (List Literal → ℕ) → Literal → ℕ
-other_side count (Is cell value) = count (Not cell value ∷ [])
-other_side count (Not cell value) = 0
+other_side count (Is value cell) = count (Not value cell ∷ [])
+other_side count (Not value cell) = 0
 
 -- the sum of this over all choices, each counted with the literals before it
 abbrev pub other_sides : (List Literal → ℕ) → List Literal → ℕ

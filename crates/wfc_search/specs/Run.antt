@@ -33,8 +33,8 @@ pub record Choice : Type 0 where
 
 -- the literal as a choice, if it is an `Is`
 abbrev pub choice_of : Literal → Option Choice
-choice_of (Is cell value) = Some (record { before = []; cell = cell; value = value })
-choice_of (Not cell value) = None
+choice_of (Is value cell) = Some (record { before = []; cell = cell; value = value })
+choice_of (Not value cell) = None
 
 -- a choice found behind a literal, or else the literal itself
 abbrev pub behind : Literal → Option Choice → Option Choice
@@ -49,7 +49,7 @@ last_choice (l ∷ ls) = behind l (last_choice ls)
 -- the state after a choice is taken back: what it chose is ruled out in its stead
 abbrev pub retracted : State → Choice → State
 retracted s last = record {
-  standing = last.before ++ Not last.cell last.value ∷ [];
+  standing = last.before ++ Not last.value last.cell ∷ [];
   retractions = s.retractions + 1;
   draws = s.draws;
   words = s.words;
@@ -58,7 +58,7 @@ retracted s last = record {
 -- the state after a cell is given a value, with these words left
 abbrev pub chosen : State → ℕ → ℕ → Stream → State
 chosen s cell value words = record {
-  standing = s.standing ++ Is cell value ∷ [];
+  standing = s.standing ++ Is value cell ∷ [];
   retractions = s.retractions;
   draws = s.draws + 1;
   words = words;

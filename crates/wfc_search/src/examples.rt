@@ -29,33 +29,33 @@ pub fn numbers()
 
 /// The last choice is the last `Is`, with what stands before it.
 pub fn last_choices()
-    ensures last { last_choice (Is 0 1 ∷ Not 2 1 ∷ Is 1 5 ∷ Not 2 0 ∷ Not 3 4 ∷ [])
-        ≡ Some (record { before = Is 0 1 ∷ Not 2 1 ∷ []; cell = 1; value = 5 }) }
-    ensures none { last_choice (Not 2 1 ∷ Not 3 4 ∷ []) ≡ None }
+    ensures last { last_choice (Is 1 0 ∷ Not 1 2 ∷ Is 5 1 ∷ Not 0 2 ∷ Not 4 3 ∷ [])
+        ≡ Some (record { before = Is 1 0 ∷ Not 1 2 ∷ []; cell = 1; value = 5 }) }
+    ensures none { last_choice (Not 1 2 ∷ Not 4 3 ∷ []) ≡ None }
 {}
 
 /// A pair of cells that differ has a map, in which a word of 2 draws value 1 of weight 3 first. A ring of three cells
 /// that differ has none: without a budget the run is spent at once, and with one it finds out.
 pub fn small_runs()
-    ensures pair { summary (outcome_of pair scanline 0 twos) ≡ Some (Map, Is 0 1 ∷ [], 0, 1) }
-    ensures spent { summary (outcome_of ring scanline 0 twos) ≡ Some (Spent, Is 0 1 ∷ [], 0, 1) }
-    ensures none { summary (outcome_of ring scanline 1 twos) ≡ Some (NoMap, Not 0 1 ∷ [], 1, 1) }
+    ensures pair { summary (outcome_of pair scanline 0 twos) ≡ Some (Map, Is 1 0 ∷ [], 0, 1) }
+    ensures spent { summary (outcome_of ring scanline 0 twos) ≡ Some (Spent, Is 1 0 ∷ [], 0, 1) }
+    ensures none { summary (outcome_of ring scanline 1 twos) ≡ Some (NoMap, Not 1 0 ∷ [], 1, 1) }
     ensures volumes { map volume_of (pair ∷ ring ∷ []) ≡ 4 ∷ 8 ∷ [] }
     ensures turns { most_turns ring 1 ≡ 14 }
 {}
 
 /// A literal cuts what stands, and a choice has another value beside its own. What is left to try, and to do.
 pub fn literals_cut()
-    ensures choice { Cuts ring (greatest ring []) (Is 0 1) }
-    ensures only { Cuts pair (greatest pair (Is 0 1 ∷ [])) (Is 1 0) → ⊥ }
-    ensures gone { Cuts pair (greatest pair (Is 0 1 ∷ [])) (Not 1 1) → ⊥ }
-    ensures last { Cuts pair (greatest pair (Is 0 1 ∷ [])) (Not 1 0) }
-    ensures outside { Cuts ring (greatest ring []) (Not 3 0) → ⊥ }
+    ensures choice { Cuts ring (greatest ring []) (Is 1 0) }
+    ensures only { Cuts pair (greatest pair (Is 1 0 ∷ [])) (Is 0 1) → ⊥ }
+    ensures gone { Cuts pair (greatest pair (Is 1 0 ∷ [])) (Not 1 1) → ⊥ }
+    ensures last { Cuts pair (greatest pair (Is 1 0 ∷ [])) (Not 0 1) }
+    ensures outside { Cuts ring (greatest ring []) (Not 0 3) → ⊥ }
     ensures between { IsBetween ring 1 [] 0 }
     ensures too_many { IsBetween ring 1 [] 2 → ⊥ }
-    ensures ways { ways_left ring [] ∷ ways_left ring (Is 0 1 ∷ []) ∷ ways_left ring (Not 0 1 ∷ [])
+    ensures ways { ways_left ring [] ∷ ways_left ring (Is 1 0 ∷ []) ∷ ways_left ring (Not 1 0 ∷ [])
         ∷ [] ≡ 8 ∷ 2 ∷ 1 ∷ [] }
-    ensures work { work_left ring 1 (Is 0 1 ∷ []) 0 ∷ work_left ring 1 (Not 0 1 ∷ []) 1 ∷ [] ≡ 12 ∷ 5 ∷ [] }
+    ensures work { work_left ring 1 (Is 1 0 ∷ []) 0 ∷ work_left ring 1 (Not 1 0 ∷ []) 1 ∷ [] ≡ 12 ∷ 5 ∷ [] }
 {}
 
 /// Of the removals those for want of support are told, in their order, and then the cell that is empty. Before the first
@@ -66,7 +66,7 @@ pub fn lines_are_told()
         ≡ Remove 5 1 3 ∷ Remove 5 0 0 ∷ [] }
     ensures level { level_lines (record {
       problem = ring;
-      standing = Not 0 1 ∷ [];
+      standing = Not 1 0 ∷ [];
       spare = 5;
       marks = 1 ∷ [];
       verdict = Dead 6;
@@ -83,7 +83,7 @@ pub fn lines_are_told()
     }) ≡ Remove 5 1 3 ∷ [] }
     ensures no_opening { opening_lines (record {
       problem = ring;
-      standing = Not 0 1 ∷ [];
+      standing = Not 1 0 ∷ [];
       spare = 6;
       marks = 0 ∷ [];
       verdict = Alive;
@@ -91,7 +91,7 @@ pub fn lines_are_told()
     }) ≡ [] }
     ensures choice { turn_lines (Chose 3 8) (record {
       problem = ring;
-      standing = Is 3 8 ∷ [];
+      standing = Is 8 3 ∷ [];
       spare = 6;
       marks = 0 ∷ [];
       verdict = Dead 6;
@@ -99,7 +99,7 @@ pub fn lines_are_told()
     }) ≡ Try 3 8 ∷ Remove 5 1 3 ∷ Empty 6 ∷ [] }
     ensures retraction { turn_lines (Retracted 3 8) (record {
       problem = ring;
-      standing = Not 3 8 ∷ [];
+      standing = Not 8 3 ∷ [];
       spare = 6;
       marks = 0 ∷ [];
       verdict = Alive;

@@ -18,7 +18,7 @@ pub struct LastChoice {
 pub fn last_choice_of(standing: &[Literal]) -> Option<LastChoice>
     ensures within { IfSome result (λ last. last.at < length standing.now) }
     ensures stands { IfSome result (λ last. slice_get standing.now last.at ≡ Some
-        (Literal.Is last.cell last.value)) }
+        (Literal.Is last.value last.cell)) }
     ensures last { choice_in standing.now result ≡ last_choice standing.now }
 {
     let mut at = standing.len();

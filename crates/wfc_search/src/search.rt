@@ -104,7 +104,7 @@ impl<'p, S: Store> Search<'p, S> {
             (S.view self.old.store).standing }
         requires within { last.at < length (S.view self.old.store).standing }
         requires stands { slice_get (S.view self.old.store).standing last.at ≡ Some
-            (Literal.Is last.cell last.value) }
+            (Literal.Is last.value last.cell) }
         requires left { self.old.course.retractions ≢ self.old.course.budget }
         requires few { self.old.course.budget < 2 ^ 32 }
         requires going { self.old.course.outcome ≡ None }

@@ -116,13 +116,15 @@ fn put_refutation<O: Sink, L: Ledger>(
     requires parts { blank.parts ≡ L.parts }
     requires some { 0 < blank.parts }
     requires side { side_of request.now.source ≤ 6 }
-    requires ready { IsReady (shown (λ store. store) search.old ((⟦<dyn Chooser as Chooser>⟧ search.old.chooser.vtable).told search.old.chooser.value)) }
+    requires ready { IsReady (shown (λ store. store) search.old
+        ((⟦<dyn Chooser as Chooser>⟧ search.old.chooser.vtable).told search.old.chooser.value)) }
     requires going { IsGoing search.old.course }
     requires problem { search.old.problem.now ≡ problem.now }
     requires standing { search.old.store.standing ≡ [] }
     requires budget { search.old.course.budget ≡ request.now.budget }
     requires retractions { search.old.course.retractions ≡ 0 }
-    ensures refutes { Refutes ((⟦<dyn Chooser as Chooser>⟧ search.old.chooser.vtable).told search.old.chooser.value).rule request.now problem.now
+    ensures refutes { Refutes
+        ((⟦<dyn Chooser as Chooser>⟧ search.old.chooser.vtable).told search.old.chooser.value).rule request.now problem.now
         (O.seen out.old) (O.seen out.new) result }
 {
     put_head(out, request, problem)?;
@@ -189,7 +191,8 @@ fn put_seeded<O: Sink, L: Ledger>(
     requires name { blank.name ≡ L.name }
     requires parts { blank.parts ≡ L.parts }
     requires some { 0 < blank.parts }
-    requires ready { IsReady (shown (λ store. store) search.old ((⟦<dyn Chooser as Chooser>⟧ search.old.chooser.vtable).told search.old.chooser.value)) }
+    requires ready { IsReady (shown (λ store. store) search.old
+        ((⟦<dyn Chooser as Chooser>⟧ search.old.chooser.vtable).told search.old.chooser.value)) }
     requires going { IsGoing search.old.course }
     requires bare { IsBare (written_format format) (O.seen out.old).told }
     ensures put { IfOk result (λ outcome. PutsFrom (written_format format)
@@ -212,7 +215,8 @@ fn put_run<R: Rng, O: Sink, L: Ledger>(
     out: &mut O,
     steps: &mut Steps<L>,
 ) -> Result<Outcome, JournalFault>
-    requires ready { IsReady (shown (λ store. store) search.old ((⟦<dyn Chooser as Chooser>⟧ search.old.chooser.vtable).told search.old.chooser.value)) }
+    requires ready { IsReady (shown (λ store. store) search.old
+        ((⟦<dyn Chooser as Chooser>⟧ search.old.chooser.vtable).told search.old.chooser.value)) }
     requires going { IsGoing search.old.course }
     requires bare { IsBare (written_format format) (O.seen out.old).told }
     ensures put { IfOk result (λ outcome. PutsFrom (written_format format)
@@ -236,7 +240,8 @@ fn put_lines<R: Rng, O: Sink, L: Ledger>(
     out: &mut O,
     steps: &mut Steps<L>,
 ) -> Result<Outcome, JournalFault>
-    requires ready { IsReady (shown (λ store. store) search.old ((⟦<dyn Chooser as Chooser>⟧ search.old.chooser.vtable).told search.old.chooser.value)) }
+    requires ready { IsReady (shown (λ store. store) search.old
+        ((⟦<dyn Chooser as Chooser>⟧ search.old.chooser.vtable).told search.old.chooser.value)) }
     requires going { IsGoing search.old.course }
     requires bare { IsBare One (O.seen out.old).told }
     ensures put { IfOk result (λ outcome. PutsFrom One
@@ -257,7 +262,8 @@ fn put_spans<R: Rng, O: Sink, L: Ledger>(
     out: &mut O,
     steps: &mut Steps<L>,
 ) -> Result<Outcome, JournalFault>
-    requires ready { IsReady (shown (λ store. store) search.old ((⟦<dyn Chooser as Chooser>⟧ search.old.chooser.vtable).told search.old.chooser.value)) }
+    requires ready { IsReady (shown (λ store. store) search.old
+        ((⟦<dyn Chooser as Chooser>⟧ search.old.chooser.vtable).told search.old.chooser.value)) }
     requires going { IsGoing search.old.course }
     requires bare { IsBare Two (O.seen out.old).told }
     ensures put { IfOk result (λ outcome. PutsFrom Two

@@ -16,4 +16,4 @@ returns-clause-alive c = λ dead. false≢true ((dead_iff corner corner_problem 
 
 pub returns-clause-dead : goal.returns-clause-dead
 unfolding greatest
-returns-clause-dead c = (dead_iff corner corner_problem (greatest corner (Is 2 1 ∷ [])) (greatest_base corner corner_problem (Is 2 1 ∷ []))).0 refl
+returns-clause-dead c = (dead_iff corner corner_problem (greatest corner (Is 1 2 ∷ [])) (greatest_base corner corner_problem (Is 1 2 ∷ []))).0 refl

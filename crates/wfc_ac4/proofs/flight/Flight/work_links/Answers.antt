@@ -38,6 +38,9 @@ down_at-requires-clause-some g c =
     let s = link_at _ c.args.self.now.board _ c.args.self.now.counters _ _ _ _ _ _ _ c.beside-beside.result.now h.goes_on.grows.problem c.requires.working.counters.fits h.working c.requires.links c.loop-link-test.true c.beside-beside.ensures.value c.row_len-row_len.ensures.value refl (omega (arith, c.if-next-cells.true, c.cells-cells.ensures.value)) in
     s.some
 
+pub strike-requires-clause-filled : goal.strike-requires-clause-filled
+strike-requires-clause-filled g c = c.loop-link.invariant.working.board.filled
+
 pub strike-requires-clause-next_in : goal.strike-requires-clause-next_in
 strike-requires-clause-next_in g c =
     let h = c.loop-link.invariant in

@@ -18,7 +18,7 @@ remove-requires-clause-value_in c =
     omega (arith, (stands-in c.args.self.now t _ _ c.requires.stands).1, t.same_values)
 
 pub push-requires-clause-room : goal.push-requires-clause-room
-push-requires-clause-room c = board-room c.args.self.now c.requires.traced _ _ c.requires.stands
+push-requires-clause-room c = board-room c.args.self.now c.requires.traced c.requires.filled
 
 pub push-requires-clause-logged : goal.push-requires-clause-logged
 push-requires-clause-logged c =

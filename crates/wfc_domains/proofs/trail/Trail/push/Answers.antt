@@ -11,12 +11,14 @@ invariant_of-self c =
     let room = rw (← c.self.view_is) at c.requires.room in
     let logged = rw (← c.self.view_is) at c.requires.logged in
     let xs = a.older.removals in
-    let ys = a.recent.items in
+    let ys = a.list.items in
     let e = a.older.extent in
     let more = append_assoc xs ys (c.args.removal ∷ []) ∙ ap (λ zs. xs ++ zs) (sym c.push_reserved.ensures.items) in
     record {
-      fits = omega (arith, room, c.push_reserved.ensures.len, length-append xs ys, a.recent.ok.0);
-      older_room = h.older_room;
-      recent_room = omega (arith, h.recent_room, c.push_reserved.ensures.capacity);
+      fits = omega (arith, room, c.push_reserved.ensures.len, length-append xs ys, a.list.ok.0);
+      list_room = omega (arith, h.list_room, c.push_reserved.ensures.capacity);
+      earlier_in = omega (arith, h.earlier_in, c.push_reserved.ensures.len);
+      as_numbers = h.as_numbers;
+      as_list = h.as_list;
       logged = subst (AreLogged e e.sizes) more (logged-push e e.sizes (xs ++ ys) c.args.removal h.logged logged);
     }

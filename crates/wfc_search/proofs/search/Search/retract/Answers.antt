@@ -28,7 +28,7 @@ returns-clause-turn g c words =
     let course : Course = c.args.self.now.course in
     let r : Retracts P old course c.args.last = record { dead = c.requires.dead; found = c.requires.last; within = c.requires.within; left = c.requires.left } in
     retraction_made P _ old new course (record course { retractions = course.retractions + 1 }) words c.args.last r
-    (c.put_on.ensures.put_on.standing ∙ ap (λ (ls : List Literal). ls ++ Not c.args.last.cell c.args.last.value ∷ []) c.cut_back.ensures.cut_back.standing) refl
+    (c.put_on.ensures.put_on.standing ∙ ap (λ (ls : List Literal). ls ++ Not c.args.last.value c.args.last.cell ∷ []) c.cut_back.ensures.cut_back.standing) refl
 
 pub returns-clause-ready : goal.returns-clause-ready
 returns-clause-ready g c =
