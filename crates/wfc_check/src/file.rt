@@ -1,6 +1,6 @@
 //! The check of a file that is read in pieces.
 
-ghost use Rattle.std.specs.Prelude.{OnOk};
+ghost use Rattle.std.specs.Prelude.{◌+◌, ◌≤◌, OnOk};
 ghost use Rattle.wfc_problem.specs.Network.{IsProblem};
 ghost use Rattle.wfc_check.specs.Answered.{Answers, IsToldRefutation};
 ghost use Rattle.wfc_check.specs.Checker.{HasNone};
@@ -16,8 +16,8 @@ use wfc_proof::Shape;
 /// Whether the named file is a refutation of the problem, in either format, in format 2 of this shape; else the first line at
 /// fault, as `check_bytes` names it.
 ///
-/// It reads no further than to that line, in pieces of at most 4,096 bytes, and keeps no more than a piece and a line; no
-/// clause says so. A file of more than 4,294,967,296 bytes is `TooLong` where none of these is at fault.
+/// It ends at the latest with the piece, of at most 4,096 bytes, with which it was given more than 4,294,967,296. It reads no
+/// further than to the line at fault, and keeps no more than a piece and a line; no clause says so. A file of more than 4,294,967,296 bytes is `TooLong` where none of these is at fault.
 pub fn check<F: Folder>(
     alloc: Global,
     problem: &Problem,
@@ -28,6 +28,7 @@ pub fn check<F: Folder>(
     ensures answer { Answers problem.now shape.now name.now (F.seen folder.old) (F.seen folder.new) result }
     ensures refutation { OnOk result (IsToldRefutation problem.now shape.now (F.seen folder.old).contents name.now) }
     ensures sound { OnOk result (HasNone problem.now) }
+    ensures given { F.bytes_given folder.new ≤ F.bytes_given folder.old + MAX_REFUTATION_BYTES + 4096 }
 {
     read_file(alloc, problem, shape, folder, name)
 }
@@ -42,6 +43,7 @@ fn read_file<F: Folder>(
 ) -> Result<(), CheckFault>
     ensures answer { Answers problem.now shape.now name.now (F.seen folder.old) (F.seen folder.new) result }
     ensures problem { IsProblem problem.now }
+    ensures given { F.bytes_given folder.new ≤ F.bytes_given folder.old + MAX_REFUTATION_BYTES + 4096 }
 {
     let _cells = problem.cells();
     let mut reading = Reading::open(alloc, problem, shape)?;

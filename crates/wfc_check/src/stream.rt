@@ -1,6 +1,6 @@
 //! A file that is read in pieces, of which one is kept, and its lines.
 
-ghost use Rattle.std.specs.Prelude.{ℕ, ◌+◌, ◌-◌, ◌<◌, ◌≤◌, length};
+ghost use Rattle.std.specs.Prelude.{◌≡◌, ℕ, ◌+◌, ◌-◌, ◌<◌, ◌≤◌, length};
 
 use memchr::memchr;
 use std::alloc::{AllocError, Global};
@@ -22,12 +22,16 @@ pub(crate) struct Stream<'n> {
     to: usize,
     /// How many bytes of the file were read.
     at: u64,
+    /// How many bytes may be given in all.
+    most: u64,
     /// How many bytes may still be given.
     room: u64,
     ghost some: { 0 < length piece.items },
+    ghost short: { length piece.items ≤ 4096 },
     ghost ordered: { from ≤ to },
     ghost inside: { to ≤ length piece.items },
-    ghost small: { at + room ≤ 1099511627776 + (to - from) },
+    ghost balanced: { at + room ≡ most + (to - from) },
+    ghost small: { most ≤ 1099511627776 },
 }
 
 /// What stands behind the bytes of a line: its line feed, a byte too many, the end of the file, or bytes that may not be given.
@@ -47,6 +51,7 @@ impl<'n> Stream<'n> {
     pub(crate) fn new(alloc: Global, name: &'n str, room: u64) -> Result<Stream<'n>, AllocError>
         requires small { room ≤ 1099511627776 }
         ensures fresh { IfOk result (λ stream. stream_view stream ≡ fresh_view name.now room) }
+        ensures most { IfOk result (λ stream. stream.most ≡ room) }
     {
         Ok(Stream {
             name,
@@ -54,6 +59,7 @@ impl<'n> Stream<'n> {
             from: 0,
             to: 0,
             at: 0,
+            most: room,
             room,
         })
     }
@@ -63,6 +69,8 @@ impl<'n> Stream<'n> {
         ensures unread { MatchResult result (λ _. F.seen folder.new ≡ F.seen folder.old)
             (λ fault. CausesStop self.old.name.now (F.seen folder.old) (F.seen folder.new) fault) }
         ensures name { self.new.name ≡ self.old.name }
+        ensures most { self.new.most ≡ self.old.most }
+        ensures given { F.bytes_given folder.new + self.old.at ≤ F.bytes_given folder.old + self.new.at }
         ensures some { result ≡ Ok true → self.new.from < self.new.to }
         ensures steps { result ≡ Ok true
             → Steps (F.seen folder.old).contents (stream_view self.old) (stream_view self.new) [] }
@@ -87,6 +95,7 @@ impl<'n> Stream<'n> {
         requires room { count ≤ self.old.room }
         ensures passed { Passes (stream_view self.old) (stream_view self.new) (take count (stream_view self.old).kept) }
         ensures name { self.new.name ≡ self.old.name }
+        ensures most { self.new.most ≡ self.old.most }
     {
         self.from += count;
         self.room -= count as u64;
@@ -100,6 +109,8 @@ impl<'n> Stream<'n> {
         ensures gathered { IfOk result
             (Gathers (stream_view self.old) (stream_view self.new) line.old.items line.new.items) }
         ensures name { self.new.name ≡ self.old.name }
+        ensures most { self.new.most ≡ self.old.most }
+        ensures at { self.new.at ≡ self.old.at }
     {
         let kept = (self.to - self.from).min(LINE + 1 - line.len());
         let most = self.room.min(kept as u64) as usize;
@@ -127,6 +138,8 @@ impl<'n> Stream<'n> {
         ensures unread { MatchResult result (λ _. F.seen folder.new ≡ F.seen folder.old)
             (λ fault. CausesStop self.old.name.now (F.seen folder.old) (F.seen folder.new) fault) }
         ensures name { self.new.name ≡ self.old.name }
+        ensures most { self.new.most ≡ self.old.most }
+        ensures given { F.bytes_given folder.new + self.old.at ≤ F.bytes_given folder.old + self.new.at }
         ensures line { IfOk result (EndsLine (F.seen folder.old).contents (stream_view self.old) (stream_view self.new) line.new.items) }
     {
         line.clear();

@@ -22,13 +22,14 @@ abbrev pub telling_sink : List ℕ → Bool → ℕ → SinkView
 telling_sink bytes finished faults =
     record { told = Some (record { bytes = bytes; finished = finished }); faults = faults }
 
--- a folder in memory of two files that gives two bytes a call
+-- a folder in memory of two files that gives two bytes a call, and has given ten
 abbrev pub two_kept : MemoryFolderView
 two_kept = record {
   files = record { name = codes "a"; bytes = 5 ∷ 6 ∷ 7 ∷ []; faults = 3 }
       ∷ record { name = codes "b"; bytes = 8 ∷ []; faults = 4 } ∷ [];
   piece = 2;
   calls = 1;
+  given = 10;
   failing = [];
 }
 

@@ -1,5 +1,5 @@
 -- What a folder in memory is seen as, and what its calls do to it.
-use Rattle.std.specs.Prelude.{ℕ, ◌-◌, List, [], ◌∷◌, ◌++◌, Option, Some, map, min, length, if◌then◌else◌}
+use Rattle.std.specs.Prelude.{ℕ, ◌+◌, ◌-◌, ◌^◌, List, [], ◌∷◌, ◌++◌, Option, Some, map, min, length, if◌then◌else◌}
 use Rattle.std.specs.Str.{bytes_eq}
 use Rattle.wfc_outside.specs.Count.{raised}
 use Rattle.wfc_outside.specs.Folder.{File, FolderView, file_of}
@@ -11,16 +11,17 @@ pub record MemoryFile : Type 0 where
   pub faults : ℕ
 
 -- a folder in memory: its files in the order in which they were added, how many bytes it gives in a call, how many
--- calls were made, and which calls fail
+-- calls were made, how many bytes it has given, and which calls fail
 pub record MemoryFolderView : Type 0 where
   pub files : List MemoryFile
   pub piece : ℕ
   pub calls : ℕ
+  pub given : ℕ
   pub failing : List ℕ
 
 -- a folder without files that was not called
 abbrev pub fresh_folder : ℕ → MemoryFolderView
-fresh_folder piece = record { files = []; piece = piece; calls = 0; failing = [] }
+fresh_folder piece = record { files = []; piece = piece; calls = 0; given = 0; failing = [] }
 
 -- a file without its count
 abbrev pub told_file : MemoryFile → File
@@ -64,9 +65,13 @@ folder_listing folder call = record folder { failing = folder.failing ++ (call �
 abbrev pub given_count : MemoryFolderView → List ℕ → ℕ → List ℕ → ℕ
 given_count folder file at buffer = min (min (length file - at) (length buffer)) folder.piece
 
--- the folder after a call that didn't fail
+-- the folder after a call for a file that isn't there
 abbrev pub after_call : MemoryFolderView → MemoryFolderView
 after_call folder = record folder { calls = raised folder.calls }
+
+-- the folder after a call that gave n bytes, which are counted no further than 2^64 - 1
+abbrev pub after_giving : MemoryFolderView → ℕ → MemoryFolderView
+after_giving folder n = record folder { calls = raised folder.calls; given = min (folder.given + n) (2 ^ 64 - 1) }
 
 -- the folder after a call that failed on this name
 abbrev pub after_failed_call : MemoryFolderView → List ℕ → MemoryFolderView

@@ -121,6 +121,8 @@ impl<'r, R: Files> DiskFolder<'r, R> {
 impl<R: Files> Folder for DiskFolder<'_, R> {
     ghost seen = { λ f. record { contents = None; faults = λ _. f } };
 
+    ghost bytes_given = { λ _. 0 };
+
     fn read_at(&mut self, name: &str, at: u64, buf: &mut [u8]) -> Result<usize, FolderFault> {
         DiskFolder::read_at(self, name, at, buf)
     }

@@ -5,7 +5,7 @@ ghost use Rattle.wfc_outside.specs.Cases.{counting_folder, telling_sink, three_f
 ghost use Rattle.wfc_outside.specs.Count.{CountsFaults, HasRisen, IsListedNext, raised};
 ghost use Rattle.wfc_outside.specs.Folder.{file_of, GivesFrom, IsFaultOf, IsMissing, IsToldAs};
 ghost use Rattle.wfc_outside.specs.Gives.{Gives};
-ghost use Rattle.wfc_outside.specs.MemoryFolder.{after_adding, after_call, after_failed_call, bytes_of, fresh_folder, folder_listing, given_count, seen_folder};
+ghost use Rattle.wfc_outside.specs.MemoryFolder.{after_adding, after_call, after_failed_call, after_giving, bytes_of, fresh_folder, folder_listing, given_count, seen_folder};
 ghost use Rattle.wfc_outside.specs.MemorySink.{after_failing, after_finishing, after_taking, fresh_sink, IsToFail, seen_sink, sink_failing_finish, sink_listing, taken_count};
 ghost use Rattle.wfc_outside.specs.Sink.{after_bytes, after_finish, Finishes, IsFault, IsFaultAfterFront, Puts};
 ghost use Rattle.wfc_outside.specs.Whole.{IsLongerThan};
@@ -110,6 +110,7 @@ pub fn folders_in_memory()
     ensures counted { map (λ file. file.faults) (after_failed_call two_kept (codes "b")).files ≡ 3 ∷ 5 ∷ [] }
     ensures calls { (after_failed_call two_kept (codes "b")).calls ≡ 2 }
     ensures called { (after_call two_kept).calls ≡ 2 }
+    ensures gave { (after_giving two_kept 2).given ∷ (after_giving two_kept 2).calls ∷ [] ≡ 12 ∷ 2 ∷ [] }
     ensures seen { (seen_folder two_kept).faults (codes "b") ≡ 4 }
     ensures unknown { (seen_folder two_kept).faults (codes "c") ≡ 0 }
     ensures by_piece { given_count two_kept (5 ∷ 6 ∷ 7 ∷ []) 0 (0 ∷ 0 ∷ 0 ∷ []) ≡ 2 }

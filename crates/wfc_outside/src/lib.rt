@@ -5,7 +5,7 @@
 //! doesn't.
 #![tactic(auto)]
 
-ghost use Rattle.std.specs.Prelude.{◌≡◌, ◌<◌, ◌≤◌, length, take, IfOk, OnOk, OnErr, IsErrOf};
+ghost use Rattle.std.specs.Prelude.{◌≡◌, ℕ, ◌+◌, ◌<◌, ◌≤◌, length, take, IfOk, OnOk, OnErr, IsErrOf};
 ghost use Rattle.wfc_outside.specs.Folder.{FolderView, GivesFrom, IsFaultOf, IsMissing};
 ghost use Rattle.wfc_outside.specs.Sink.{SinkView, after_bytes, Finishes, IsFault};
 
@@ -50,12 +50,19 @@ pub trait Folder {
     /// Its files, where they are told, and its count of faults for each name.
     ghost seen: { Self → FolderView };
 
+    /// How many bytes it has given, as far as it counts them.
+    ghost bytes_given: { Self → ℕ };
+
     /// Reads bytes of the named file from byte `at` on into `buf`, and answers how many. `Ok(0)` for a buffer with room
     /// comes only at or past the file's end. What of `buf` lies behind the answered count is left open.
     fn read_at(&mut self, name: &str, at: u64, buf: &mut [u8]) -> Result<usize, FolderFault>
         ensures ok { OnOk result (seen self.new ≡ seen self.old) }
         ensures within { IfOk result (λ n. n ≤ length buf.new) }
         ensures given { IfOk result (λ n. GivesFrom (seen self.old).contents name.now at buf.new n) }
+
+        // No more bytes are counted than are given.
+        ensures counted { IfOk result (λ n. bytes_given self.new ≤ bytes_given self.old + n) }
+        ensures none_counted { OnErr result (bytes_given self.new ≤ bytes_given self.old) }
 
         // What is told stands in each case, and no count falls.
         ensures missing { IsErrOf result FolderFault.Missing → IsMissing (seen self.old) (seen self.new) name.now }

@@ -5,7 +5,7 @@ ghost use Rattle.std.specs.Str.{bytes_eq};
 ghost use Rattle.std.specs.String.{string_bytes};
 ghost use Rattle.wfc_outside.specs.Count.{HasRisen, IsListedNext, raised};
 ghost use Rattle.wfc_outside.specs.Folder.{GivesFrom, IsFaultOf};
-ghost use Rattle.wfc_outside.specs.MemoryFolder.{after_adding, after_call, after_failed_call, bytes_of, folder_listing, fresh_folder, given_count, seen_folder};
+ghost use Rattle.wfc_outside.specs.MemoryFolder.{after_adding, after_call, after_failed_call, after_giving, bytes_of, folder_listing, fresh_folder, given_count, seen_folder};
 
 use crate::count::one_more;
 use crate::{Folder, FolderFault, NoMemory};
@@ -74,6 +74,7 @@ pub struct MemoryFolder {
     files: Vec<StoredFile>,
     piece: usize,
     calls: u64,
+    given: u64,
     failing: Vec<u64>,
 }
 
@@ -83,7 +84,7 @@ impl Model for MemoryFolder {
 
     ghost Value = { MemoryFolderView };
 
-    ghost view = { λ f. record { files = f.files.items; piece = f.piece; calls = f.calls; failing = f.failing.items } };
+    ghost view = { λ f. record { files = f.files.items; piece = f.piece; calls = f.calls; given = f.given; failing = f.failing.items } };
 
     ghost invariant = { λ f. 0 < f.piece };
 }
@@ -98,8 +99,16 @@ impl MemoryFolder {
             files: Vec::new(alloc),
             piece,
             calls: 0,
+            given: 0,
             failing: Vec::new(alloc),
         }
+    }
+
+    /// How many bytes it has given, counted no further than 2^64 - 1.
+    pub fn given(&self) -> u64
+        ensures value { result ≡ self.now.given }
+    {
+        self.given
     }
 
     /// Adds a file, or replaces the bytes of the one of that name.
@@ -140,7 +149,7 @@ impl MemoryFolder {
         ensures count { IfOk result (λ n. IfSome (bytes_of self.old name.now)
             (λ file. n ≡ given_count self.old file at buf.old)) }
         ensures given { IfOk result (λ n. GivesFrom (seen_folder self.old).contents name.now at buf.new n) }
-        ensures ok { OnOk result (self.new ≡ after_call self.old) }
+        ensures ok { IfOk result (λ n. self.new ≡ after_giving self.old n) }
         ensures missing { IsErrOf result FolderFault.Missing → self.new ≡ after_call self.old }
         ensures failed { IsErrOf result FolderFault.Failed → self.new ≡ after_failed_call self.old name.now }
         ensures counted { IsErrOf result FolderFault.Failed
@@ -154,12 +163,16 @@ impl MemoryFolder {
             self.files[place].count_fault();
             return Err(FolderFault::Failed);
         }
-        Ok(self.files[place].give(at, self.piece, buf))
+        let count = self.files[place].give(at, self.piece, buf);
+        self.given = self.given.saturating_add(count as u64);
+        Ok(count)
     }
 }
 
 impl Folder for MemoryFolder {
     ghost seen = { seen_folder };
+
+    ghost bytes_given = { λ f. f.given };
 
     fn read_at(&mut self, name: &str, at: u64, buf: &mut [u8]) -> Result<usize, FolderFault> {
         MemoryFolder::read_at(self, name, at, buf)

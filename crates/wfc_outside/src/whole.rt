@@ -1,6 +1,6 @@
 //! Whole files read and whole pieces written, however little a folder gives or a sink takes at a time.
 
-ghost use Rattle.std.specs.Prelude.{◌≡◌, ◌≤◌, length, IfOk, OnOk, IsErrOf};
+ghost use Rattle.std.specs.Prelude.{◌≡◌, ◌+◌, ◌≤◌, length, IfOk, OnOk, IsErrOf};
 ghost use Rattle.wfc_outside.specs.Folder.{IsFaultOf, IsMissing, IsToldAs};
 ghost use Rattle.wfc_outside.specs.Sink.{Puts};
 ghost use Rattle.wfc_outside.specs.Whole.{IsLongerThan};
@@ -61,7 +61,7 @@ fn zeros(alloc: Global, count: usize) -> Result<Vec<u8>, AllocError>
 
 /// Reads the whole of the named file, which may have at most `limit` bytes.
 ///
-/// It asks for one byte past the limit at most, and for no other file; no clause says so, a test shows it.
+/// It ends at the latest when it was given one byte past the limit, and asks for no other file; a test shows the latter.
 pub fn read_all<F: Folder>(
     alloc: Global,
     folder: &mut F,
@@ -69,6 +69,8 @@ pub fn read_all<F: Folder>(
     limit: u64,
 ) -> Result<Vec<u8>, ReadFault>
     requires limited { limit ≤ MAX_FILE_BYTES }
+
+    ensures given { F.bytes_given folder.new ≤ F.bytes_given folder.old + limit + 1 }
 
     ensures ok { OnOk result (F.seen folder.new ≡ F.seen folder.old) }
     ensures within { IfOk result (λ bytes. length bytes.items ≤ limit) }

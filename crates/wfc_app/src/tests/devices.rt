@@ -133,6 +133,8 @@ struct Recorder {
 impl Folder for Recorder {
     ghost seen = { λ f. seen_folder f.folder };
 
+    ghost bytes_given = { λ f. f.folder.given };
+
     fn read_at(&mut self, name: &str, at: u64, buf: &mut [u8]) -> Result<usize, FolderFault> {
         if name != "chk.txt" && name != "a.pins" {
             self.others = self.others.saturating_add(1);

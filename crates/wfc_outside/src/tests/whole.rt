@@ -107,6 +107,7 @@ fn the_longest_file_is_too_long_for_less(rt: HostRuntime) -> Result<(), Fail> {
     let mut folder = longest(rt.alloc())?;
     let got = read_all(rt.alloc(), &mut folder, "longest", MAX_FILE_BYTES - 1);
     assert_eq!(rt; got.err(), Some(ReadFault::TooLong));
+    assert_eq!(rt; folder.given(), MAX_FILE_BYTES);
     Ok(())
 }
 
@@ -120,6 +121,8 @@ struct Recorder {
 
 impl Folder for Recorder {
     ghost seen = { λ f. seen_folder f.folder };
+
+    ghost bytes_given = { λ f. f.folder.given };
 
     fn read_at(&mut self, name: &str, at: u64, buf: &mut [u8]) -> Result<usize, FolderFault> {
         self.farthest = self.farthest.max(at.saturating_add(buf.len() as u64));

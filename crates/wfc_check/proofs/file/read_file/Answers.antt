@@ -1,4 +1,4 @@
-use Rattle.std.proofs.Common.{ℕ, List, Bor, refl, ap, sym, ◌∙◌}
+use Rattle.std.proofs.Common.{ℕ, List, Bor, refl, ap, sym, ◌∙◌, arith}
 use Rattle.wfc_check.specs.Checker.{problem_of}
 use Rattle.wfc_check.specs.Reading.{place_of}
 use Rattle.wfc_check.specs.Stream.{StreamView, stream_view}
@@ -12,6 +12,8 @@ pub lines-init : goal.lines-init
 lines-init g c = record {
   folder = refl;
   name = ap (λ (s : StreamView). s.name) c.in-Ok.ensures.fresh;
+  most = c.in-Ok.ensures.most;
+  given = omega arith;
   at = at_first c.args.problem.now c.args.shape.now (g.F.Folder.seen c.args.folder.now).contents c.args.name.now (stream_view c.in-Ok.stream) c.in_ok-reading.reading c.in-Ok.ensures.fresh c.in_ok-reading.ensures.ok;
 }
 
@@ -23,6 +25,8 @@ lines-preserved g c =
     record {
       folder = c.in-Ok-Feed.ensures.unread ∙ c.lines.invariant.folder;
       name = ap (λ (n : Bor (List ℕ)). n.now) c.next_line.ensures.name ∙ c.lines.invariant.name;
+      most = c.next_line.ensures.most ∙ c.lines.invariant.most;
+      given = omega (arith, c.next_line.ensures.given, c.lines.invariant.given);
       at = at_next c.args.problem.now c.args.shape.now (g.F.Folder.seen c.args.folder.now).contents c.args.name.now (stream_view c.lines.stream) (stream_view c.next_line.new.self) r c.line.new.self
           c.next_line.new.line.items c.lines.invariant.at ends.0 ends.1 led c.in-Ok-line.ensures.same c.in-Ok-line.ensures.next;
     }

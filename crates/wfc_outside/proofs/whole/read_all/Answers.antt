@@ -13,6 +13,7 @@ pub loop-bytes-preserved : goal.loop-bytes-preserved
 loop-bytes-preserved g c = record {
   unchanged = cc (c.in_ok-given.ensures.ok, c.loop-bytes.invariant.unchanged);
   within = grind (arith, common_steps, c.in_ok-extend_from_slice.ensures.len);
+  given = grind (arith, common_steps, c.loop-bytes.invariant.given, c.in_ok-given.ensures.counted, c.in_ok-extend_from_slice.ensures.len);
   front =
       let place : c.len-in-loop-bytes.result ≡ length c.loop-bytes.bytes.items = omega arith in
       let given = given_next (g.F.Folder.seen c.args.folder.now) (g.F.Folder.seen c.loop-bytes.folder) c.args.name.now c.loop-bytes.bytes.items c.read_at.new.buf c.len-in-loop-bytes.result c.in_ok-given.given c.loop-bytes.invariant.unchanged place c.in_ok-given.ensures.given in

@@ -1,4 +1,4 @@
--- The bytes so far are the first ones of the file, and the folder is seen as at the entry.
+-- The bytes so far are the first ones of the file, the folder is seen as at the entry, and no more were given.
 use Rattle.std.proofs.Common.{◌≡◌, ◌+◌, ◌-◌, ◌≤◌, length}
 use Rattle.wfc_outside.proofs.WholeLemmas.{IsFrontOf}
 use Rattle.wfc_outside.proofs.whole.read_all.Given as goal
@@ -7,6 +7,7 @@ abbrev pub invariant-loop-bytes : goal.invariant-loop-bytes
 invariant-loop-bytes g l = record {
   unchanged : g.F.Folder.seen l.folder ≡ g.F.Folder.seen l.initial.folder;
   within : length l.bytes.items ≤ l.limit;
+  given : g.F.Folder.bytes_given l.folder ≤ g.F.Folder.bytes_given l.initial.folder + length l.bytes.items;
   front : IsFrontOf (g.F.Folder.seen l.initial.folder).contents l.name l.bytes.items;
 }
 

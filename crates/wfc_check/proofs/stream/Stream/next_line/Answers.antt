@@ -41,6 +41,8 @@ read-preserved g c =
     record {
       folder = c.in_ok-refill.ensures.unread ∙ c.read.invariant.folder;
       name = c.gather.ensures.name ∙ c.refill.ensures.name ∙ c.read.invariant.name;
+      most = c.gather.ensures.most ∙ c.refill.ensures.most ∙ c.read.invariant.most;
+      given = omega (arith, c.gather.ensures.at, c.refill.ensures.given, c.read.invariant.given);
       line = record { plain = plain_after _ _ _ _ _ c.read.invariant.line gathers.0; short = omega (arith, c.if-len-gt-LINE.false) };
       steps = gave.steps;
       keeps = λ keeps _. gave.left keeps;

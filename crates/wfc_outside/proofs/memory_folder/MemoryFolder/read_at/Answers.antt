@@ -47,7 +47,7 @@ returns-then-contains-clause-counted c = λ _. rw (counted_files c, ← c.self.v
 }
 
 -- the place that was found, at any other call
-present_to_give : (c : goal.After-slice_known-2-1) → bytes_of c.args.self.now c.args.name.now ≡ Some c.index.result.now.bytes
+present_to_give : (c : goal.After-self-2-1) → bytes_of c.args.self.now c.args.name.now ≡ Some c.index.result.now.bytes
 present_to_give c =
     let found : Found c.self.inside.files.items c.args.name.now (Some c.in-Some.place) = rw (← c.deref.ensures.value) c.in-Some.ensures.first in
     rw (← c.self.view_is) (present_found _ _ c.in-Some.place c.index.result.now found c.index.ensures)
@@ -56,7 +56,7 @@ pub returns-clause-missing_exactly : goal.returns-clause-missing_exactly
 returns-clause-missing_exactly c = let present = present_to_give c in (λ wrong. cc, λ absent. cc)
 
 pub returns-clause-count : goal.returns-clause-count
-returns-clause-count c = rw (present_to_give c, ← c.self.view_is) c.give.ensures.count
+returns-clause-count c = rw (present_to_give c, ← c.self.view_is) c.give-count.ensures.count
 
 pub returns-clause-given : goal.returns-clause-given
-returns-clause-given c = (c.index.result.now.bytes, present_to_give c, is_piece c.index.result.now.bytes c.give.new.buf c.args.buf.now c.args.at c.self.inside.piece c.give.result c.give.ensures.count (omega arith) c.self.invariant c.give.ensures.given)
+returns-clause-given c = (c.index.result.now.bytes, present_to_give c, is_piece c.index.result.now.bytes c.give-count.new.buf c.args.buf.now c.args.at c.self.inside.piece c.give-count.result c.give-count.ensures.count (omega arith) c.self.invariant c.give-count.ensures.given)
