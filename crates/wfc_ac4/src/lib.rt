@@ -13,8 +13,6 @@ ghost use Rattle.wfc_domains.specs.Store.{IsSound, IsAssumed, IsOpened, left_of,
 
 mod flight;
 mod links;
-#[cfg(test)]
-mod tests;
 
 use flight::Flight;
 use links::Links;

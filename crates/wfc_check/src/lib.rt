@@ -13,8 +13,6 @@ mod nodes;
 mod progress;
 mod reading;
 mod stream;
-#[cfg(test)]
-mod tests;
 mod trail;
 
 pub use bytes::check_bytes;

@@ -14,8 +14,6 @@ mod draws;
 pub mod laws;
 mod scanning;
 mod sizes;
-#[cfg(test)]
-mod tests;
 
 pub use buckets::Buckets;
 pub use draws::draw;

@@ -39,6 +39,3 @@ impl Grid {
         self.bytes.as_slice()
     }
 }
-
-#[cfg(test)]
-mod tests;

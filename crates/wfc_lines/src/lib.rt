@@ -36,6 +36,3 @@ pub use ppms::ppm;
 pub use reads::reading;
 pub use step_files::{range, steps};
 pub use tile_sets::tiles;
-
-#[cfg(test)]
-mod tests;

@@ -92,6 +92,3 @@ pub trait Sink {
     fn finish(&mut self) -> Result<(), SinkFault>
         ensures finished { Finishes (seen self.old) (seen self.new) result };
 }
-
-#[cfg(test)]
-mod tests;

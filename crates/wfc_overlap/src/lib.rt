@@ -15,8 +15,6 @@ mod painting;
 mod pins;
 mod problem;
 mod supports;
-#[cfg(test)]
-mod tests;
 
 pub use mark::Mark;
 pub use painting::picture_of;

@@ -105,6 +105,3 @@ impl Patterns {
         Some(number as u16)
     }
 }
-
-#[cfg(test)]
-mod tests;

@@ -5,8 +5,6 @@ pub mod laws;
 mod palette;
 mod picture;
 mod symbol;
-#[cfg(test)]
-mod tests;
 
 pub use palette::{MAX_COLOURS, MAX_PIXELS, Palette, PaletteFault};
 pub use picture::{Picture, ShapeFault};

@@ -13,6 +13,3 @@ mod words;
 pub use fault::BuildFault;
 pub use pins::{PinFault, PinLine, read_pins};
 pub use steps::{RangeFault, Step, StepFault, StepLine, read_steps, steps_fit};
-
-#[cfg(test)]
-mod tests;

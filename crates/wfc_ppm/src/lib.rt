@@ -37,6 +37,3 @@ impl Model for Ppm {
 
     ghost invariant = { λ p. IsPpm record { width = p.width; height = p.height; maxval = p.maxval; pixels = p.pixels.items } };
 }
-
-#[cfg(test)]
-mod tests;

@@ -17,8 +17,6 @@ pub mod examples;
 pub mod laws;
 mod plain;
 mod symmetry;
-#[cfg(test)]
-mod tests;
 
 pub use plain::greatest_domains;
 use std::marker::Model;

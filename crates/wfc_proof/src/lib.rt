@@ -13,8 +13,6 @@ mod heads;
 mod journals;
 pub mod laws;
 mod spans;
-#[cfg(test)]
-mod tests;
 mod text;
 mod upgrading;
 mod words;

@@ -19,6 +19,3 @@ pub use learned::learned_overlap;
 pub use maps::picture_bytes;
 pub use tile_texts::learned_tiles;
 pub use tiled::tile_bytes;
-
-#[cfg(test)]
-mod tests;

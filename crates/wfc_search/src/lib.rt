@@ -10,8 +10,6 @@ mod last;
 pub mod laws;
 mod search;
 mod telling;
-#[cfg(test)]
-mod tests;
 mod volumes;
 
 pub use search::Search;

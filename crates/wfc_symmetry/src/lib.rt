@@ -70,6 +70,3 @@ pub fn rotate_into(window: &[u32], n: u32, out: &mut [u32])
         }
     }
 }
-
-#[cfg(test)]
-mod tests;

@@ -24,6 +24,3 @@ pub use task::{
     fill_task, learn_task,
 };
 pub use upgrading::{Upgrading, upgrade_task};
-
-#[cfg(test)]
-mod tests;

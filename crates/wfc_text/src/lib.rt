@@ -18,6 +18,3 @@ pub fn lines(bytes: &[u8]) -> Lines<'_>
 {
     Lines::new(bytes)
 }
-
-#[cfg(test)]
-mod tests;

@@ -85,7 +85,7 @@ impl Mask {
     }
 
     /// How many columns the map has.
-    pub(crate) fn width(&self) -> u32
+    pub fn width(&self) -> u32
         ensures value { result ≡ self.now.width }
         ensures mask { IsMask self.now }
     {
@@ -93,7 +93,7 @@ impl Mask {
     }
 
     /// How many rows the map has.
-    pub(crate) fn height(&self) -> u32
+    pub fn height(&self) -> u32
         ensures value { result ≡ self.now.height }
         ensures mask { IsMask self.now }
     {

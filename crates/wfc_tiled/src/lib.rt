@@ -19,6 +19,3 @@ pub use holes::Mask;
 pub use painting::{tiles_of, tiles_of_masked};
 pub use problem::{build, build_masked};
 pub use reading::{MAX_MASK_BYTES, MaskFault, mask};
-
-#[cfg(test)]
-mod tests;

@@ -270,6 +270,3 @@ fn named_picture(tiles: &[Tile], tile: u32) -> Option<&str>
         None => None,
     }
 }
-
-#[cfg(test)]
-mod tests;

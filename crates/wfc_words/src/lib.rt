@@ -15,6 +15,3 @@ pub use asked::Request;
 pub use fault::{CommandFault, ValueName};
 pub use kinds::{CommandKind, SourceModel};
 pub use reading::request;
-
-#[cfg(test)]
-mod tests;

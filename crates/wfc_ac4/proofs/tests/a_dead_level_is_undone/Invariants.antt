@@ -1,5 +1,0 @@
-use Rattle.wfc_ac4.proofs.tests.a_dead_level_is_undone.Given as goal
-
--- the ledger is that of the blank
-abbrev pub ghosts-undoes_the_rings : goal.ghosts-undoes_the_rings
-ghosts-undoes_the_rings g a = record { name = a.blank.name; parts = a.blank.parts }

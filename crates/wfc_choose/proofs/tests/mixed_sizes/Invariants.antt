@@ -1,5 +1,0 @@
-use Rattle.std.proofs.Common.{◌≡◌, ◌≤◌, All, vec_len}
-use Rattle.wfc_choose.proofs.tests.mixed_sizes.Given as goal
-
-abbrev pub invariant-loop : goal.invariant-loop
-invariant-loop l = record { long : vec_len l.sizes ≡ l.counter; small : All (λ size. size ≤ 4096) l.sizes.items }

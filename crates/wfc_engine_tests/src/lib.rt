@@ -1,0 +1,7 @@
+//! Tests of the engines and the choosers: in a crate of their own over the libraries, which are so proved once.
+#![tactic(auto)]
+
+#[cfg(test)]
+mod ac4;
+#[cfg(test)]
+mod choose;
