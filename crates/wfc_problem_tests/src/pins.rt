@@ -119,20 +119,31 @@ fn is_no_pin(rt: &impl Abort, alloc: Global, text: &[u8], line: u32) {
     assert_eq!(rt; found, Some(PinFault::BadLine { line }), "of {text:?}");
 }
 
+/// Whether no pin stands at line 1 of each text.
+fn are_no_pins(rt: &impl Abort, alloc: Global, texts: &[&[u8]]) {
+    for text in texts {
+        is_no_pin(rt, alloc, text, 1);
+    }
+}
+
 #[test]
 fn refuses_pins(rt: HostRuntime) {
-    let alloc = rt.alloc();
-    // Too few words, and too many.
-    is_no_pin(&rt, alloc, b"pin 0 a", 1);
-    is_no_pin(&rt, alloc, b"pin 0 0", 1);
-    is_no_pin(&rt, alloc, b"pin", 1);
-    is_no_pin(&rt, alloc, b"pin 0 0 a b", 1);
-    is_no_pin(&rt, alloc, b"pin 0 0 a #", 1);
+    let few_or_many = [
+        b"pin 0 a".as_slice(),
+        b"pin 0 0",
+        b"pin",
+        b"pin 0 0 a b",
+        b"pin 0 0 a #",
+    ];
+    are_no_pins(&rt, rt.alloc(), &few_or_many);
     // Another first word, also one of the other kind of file.
-    is_no_pin(&rt, alloc, b"Pin 0 0 a", 1);
-    is_no_pin(&rt, alloc, b"pins 0 0 a", 1);
-    is_no_pin(&rt, alloc, b"choose 0 0", 1);
-    is_no_pin(&rt, alloc, b"\x00", 1);
+    let other_words = [
+        b"Pin 0 0 a".as_slice(),
+        b"pins 0 0 a",
+        b"choose 0 0",
+        b"\x00",
+    ];
+    are_no_pins(&rt, rt.alloc(), &other_words);
 }
 
 #[test]
@@ -141,10 +152,13 @@ fn refuses_numbers_and_lines(rt: HostRuntime) {
     // A hash behind a blank begins no comment.
     is_no_pin(&rt, alloc, b" # pin", 1);
     // Numbers that are none, or too great.
-    is_no_pin(&rt, alloc, b"pin -1 0 a", 1);
-    is_no_pin(&rt, alloc, b"pin 0 +1 a", 1);
-    is_no_pin(&rt, alloc, b"pin 0 4294967296 a", 1);
-    is_no_pin(&rt, alloc, b"pin 18446744073709551616 0 a", 1);
+    let numbers = [
+        b"pin -1 0 a".as_slice(),
+        b"pin 0 +1 a",
+        b"pin 0 4294967296 a",
+        b"pin 18446744073709551616 0 a",
+    ];
+    are_no_pins(&rt, alloc, &numbers);
     // Only a line feed ends a line.
     is_no_pin(&rt, alloc, b"pin 0 0 a\rpin 0 0 a", 1);
     // The first line at fault is named.
@@ -324,20 +338,24 @@ fn refuses_undoing(rt: HostRuntime) {
 
 #[test]
 fn refuses_steps(rt: HostRuntime) {
-    let alloc = rt.alloc();
-    // Too few words, and too many.
-    is_no_step(&rt, alloc, b"choose 0", 1);
-    is_no_step(&rt, alloc, b"choose", 1);
-    is_no_step(&rt, alloc, b"forbid 0 0 0", 1);
-    // Other words, also one of the other kind of file.
-    is_no_step(&rt, alloc, b"undo undo", 1);
-    is_no_step(&rt, alloc, b"Undo", 1);
-    is_no_step(&rt, alloc, b"pin 0 0 a", 1);
-    is_no_step(&rt, alloc, b"chose 0 0", 1);
-    // Numbers that are none, or too great.
-    is_no_step(&rt, alloc, b"choose 0 65536", 1);
-    is_no_step(&rt, alloc, b"choose 4294967296 0", 1);
-    is_no_step(&rt, alloc, b"forbid 0 1.0", 1);
+    let texts = [
+        // Too few words, and too many.
+        b"choose 0".as_slice(),
+        b"choose",
+        b"forbid 0 0 0",
+        // Other words, also one of the other kind of file.
+        b"undo undo",
+        b"Undo",
+        b"pin 0 0 a",
+        b"chose 0 0",
+        // Numbers that are none, or too great.
+        b"choose 0 65536",
+        b"choose 4294967296 0",
+        b"forbid 0 1.0",
+    ];
+    for text in texts {
+        is_no_step(&rt, rt.alloc(), text, 1);
+    }
 }
 
 #[test]

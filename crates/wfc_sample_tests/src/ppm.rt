@@ -72,236 +72,161 @@ fn reads_one_pixel_of_two_bytes_a_sample(rt: HostRuntime) -> Result<(), Fail> {
     Ok(())
 }
 
+/// Each text is refused so.
+fn are_refused(rt: &impl Abort, alloc: Global, cases: &[(&[u8], PpmFault)]) {
+    for (text, want) in cases {
+        is_refused(rt, alloc, text, *want);
+    }
+}
+
 #[test]
 fn refuses_headers(rt: HostRuntime) {
-    is_refused(&rt, rt.alloc(), b"", PpmFault::Magic);
-    is_refused(&rt, rt.alloc(), b"P", PpmFault::Magic);
-    is_refused(&rt, rt.alloc(), b"P5 1 1 255 ", PpmFault::Magic);
-    is_refused(&rt, rt.alloc(), b"p6 1 1 255 ", PpmFault::Magic);
-    is_refused(&rt, rt.alloc(), b"P6", PpmFault::Header { at: 2 });
-    is_refused(&rt, rt.alloc(), b"P61 1 1 ", PpmFault::Header { at: 2 });
-    is_refused(&rt, rt.alloc(), b"P6\n# made", PpmFault::Header { at: 9 });
-    is_refused(
-        &rt,
-        rt.alloc(),
-        b"P6\n1 1\n65535",
-        PpmFault::Header { at: 12 },
-    );
+    let cases = [
+        (b"".as_slice(), PpmFault::Magic),
+        (b"P", PpmFault::Magic),
+        (b"P5 1 1 255 ", PpmFault::Magic),
+        (b"p6 1 1 255 ", PpmFault::Magic),
+        (b"P6", PpmFault::Header { at: 2 }),
+        (b"P61 1 1 ", PpmFault::Header { at: 2 }),
+        (b"P6\n# made", PpmFault::Header { at: 9 }),
+        (b"P6\n1 1\n65535", PpmFault::Header { at: 12 }),
+    ];
+    are_refused(&rt, rt.alloc(), &cases);
 }
 
 #[test]
 fn refuses_headers_that_are_spelled_wrong(rt: HostRuntime) {
-    is_refused(
-        &rt,
-        rt.alloc(),
-        b"P6\n0 1\n255\n",
-        PpmFault::Header { at: 3 },
-    );
-    is_refused(
-        &rt,
-        rt.alloc(),
-        b"P6 1 000 255\n",
-        PpmFault::Header { at: 5 },
-    );
-    is_refused(
-        &rt,
-        rt.alloc(),
-        b"P6 -1 1 255\n",
-        PpmFault::Header { at: 3 },
-    );
-    is_refused(&rt, rt.alloc(), b"P6 1 1x 0 ", PpmFault::Header { at: 6 });
-    is_refused(&rt, rt.alloc(), b"P6 1 1 0#\n", PpmFault::Header { at: 8 });
-    is_refused(&rt, rt.alloc(), b"P3 1 1 0", PpmFault::Header { at: 8 });
-    is_refused(&rt, rt.alloc(), b"P3 1 1 1 #c", PpmFault::Header { at: 11 });
-    is_refused(
-        &rt,
-        rt.alloc(),
-        b"P3 1 1 1x1 1 1",
-        PpmFault::Header { at: 8 },
-    );
+    let cases = [
+        (b"P6\n0 1\n255\n".as_slice(), PpmFault::Header { at: 3 }),
+        (b"P6 1 000 255\n", PpmFault::Header { at: 5 }),
+        (b"P6 -1 1 255\n", PpmFault::Header { at: 3 }),
+        (b"P6 1 1x 0 ", PpmFault::Header { at: 6 }),
+        (b"P6 1 1 0#\n", PpmFault::Header { at: 8 }),
+        (b"P3 1 1 0", PpmFault::Header { at: 8 }),
+        (b"P3 1 1 1 #c", PpmFault::Header { at: 11 }),
+        (b"P3 1 1 1x1 1 1", PpmFault::Header { at: 8 }),
+    ];
+    are_refused(&rt, rt.alloc(), &cases);
 }
 
 #[test]
 fn refuses_sides_and_maxvals(rt: HostRuntime) {
-    is_refused(
-        &rt,
-        rt.alloc(),
-        b"P6\n1 1\n0\n",
-        PpmFault::Maxval { value: 0 },
-    );
-    is_refused(
-        &rt,
-        rt.alloc(),
-        b"P6\n1 1\n65536\n",
-        PpmFault::Maxval { value: 65536 },
-    );
-    is_refused(
-        &rt,
-        rt.alloc(),
-        b"P6\n1 1\n99999999999\n",
-        PpmFault::Maxval {
-            value: 4_294_967_295,
-        },
-    );
-    is_refused(
-        &rt,
-        rt.alloc(),
-        b"P6\n1 1\n18446744073709551617\n",
-        PpmFault::Maxval {
-            value: 4_294_967_295,
-        },
-    );
-    is_refused(
-        &rt,
-        rt.alloc(),
-        b"P6\n1025 1024\n65536\n",
-        PpmFault::Maxval { value: 65536 },
-    );
-    is_refused(&rt, rt.alloc(), b"P6\n1025 1024\n255\n", PpmFault::TooLarge);
-    is_refused(
-        &rt,
-        rt.alloc(),
-        b"P3\n18446744073709551617 1\n255\n",
-        PpmFault::TooLarge,
-    );
-    is_refused(
-        &rt,
-        rt.alloc(),
-        b"P6\n1024 1024\n255\n",
-        PpmFault::Truncated {
-            wanted: 3_145_728,
-            found: 0,
-        },
-    );
+    let cases = [
+        (b"P6\n1 1\n0\n".as_slice(), PpmFault::Maxval { value: 0 }),
+        (b"P6\n1 1\n65536\n", PpmFault::Maxval { value: 65536 }),
+        (
+            b"P6\n1 1\n99999999999\n",
+            PpmFault::Maxval {
+                value: 4_294_967_295,
+            },
+        ),
+        (
+            b"P6\n1 1\n18446744073709551617\n",
+            PpmFault::Maxval {
+                value: 4_294_967_295,
+            },
+        ),
+        (b"P6\n1025 1024\n65536\n", PpmFault::Maxval { value: 65536 }),
+        (b"P6\n1025 1024\n255\n", PpmFault::TooLarge),
+        (b"P3\n18446744073709551617 1\n255\n", PpmFault::TooLarge),
+        (
+            b"P6\n1024 1024\n255\n",
+            PpmFault::Truncated {
+                wanted: 3_145_728,
+                found: 0,
+            },
+        ),
+    ];
+    are_refused(&rt, rt.alloc(), &cases);
 }
 
 #[test]
 fn refuses_samples(rt: HostRuntime) {
-    is_refused(
-        &rt,
-        rt.alloc(),
-        b"P6\n1 1\n254\n\x00\x00\xff",
-        PpmFault::SampleAboveMaxval { at: 13 },
-    );
-    is_refused(
-        &rt,
-        rt.alloc(),
-        b"P6\n1 1\n254\n\x00\x00\xff\x0a",
-        PpmFault::SampleAboveMaxval { at: 13 },
-    );
-    is_refused(
-        &rt,
-        rt.alloc(),
-        b"P6\n1 1\n254\n\x00\xff",
-        PpmFault::Truncated {
-            wanted: 3,
-            found: 2,
-        },
-    );
-    is_refused(
-        &rt,
-        rt.alloc(),
-        b"P6\n1 1\n255\n\x00\x00\xff\x0a",
-        PpmFault::Trailing { at: 14 },
-    );
-    is_refused(
-        &rt,
-        rt.alloc(),
-        b"P6 1 1 256 \x00\x01\x01\x01\x09\x09",
-        PpmFault::SampleAboveMaxval { at: 13 },
-    );
-    is_refused(
-        &rt,
-        rt.alloc(),
-        b"P6 1 1 256 \x00\x01\x01\x00\x00",
-        PpmFault::Truncated {
-            wanted: 6,
-            found: 5,
-        },
-    );
+    let cases = [
+        (
+            b"P6\n1 1\n254\n\x00\x00\xff".as_slice(),
+            PpmFault::SampleAboveMaxval { at: 13 },
+        ),
+        (
+            b"P6\n1 1\n254\n\x00\x00\xff\x0a",
+            PpmFault::SampleAboveMaxval { at: 13 },
+        ),
+        (
+            b"P6\n1 1\n254\n\x00\xff",
+            PpmFault::Truncated {
+                wanted: 3,
+                found: 2,
+            },
+        ),
+        (
+            b"P6\n1 1\n255\n\x00\x00\xff\x0a",
+            PpmFault::Trailing { at: 14 },
+        ),
+        (
+            b"P6 1 1 256 \x00\x01\x01\x01\x09\x09",
+            PpmFault::SampleAboveMaxval { at: 13 },
+        ),
+        (
+            b"P6 1 1 256 \x00\x01\x01\x00\x00",
+            PpmFault::Truncated {
+                wanted: 6,
+                found: 5,
+            },
+        ),
+    ];
+    are_refused(&rt, rt.alloc(), &cases);
 }
 
 #[test]
 fn refuses_plain_samples(rt: HostRuntime) {
-    is_refused(
-        &rt,
-        rt.alloc(),
-        b"P3\n1 1\n255\n1 2\n",
-        PpmFault::Truncated {
-            wanted: 3,
-            found: 2,
-        },
-    );
-    is_refused(
-        &rt,
-        rt.alloc(),
-        b"P3\n1 1\n255\n1 2 #3",
-        PpmFault::Truncated {
-            wanted: 3,
-            found: 2,
-        },
-    );
-    is_refused(
-        &rt,
-        rt.alloc(),
-        b"P3\n1 1\n255\n",
-        PpmFault::Truncated {
-            wanted: 3,
-            found: 0,
-        },
-    );
-    is_refused(
-        &rt,
-        rt.alloc(),
-        b"P3\n1 1\n255\n1 2 x\n",
-        PpmFault::BadSample { at: 15 },
-    );
-    is_refused(
-        &rt,
-        rt.alloc(),
-        b"P3\n1 1\n255\n1 2 3x\n",
-        PpmFault::BadSample { at: 15 },
-    );
-    is_refused(
-        &rt,
-        rt.alloc(),
-        b"P3\n1 1\n255\n1 -2 256\n",
-        PpmFault::BadSample { at: 13 },
-    );
+    let cases = [
+        (
+            b"P3\n1 1\n255\n1 2\n".as_slice(),
+            PpmFault::Truncated {
+                wanted: 3,
+                found: 2,
+            },
+        ),
+        (
+            b"P3\n1 1\n255\n1 2 #3",
+            PpmFault::Truncated {
+                wanted: 3,
+                found: 2,
+            },
+        ),
+        (
+            b"P3\n1 1\n255\n",
+            PpmFault::Truncated {
+                wanted: 3,
+                found: 0,
+            },
+        ),
+        (b"P3\n1 1\n255\n1 2 x\n", PpmFault::BadSample { at: 15 }),
+        (b"P3\n1 1\n255\n1 2 3x\n", PpmFault::BadSample { at: 15 }),
+        (b"P3\n1 1\n255\n1 -2 256\n", PpmFault::BadSample { at: 13 }),
+    ];
+    are_refused(&rt, rt.alloc(), &cases);
 }
 
 #[test]
 fn refuses_plain_samples_that_are_large_or_too_many(rt: HostRuntime) {
-    is_refused(
-        &rt,
-        rt.alloc(),
-        b"P3\n1 1\n255\n1 2 256\n",
-        PpmFault::SampleAboveMaxval { at: 15 },
-    );
-    is_refused(
-        &rt,
-        rt.alloc(),
-        b"P3\n1 1\n255\n1 256 x\n",
-        PpmFault::SampleAboveMaxval { at: 13 },
-    );
-    is_refused(
-        &rt,
-        rt.alloc(),
-        b"P3\n1 1\n255\n1 2 18446744073709551617\n",
-        PpmFault::SampleAboveMaxval { at: 15 },
-    );
-    is_refused(
-        &rt,
-        rt.alloc(),
-        b"P3\n1 1\n255\n1 2 3 4\n",
-        PpmFault::Trailing { at: 17 },
-    );
-    is_refused(
-        &rt,
-        rt.alloc(),
-        b"P3\n1 1\n255\n1 2 3#\nx",
-        PpmFault::Trailing { at: 18 },
-    );
+    let cases = [
+        (
+            b"P3\n1 1\n255\n1 2 256\n".as_slice(),
+            PpmFault::SampleAboveMaxval { at: 15 },
+        ),
+        (
+            b"P3\n1 1\n255\n1 256 x\n",
+            PpmFault::SampleAboveMaxval { at: 13 },
+        ),
+        (
+            b"P3\n1 1\n255\n1 2 18446744073709551617\n",
+            PpmFault::SampleAboveMaxval { at: 15 },
+        ),
+        (b"P3\n1 1\n255\n1 2 3 4\n", PpmFault::Trailing { at: 17 }),
+        (b"P3\n1 1\n255\n1 2 3#\nx", PpmFault::Trailing { at: 18 }),
+    ];
+    are_refused(&rt, rt.alloc(), &cases);
 }
 
 /// Two pixels with this maximum are written so.

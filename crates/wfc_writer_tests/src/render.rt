@@ -86,32 +86,26 @@ fn written(rt: &impl Abort, alloc: Global, text: &[u8], form: Form) -> Result<Ve
     text_of(alloc, &grid, form)
 }
 
-/// Whether the grid that a text spells is written so in a form.
-fn is_written(
-    rt: &impl Abort,
-    alloc: Global,
-    text: &[u8],
-    form: Form,
-    wanted: &[u8],
-) -> Result<(), Fail> {
-    let found = written(rt, alloc, text, form)?;
-    assert_eq!(rt; found.as_slice(), wanted);
-    Ok(())
-}
-
 #[test]
 fn writes_maps(rt: HostRuntime) -> Result<(), Fail> {
-    let alloc = rt.alloc();
-    is_written(&rt, alloc, b"ab\nb \naa\n", Form::Grid, b"ab\nb \naa\n")?;
-    is_written(&rt, alloc, b"ab\nb \naa\n", Form::Cells, b"0 1\n1 2\n0 0\n")?;
-    is_written(&rt, alloc, b"x\n", Form::Cells, b"0\n")?;
-    is_written(
-        &rt,
-        alloc,
-        b"abcdefghijkl\n",
-        Form::Cells,
-        b"0 1 2 3 4 5 6 7 8 9 10 11\n",
-    )
+    let cases = [
+        (
+            b"ab\nb \naa\n".as_slice(),
+            Form::Grid,
+            b"ab\nb \naa\n".as_slice(),
+        ),
+        (b"ab\nb \naa\n", Form::Cells, b"0 1\n1 2\n0 0\n"),
+        (b"x\n", Form::Cells, b"0\n"),
+        (
+            b"abcdefghijkl\n",
+            Form::Cells,
+            b"0 1 2 3 4 5 6 7 8 9 10 11\n",
+        ),
+    ];
+    for (text, form, wanted) in cases {
+        assert_eq!(rt; written(&rt, rt.alloc(), text, form)?.as_slice(), wanted);
+    }
+    Ok(())
 }
 
 /// A grid of 256 by 256 characters.

@@ -11,16 +11,20 @@ use wfc_pins::{BuildFault, PinFault, PinLine, read_pins};
 use wfc_problem::Problem;
 
 /// The width and the height of an output, and whether it wraps.
-pub type Sides = (u32, u32, bool);
+pub(super) type Sides = (u32, u32, bool);
 
 /// The lines of a pins file.
-pub fn lines_of(rt: &impl Abort, alloc: Global, text: &[u8]) -> Result<Vec<PinLine>, PinFault> {
+pub(super) fn lines_of(
+    rt: &impl Abort,
+    alloc: Global,
+    text: &[u8],
+) -> Result<Vec<PinLine>, PinFault> {
     assert!(rt; text.len() < 1_000_000);
     read_pins(alloc, text)
 }
 
 /// The problem with these lines, or why there is none.
-pub fn problem_with(
+pub(super) fn problem_with(
     rt: &impl Abort,
     alloc: Global,
     patterns: &Patterns,
@@ -35,7 +39,7 @@ pub fn problem_with(
 }
 
 /// The problem with no lines, of a sample of `a` and `b`.
-pub fn problem_of(
+pub(super) fn problem_of(
     rt: &impl Abort,
     alloc: Global,
     patterns: &Patterns,
@@ -61,7 +65,7 @@ fn base_of(alloc: Global, problem: &Problem) -> Result<Vec<u8>, AllocError> {
 }
 
 /// The base of the problem with the lines of a text.
-pub fn base_with(
+pub(super) fn base_with(
     rt: &impl Abort,
     alloc: Global,
     patterns: &Patterns,
@@ -75,7 +79,7 @@ pub fn base_with(
 }
 
 /// Why there is no problem with the lines of a text.
-pub fn fault_of(
+pub(super) fn fault_of(
     rt: &impl Abort,
     alloc: Global,
     patterns: &Patterns,
@@ -88,10 +92,10 @@ pub fn fault_of(
 }
 
 /// No cell, where a neighbour is looked for.
-pub const NONE: u32 = 99;
+pub(super) const NONE: u32 = 99;
 
 /// For each cell what lies to the left, below, to the right and above, or `NONE`.
-pub fn neighbours_of(alloc: Global, problem: &Problem) -> Result<Vec<u32>, AllocError> {
+pub(super) fn neighbours_of(alloc: Global, problem: &Problem) -> Result<Vec<u32>, AllocError> {
     let mut cells = Vec::new(alloc);
     for cell in 0..problem.cells() {
         for dir in 0..problem.dirs() {
@@ -102,7 +106,7 @@ pub fn neighbours_of(alloc: Global, problem: &Problem) -> Result<Vec<u32>, Alloc
 }
 
 /// For each value and direction the values that may stand beside it.
-pub fn supports_of(alloc: Global, problem: &Problem) -> Result<Vec<Vec<u16>>, AllocError> {
+pub(super) fn supports_of(alloc: Global, problem: &Problem) -> Result<Vec<Vec<u16>>, AllocError> {
     let mut lists = Vec::new(alloc);
     for value in 0..problem.values() {
         for dir in 0..problem.dirs() {
@@ -113,7 +117,7 @@ pub fn supports_of(alloc: Global, problem: &Problem) -> Result<Vec<Vec<u16>>, Al
 }
 
 /// How often each value arises.
-pub fn weights_of(alloc: Global, problem: &Problem) -> Result<Vec<u32>, AllocError> {
+pub(super) fn weights_of(alloc: Global, problem: &Problem) -> Result<Vec<u32>, AllocError> {
     let mut weights = Vec::new(alloc);
     for value in 0..problem.values() {
         weights.push(problem.weight(value))?;

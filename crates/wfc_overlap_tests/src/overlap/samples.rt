@@ -9,7 +9,7 @@ use wfc_pattern::{LearnFault, Patterns, learn};
 use wfc_picture::{Colour, Palette, PaletteFault, Picture, Symbol};
 
 /// The patterns of a picture.
-pub fn taught(
+pub(super) fn taught(
     rt: &impl Abort,
     alloc: Global,
     picture: &Picture,
@@ -24,31 +24,31 @@ pub fn taught(
 }
 
 /// The patterns of the checkerboard of two by two, wrapped: `ab/ba` and `ba/ab`.
-pub fn checkerboard(rt: &impl Abort, alloc: Global) -> Result<Patterns, Fail> {
+pub(super) fn checkerboard(rt: &impl Abort, alloc: Global) -> Result<Patterns, Fail> {
     let picture = Picture::new(2, 2, Vec::from_slice(alloc, &[0, 1, 1, 0])?)?;
     Ok(taught(rt, alloc, &picture, 2, true)?)
 }
 
 /// The pattern of the same checkerboard where it doesn't wrap: `ab/ba` alone.
-pub fn flat_checkerboard(rt: &impl Abort, alloc: Global) -> Result<Patterns, Fail> {
+pub(super) fn flat_checkerboard(rt: &impl Abort, alloc: Global) -> Result<Patterns, Fail> {
     let picture = Picture::new(2, 2, Vec::from_slice(alloc, &[0, 1, 1, 0])?)?;
     Ok(taught(rt, alloc, &picture, 2, false)?)
 }
 
 /// The pattern of a sample of one pixel that wraps: three by three that are the same.
-pub fn single(rt: &impl Abort, alloc: Global) -> Result<Patterns, Fail> {
+pub(super) fn single(rt: &impl Abort, alloc: Global) -> Result<Patterns, Fail> {
     let picture = Picture::new(1, 1, Vec::from_slice(alloc, &[0])?)?;
     Ok(taught(rt, alloc, &picture, 3, true)?)
 }
 
 /// The patterns of `a`, `b`, `a` and `c` in a row, one by one.
-pub fn in_a_row(rt: &impl Abort, alloc: Global) -> Result<Patterns, Fail> {
+pub(super) fn in_a_row(rt: &impl Abort, alloc: Global) -> Result<Patterns, Fail> {
     let picture = Picture::new(4, 1, Vec::from_slice(alloc, &[0, 1, 0, 2])?)?;
     Ok(taught(rt, alloc, &picture, 1, false)?)
 }
 
 /// The patterns of a large sample whose windows are nearly all different.
-pub fn noise(rt: &impl Abort, alloc: Global) -> Result<Patterns, Fail> {
+pub(super) fn noise(rt: &impl Abort, alloc: Global) -> Result<Patterns, Fail> {
     let mut numbers = Vec::new(alloc);
     let mut state = 1u32;
     for _ in 0..3600 {
@@ -69,12 +69,12 @@ fn palette_of(alloc: Global, symbols: &[Symbol]) -> Result<Palette, PaletteFault
 }
 
 /// The palette of `a` and `b`.
-pub fn letters(alloc: Global) -> Result<Palette, PaletteFault> {
+pub(super) fn letters(alloc: Global) -> Result<Palette, PaletteFault> {
     palette_of(alloc, &[Symbol::Char(b'a'), Symbol::Char(b'b')])
 }
 
 /// The palette of a blank and a red.
-pub fn blank_and_red(alloc: Global) -> Result<Palette, PaletteFault> {
+pub(super) fn blank_and_red(alloc: Global) -> Result<Palette, PaletteFault> {
     let red = Symbol::Rgb(Colour { r: 255, g: 0, b: 7 });
     palette_of(alloc, &[Symbol::Char(b' '), red])
 }

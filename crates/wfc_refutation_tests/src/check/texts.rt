@@ -57,6 +57,19 @@ fn answered(
     Ok(())
 }
 
+/// What is answered to each text.
+fn are_answered(
+    rt: &impl Abort,
+    alloc: Global,
+    about: &About,
+    cases: &[(&str, Result<(), CheckFault>)],
+) -> Result<(), Fail> {
+    for (strokes, want) in cases {
+        answered(rt, alloc, about, strokes, *want)?;
+    }
+    Ok(())
+}
+
 /// Each head with its answer.
 fn heads(rt: &impl Abort, alloc: Global, about: &About) -> Result<(), Fail> {
     let differ = Err(CheckFault::HeaderDiffers {
@@ -64,38 +77,17 @@ fn heads(rt: &impl Abort, alloc: Global, about: &About) -> Result<(), Fail> {
         values: 2,
     });
     let unended = Err(CheckFault::NotEnded);
-    answered(rt, alloc, about, "", bad(1))?;
-    answered(rt, alloc, about, "wfc-refutation 3/", bad(1))?;
-    answered(rt, alloc, about, "wfc-refutation 1", bad(1))?;
-    answered(rt, alloc, about, "wfc-refutation 1/", unended)?;
-    answered(
-        rt,
-        alloc,
-        about,
-        "wfc-refutation 1/cells 02 values 1/",
-        bad(2),
-    )?;
-    answered(
-        rt,
-        alloc,
-        about,
-        "wfc-refutation 1/cells 4294967296 values 1/",
-        bad(2),
-    )?;
-    answered(
-        rt,
-        alloc,
-        about,
-        "wfc-refutation 1/cells 2 values 2/",
-        differ,
-    )?;
-    answered(
-        rt,
-        alloc,
-        about,
-        "wfc-refutation 1/cells 2 values 1/",
-        unended,
-    )
+    let cases = [
+        ("", bad(1)),
+        ("wfc-refutation 3/", bad(1)),
+        ("wfc-refutation 1", bad(1)),
+        ("wfc-refutation 1/", unended),
+        ("wfc-refutation 1/cells 02 values 1/", bad(2)),
+        ("wfc-refutation 1/cells 4294967296 values 1/", bad(2)),
+        ("wfc-refutation 1/cells 2 values 2/", differ),
+        ("wfc-refutation 1/cells 2 values 1/", unended),
+    ];
+    are_answered(rt, alloc, about, &cases)
 }
 
 /// What is answered to heads for two cells side by side.
@@ -111,33 +103,21 @@ fn hostile_heads_are_answered(rt: HostRuntime) -> Result<(), Fail> {
 /// Each text with lines that are refused.
 fn texts(rt: &impl Abort, alloc: Global, about: &About) -> Result<(), Fail> {
     let out = rejected(3, Reject::IndexRange);
-    answered(
-        rt,
-        alloc,
-        about,
-        "x 0/",
-        rejected(3, Reject::NotEmpty { value: 0 }),
-    )?;
-    answered(
-        rt,
-        alloc,
-        about,
-        "r 0 0 2/r 0 0 2/",
-        rejected(4, Reject::NotStanding),
-    )?;
-    answered(rt, alloc, about, "r 2 0 2/", out)?;
-    answered(rt, alloc, about, "r 0 1 2/", out)?;
-    answered(rt, alloc, about, "r 0 0 4/", out)?;
-    answered(rt, alloc, about, "t 0 0/", rejected(3, Reject::OnlyValue))?;
-    answered(rt, alloc, about, "r  0 0 2/", bad(3))?;
-    answered(rt, alloc, about, "r 0 0 0 2/", bad(3))?;
-    answered(
-        rt,
-        alloc,
-        about,
-        "xxxxxxxxxxxxxxxxxxxxxxxxxxxxxxxxxxxxxxxxxxxxxxxxxxxxxxxxxxxxxxxxx/",
-        bad(3),
-    )
+    let cases = [
+        ("x 0/", rejected(3, Reject::NotEmpty { value: 0 })),
+        ("r 0 0 2/r 0 0 2/", rejected(4, Reject::NotStanding)),
+        ("r 2 0 2/", out),
+        ("r 0 1 2/", out),
+        ("r 0 0 4/", out),
+        ("t 0 0/", rejected(3, Reject::OnlyValue)),
+        ("r  0 0 2/", bad(3)),
+        ("r 0 0 0 2/", bad(3)),
+        (
+            "xxxxxxxxxxxxxxxxxxxxxxxxxxxxxxxxxxxxxxxxxxxxxxxxxxxxxxxxxxxxxxxxx/",
+            bad(3),
+        ),
+    ];
+    are_answered(rt, alloc, about, &cases)
 }
 
 /// What is answered to texts whose lines don't stand, or are no line.
@@ -150,26 +130,17 @@ fn hostile_texts_are_answered(rt: HostRuntime) -> Result<(), Fail> {
 /// Each text with an end, or where one should be.
 fn ends(rt: &impl Abort, alloc: Global, about: &About) -> Result<(), Fail> {
     let after = rejected(5, Reject::AfterEnd);
-    answered(rt, alloc, about, "r 1 0 0/x 1/q/", Ok(()))?;
-    answered(rt, alloc, about, "s/", rejected(3, Reject::NotClosed))?;
-    answered(
-        rt,
-        alloc,
-        about,
-        "r 0 0 2/q/",
-        rejected(4, Reject::NotClosed),
-    )?;
-    answered(rt, alloc, about, "r 0 0 2/x 0/x 0/", after)?;
-    answered(rt, alloc, about, "r 0 0 2/x 0/s/", after)?;
-    answered(
-        rt,
-        alloc,
-        about,
-        "r 0 0 2/x 0/q/q/",
-        rejected(6, Reject::AfterEnd),
-    )?;
-    answered(rt, alloc, about, "r 0 0 2/x 0/q/z/", bad(6))?;
-    answered(rt, alloc, about, "r 0 0 2/x 0/q", bad(5))
+    let cases = [
+        ("r 1 0 0/x 1/q/", Ok(())),
+        ("s/", rejected(3, Reject::NotClosed)),
+        ("r 0 0 2/q/", rejected(4, Reject::NotClosed)),
+        ("r 0 0 2/x 0/x 0/", after),
+        ("r 0 0 2/x 0/s/", after),
+        ("r 0 0 2/x 0/q/q/", rejected(6, Reject::AfterEnd)),
+        ("r 0 0 2/x 0/q/z/", bad(6)),
+        ("r 0 0 2/x 0/q", bad(5)),
+    ];
+    are_answered(rt, alloc, about, &cases)
 }
 
 /// What is answered to texts that end at once, too early, or not where they should.
@@ -188,26 +159,17 @@ fn texts_of_format_2(rt: &impl Abort, alloc: Global, about: &About) -> Result<()
         },
     });
     let out = rejected(4, Reject::IndexRange);
-    answered(
-        rt,
-        alloc,
-        about,
-        "for 2 3 2 1 1 0 0/r 0 0 0 2/x 0/q/",
-        Ok(()),
-    )?;
-    answered(
-        rt,
-        alloc,
-        about,
-        "for 2 3 2 1 8 0 0/r 0 0 0 2/x 0/q/",
-        differ,
-    )?;
-    answered(rt, alloc, about, "for 7 3 2 1 1 0 0/", bad(3))?;
-    answered(rt, alloc, about, "for 2 3 2 1 1 0 2/", bad(3))?;
-    answered(rt, alloc, about, "for 2 3 2 1 01 0 0/", bad(3))?;
-    answered(rt, alloc, about, "for 2 3 2 1 1 0 0/r 0 1 0 2/", bad(4))?;
-    answered(rt, alloc, about, "for 2 3 2 1 1 0 0/r 0 0 2/", bad(4))?;
-    answered(rt, alloc, about, "for 2 3 2 1 1 0 0/r 0 0 2 2/", out)
+    let cases = [
+        ("for 2 3 2 1 1 0 0/r 0 0 0 2/x 0/q/", Ok(())),
+        ("for 2 3 2 1 8 0 0/r 0 0 0 2/x 0/q/", differ),
+        ("for 7 3 2 1 1 0 0/", bad(3)),
+        ("for 2 3 2 1 1 0 2/", bad(3)),
+        ("for 2 3 2 1 01 0 0/", bad(3)),
+        ("for 2 3 2 1 1 0 0/r 0 1 0 2/", bad(4)),
+        ("for 2 3 2 1 1 0 0/r 0 0 2/", bad(4)),
+        ("for 2 3 2 1 1 0 0/r 0 0 2 2/", out),
+    ];
+    are_answered(rt, alloc, about, &cases)
 }
 
 /// The head of format 2 names the shape, and a removal is of neighbouring values.
@@ -225,15 +187,12 @@ fn branches(rt: &impl Abort, alloc: Global, about: &About) -> Result<(), Fail> {
     let both = "t 0 0/r 1 0 0/r 2 0 2/r 2 1 0/x 2/r 1 1 0/r 2 1 2/r 2 0 0/x 2/q/";
     let first = "t 0 0/r 1 0 0/r 2 0 2/r 2 1 0/x 2/q/";
     let later = "t 0 0/r 2 1 0/r 1 0 0/";
-    answered(rt, alloc, about, both, Ok(()))?;
-    answered(rt, alloc, about, first, rejected(8, Reject::NotClosed))?;
-    answered(
-        rt,
-        alloc,
-        about,
-        later,
-        rejected(4, Reject::HasSupport { value: 0 }),
-    )
+    let cases = [
+        (both, Ok(())),
+        (first, rejected(8, Reject::NotClosed)),
+        (later, rejected(4, Reject::HasSupport { value: 0 })),
+    ];
+    are_answered(rt, alloc, about, &cases)
 }
 
 /// A value is tried, and both branches are refuted; an end after the first is refused, and so is a removal whose support

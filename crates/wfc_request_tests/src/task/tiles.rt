@@ -1,7 +1,8 @@
 //! Tasks of tile sets, of their pictures and of masks, by tables.
 
 use super::{
-    Row, build, comes_to, missing, pins, refused, refuses, request_of, unchosen, unrendered,
+    CHECKERS, Row, build, comes_to, missing, pins, refused, refuses, request_of, unchosen,
+    unrendered,
 };
 use std::test::Fail;
 use wfc_choose::RuleKind;
@@ -56,13 +57,7 @@ const LINES: Row = Row {
     height: 1,
     symmetry: 8,
     wrap_in: true,
-    wrap_out: false,
-    pins: None,
-    mask: None,
-    steps: None,
-    rule: RuleKind::Fewest,
-    form: None,
-    number: 0,
+    ..CHECKERS
 };
 
 /// The same of another document.

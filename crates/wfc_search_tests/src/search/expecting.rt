@@ -6,7 +6,7 @@ use wfc_proof::{Journal, JournalFault, Line};
 
 /// A journal that compares its lines with those that are wanted, and refuses one of them.
 #[derive(Drop)]
-pub struct Expecting<'a> {
+pub(super) struct Expecting<'a> {
     wanted: &'a [Line],
     taken: usize,
     differs: bool,
@@ -17,7 +17,7 @@ pub struct Expecting<'a> {
 
 impl Expecting<'_> {
     /// A journal that was told nothing, and that refuses the line behind so many.
-    pub fn new(wanted: &[Line], refusing: usize) -> Expecting<'_>
+    pub(super) fn new(wanted: &[Line], refusing: usize) -> Expecting<'_>
         ensures going { result.failed ≡ false }
     {
         Expecting {
@@ -31,7 +31,7 @@ impl Expecting<'_> {
     }
 
     /// How many lines were handed over, if each was the wanted one.
-    pub fn told(&self) -> Option<usize> {
+    pub(super) fn told(&self) -> Option<usize> {
         if self.differs { None } else { Some(self.taken) }
     }
 }

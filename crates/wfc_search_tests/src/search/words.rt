@@ -4,7 +4,7 @@ use rand_core::Rng;
 
 /// A source whose next word is the number in it, and then a number made of that one.
 #[derive(Clone, Copy)]
-pub struct Words(pub u64);
+pub(super) struct Words(pub(super) u64);
 
 impl Rng for Words {
     ghost use Rattle.std.specs.Prelude.{replicate, ◌+◌, ◌*◌, ◌%◌, ◌^◌};

@@ -18,10 +18,10 @@ const MANY: &[u8] =
     b"tile = [{name = 'f', class = 'F', weight = 3}, {name = 'g', class = 'F'}, {name = 'h', class = 'F'}, {name = 'l', class = 'L', weight = 2}, {name = 'i', class = 'I', weight = 1000000}]\npair = [{left = 'f 1', right = 'g 5'}, {left = 'g', right = 'h'}, {left = 'h 2', right = 'l 3'}, {left = 'l 1', right = 'i'}, {left = 'i', right = 'f 6'}, {left = 'i 1', right = 'h 7'}, {left = 'l 2', right = 'l'}, {left = 'f', right = 'f'}]\n";
 
 /// The width and the height of a map, and whether it wraps.
-pub type Sides = (u32, u32, bool);
+pub(super) type Sides = (u32, u32, bool);
 
 /// No cell, where one is looked for.
-pub const NONE: u32 = 99_999_999;
+pub(super) const NONE: u32 = 99_999_999;
 
 /// The tile set of a document.
 fn tile_set(rt: &impl Abort, alloc: Global, text: &[u8]) -> Result<TileSet, TileFault> {
@@ -30,23 +30,23 @@ fn tile_set(rt: &impl Abort, alloc: Global, text: &[u8]) -> Result<TileSet, Tile
 }
 
 /// The tile set of a straight line, of two variants.
-pub fn lines(rt: &impl Abort, alloc: Global) -> Result<TileSet, TileFault> {
+pub(super) fn lines(rt: &impl Abort, alloc: Global) -> Result<TileSet, TileFault> {
     tile_set(rt, alloc, LINES)
 }
 
 /// The tile set of thirty variants.
-pub fn many(rt: &impl Abort, alloc: Global) -> Result<TileSet, TileFault> {
+pub(super) fn many(rt: &impl Abort, alloc: Global) -> Result<TileSet, TileFault> {
     tile_set(rt, alloc, MANY)
 }
 
 /// The grid of a text.
-pub fn grid_of(rt: &impl Abort, alloc: Global, text: &[u8]) -> Result<Grid, GridFault> {
+pub(super) fn grid_of(rt: &impl Abort, alloc: Global, text: &[u8]) -> Result<Grid, GridFault> {
     assert!(rt; text.len() < 2_000_000);
     wfc_grid::read(alloc, text)
 }
 
 /// The mask of a grid for a map of these sides, or why there is none.
-pub fn mask_for(
+pub(super) fn mask_for(
     rt: &impl Abort,
     alloc: Global,
     grid: &Grid,
@@ -59,7 +59,7 @@ pub fn mask_for(
 }
 
 /// The mask of a text for a map of these sides.
-pub fn mask_of(
+pub(super) fn mask_of(
     rt: &impl Abort,
     alloc: Global,
     text: &[u8],
@@ -72,7 +72,7 @@ pub fn mask_of(
 
 /// The text of a mask of 4,096 by 256 places, of which each sixteen in a row begin with four that
 /// are no holes.
-pub fn strips(alloc: Global) -> Result<Vec<u8>, AllocError> {
+pub(super) fn strips(alloc: Global) -> Result<Vec<u8>, AllocError> {
     let mut text = Vec::new(alloc);
     for _ in 0..256 {
         for _ in 0..256 {
@@ -114,7 +114,7 @@ fn built_masked(
 }
 
 /// The problem of a map without holes with the lines of a text.
-pub fn problem_of(
+pub(super) fn problem_of(
     rt: &impl Abort,
     alloc: Global,
     tiles: &TileSet,
@@ -126,7 +126,7 @@ pub fn problem_of(
 }
 
 /// The problem of a map with holes with the lines of a text.
-pub fn masked_problem_of(
+pub(super) fn masked_problem_of(
     rt: &impl Abort,
     alloc: Global,
     tiles: &TileSet,
@@ -139,7 +139,7 @@ pub fn masked_problem_of(
 }
 
 /// Why there is no problem of a map without holes with the lines of a text.
-pub fn fault_of(
+pub(super) fn fault_of(
     rt: &impl Abort,
     alloc: Global,
     tiles: &TileSet,
@@ -151,7 +151,7 @@ pub fn fault_of(
 }
 
 /// Why there is no problem of a map with holes with the lines of a text.
-pub fn masked_fault_of(
+pub(super) fn masked_fault_of(
     rt: &impl Abort,
     alloc: Global,
     tiles: &TileSet,

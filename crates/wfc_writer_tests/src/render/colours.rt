@@ -44,42 +44,22 @@ fn written(rt: &impl Abort, alloc: Global, text: &[u8], form: Form) -> Result<Ve
     text_of(alloc, &ppm, form)
 }
 
-/// Whether the picture that a text spells is written so in a form.
-fn is_written(
-    rt: &impl Abort,
-    alloc: Global,
-    text: &[u8],
-    form: Form,
-    wanted: &[u8],
-) -> Result<(), Fail> {
-    let found = written(rt, alloc, text, form)?;
-    assert_eq!(rt; found.as_slice(), wanted);
-    Ok(())
-}
-
 #[test]
 fn writes_maps_of_colours(rt: HostRuntime) -> Result<(), Fail> {
-    let alloc = rt.alloc();
     let narrow = b"P6\n3 1\n255\n\x01\x02\x03\xff\x00\x0a\x01\x02\x03";
     let wide = b"P6\n1 2\n300\n\x00\x01\x00\x02\x01\x2c\x01\x00\x00\x00\x00\x09";
-    is_written(&rt, alloc, narrow, Form::P6, narrow)?;
-    is_written(
-        &rt,
-        alloc,
-        narrow,
-        Form::P3,
-        b"P3\n3 1\n255\n1 2 3\n255 0 10\n1 2 3\n",
-    )?;
-    is_written(&rt, alloc, narrow, Form::Cells, b"0 1 0\n")?;
-    is_written(&rt, alloc, wide, Form::P6, wide)?;
-    is_written(
-        &rt,
-        alloc,
-        wide,
-        Form::P3,
-        b"P3\n1 2\n300\n1 2 300\n256 0 9\n",
-    )?;
-    is_written(&rt, alloc, wide, Form::Cells, b"0\n1\n")
+    let cases = [
+        (narrow.as_slice(), Form::P6, narrow.as_slice()),
+        (narrow, Form::P3, b"P3\n3 1\n255\n1 2 3\n255 0 10\n1 2 3\n"),
+        (narrow, Form::Cells, b"0 1 0\n"),
+        (wide, Form::P6, wide),
+        (wide, Form::P3, b"P3\n1 2\n300\n1 2 300\n256 0 9\n"),
+        (wide, Form::Cells, b"0\n1\n"),
+    ];
+    for (text, form, wanted) in cases {
+        assert_eq!(rt; written(&rt, rt.alloc(), text, form)?.as_slice(), wanted);
+    }
+    Ok(())
 }
 
 /// A picture of 256 by 256 colours, raw.
