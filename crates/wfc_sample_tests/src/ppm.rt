@@ -63,13 +63,14 @@ fn reads_one_pixel_of_two_bytes_a_sample(rt: HostRuntime) -> Result<(), Fail> {
         b: 65535,
     }];
     assert_eq!(rt; ppm.pixels.as_slice(), wanted.as_slice());
-    let short = PpmFault::Truncated {
-        wanted: 6,
-        found: 5,
-    };
-    is_refused(&rt, rt.alloc(), &text[..38], short);
+    is_refused(&rt, rt.alloc(), &text[..38], truncated(6, 5));
     is_refused(&rt, rt.alloc(), text, PpmFault::Trailing { at: 39 });
     Ok(())
+}
+
+/// So many bytes or samples are wanted, and fewer stand there.
+fn truncated(wanted: u32, found: u32) -> PpmFault {
+    PpmFault::Truncated { wanted, found }
 }
 
 /// Each text is refused so.
@@ -129,13 +130,7 @@ fn refuses_sides_and_maxvals(rt: HostRuntime) {
         (b"P6\n1025 1024\n65536\n", PpmFault::Maxval { value: 65536 }),
         (b"P6\n1025 1024\n255\n", PpmFault::TooLarge),
         (b"P3\n18446744073709551617 1\n255\n", PpmFault::TooLarge),
-        (
-            b"P6\n1024 1024\n255\n",
-            PpmFault::Truncated {
-                wanted: 3_145_728,
-                found: 0,
-            },
-        ),
+        (b"P6\n1024 1024\n255\n", truncated(3_145_728, 0)),
     ];
     are_refused(&rt, rt.alloc(), &cases);
 }
@@ -151,13 +146,7 @@ fn refuses_samples(rt: HostRuntime) {
             b"P6\n1 1\n254\n\x00\x00\xff\x0a",
             PpmFault::SampleAboveMaxval { at: 13 },
         ),
-        (
-            b"P6\n1 1\n254\n\x00\xff",
-            PpmFault::Truncated {
-                wanted: 3,
-                found: 2,
-            },
-        ),
+        (b"P6\n1 1\n254\n\x00\xff", truncated(3, 2)),
         (
             b"P6\n1 1\n255\n\x00\x00\xff\x0a",
             PpmFault::Trailing { at: 14 },
@@ -166,13 +155,7 @@ fn refuses_samples(rt: HostRuntime) {
             b"P6 1 1 256 \x00\x01\x01\x01\x09\x09",
             PpmFault::SampleAboveMaxval { at: 13 },
         ),
-        (
-            b"P6 1 1 256 \x00\x01\x01\x00\x00",
-            PpmFault::Truncated {
-                wanted: 6,
-                found: 5,
-            },
-        ),
+        (b"P6 1 1 256 \x00\x01\x01\x00\x00", truncated(6, 5)),
     ];
     are_refused(&rt, rt.alloc(), &cases);
 }
@@ -180,27 +163,9 @@ fn refuses_samples(rt: HostRuntime) {
 #[test]
 fn refuses_plain_samples(rt: HostRuntime) {
     let cases = [
-        (
-            b"P3\n1 1\n255\n1 2\n".as_slice(),
-            PpmFault::Truncated {
-                wanted: 3,
-                found: 2,
-            },
-        ),
-        (
-            b"P3\n1 1\n255\n1 2 #3",
-            PpmFault::Truncated {
-                wanted: 3,
-                found: 2,
-            },
-        ),
-        (
-            b"P3\n1 1\n255\n",
-            PpmFault::Truncated {
-                wanted: 3,
-                found: 0,
-            },
-        ),
+        (b"P3\n1 1\n255\n1 2\n".as_slice(), truncated(3, 2)),
+        (b"P3\n1 1\n255\n1 2 #3", truncated(3, 2)),
+        (b"P3\n1 1\n255\n", truncated(3, 0)),
         (b"P3\n1 1\n255\n1 2 x\n", PpmFault::BadSample { at: 15 }),
         (b"P3\n1 1\n255\n1 2 3x\n", PpmFault::BadSample { at: 15 }),
         (b"P3\n1 1\n255\n1 -2 256\n", PpmFault::BadSample { at: 13 }),
