@@ -46,7 +46,8 @@ fn program<F: Folder, O: Sink, E: Sink>(
     err: &mut E,
 ) -> ExitCode
     ensures taken { IfOk words (λ words. IsAnswer (map (λ chooser. (told chooser).rule) choosers.items) (texts words.items)
-        (devices (F.seen folder.old) (O.seen out.old) (E.seen err.old)) (devices (F.seen folder.new) (O.seen out.new) (E.seen err.new)) (exit_status result)) }
+        (devices (F.seen folder.old) (O.seen out.old) (E.seen err.old))
+        (devices (F.seen folder.new) (O.seen out.new) (E.seen err.new)) (exit_status result)) }
     ensures unread_status { IfErr words
         (λ e. exit_status result ≡ (said_of_words (unread_fault (error_kind e))).status) }
     ensures unread_line { IfErr words (λ e. Tells (said_of_words (unread_fault (error_kind e))).told (E.seen err.old) (E.seen err.new)) }

@@ -17,7 +17,12 @@ pub record StreamView : Type 0 where
   pub room : ℕ
 
 abbrev pub stream_view : Stream → StreamView
-stream_view stream = record { name = stream.name.now; kept = drop stream.from (take stream.to stream.piece.items); at = stream.at; room = stream.room }
+stream_view stream = record {
+  name = stream.name.now;
+  kept = drop stream.from (take stream.to stream.piece.items);
+  at = stream.at;
+  room = stream.room;
+}
 
 -- a stream that has read nothing
 abbrev pub fresh_view : List ℕ → ℕ → StreamView

@@ -62,7 +62,8 @@ after_numbers P format number (Err fault) = Err (BadLine number)
 -- whether two shapes are one
 abbrev pub are_one : Shape → Shape → Bool
 are_one a b =
-    a.n == b.n && (a.width == b.width && (a.height == b.height && (a.depth == b.depth && (a.symmetry == b.symmetry && (beq a.wrap_in b.wrap_in && beq a.wrap_out b.wrap_out)))))
+    a.n == b.n && (a.width == b.width && (a.height == b.height && (a.depth == b.depth
+    && (a.symmetry == b.symmetry && (beq a.wrap_in b.wrap_in && beq a.wrap_out b.wrap_out)))))
 
 -- behind the shape comes the proof
 abbrev pub after_shape : Shape → ℕ → Result Shape LineFault → Result Stage CheckFault

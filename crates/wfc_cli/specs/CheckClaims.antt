@@ -34,4 +34,5 @@ pub record Refuses {files : List File} (asked : RequestView) (work : IsCheckWork
 abbrev pub ChecksRefutation : List (List ℕ) → Devices → Devices → ℕ → Type 0
 ChecksRefutation words before after status =
     (asked : RequestView) (files : List File) → IsCommand commands.Check words before asked files → status ≤ 2
-    → (work : IsCheckWork asked files) × (((status ≡ 0) × Accepts asked work before after) ⊎ ((status ≡ 1) × Refuses asked work before after))
+    → (work : IsCheckWork asked files)
+    × (((status ≡ 0) × Accepts asked work before after) ⊎ ((status ≡ 1) × Refuses asked work before after))

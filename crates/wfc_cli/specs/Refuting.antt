@@ -65,7 +65,8 @@ pub record IsBegunBy (rule : Rule) (budget : ℕ) (P : Network) (s : State) (lin
   pub turns : TellsTo P rule budget s stores last before
   pub store : StoreView
   pub lines_are : (lines ≡ opening_lines first ++ before)
-      ⊎ (IsStoreAt P (turn_of P rule budget last).1 store × (lines ≡ opening_lines first ++ (before ++ turn_lines (turn_of P rule budget last).0 store)))
+      ⊎ (IsStoreAt P (turn_of P rule budget last).1 store
+      × (lines ≡ opening_lines first ++ (before ++ turn_lines (turn_of P rule budget last).0 store)))
 
 -- the whole text of a run
 pub record RefutesWhole (rule : Rule) (asked : RequestView) (P : Network) (answered : Answered) : Type 0 where

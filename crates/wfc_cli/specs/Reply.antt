@@ -57,7 +57,12 @@ pub record Said : Type 0 where
 
 -- what a reply says
 abbrev pub said_of : RequestView → Reply → Said
-said_of asked (Ok answered) = record { status = verdict_status answered.verdict; text = answered.text; whole = answered.whole; told = verdict_text asked answered.verdict }
+said_of asked (Ok answered) = record {
+  status = verdict_status answered.verdict;
+  text = answered.text;
+  whole = answered.whole;
+  told = verdict_text asked answered.verdict;
+}
 said_of asked (Err fault) = record { status = status_of fault; text = None; whole = true; told = Some (fault_text asked fault) }
 
 -- what words say that were read as no request

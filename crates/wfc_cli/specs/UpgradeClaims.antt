@@ -52,7 +52,8 @@ pub record KeepsOld {files : List File} (asked : RequestView) (work : UpgradeWor
 abbrev pub UpgradesRefutation : List (List ℕ) → Devices → Devices → ℕ → Type 0
 UpgradesRefutation words before after status =
     (asked : RequestView) (files : List File) → IsCommand commands.Upgrade words before asked files → status ≤ 2
-    → (work : UpgradeWork asked files) × (((status ≡ 0) × WritesUpgraded asked work before after) ⊎ ((status ≡ 1) × KeepsOld asked work before after))
+    → (work : UpgradeWork asked files)
+    × (((status ≡ 0) × WritesUpgraded asked work before after) ⊎ ((status ≡ 1) × KeepsOld asked work before after))
 
 -- the file is a refutation, and a front was written of its proof in format 2
 pub record WritesUpgradedFront {files : List File} (asked : RequestView)

@@ -80,10 +80,10 @@ pub fn first_rules_are_chosen()
 /// A legal assignment of the problem of a request makes a legal map, and where there is a legal map there is a legal
 /// assignment, whatever the map is made of.
 pub fn maps_are_assignments()
-    ensures made { (asked : RequestView) (files : List File) (P : Network) (posed : Posed asked files P) (a : List ℕ) → IsSourceAsked asked →
-        IsOutputAsked asked → IsLegalAssignment P a → IsLegal asked files P posed (map_of asked files P posed a) }
-    ensures there { (asked : RequestView) (files : List File) (P : Network) (posed : Posed asked files P) (m : Raster) → IsSourceAsked asked →
-        IsOutputAsked asked → IsLegal asked files P posed m → (a : List ℕ) × IsLegalAssignment P a }
+    ensures made { (asked : RequestView) (files : List File) (P : Network) (posed : Posed asked files P) (a : List ℕ) →
+        IsSourceAsked asked → IsOutputAsked asked → IsLegalAssignment P a → IsLegal asked files P posed (map_of asked files P posed a) }
+    ensures there { (asked : RequestView) (files : List File) (P : Network) (posed : Posed asked files P) (m : Raster) →
+        IsSourceAsked asked → IsOutputAsked asked → IsLegal asked files P posed m → (a : List ℕ) × IsLegalAssignment P a }
 {}
 
 /// The map in which a run ends is one map.

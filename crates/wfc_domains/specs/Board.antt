@@ -79,7 +79,9 @@ IsCut b = b.verdict ≡ Alive → Within (has b.domains) (base_with b.problem.no
 abbrev pub lost : Board → Flags → ℕ → ℕ → Cause → Board
 lost b D cell value cause = record b {
   domains = D;
-  trail = record b.trail { removals = b.trail.removals ++ record { cell = cell; value = value; before = size_of b.domains cell; cause = cause } ∷ [] };
+  trail = record b.trail {
+    removals = b.trail.removals ++ record { cell = cell; value = value; before = size_of b.domains cell; cause = cause } ∷ [];
+  };
   verdict = (if size_of b.domains cell == 1 then Dead cell else Alive);
 }
 

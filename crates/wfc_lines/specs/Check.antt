@@ -37,7 +37,8 @@ header_text cells values file = about (codes "check HeaderDiffers cells=" ++ dec
 -- the head names this shape
 abbrev pub options_text : Shape → List ℕ → List ℕ
 options_text found file =
-    about (codes "check OptionsDiffer n=" ++ decimal found.n ++ codes " width=" ++ decimal found.width ++ codes " height=" ++ decimal found.height ++ codes " depth=" ++ decimal found.depth
+    about (codes "check OptionsDiffer n=" ++ decimal found.n ++ codes " width=" ++ decimal found.width
+    ++ codes " height=" ++ decimal found.height ++ codes " depth=" ++ decimal found.depth
     ++ codes " symmetry=" ++ decimal found.symmetry ++ codes " wrap_in="
     ++ decimal (bit found.wrap_in) ++ codes " wrap_out=" ++ decimal (bit found.wrap_out)) file
 

@@ -9,7 +9,9 @@ use Rattle.wfc_model.specs.Image.{image}
 
 -- every window of the sample, place by place, each in its first s images
 abbrev pub arising : Raster → ℕ → ℕ → Bool → List (List ℕ)
-arising sample n s wrap = flat_map (λ (place : ℕ × ℕ). map (image n (window sample place.0 place.1 n)) (range_with_len 0 s)) (places sample.width (height_of sample) n wrap)
+arising sample n s wrap =
+    flat_map (λ (place : ℕ × ℕ). map (image n (window sample place.0 place.1 n)) (range_with_len 0 s))
+    (places sample.width (height_of sample) n wrap)
 
 -- the patterns that the sample teaches: what arises, without later repeats; a pattern's number is its position
 abbrev pub learned : Raster → ℕ → ℕ → Bool → List (List ℕ)

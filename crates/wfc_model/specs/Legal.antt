@@ -46,5 +46,7 @@ pub record IsLegalPicture (sample : Raster) (rules : Rules) (pins : List Pin) (w
   pub sized : IsSized m width height
   pub wide : rules.n ≤ width
   pub high : rules.n ≤ height
-  pub windows : All (λ (place : ℕ × ℕ). Contains (learned sample rules.n rules.symmetry rules.wrap_in) (window m place.0 place.1 rules.n)) (places width height rules.n rules.wrap_out)
+  pub windows :
+      All (λ (place : ℕ × ℕ). Contains (learned sample rules.n rules.symmetry rules.wrap_in) (window m place.0 place.1 rules.n))
+      (places width height rules.n rules.wrap_out)
   pub held : All (IsHeld m) pins

@@ -15,7 +15,10 @@ three_files =
 
 -- a folder with these contents, a count of the name `a`, and one of every other name
 abbrev pub counting_folder : Option (List File) → ℕ → ℕ → FolderView
-counting_folder contents of_a of_others = record { contents = contents; faults = λ name. if bytes_eq name (codes "a") then of_a else of_others }
+counting_folder contents of_a of_others = record {
+  contents = contents;
+  faults = λ name. if bytes_eq name (codes "a") then of_a else of_others;
+}
 
 -- a sink that took these bytes, finished or not, with this count
 abbrev pub telling_sink : List ℕ → Bool → ℕ → SinkView

@@ -17,7 +17,16 @@ pub record MemorySinkView : Type 0 where
 
 -- a sink that took nothing and was not called
 abbrev pub fresh_sink : ℕ → ℕ → MemorySinkView
-fresh_sink piece room = record { bytes = []; finished = false; piece = piece; room = room; calls = 0; failing = []; finish_fails = false; faults = 0 }
+fresh_sink piece room = record {
+  bytes = [];
+  finished = false;
+  piece = piece;
+  room = room;
+  calls = 0;
+  failing = [];
+  finish_fails = false;
+  faults = 0;
+}
 
 -- what it took
 abbrev pub taken_of : MemorySinkView → Taken

@@ -24,13 +24,17 @@ pub fn words()
 
 /// A pin and a ban of two lines, between two that are passed over. The symbol is as it stands; the last line has no end.
 pub fn pins()
-    ensures read { pins_of (codes "#\npin 2 05 \\s\r\n\nban 1 0 9,9,9") ≡ Ok (record { line = 2; keep = true; x = 2; y = 5; symbol = codes "\\s" } ∷ record { line = 4; keep = false; x = 1; y = 0; symbol = codes "9,9,9" } ∷ []) }
+    ensures read { pins_of (codes "#\npin 2 05 \\s\r\n\nban 1 0 9,9,9") ≡ Ok (
+        record { line = 2; keep = true; x = 2; y = 5; symbol = codes "\\s" } ∷
+        record { line = 4; keep = false; x = 1; y = 0; symbol = codes "9,9,9" } ∷ []) }
     ensures bad { pins_of (codes "pin 0 1 a\npin 0 a\nban 0 0 a b") ≡ Err (pin_faults.BadLine 2) }
 {}
 
 /// Steps in order, and the faults of a line: no step, and an `undo` too many, whichever comes first.
 pub fn steps()
-    ensures read { steps_of (codes "choose 7 2\n\nforbid 1 3\nundo") ≡ Ok (record { line = 1; step = Assume (Is 2 7) } ∷ record { line = 3; step = Assume (Not 3 1) } ∷ record { line = 4; step = Undo } ∷ []) }
+    ensures read { steps_of (codes "choose 7 2\n\nforbid 1 3\nundo") ≡ Ok (
+        record { line = 1; step = Assume (Is 2 7) } ∷ record { line = 3; step = Assume (Not 3 1) } ∷
+        record { line = 4; step = Undo } ∷ []) }
     ensures undone { steps_of (codes "choose 7 2\nundo\nundo\nundo 1") ≡ Err (step_faults.NothingToUndo 3) }
     ensures bad { steps_of (codes "choose 7 2\nundo 1\nundo\nundo") ≡ Err (step_faults.BadLine 2) }
 {}

@@ -30,7 +30,12 @@ pixels_of Plain head = plain_pixels (head.width * head.height) head.rest
 
 -- the picture that a text without a fault makes
 abbrev pub made_of : Form → List ℕ → PpmView
-made_of form text = record { width = (head_of text).width; height = (head_of text).height; maxval = (head_of text).maxval; pixels = pixels_of form (head_of text) }
+made_of form text = record {
+  width = (head_of text).width;
+  height = (head_of text).height;
+  maxval = (head_of text).maxval;
+  pixels = pixels_of form (head_of text);
+}
 
 -- the picture, or the fault if there is one
 abbrev pub unless_fault : Option PpmFault → PpmView → Result PpmView PpmFault

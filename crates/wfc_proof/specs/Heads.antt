@@ -81,7 +81,9 @@ numbers_with _ _ = None
 -- the numbers that the words of a second line say
 abbrev pub numbers_of_words : List (List ℕ) → Option Numbers
 numbers_of_words (cells ∷ c ∷ values ∷ v ∷ []) =
-    if bytes_eq cells (codes "cells") then (if bytes_eq values (codes "values") then numbers_with (head_word c) (head_word v) else None) else None
+    if bytes_eq cells (codes "cells")
+    then (if bytes_eq values (codes "values") then numbers_with (head_word c) (head_word v) else None)
+    else None
 numbers_of_words _ = None
 
 -- the numbers that a second line says

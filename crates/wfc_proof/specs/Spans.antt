@@ -138,7 +138,8 @@ joined_as kept (Some refused) lines = apart (record { done = lines; kept = kept 
 -- all that was told is joined so
 abbrev pub AreJoined : Option (List Line) → Option Line → Option Line → Type 0
 AreJoined told kept refused =
-    option_map (λ (lines : List Line). join_on nothing_joined (counted (lines ++ (lines_of kept ++ lines_of refused)))) told ≡ option_map (joined_as kept refused) told
+    option_map (λ (lines : List Line). join_on nothing_joined (counted (lines ++ (lines_of kept ++ lines_of refused)))) told
+    ≡ option_map (joined_as kept refused) told
 
 -- whether there is none, or it is a span that doesn't end before it begins
 abbrev pub is_span : Line → Bool

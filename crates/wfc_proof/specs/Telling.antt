@@ -88,7 +88,9 @@ IsAt format told waiting =
 
 -- no line of the format stands at the end of what was taken, and no front of one
 abbrev pub IsBare : Format → Option Taken → Type 0
-IsBare format told = (option_map (lines_at_end format) told ≡ option_map (λ (taken : Taken). let none : List Line = [] in none) told) × IsAt format told []
+IsBare format told =
+    (option_map (lines_at_end format) told ≡ option_map (λ (taken : Taken). let none : List Line = [] in none) told)
+    × IsAt format told []
 
 -- a journal of either format that was begun, over a sink that took all of this: it tells no line,
 -- where its sink tells its bytes

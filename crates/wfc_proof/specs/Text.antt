@@ -80,7 +80,10 @@ trial _ _ = None
 -- the line that stands for a letter alone
 abbrev pub line_of_mark : List ℕ → Option Line
 line_of_mark word =
-    if bytes_eq word (codes "q") then Some End else (if bytes_eq word (codes "s") then Some Found else (if bytes_eq word (codes "o") then Some Out else None))
+    if bytes_eq word (codes "q") then Some End
+    else (if bytes_eq word (codes "s") then Some Found
+    else (if bytes_eq word (codes "o") then Some Out
+    else None))
 
 -- the line of the words behind each letter
 abbrev pub removal_of : List (List ℕ) → Option Line

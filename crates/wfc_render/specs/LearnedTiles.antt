@@ -10,7 +10,8 @@ use Rattle.wfc_render.specs.declared.tile_texts.Way.TheVariants.{Across, Down}
 -- a variant: its number, its weight and its spelling
 abbrev pub variant_line : TileSetView → ℕ → List ℕ
 variant_line set v =
-    decimal v ++ 0x20 ∷ (decimal (tile_at set.tiles (variant_at set.tiles v).0).weight ++ 0x3A ∷ 0x20 ∷ (spelling set.tiles (variant_at set.tiles v) ++ 10 ∷ []))
+    decimal v ++ 0x20 ∷ (decimal (tile_at set.tiles (variant_at set.tiles v).0).weight
+    ++ 0x3A ∷ 0x20 ∷ (spelling set.tiles (variant_at set.tiles v) ++ 10 ∷ []))
 
 -- all variants
 abbrev pub variants_text : TileSetView → List ℕ
@@ -48,4 +49,5 @@ pairs_text word way set =
 -- how many tiles there are, the variants, the pairs of a left and a right one, and those of an upper and a lower one
 abbrev pub learned_tiles_text : TileSetView → List ℕ
 learned_tiles_text set =
-    head_line (codes "tiles") (length set.tiles) ++ (variants_text set ++ (pairs_text (codes "across") Across set ++ pairs_text (codes "down") Down set))
+    head_line (codes "tiles") (length set.tiles)
+    ++ (variants_text set ++ (pairs_text (codes "across") Across set ++ pairs_text (codes "down") Down set))

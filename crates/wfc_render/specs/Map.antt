@@ -46,7 +46,12 @@ maxval_of kinds.Plain = 0
 
 -- a map as a picture of colours
 abbrev pub coloured_map : ℕ → List Symbol → Raster → PpmView
-coloured_map maxval palette m = record { width = m.width; height = height_of m; maxval = maxval; pixels = colours_of palette (numbers_of m) }
+coloured_map maxval palette m = record {
+  width = m.width;
+  height = height_of m;
+  maxval = maxval;
+  pixels = colours_of palette (numbers_of m);
+}
 
 -- the text of a map in a form: a picture of colours, row by row the bytes of its symbols, or its
 -- numbers with one blank between each two

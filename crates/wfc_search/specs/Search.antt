@@ -105,7 +105,10 @@ pub record IsOnward (old new : SearchView) : Type 0 where
 -- from one search, with these words to come, the run has this end at the other, with those that are left
 abbrev pub IsEnd : SearchView → Stream → Outcome → SearchView → Stream → Type 0
 IsEnd old words outcome new left =
-    (draws : ℕ) → (more : ℕ) × (end_from old.problem old.chooser.rule old.course.budget (state_at old.store old.course draws words) ≡ Some (outcome, state_at new.store new.course more left))
+    (draws : ℕ)
+    → (more : ℕ)
+    × (end_from old.problem old.chooser.rule old.course.budget (state_at old.store old.course draws words)
+    ≡ Some (outcome, state_at new.store new.course more left))
 
 -- what is answered, if no journal failed, is the turn that the run makes
 abbrev pub Turns : SearchView → Stream → Result Turn JournalFault → SearchView → Stream → Type 0

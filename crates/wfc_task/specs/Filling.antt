@@ -61,7 +61,8 @@ pub record IsFilling (asked : RequestView) (task : Filling) : Type 0 where
   pub layout : laid kind asked ≡ Ok task.layout
   pub wide : task.patterns.n ≤ asked.width
   pub high : task.patterns.n ≤ asked.height
-  pub problem : (pins : List Pin) × (task.problem ≡ problem_of_sample task.patterns (output_with asked.width asked.height asked.wrap_out) pins)
+  pub problem : (pins : List Pin)
+      × (task.problem ≡ problem_of_sample task.patterns (output_with asked.width asked.height asked.wrap_out) pins)
   pub shown : IsShown kind task.palette
   pub numbers : All (λ window. All (λ number. number < length task.palette) window) task.patterns.windows
 

@@ -164,7 +164,8 @@ pair_from tiles pair ms =
 abbrev pub pairs_from : List TileView → List Pair → Items → Result (List Pair) TileFault
 pairs_from tiles before no_items = Ok before
 pairs_from tiles before (item d ds) =
-    and_then (and_then (table_in (place.Pair (length before)) key.Pair d) (pair_from tiles (length before))) (λ pair. pairs_from tiles (before ++ pair ∷ []) ds)
+    and_then (and_then (table_in (place.Pair (length before)) key.Pair d) (pair_from tiles (length before)))
+    (λ pair. pairs_from tiles (before ++ pair ∷ []) ds)
 
 -- ---- the document
 

@@ -23,7 +23,11 @@ lines = record { tiles = tile_of_class I ∷ []; pairs = record { left = end_of 
 
 -- a tile without symmetry after action 5, to the left of a junction after a quarter turn
 abbrev pub crossing : TileSetView
-crossing = record { tiles = tile_of_class F ∷ tile_of_class T ∷ []; pairs = record { left = end_of 0 5; right = end_of 1 1 } ∷ []; pictures = [] }
+crossing = record {
+  tiles = tile_of_class F ∷ tile_of_class T ∷ [];
+  pairs = record { left = end_of 0 5; right = end_of 1 1 } ∷ [];
+  pictures = [];
+}
 
 -- a picture of two by two characters, all different
 abbrev pub four_characters : PictureView
