@@ -17,7 +17,8 @@ use wfc_proof::Shape;
 /// fault, as `check_bytes` names it.
 ///
 /// It ends at the latest with the piece, of at most 4,096 bytes, with which it was given more than 4,294,967,296. It reads no
-/// further than to the line at fault, and keeps no more than a piece and a line; no clause says so. A file of more than 4,294,967,296 bytes is `TooLong` where none of these is at fault.
+/// further than to the line at fault, and keeps no more than a piece and a line; no clause says so. A file of more than
+/// 4,294,967,296 bytes is `TooLong` where none of these is at fault.
 pub fn check<F: Folder>(
     alloc: Global,
     problem: &Problem,

@@ -101,7 +101,15 @@ pub fn texts_of_checks_by_example()
     ensures bad_line { text_of_check (checks.BadLine 41) (codes "r") ≡ codes "check BadLine line=41 file=r" }
     ensures header { text_of_check (checks.HeaderDiffers 3 2) (codes "r")
         ≡ codes "check HeaderDiffers cells=3 values=2 file=r" }
-    ensures options { text_of_check (checks.OptionsDiffer (record { n = 2; width = 3; height = 4; depth = 1; symmetry = 8; wrap_in = true; wrap_out = false })) (codes "r")
+    ensures options { text_of_check (checks.OptionsDiffer (record {
+      n = 2;
+      width = 3;
+      height = 4;
+      depth = 1;
+      symmetry = 8;
+      wrap_in = true;
+      wrap_out = false;
+    })) (codes "r")
         ≡ codes "check OptionsDiffer n=2 width=3 height=4 depth=1 symmetry=8 wrap_in=1 wrap_out=0 file=r" }
     ensures too_long { text_of_check checks.TooLong (codes "r") ≡ codes "file TooLong file=r" }
 {}

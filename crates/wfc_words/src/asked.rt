@@ -50,7 +50,26 @@ impl Model for Request {
 
     ghost Value = { RequestView };
 
-    ghost view = { λ r. record { command = r.command; file = string_bytes r.file; source = r.source; width = r.width; height = r.height; symmetry = r.symmetry; wrap_in = r.wrap_in; wrap_out = r.wrap_out; pins = option_map string_bytes r.pins; steps = option_map string_bytes r.steps; refutation = option_map string_bytes r.refutation; seed = r.seed; budget = r.budget; rule = r.rule; form = r.form; number = r.number; format = r.format; mask = option_map string_bytes r.mask } };
+    ghost view = { λ r. record {
+      command = r.command;
+      file = string_bytes r.file;
+      source = r.source;
+      width = r.width;
+      height = r.height;
+      symmetry = r.symmetry;
+      wrap_in = r.wrap_in;
+      wrap_out = r.wrap_out;
+      pins = option_map string_bytes r.pins;
+      steps = option_map string_bytes r.steps;
+      refutation = option_map string_bytes r.refutation;
+      seed = r.seed;
+      budget = r.budget;
+      rule = r.rule;
+      form = r.form;
+      number = r.number;
+      format = r.format;
+      mask = option_map string_bytes r.mask;
+    } };
 }
 
 impl Request {
