@@ -194,7 +194,8 @@ fn writes_heads_and_lines(rt: HostRuntime) -> Result<(), Fail> {
     writes(&rt, &mut sink, Line::Found);
     writes(&rt, &mut sink, Line::Out);
     let wanted: &[u8] =
-        b"wfc-refutation 1\ncells 4 values 2\nwfc-refutation 2\ncells 12 values 65535\nfor 0 2 2 1 1 0 1\nr 10 2 3\nr 10 2 40 3\nt 4294967295 65535\nx 7\nq\ns\no\n";
+        b"wfc-refutation 1\ncells 4 values 2\nwfc-refutation 2\ncells 12 values 65535\nfor 0 2 2 1 1 0 1\n\
+          r 10 2 3\nr 10 2 40 3\nt 4294967295 65535\nx 7\nq\ns\no\n";
     assert_eq!(rt; sink.bytes(), wanted);
     Ok(())
 }

@@ -254,13 +254,15 @@ static DOMAINS: [Row; 9] = [
     (
         "domains chk.txt 2 4 2 --wrap-in --steps two.steps",
         0,
-        "step 0\n0: 0 1\n1: 0 1\n2: 0 1\nstep 1\n0: 0\n1: 1\n2: 0\nstep 2\ndead\nstep 3\n0: 0\n1: 1\n2: 0\nstep 4\n0: 0 1\n1: 0 1\n2: 0 1\n",
+        "step 0\n0: 0 1\n1: 0 1\n2: 0 1\nstep 1\n0: 0\n1: 1\n2: 0\nstep 2\ndead\n\
+         step 3\n0: 0\n1: 1\n2: 0\nstep 4\n0: 0 1\n1: 0 1\n2: 0 1\n",
         "",
     ),
     (
         "domains chk.txt 2 3 3 --wrap-in --wrap-out --steps ring.steps",
         0,
-        "step 0\n0: 0 1\n1: 0 1\n2: 0 1\n3: 0 1\n4: 0 1\n5: 0 1\n6: 0 1\n7: 0 1\n8: 0 1\nstep 1\ndead\nstep 2\n0: 0 1\n1: 0 1\n2: 0 1\n3: 0 1\n4: 0 1\n5: 0 1\n6: 0 1\n7: 0 1\n8: 0 1\n",
+        "step 0\n0: 0 1\n1: 0 1\n2: 0 1\n3: 0 1\n4: 0 1\n5: 0 1\n6: 0 1\n7: 0 1\n8: 0 1\nstep 1\ndead\n\
+         step 2\n0: 0 1\n1: 0 1\n2: 0 1\n3: 0 1\n4: 0 1\n5: 0 1\n6: 0 1\n7: 0 1\n8: 0 1\n",
         "",
     ),
     // A cell of the root is empty, whatever the steps are.

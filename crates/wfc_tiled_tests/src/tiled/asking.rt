@@ -14,8 +14,12 @@ const LINES: &[u8] =
     b"[[tile]]\nname = 'line'\nclass = 'I'\n[[pair]]\nleft = 'line 0'\nright = 'line 0'\n";
 
 /// Thirty variants of five tiles with eight pairs.
-const MANY: &[u8] =
-    b"tile = [{name = 'f', class = 'F', weight = 3}, {name = 'g', class = 'F'}, {name = 'h', class = 'F'}, {name = 'l', class = 'L', weight = 2}, {name = 'i', class = 'I', weight = 1000000}]\npair = [{left = 'f 1', right = 'g 5'}, {left = 'g', right = 'h'}, {left = 'h 2', right = 'l 3'}, {left = 'l 1', right = 'i'}, {left = 'i', right = 'f 6'}, {left = 'i 1', right = 'h 7'}, {left = 'l 2', right = 'l'}, {left = 'f', right = 'f'}]\n";
+const MANY: &[u8] = b"tile = [{name = 'f', class = 'F', weight = 3}, \
+      {name = 'g', class = 'F'}, {name = 'h', class = 'F'}, {name = 'l', class = 'L', weight = 2}, \
+      {name = 'i', class = 'I', weight = 1000000}]\n\
+      pair = [{left = 'f 1', right = 'g 5'}, {left = 'g', right = 'h'}, {left = 'h 2', right = 'l 3'}, \
+      {left = 'l 1', right = 'i'}, {left = 'i', right = 'f 6'}, {left = 'i 1', right = 'h 7'}, \
+      {left = 'l 2', right = 'l'}, {left = 'f', right = 'f'}]\n";
 
 /// The width and the height of a map, and whether it wraps.
 pub(super) type Sides = (u32, u32, bool);

@@ -11,8 +11,10 @@ use wfc_render::{Form, layout, learned_tiles, tile_bytes};
 use wfc_tileset::{HOLE, TileFault, TileSet, read};
 
 /// A tile without symmetry and a straight line, which may follow each other.
-const GRIDS: &str =
-    "tile = [{name = 'f', class = 'F', weight = 3, picture = 'f'}, {name = 'line', class = 'I', picture = 'g'}]\n[[pair]]\nleft = 'line'\nright = 'line'\n[[pair]]\nleft = 'f 5'\nright = 'line 1'\n";
+const GRIDS: &str = "tile = [{name = 'f', class = 'F', weight = 3, picture = 'f'}, \
+     {name = 'line', class = 'I', picture = 'g'}]\n\
+     [[pair]]\nleft = 'line'\nright = 'line'\n\
+     [[pair]]\nleft = 'f 5'\nright = 'line 1'\n";
 
 /// One tile with a picture of colours.
 const COLOURS: &str = "tile = [{name = 'x', class = 'X', picture = 'x.ppm'}]\n";
@@ -33,8 +35,9 @@ fn take(rt: &impl Abort, alloc: Global, set: &mut TileSet, bytes: &[u8]) -> Resu
 fn tells_what_a_tile_set_allows(rt: HostRuntime) -> Result<(), Fail> {
     let set = set_of(&rt, rt.alloc(), GRIDS)?;
     let text = learned_tiles(rt.alloc(), &set)?;
-    let wanted =
-        b"tiles 2\nvariants 10\n0 3: f/0\n1 3: f/1\n2 3: f/2\n3 3: f/3\n4 3: f/4\n5 3: f/5\n6 3: f/6\n7 3: f/7\n8 1: line/0\n9 1: line/1\nacross 5\n3 9\n5 9\n8 8\n9 1\n9 7\ndown 5\n2 8\n6 8\n8 0\n8 4\n9 9\n";
+    let wanted = b"tiles 2\nvariants 10\n0 3: f/0\n1 3: f/1\n2 3: f/2\n3 3: f/3\n4 3: f/4\n\
+          5 3: f/5\n6 3: f/6\n7 3: f/7\n8 1: line/0\n9 1: line/1\n\
+          across 5\n3 9\n5 9\n8 8\n9 1\n9 7\ndown 5\n2 8\n6 8\n8 0\n8 4\n9 9\n";
     assert_eq!(rt; text.as_slice(), wanted.as_slice());
     Ok(())
 }
