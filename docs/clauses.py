@@ -5,7 +5,9 @@
 
 A row of a table with the columns Call and Clause names calls, as `wfc_grid::read`, and in the next column the clauses of each, those of one
 call parted by ',' and those of the next behind ';'. A row with the column Clause alone names clauses of wfc_cli::run, or a call of
-its own. A clause is there where a function of that name, in a file of crates/NAME/src, has a line 'ensures CLAUSE'.
+its own. A clause is there where a function of that name, in a file of crates/NAME/src, has a line 'ensures CLAUSE'. `fill.legal` names a
+field: it is there where the definition that the clause `fill` begins with is a record with that field, or names one in its body, in a
+file of crates/*/specs.
 Status 0 where all are there, else 1 with a line for each that is not.
 """
 import glob
@@ -29,9 +31,30 @@ def clauses_of(crate):
                 owner = None
             if head := re.match(r"\s*(?:pub(?:\(crate\))? )?fn (\w+)", line):
                 name = f"{owner}::{head.group(1)}" if owner and line[0] == " " else head.group(1)
-            if clause := re.match(r"\s*ensures (\w+)", line):
-                found.setdefault(name, set()).add(clause.group(1))
+            if clause := re.match(r"\s*ensures (\w+)(?: \{ (\w+))?", line):
+                found.setdefault(name, {})[clause.group(1)] = clause.group(2)
     return found
+
+
+def definitions():
+    """The records of all specs with their fields, and the other definitions with the names in their bodies."""
+    records, bodies = {}, {}
+    for path in glob.glob(f"{ROOT}/crates/*/specs/*.antt"):
+        text = open(path, encoding="utf-8").read()
+        for head in re.finditer(r"^pub record (\w+)(?:.|\n)*? where\n((?:  .*\n)+)", text, re.M):
+            records[head.group(1)] = set(re.findall(r"^  pub (\w+) :", head.group(2), re.M))
+        for head in re.finditer(r"^abbrev pub (\w+) :(?:.|\n)*?\n\1 [^=]*=\s*(.*(?:\n    .*)*)", text, re.M):
+            bodies[head.group(1)] = re.findall(r"\w+", head.group(2))
+    return records, bodies
+
+
+def is_there(word, found, records, bodies):
+    """Whether a call with these clauses has the clause, or the field of what a clause promises."""
+    clause, _, field = word.partition(".")
+    if clause not in found or not field:
+        return clause in found
+    name = found[clause]
+    return any(field in records.get(each, ()) for each in [name] + bodies.get(name, []))
 
 
 def rows(path):
@@ -50,7 +73,7 @@ def rows(path):
 
 def named(row):
     """The calls of a row, each with its clauses."""
-    groups = [re.findall(r"`([\w:]+)`", part) for part in row.get("Clause", "").split(";")]
+    groups = [re.findall(r"`([\w:.]+)`", part) for part in row.get("Clause", "").split(";")]
     if "Call" in row:
         calls = re.findall(r"`(wfc_\w+::[\w:]+)`", row["Call"])
         if calls and len(calls) != len(groups):
@@ -67,12 +90,13 @@ def named(row):
 
 def main():
     crates, missing, count = {}, [], 0
+    records, bodies = definitions()
     for row in rows(f"{ROOT}/docs/theorem.md"):
         for call, clauses in named(row):
             crate, _, function = call.partition("::")
-            found = crates.setdefault(crate, clauses_of(crate)).get(function, set())
+            found = crates.setdefault(crate, clauses_of(crate)).get(function, {})
             count += len(clauses)
-            missing += [f"{call} {clause}" for clause in clauses if clause not in found]
+            missing += [f"{call} {clause}" for clause in clauses if not is_there(clause, found, records, bodies)]
     for each in missing:
         print(f"no clause: {each}")
     print(f"{count} clauses named, {len(missing)} missing")

@@ -1,11 +1,11 @@
 //! The program `wfc`: a map generator in the manner of WaveFunctionCollapse.
 #![tactic(auto)]
 
-ghost use Rattle.std.specs.Prelude.{◌≡◌, map, IfOk, IfErr};
+ghost use Rattle.std.specs.Prelude.{◌≡◌, IfOk, IfErr};
 ghost use Rattle.std.specs.Process.{exit_status};
 ghost use Rattle.std.specs.IoError.{error_kind};
-ghost use Rattle.wfc_words.specs.Request.{texts};
-ghost use Rattle.wfc_cli.specs.Answer.{IsAnswer, devices};
+ghost use Rattle.wfc_cli.specs.Answer.{IsAnswer};
+ghost use Rattle.wfc_cli.specs.Call.{call_of};
 ghost use Rattle.wfc_cli.specs.Reply.{Tells, said_of_words};
 ghost use Rattle.wfc_app.specs.Unread.{unread_fault};
 
@@ -45,9 +45,8 @@ fn program<F: Folder, O: Sink, E: Sink>(
     out: &mut O,
     err: &mut E,
 ) -> ExitCode
-    ensures taken { IfOk words (λ words. IsAnswer (map (λ chooser. (told chooser).rule) choosers.items) (texts words.items)
-        (devices (F.seen folder.old) (O.seen out.old) (E.seen err.old))
-        (devices (F.seen folder.new) (O.seen out.new) (E.seen err.new)) (exit_status result)) }
+    ensures taken { IfOk words (λ words. IsAnswer (call_of (λ chooser. (told chooser).rule) choosers.items words.items
+        F.seen folder.old folder.new O.seen out.old out.new E.seen err.old err.new (exit_status result))) }
     ensures unread_status { IfErr words
         (λ e. exit_status result ≡ (said_of_words (unread_fault (error_kind e))).status) }
     ensures unread_line { IfErr words (λ e. Tells (said_of_words (unread_fault (error_kind e))).told (E.seen err.old) (E.seen err.new)) }

@@ -38,18 +38,22 @@ use Rattle.wfc_task.specs.Steps.{chosen as choosing}
 use Rattle.wfc_task.specs.Task.{demo_plan}
 use Rattle.wfc_task.specs.declared.fault.Refusal.{Refusal}
 use Rattle.wfc_task.proofs.CallerLemmas.{domains_given, fill_given, fill_tiles_given, learn_given, learn_tiles_given}
-use Rattle.wfc_cli.specs.Answer.{Devices, IsAnswer, Replied}
+use Rattle.wfc_cli.specs.Answer.{IsAnswer, Replied}
 use Rattle.wfc_cli.specs.Answers.{Answers, demo_answer, demo_budget, demo_text, domains_answer, fill_answer, fill_by, fill_text, outcome_status, root_verdict, steps_text, verdict_of}
 use Rattle.wfc_cli.specs.Choosers.{chosen, kinds_of}
-use Rattle.wfc_cli.specs.Claims.{FillWork, HasNoMap, IsAsRun, IsCommand, IsFoundMap, IsLegalMap, IsNeverSpent, IsRules, IsRulesBy, WritesDemo, WritesDomains, WritesFront, WritesLearned, WritesLegalMap, assignment_text, map_text_of}
 use Rattle.wfc_cli.specs.Maps.{IsLaidBy, map_by, map_of, map_text_by}
 use Rattle.wfc_cli.specs.Reply.{Answered, CutsOff, Delivers, Reply, Takes, TakesWhole, done_with, said_of, verdict_status}
 use Rattle.wfc_cli.specs.Runs.{end_by, end_of, seeded}
-use Rattle.wfc_cli.specs.Theorem.{task_of}
+use Rattle.wfc_cli.specs.Theorem.{IsCommand, task_of}
 use Rattle.wfc_cli.specs.declared.reply.Verdict.TheVariants as verdict
 use Rattle.wfc_cli.proofs.EndLemmas.{command_plan}
 use Rattle.wfc_cli.proofs.MapLemmas.{TakesSides, IsBridged, command_bridged, no_legal}
 use Rattle.wfc_cli.proofs.TheoremLemmas.{IsToldCall, ToldReply, fault_between, told, short, told_call, verdict_apart}
+use Rattle.wfc_cli.specs.Call.{Call}
+use Rattle.wfc_cli.specs.FillClaims.{FillWork, HasNoMap, IsAsRun, IsFoundMap, IsLegalMap, IsNeverSpent, WritesFront, WritesLegalMap, assignment_text, map_text_of}
+use Rattle.wfc_cli.specs.LearnClaims.{IsRules, IsRulesBy, WritesLearned}
+use Rattle.wfc_cli.specs.DemoClaims.{WritesDemo}
+use Rattle.wfc_cli.specs.DomainsClaims.{WritesDomains}
 
 -- ---- what a call came to
 
@@ -59,33 +63,33 @@ pub record HasAnswered (rules : List Rule) (asked : RequestView) (files : List F
   pub is : task_of rules asked files ≡ Ok task
   pub answers : Answers rules asked task answered
 
-pub answered_task : (rules : List Rule) (asked : RequestView) (before after : Devices) (files : List File) (answered : Answered) → ToldReply rules asked before.folder after.folder files (Ok answered) → HasAnswered rules asked files answered
-answered_task rules asked before after files answered (inl replied) = by_task (task_of rules asked files) refl replied
+pub answered_task : (call : Call) (asked : RequestView) (files : List File) (answered : Answered) → ToldReply call asked files (Ok answered) → HasAnswered call.rules asked files answered
+answered_task call asked files answered (inl replied) = by_task (task_of call.rules asked files) refl replied
   where
-    by_task : (task : Result Task Fault) → task_of rules asked files ≡ task → Replied rules asked task (Ok answered) → HasAnswered rules asked files answered
+    by_task : (task : Result Task Fault) → task_of call.rules asked files ≡ task → Replied call.rules asked task (Ok answered) → HasAnswered call.rules asked files answered
     by_task (Ok task) is replied = record { task = task; is = is; answers = replied }
     by_task (Err fault) is replied = absurd (cc (replied))
-answered_task rules asked before after files answered (inr (inl want)) = absurd (cc (want.2))
-answered_task rules asked before after files answered (inr (inr hindered)) = absurd (cc (hindered.is))
+answered_task call asked files answered (inr (inl want)) = absurd (cc (want.2))
+answered_task call asked files answered (inr (inr hindered)) = absurd (cc (hindered.is))
 
 -- a call that came to an answer, and what it did to the sink
-pub data CameTo (rules : List Rule) (asked : RequestView) (files : List File) (before after : Devices) (status : ℕ) : Type 0 where
-  whole : (answered : Answered) → HasAnswered rules asked files answered → status ≡ verdict_status answered.verdict → TakesWhole answered.whole answered.text before.out after.out → CameTo rules asked files before after status
-  cut : (answered : Answered) → HasAnswered rules asked files answered → status ≡ 5 → CutsOff answered.text before.out after.out → CameTo rules asked files before after status
-  none : 3 ≤ status → after.out ≡ before.out → CameTo rules asked files before after status
+pub data CameTo (call : Call) (asked : RequestView) (files : List File) : Type 0 where
+  whole : (answered : Answered) → HasAnswered call.rules asked files answered → call.status ≡ verdict_status answered.verdict → TakesWhole answered.whole answered.text call.before.out call.after.out → CameTo call asked files
+  cut : (answered : Answered) → HasAnswered call.rules asked files answered → call.status ≡ 5 → CutsOff answered.text call.before.out call.after.out → CameTo call asked files
+  none : 3 ≤ call.status → call.after.out ≡ call.before.out → CameTo call asked files
 
-pub came_to : (rules : List Rule) (command : CommandKind) (words : List (List ℕ)) (before after : Devices) (status : ℕ) → IsAnswer rules words before after status → (asked : RequestView) (files : List File)
-    → IsCommand command words before asked files → CameTo rules asked files before after status
-came_to rules command words before after status answer asked files given = by_call (told_call rules words before after status answer asked files given.given)
+pub came_to : (command : CommandKind) (call : Call) → IsAnswer call → (asked : RequestView) (files : List File)
+    → IsCommand command call asked files → CameTo call asked files
+came_to command call answer asked files given = by_call (told_call call answer asked files given.given)
   where
-    by_reply : (reply : Reply) → ToldReply rules asked before.folder after.folder files reply → Delivers (said_of asked reply) before.out after.out before.err after.err status
-        → CameTo rules asked files before after status
-    by_reply (Ok answered) replied (inl delivered) = whole answered (answered_task rules asked before after files answered replied) delivered.same_status delivered.taken
-    by_reply (Ok answered) replied (inr cut_off) = cut answered (answered_task rules asked before after files answered replied) cut_off.five cut_off.front
+    by_reply : (reply : Reply) → ToldReply call asked files reply → Delivers (said_of asked reply) call
+        → CameTo call asked files
+    by_reply (Ok answered) replied (inl delivered) = whole answered (answered_task call asked files answered replied) delivered.same_status delivered.taken
+    by_reply (Ok answered) replied (inr cut_off) = cut answered (answered_task call asked files answered replied) cut_off.five cut_off.front
     by_reply (Err fault) replied (inl delivered) = none (subst (λ k. 3 ≤ k) (sym delivered.same_status) (fault_between fault).0) delivered.taken
     by_reply (Err fault) replied (inr cut_off) = absurd cut_off.front
 
-    by_call : IsToldCall rules asked files before after status → CameTo rules asked files before after status
+    by_call : IsToldCall call asked files → CameTo call asked files
     by_call (short six same) = none (omega (arith, six)) same
     by_call (told reply replied delivers) = by_reply reply replied delivers
 
@@ -113,16 +117,16 @@ has_learned Tiles rules asked files task answered is comes answers =
     let said : Some (done_with (learned_tiles_text given.0)) ≡ Some answered = subst (λ task. Answers rules asked task answered) (sym given.1) answers in
     record { text = learned_tiles_text given.0; rules = (given.0, given.2, refl); is = cc (said) }
 
-pub writes_learned : (rules : List Rule) (words : List (List ℕ)) (before after : Devices) (status : ℕ) → IsAnswer rules words before after status → WritesLearned words before after status
-writes_learned rules words before after status answer asked files is low = by_end (came_to rules commands.Learn words before after status answer asked files is)
+pub writes_learned : (call : Call) → IsAnswer call → (asked : RequestView) (files : List File) → IsCommand commands.Learn call asked files → WritesLearned call asked files
+writes_learned call answer asked files is low = by_end (came_to commands.Learn call answer asked files is)
   where
-    by_end : CameTo rules asked files before after status → (status ≡ 0) × (text : List ℕ) × IsRules asked files text × (after.out ≡ after_finish (after_bytes before.out text))
+    by_end : CameTo call asked files → (call.status ≡ 0) × (text : List ℕ) × IsRules asked files text × (call.after.out ≡ after_finish (after_bytes call.before.out text))
     by_end (whole answered has same takes) =
-        let learned = has_learned asked.source rules asked files has.task answered refl (planned rules asked files commands.Learn has.task is.command_is has.is) has.answers in (
+        let learned = has_learned asked.source call.rules asked files has.task answered refl (planned call.rules asked files commands.Learn has.task is.command_is has.is) has.answers in (
           same ∙ sym (ap (λ (a : Answered). verdict_status a.verdict) learned.is),
           learned.text,
           learned.rules,
-          subst (λ (a : Answered). TakesWhole a.whole a.text before.out after.out) (sym learned.is) takes,
+          subst (λ (a : Answered). TakesWhole a.whole a.text call.before.out call.after.out) (sym learned.is) takes,
         )
     by_end (cut answered has five front) = absurd (omega (arith, five, low))
     by_end (none high same) = absurd (omega (arith, high, low))
@@ -179,9 +183,9 @@ sides_of_fill : TakesSides commands.Fill
 sides_of_fill = record { model = refl; width = refl; height = refl }
 
 -- what is known of the problem of a `fill`
-known : (rules : List Rule) (words : List (List ℕ)) (before : Devices) (asked : RequestView) (files : List File) → IsCommand commands.Fill words before asked files → (work : FillWork rules asked files)
+known : (call : Call) (asked : RequestView) (files : List File) → IsCommand commands.Fill call asked files → (work : FillWork call.rules asked files)
     → IsBridged asked.source asked files work.P work.posed
-known rules words before asked files is work = command_bridged commands.Fill words before asked files work.P work.posed sides_of_fill is
+known call asked files is work = command_bridged commands.Fill call asked files work.P work.posed sides_of_fill is
 
 -- the rule by which a run went
 pub ran_by : (rules : List Rule) (kind : RuleKind) (P : Network) (budget seed : ℕ) (end : Outcome × State) → end_of rules kind P budget seed ≡ Some end → (rule : Rule) × (outcome_of P rule budget (seeded seed) ≡ Some end)
@@ -198,15 +202,15 @@ pub record HasFilled (rules : List Rule) (asked : RequestView) (files : List Fil
   pub ends : end_of rules asked.rule work.P asked.budget asked.seed ≡ Some end
   pub is : answered ≡ record { verdict = verdict_of asked.budget end.0; text = fill_text (assignment_text asked work) work.P end; whole = true }
 
-pub fill_answered : (rules : List Rule) (words : List (List ℕ)) (before : Devices) (asked : RequestView) (files : List File) (answered : Answered) → IsCommand commands.Fill words before asked files → HasAnswered rules asked files answered
-    → HasFilled rules asked files answered
-fill_answered rules words before asked files answered is has =
-    let made = has_fill_task asked.source rules asked files has.task refl (planned rules asked files commands.Fill has.task is.command_is has.is) in
-    let answers = fill_answers asked.source rules asked files made.P made.posed made.layout answered (subst (λ task. Answers rules asked task answered) (sym made.same) has.answers) in
-    by_end (record { chooser = made.chooser; P = made.P; posed = made.posed; layout = made.layout; laid = made.laid }) (end_of rules asked.rule made.P asked.budget asked.seed) refl answers
+pub fill_answered : (call : Call) (asked : RequestView) (files : List File) (answered : Answered) → IsCommand commands.Fill call asked files → HasAnswered call.rules asked files answered
+    → HasFilled call.rules asked files answered
+fill_answered call asked files answered is has =
+    let made = has_fill_task asked.source call.rules asked files has.task refl (planned call.rules asked files commands.Fill has.task is.command_is has.is) in
+    let answers = fill_answers asked.source call.rules asked files made.P made.posed made.layout answered (subst (λ task. Answers call.rules asked task answered) (sym made.same) has.answers) in
+    by_end (record { chooser = made.chooser; P = made.P; posed = made.posed; layout = made.layout; laid = made.laid }) (end_of call.rules asked.rule made.P asked.budget asked.seed) refl answers
   where
-    by_end : (work : FillWork rules asked files) (end : Option (Outcome × State)) → end_of rules asked.rule work.P asked.budget asked.seed ≡ end
-        → fill_answer (assignment_text asked work) asked.budget work.P end ≡ Some answered → HasFilled rules asked files answered
+    by_end : (work : FillWork call.rules asked files) (end : Option (Outcome × State)) → end_of call.rules asked.rule work.P asked.budget asked.seed ≡ end
+        → fill_answer (assignment_text asked work) asked.budget work.P end ≡ Some answered → HasFilled call.rules asked files answered
     by_end work None ends answers = absurd (cc (answers))
     by_end work (Some end) ends answers = record { work = work; end = end; ends = ends; is = sym (cc (answers)) }
 
@@ -215,19 +219,19 @@ verdict_outcome budget outcome.Map = refl
 verdict_outcome budget outcome.NoMap = refl
 verdict_outcome budget outcome.Spent = refl
 
-pub is_as_run : (rules : List Rule) (words : List (List ℕ)) (before after : Devices) (status : ℕ) → IsAnswer rules words before after status → IsAsRun rules words before after status
-is_as_run rules words before after status answer asked files is low = by_end (came_to rules commands.Fill words before after status answer asked files is)
+pub is_as_run : (call : Call) → IsAnswer call → (asked : RequestView) (files : List File) → IsCommand commands.Fill call asked files → IsAsRun call asked files
+is_as_run call answer asked files is low = by_end (came_to commands.Fill call answer asked files is)
   where
-    by_end : CameTo rules asked files before after status
-        → (work : FillWork rules asked files) × (end : Outcome × State) × (end_of rules asked.rule work.P asked.budget asked.seed ≡ Some end)
-        × (status ≡ outcome_status end.0) × Takes (fill_text (assignment_text asked work) work.P end) before.out after.out
+    by_end : CameTo call asked files
+        → (work : FillWork call.rules asked files) × (end : Outcome × State) × (end_of call.rules asked.rule work.P asked.budget asked.seed ≡ Some end)
+        × (call.status ≡ outcome_status end.0) × Takes (fill_text (assignment_text asked work) work.P end) call.before.out call.after.out
     by_end (whole answered has same takes) =
-        let filled = fill_answered rules words before asked files answered is has in (
+        let filled = fill_answered call asked files answered is has in (
           filled.work,
           filled.end,
           filled.ends,
           same ∙ ap (λ (a : Answered). verdict_status a.verdict) filled.is ∙ verdict_outcome asked.budget filled.end.0,
-          subst (λ (a : Answered). TakesWhole a.whole a.text before.out after.out) filled.is takes,
+          subst (λ (a : Answered). TakesWhole a.whole a.text call.before.out call.after.out) filled.is takes,
         )
     by_end (cut answered has five front) = absurd (omega (arith, five, low))
     by_end (none high same) = absurd (omega (arith, high, low))
@@ -237,11 +241,11 @@ abbrev found_map : (rules : List Rule) (asked : RequestView) (files : List File)
 found_map rules asked files work s = map_of asked files work.P work.posed (assignment_of work.P s.standing)
 
 -- is legal
-map_is_legal : (rules : List Rule) (words : List (List ℕ)) (before : Devices) (asked : RequestView) (files : List File) → IsCommand commands.Fill words before asked files → (work : FillWork rules asked files) (s : State)
-    → end_of rules asked.rule work.P asked.budget asked.seed ≡ Some (outcome.Map, s) → IsLegalMap asked work (found_map rules asked files work s)
-map_is_legal rules words before asked files is work s ends =
-    let sure = known rules words before asked files is work in
-    let ran = ran_by rules asked.rule work.P asked.budget asked.seed (outcome.Map, s) ends in
+map_is_legal : (call : Call) (asked : RequestView) (files : List File) → IsCommand commands.Fill call asked files → (work : FillWork call.rules asked files) (s : State)
+    → end_of call.rules asked.rule work.P asked.budget asked.seed ≡ Some (outcome.Map, s) → IsLegalMap asked work (found_map call.rules asked files work s)
+map_is_legal call asked files is work s ends =
+    let sure = known call asked files is work in
+    let ran = ran_by call.rules asked.rule work.P asked.budget asked.seed (outcome.Map, s) ends in
     sure.makes (assignment_of work.P s.standing) (outcome_map work.P sure.problem ran.0 asked.budget (seeded asked.seed) s ran.1).1
 
 -- a run ends in one map
@@ -252,61 +256,61 @@ found_once rules asked files work m other first second =
     let same : first.state ≡ second.state = ap (λ (end : Outcome × State). end.1) pairs in
     first.made ∙ ap (λ (s : State). found_map rules asked files work s) same ∙ sym second.made
 
-pub writes_legal : (rules : List Rule) (words : List (List ℕ)) (before after : Devices) (status : ℕ) → IsAnswer rules words before after status → WritesLegalMap rules words before after status
-writes_legal rules words before after status answer asked files is nought =
-    let run = is_as_run rules words before after status answer asked files is (omega (arith, nought)) in by_outcome run.0 run.1.0 run.1.1 run.2 run.3 run.4
+pub writes_legal : (call : Call) → IsAnswer call → (asked : RequestView) (files : List File) → IsCommand commands.Fill call asked files → WritesLegalMap call asked files
+writes_legal call answer asked files is nought =
+    let run = is_as_run call answer asked files is (omega (arith, nought)) in by_outcome run.0 run.1.0 run.1.1 run.2 run.3 run.4
   where
-    by_outcome : (work : FillWork rules asked files) (o : Outcome) (s : State) → end_of rules asked.rule work.P asked.budget asked.seed ≡ Some (o, s) → status ≡ outcome_status o
-        → Takes (fill_text (assignment_text asked work) work.P (o, s)) before.out after.out
-        → (work : FillWork rules asked files) × (m : Raster) × IsLegalMap asked work m × (after.out ≡ after_finish (after_bytes before.out (map_text_of asked work m)))
-    by_outcome work outcome.Map s ends same takes = (work, found_map rules asked files work s, map_is_legal rules words before asked files is work s ends, takes)
+    by_outcome : (work : FillWork call.rules asked files) (o : Outcome) (s : State) → end_of call.rules asked.rule work.P asked.budget asked.seed ≡ Some (o, s) → call.status ≡ outcome_status o
+        → Takes (fill_text (assignment_text asked work) work.P (o, s)) call.before.out call.after.out
+        → (work : FillWork call.rules asked files) × (m : Raster) × IsLegalMap asked work m × (call.after.out ≡ after_finish (after_bytes call.before.out (map_text_of asked work m)))
+    by_outcome work outcome.Map s ends same takes = (work, found_map call.rules asked files work s, map_is_legal call asked files is work s ends, takes)
     by_outcome work outcome.NoMap s ends same takes = absurd (omega (arith, same, nought))
     by_outcome work outcome.Spent s ends same takes = absurd (omega (arith, same, nought))
 
-pub has_no_map : (rules : List Rule) (words : List (List ℕ)) (before after : Devices) (status : ℕ) → IsAnswer rules words before after status → HasNoMap rules words before after status
-has_no_map rules words before after status answer asked files is one =
-    let run = is_as_run rules words before after status answer asked files is (omega (arith, one)) in by_outcome run.0 run.1.0 run.1.1 run.2 run.3 run.4
+pub has_no_map : (call : Call) → IsAnswer call → (asked : RequestView) (files : List File) → IsCommand commands.Fill call asked files → HasNoMap call asked files
+has_no_map call answer asked files is one =
+    let run = is_as_run call answer asked files is (omega (arith, one)) in by_outcome run.0 run.1.0 run.1.1 run.2 run.3 run.4
   where
-    by_outcome : (work : FillWork rules asked files) (o : Outcome) (s : State) → end_of rules asked.rule work.P asked.budget asked.seed ≡ Some (o, s) → status ≡ outcome_status o
-        → Takes (fill_text (assignment_text asked work) work.P (o, s)) before.out after.out
-        → (work : FillWork rules asked files) × ((m : Raster) → IsLegalMap asked work m → ⊥) × (after.out ≡ before.out)
+    by_outcome : (work : FillWork call.rules asked files) (o : Outcome) (s : State) → end_of call.rules asked.rule work.P asked.budget asked.seed ≡ Some (o, s) → call.status ≡ outcome_status o
+        → Takes (fill_text (assignment_text asked work) work.P (o, s)) call.before.out call.after.out
+        → (work : FillWork call.rules asked files) × ((m : Raster) → IsLegalMap asked work m → ⊥) × (call.after.out ≡ call.before.out)
     by_outcome work outcome.NoMap s ends same takes =
-        let sure = known rules words before asked files is work in
-        let ran = ran_by rules asked.rule work.P asked.budget asked.seed (outcome.NoMap, s) ends in
+        let sure = known call asked files is work in
+        let ran = ran_by call.rules asked.rule work.P asked.budget asked.seed (outcome.NoMap, s) ends in
         (work, no_legal asked files work.P work.posed sure (outcome_none work.P sure.problem ran.0 asked.budget (seeded asked.seed) s ran.1), takes)
     by_outcome work outcome.Map s ends same takes = absurd (omega (arith, same, one))
     by_outcome work outcome.Spent s ends same takes = absurd (omega (arith, same, one))
 
-pub is_never_spent : (rules : List Rule) (words : List (List ℕ)) (before after : Devices) (status : ℕ) → IsAnswer rules words before after status → IsNeverSpent rules words before status
-is_never_spent rules words before after status answer asked files is two =
-    let run = is_as_run rules words before after status answer asked files is (omega (arith, two)) in by_outcome run.0 run.1.0 run.1.1 run.2 run.3
+pub is_never_spent : (call : Call) → IsAnswer call → (asked : RequestView) (files : List File) → IsCommand commands.Fill call asked files → IsNeverSpent call asked files
+is_never_spent call answer asked files is two =
+    let run = is_as_run call answer asked files is (omega (arith, two)) in by_outcome run.0 run.1.0 run.1.1 run.2 run.3
   where
-    by_outcome : (work : FillWork rules asked files) (o : Outcome) (s : State) → end_of rules asked.rule work.P asked.budget asked.seed ≡ Some (o, s) → status ≡ outcome_status o
-        → (work : FillWork rules asked files) × (asked.budget + 1 ≤ volume_of work.P)
+    by_outcome : (work : FillWork call.rules asked files) (o : Outcome) (s : State) → end_of call.rules asked.rule work.P asked.budget asked.seed ≡ Some (o, s) → call.status ≡ outcome_status o
+        → (work : FillWork call.rules asked files) × (asked.budget + 1 ≤ volume_of work.P)
     by_outcome work outcome.Spent s ends same =
-        let sure = known rules words before asked files is work in
-        let ran = ran_by rules asked.rule work.P asked.budget asked.seed (outcome.Spent, s) ends in
+        let sure = known call asked files is work in
+        let ran = ran_by call.rules asked.rule work.P asked.budget asked.seed (outcome.Spent, s) ends in
         let below = (outcome_spent work.P sure.problem ran.0 asked.budget (seeded asked.seed) s ran.1).1 in
         (work, omega (arith, below))
     by_outcome work outcome.Map s ends same = absurd (omega (arith, same, two))
     by_outcome work outcome.NoMap s ends same = absurd (omega (arith, same, two))
 
-pub writes_front : (rules : List Rule) (words : List (List ℕ)) (before after : Devices) (status : ℕ) → IsAnswer rules words before after status → WritesFront rules words before after status
-writes_front rules words before after status answer asked files is five = by_end (came_to rules commands.Fill words before after status answer asked files is)
+pub writes_front : (call : Call) → IsAnswer call → (asked : RequestView) (files : List File) → IsCommand commands.Fill call asked files → WritesFront call asked files
+writes_front call answer asked files is five = by_end (came_to commands.Fill call answer asked files is)
   where
-    by_outcome : (work : FillWork rules asked files) (o : Outcome) (s : State) → end_of rules asked.rule work.P asked.budget asked.seed ≡ Some (o, s)
-        → CutsOff (fill_text (assignment_text asked work) work.P (o, s)) before.out after.out
-        → (work : FillWork rules asked files) × (m : Raster) × IsFoundMap asked work m × IsLegalMap asked work m × IsFaultAfterFront before.out after.out (map_text_of asked work m)
-    by_outcome work outcome.Map s ends front = (work, found_map rules asked files work s, record { state = s; ends = ends; made = refl }, map_is_legal rules words before asked files is work s ends, front)
+    by_outcome : (work : FillWork call.rules asked files) (o : Outcome) (s : State) → end_of call.rules asked.rule work.P asked.budget asked.seed ≡ Some (o, s)
+        → CutsOff (fill_text (assignment_text asked work) work.P (o, s)) call.before.out call.after.out
+        → (work : FillWork call.rules asked files) × (m : Raster) × IsFoundMap asked work m × IsLegalMap asked work m × IsFaultAfterFront call.before.out call.after.out (map_text_of asked work m)
+    by_outcome work outcome.Map s ends front = (work, found_map call.rules asked files work s, record { state = s; ends = ends; made = refl }, map_is_legal call asked files is work s ends, front)
     by_outcome work outcome.NoMap s ends front = absurd front
     by_outcome work outcome.Spent s ends front = absurd front
 
-    by_end : CameTo rules asked files before after status
-        → (after.out ≡ before.out) ⊎ ((work : FillWork rules asked files) × (m : Raster) × IsFoundMap asked work m × IsLegalMap asked work m × IsFaultAfterFront before.out after.out (map_text_of asked work m))
+    by_end : CameTo call asked files
+        → (call.after.out ≡ call.before.out) ⊎ ((work : FillWork call.rules asked files) × (m : Raster) × IsFoundMap asked work m × IsLegalMap asked work m × IsFaultAfterFront call.before.out call.after.out (map_text_of asked work m))
     by_end (whole answered has same takes) = absurd (verdict_apart answered.verdict 5 (omega arith) (sym same ∙ five))
     by_end (cut answered has _ front) =
-        let filled = fill_answered rules words before asked files answered is has in
-        inr (by_outcome filled.work filled.end.0 filled.end.1 filled.ends (subst (λ (a : Answered). CutsOff a.text before.out after.out) filled.is front))
+        let filled = fill_answered call asked files answered is has in
+        inr (by_outcome filled.work filled.end.0 filled.end.1 filled.ends (subst (λ (a : Answered). CutsOff a.text call.before.out call.after.out) filled.is front))
     by_end (none high same) = inl same
 
 -- ---- `domains`
@@ -319,21 +323,21 @@ root_verdict_status P status is = by_dead (is_dead P (greatest P [])) refl is
     by_dead true dead is = inr (is, dead)
     by_dead false alive is = inl (is, alive)
 
-pub writes_domains : (rules : List Rule) (words : List (List ℕ)) (before after : Devices) (status : ℕ) → IsAnswer rules words before after status → WritesDomains words before after status
-writes_domains rules words before after status answer asked files is low = by_end (came_to rules commands.Domains words before after status answer asked files is)
+pub writes_domains : (call : Call) → IsAnswer call → (asked : RequestView) (files : List File) → IsCommand commands.Domains call asked files → WritesDomains call asked files
+writes_domains call answer asked files is low = by_end (came_to commands.Domains call answer asked files is)
   where
-    by_end : CameTo rules asked files before after status
-        → (P : Network) × (steps : List StepLine) × IsDomainsTask asked files P steps × (after.out ≡ after_finish (after_bytes before.out (steps_text P steps)))
-        × (((status ≡ 0) × (is_dead P (greatest P []) ≡ false)) ⊎ ((status ≡ 1) × (is_dead P (greatest P []) ≡ true)))
+    by_end : CameTo call asked files
+        → (P : Network) × (steps : List StepLine) × IsDomainsTask asked files P steps × (call.after.out ≡ after_finish (after_bytes call.before.out (steps_text P steps)))
+        × (((call.status ≡ 0) × (is_dead P (greatest P []) ≡ false)) ⊎ ((call.status ≡ 1) × (is_dead P (greatest P []) ≡ true)))
     by_end (whole answered has same takes) =
-        let given = domains_given asked files has.task (planned rules asked files commands.Domains has.task is.command_is has.is) in
-        let answers : Some (domains_answer given.0 given.1) ≡ Some answered = subst (λ task. Answers rules asked task answered) (sym given.2) has.answers in
+        let given = domains_given asked files has.task (planned call.rules asked files commands.Domains has.task is.command_is has.is) in
+        let answers : Some (domains_answer given.0 given.1) ≡ Some answered = subst (λ task. Answers call.rules asked task answered) (sym given.2) has.answers in
         let is_answer : domains_answer given.0 given.1 ≡ answered = cc (answers) in (
           given.0,
           given.1,
           given.3,
-          subst (λ (a : Answered). TakesWhole a.whole a.text before.out after.out) (sym is_answer) takes,
-          root_verdict_status given.0 status (same ∙ sym (ap (λ (a : Answered). verdict_status a.verdict) is_answer)),
+          subst (λ (a : Answered). TakesWhole a.whole a.text call.before.out call.after.out) (sym is_answer) takes,
+          root_verdict_status given.0 call.status (same ∙ sym (ap (λ (a : Answered). verdict_status a.verdict) is_answer)),
         )
     by_end (cut answered has five front) = absurd (omega (arith, five, low))
     by_end (none high same) = absurd (omega (arith, high, low))
@@ -349,8 +353,8 @@ demo_given kinds asked files task is = by_chosen (choosing kinds Fewest) is
     by_chosen (Ok given) is = cc (is)
     by_chosen (Err refusal) is = absurd (cc (is))
 
-pub writes_demo : (rules : List Rule) (words : List (List ℕ)) (before after : Devices) (status : ℕ) → IsAnswer rules words before after status → WritesDemo rules words before after status
-writes_demo rules words before after status answer asked files is low = by_end (came_to rules commands.Demo words before after status answer asked files is)
+pub writes_demo : (call : Call) → IsAnswer call → (asked : RequestView) (files : List File) → IsCommand commands.Demo call asked files → WritesDemo call asked files
+writes_demo call answer asked files is low = by_end (came_to commands.Demo call answer asked files is)
   where
     patterns : PatternsView
     patterns = demo_patterns asked.number
@@ -358,26 +362,26 @@ writes_demo rules words before after status answer asked files is low = by_end (
     P : Network
     P = demo_problem asked.number
 
-    by_answer : (answered : Answered) → status ≡ verdict_status answered.verdict → TakesWhole answered.whole answered.text before.out after.out → (end : Option (Outcome × State)) → end_of rules Fewest P demo_budget asked.number ≡ end
+    by_answer : (answered : Answered) → call.status ≡ verdict_status answered.verdict → TakesWhole answered.whole answered.text call.before.out call.after.out → (end : Option (Outcome × State)) → end_of call.rules Fewest P demo_budget asked.number ≡ end
         → demo_answer patterns P end ≡ Some answered
-        → (end : Outcome × State) × (end_of rules Fewest P demo_budget asked.number ≡ Some end) × (status ≡ outcome_status end.0)
-        × (after.out ≡ after_finish (after_bytes before.out (demo_text (length patterns.windows) P.cells end.1.retractions status)))
+        → (end : Outcome × State) × (end_of call.rules Fewest P demo_budget asked.number ≡ Some end) × (call.status ≡ outcome_status end.0)
+        × (call.after.out ≡ after_finish (after_bytes call.before.out (demo_text (length patterns.windows) P.cells end.1.retractions call.status)))
     by_answer answered same takes None ends answers = absurd (cc (answers))
     by_answer answered same takes (Some end) ends answers =
         let made : Answered = record { verdict = verdict_of demo_budget end.0; text = Some (demo_text (length patterns.windows) P.cells end.1.retractions (outcome_status end.0)); whole = true } in
         let is_answer : made ≡ answered = cc (answers) in
-        let status_is : status ≡ outcome_status end.0 = same ∙ sym (ap (λ (a : Answered). verdict_status a.verdict) is_answer) ∙ verdict_outcome demo_budget end.0 in (
+        let status_is : call.status ≡ outcome_status end.0 = same ∙ sym (ap (λ (a : Answered). verdict_status a.verdict) is_answer) ∙ verdict_outcome demo_budget end.0 in (
           end,
           ends,
           status_is,
-          subst (λ (a : Answered). TakesWhole a.whole a.text before.out after.out) (sym is_answer) takes ∙ ap (λ k. after_finish (after_bytes before.out (demo_text (length patterns.windows) P.cells end.1.retractions k))) (sym status_is),
+          subst (λ (a : Answered). TakesWhole a.whole a.text call.before.out call.after.out) (sym is_answer) takes ∙ ap (λ k. after_finish (after_bytes call.before.out (demo_text (length patterns.windows) P.cells end.1.retractions k))) (sym status_is),
         )
 
-    by_end : CameTo rules asked files before after status
-        → (end : Outcome × State) × (end_of rules Fewest P demo_budget asked.number ≡ Some end) × (status ≡ outcome_status end.0)
-        × (after.out ≡ after_finish (after_bytes before.out (demo_text (length patterns.windows) P.cells end.1.retractions status)))
+    by_end : CameTo call asked files
+        → (end : Outcome × State) × (end_of call.rules Fewest P demo_budget asked.number ≡ Some end) × (call.status ≡ outcome_status end.0)
+        × (call.after.out ≡ after_finish (after_bytes call.before.out (demo_text (length patterns.windows) P.cells end.1.retractions call.status)))
     by_end (whole answered has same takes) =
-        let given = demo_given (kinds_of rules) asked files has.task (planned rules asked files commands.Demo has.task is.command_is has.is) in
-        by_answer answered same takes (end_of rules Fewest P demo_budget asked.number) refl (subst (λ task. Answers rules asked task answered) (sym given) has.answers)
+        let given = demo_given (kinds_of call.rules) asked files has.task (planned call.rules asked files commands.Demo has.task is.command_is has.is) in
+        by_answer answered same takes (end_of call.rules Fewest P demo_budget asked.number) refl (subst (λ task. Answers call.rules asked task answered) (sym given) has.answers)
     by_end (cut answered has five front) = absurd (omega (arith, five, low))
     by_end (none high same) = absurd (omega (arith, high, low))

@@ -3,7 +3,6 @@ use Rattle.std.proofs.Common.{◌≡◌, ℕ, ◌⊎◌, inl, inr, true, List, O
 use Rattle.wfc_outside.specs.Folder.{File}
 use Rattle.wfc_outside.specs.Sink.{IsFaultAfterFront}
 use Rattle.wfc_check.specs.declared.fault.CheckFault.{CheckFault}
-use Rattle.wfc_choose.specs.Pick.{Rule}
 use Rattle.wfc_choose.specs.declared.RuleKind.TheVariants.{Fewest}
 use Rattle.wfc_search.specs.Run.{State}
 use Rattle.wfc_search.specs.declared.Outcome.{Outcome}
@@ -13,34 +12,39 @@ use Rattle.wfc_words.specs.declared.kinds.CommandKind.TheVariants as commands
 use Rattle.wfc_task.specs.CheckGiven.{IsCheckTask}
 use Rattle.wfc_task.specs.Demo.{demo_patterns, demo_problem}
 use Rattle.wfc_task.proofs.CallerLemmas.{check_given, domains_given}
-use Rattle.wfc_cli.specs.Answer.{Devices, IsAnswer}
+use Rattle.wfc_cli.specs.Answer.{IsAnswer}
 use Rattle.wfc_cli.specs.Answers.{Answers, check_answer, demo_answer, demo_budget, domains_answer, verdict_of}
 use Rattle.wfc_cli.specs.Choosers.{kinds_of}
-use Rattle.wfc_cli.specs.Claims.{IsCommand, IsRules}
-use Rattle.wfc_cli.specs.CutClaims.{CutsAnswer, CutsText, IsAcceptance, IsBlocks, IsDemonstration, demonstration}
 use Rattle.wfc_cli.specs.Reply.{Answered, CutsOff}
 use Rattle.wfc_cli.specs.Runs.{end_of}
 use Rattle.wfc_cli.proofs.CheckLemmas.{is_accepted}
 use Rattle.wfc_cli.proofs.CommandLemmas.{CameTo, HasAnswered, whole, cut, none, came_to, demo_given, has_learned, planned}
 use Rattle.wfc_cli.proofs.TheoremLemmas.{verdict_apart}
+use Rattle.wfc_cli.specs.Call.{Call}
+use Rattle.wfc_cli.specs.Theorem.{IsCommand}
+use Rattle.wfc_cli.specs.LearnClaims.{IsRules}
+use Rattle.wfc_cli.specs.CutClaims.{CutsText}
+use Rattle.wfc_cli.specs.CheckClaims.{IsAcceptance}
+use Rattle.wfc_cli.specs.DomainsClaims.{IsBlocks}
+use Rattle.wfc_cli.specs.DemoClaims.{IsDemonstration, demonstration}
 
 -- every text that a command answers is one of these
-abbrev AnswersOnly : CommandKind → (RequestView → List File → List ℕ → Type 0) → List Rule → List (List ℕ) → Devices → Type 0
-AnswersOnly command IsText rules words before =
-    (asked : RequestView) (files : List File) → IsCommand command words before asked files
-    → (answered : Answered) → HasAnswered rules asked files answered → (text : List ℕ) → answered.text ≡ Some text → IsText asked files text
+abbrev AnswersOnly : CommandKind → (RequestView → List File → List ℕ → Type 0) → Call → Type 0
+AnswersOnly command IsText call =
+    (asked : RequestView) (files : List File) → IsCommand command call asked files
+    → (answered : Answered) → HasAnswered call.rules asked files answered → (text : List ℕ) → answered.text ≡ Some text → IsText asked files text
 
 -- then what is cut off is a front of one
-cuts_text : (command : CommandKind) (IsText : RequestView → List File → List ℕ → Type 0) (rules : List Rule) (words : List (List ℕ)) (before after : Devices) (status : ℕ) → IsAnswer rules words before after status
-    → AnswersOnly command IsText rules words before → CutsText command IsText words before after status
-cuts_text command IsText rules words before after status answer only asked files is five = by_end (came_to rules command words before after status answer asked files is)
+cuts_text : (command : CommandKind) (IsText : RequestView → List File → List ℕ → Type 0) (call : Call) → IsAnswer call
+    → AnswersOnly command IsText call → (asked : RequestView) (files : List File) → IsCommand command call asked files → CutsText IsText call asked files
+cuts_text command IsText call answer only asked files is five = by_end (came_to command call answer asked files is)
   where
-    by_text : (answered : Answered) → HasAnswered rules asked files answered → (text : Option (List ℕ)) → answered.text ≡ text → CutsOff text before.out after.out
-        → (text : List ℕ) × IsText asked files text × IsFaultAfterFront before.out after.out text
+    by_text : (answered : Answered) → HasAnswered call.rules asked files answered → (text : Option (List ℕ)) → answered.text ≡ text → CutsOff text call.before.out call.after.out
+        → (text : List ℕ) × IsText asked files text × IsFaultAfterFront call.before.out call.after.out text
     by_text answered has None same front = absurd front
     by_text answered has (Some text) same front = (text, only asked files is answered has text same, front)
 
-    by_end : CameTo rules asked files before after status → (after.out ≡ before.out) ⊎ ((text : List ℕ) × IsText asked files text × IsFaultAfterFront before.out after.out text)
+    by_end : CameTo call asked files → (call.after.out ≡ call.before.out) ⊎ ((text : List ℕ) × IsText asked files text × IsFaultAfterFront call.before.out call.after.out text)
     by_end (whole answered has same takes) = absurd (verdict_apart answered.verdict 5 (omega arith) (sym same ∙ five))
     by_end (cut answered has _ front) = inr (by_text answered has answered.text refl front)
     by_end (none high same) = inl same
@@ -52,46 +56,52 @@ text_of : (answered made : Answered) (text own : List ℕ) → made ≡ answered
 text_of answered made text own is has same =
     let both : Some text ≡ Some own = sym same ∙ sym (ap (λ (a : Answered). a.text) is) ∙ has in cc (both)
 
-learns_rules : (rules : List Rule) (words : List (List ℕ)) (before : Devices) → AnswersOnly commands.Learn IsRules rules words before
-learns_rules rules words before asked files is answered has text same =
-    let learned = has_learned asked.source rules asked files has.task answered refl (planned rules asked files commands.Learn has.task is.command_is has.is) has.answers in
+learns_rules : (call : Call) → AnswersOnly commands.Learn IsRules call
+learns_rules call asked files is answered has text same =
+    let learned = has_learned asked.source call.rules asked files has.task answered refl (planned call.rules asked files commands.Learn has.task is.command_is has.is) has.answers in
     subst (λ t. IsRules asked files t) (sym (text_of answered _ text learned.text learned.is refl same)) learned.rules
 
-lists_blocks : (rules : List Rule) (words : List (List ℕ)) (before : Devices) → AnswersOnly commands.Domains IsBlocks rules words before
-lists_blocks rules words before asked files is answered has text same =
-    let given = domains_given asked files has.task (planned rules asked files commands.Domains has.task is.command_is has.is) in
-    let answers : Some (domains_answer given.0 given.1) ≡ Some answered = subst (λ task. Answers rules asked task answered) (sym given.2) has.answers in
+lists_blocks : (call : Call) → AnswersOnly commands.Domains IsBlocks call
+lists_blocks call asked files is answered has text same =
+    let given = domains_given asked files has.task (planned call.rules asked files commands.Domains has.task is.command_is has.is) in
+    let answers : Some (domains_answer given.0 given.1) ≡ Some answered = subst (λ task. Answers call.rules asked task answered) (sym given.2) has.answers in
     let is_answer : domains_answer given.0 given.1 ≡ answered = cc (answers) in
     (given.0, given.1, given.3, text_of answered _ text _ is_answer refl same)
 
-accepts_refutations : (rules : List Rule) (words : List (List ℕ)) (before : Devices) → AnswersOnly commands.Check IsAcceptance rules words before
-accepts_refutations rules words before asked files is answered has text same =
-    let given = check_given asked files has.task (planned rules asked files commands.Check has.task is.command_is has.is) in
-    let answers : Some (check_answer given.0) ≡ Some answered = subst (λ task. Answers rules asked task answered) (sym given.1) has.answers in
+accepts_refutations : (call : Call) → AnswersOnly commands.Check IsAcceptance call
+accepts_refutations call asked files is answered has text same =
+    let given = check_given asked files has.task (planned call.rules asked files commands.Check has.task is.command_is has.is) in
+    let answers : Some (check_answer given.0) ≡ Some answered = subst (λ task. Answers call.rules asked task answered) (sym given.1) has.answers in
     by_found given.0 given.2 (cc (answers))
   where
     by_found : (found : Option CheckFault) → IsCheckTask asked files found → check_answer found ≡ answered → IsAcceptance asked files text
-    by_found None task is_answer = (task.work, is_accepted words before asked files is task, text_of answered _ text _ is_answer refl same)
+    by_found None task is_answer = (task.work, is_accepted call asked files is task, text_of answered _ text _ is_answer refl same)
     by_found (Some fault) task is_answer =
         let both : None ≡ Some text = ap (λ (a : Answered). a.text) is_answer ∙ same in absurd (cc (both))
 
-tells_numbers : (rules : List Rule) (words : List (List ℕ)) (before : Devices) → AnswersOnly commands.Demo (IsDemonstration rules) rules words before
-tells_numbers rules words before asked files is answered has text same =
-    let given = demo_given (kinds_of rules) asked files has.task (planned rules asked files commands.Demo has.task is.command_is has.is) in
-    by_end (end_of rules Fewest (demo_problem asked.number) demo_budget asked.number) refl (subst (λ task. Answers rules asked task answered) (sym given) has.answers)
+tells_numbers : (call : Call) → AnswersOnly commands.Demo (IsDemonstration call.rules) call
+tells_numbers call asked files is answered has text same =
+    let given = demo_given (kinds_of call.rules) asked files has.task (planned call.rules asked files commands.Demo has.task is.command_is has.is) in
+    by_end (end_of call.rules Fewest (demo_problem asked.number) demo_budget asked.number) refl (subst (λ task. Answers call.rules asked task answered) (sym given) has.answers)
   where
-    by_end : (end : Option (Outcome × State)) → end_of rules Fewest (demo_problem asked.number) demo_budget asked.number ≡ end → demo_answer (demo_patterns asked.number) (demo_problem asked.number) end ≡ Some answered
-        → IsDemonstration rules asked files text
+    by_end : (end : Option (Outcome × State)) → end_of call.rules Fewest (demo_problem asked.number) demo_budget asked.number ≡ end → demo_answer (demo_patterns asked.number) (demo_problem asked.number) end ≡ Some answered
+        → IsDemonstration call.rules asked files text
     by_end None ends answers = absurd (cc (answers))
     by_end (Some end) ends answers =
         let made : Answered = record { verdict = verdict_of demo_budget end.0; text = Some (demonstration asked.number end); whole = true } in
         let is_answer : made ≡ answered = cc (answers) in
         (end, ends, text_of answered made text (demonstration asked.number end) is_answer refl same)
 
-pub cuts_answer : (rules : List Rule) (words : List (List ℕ)) (before after : Devices) (status : ℕ) → IsAnswer rules words before after status → CutsAnswer rules words before after status
-cuts_answer rules words before after status answer = record {
-  learn = cuts_text commands.Learn IsRules rules words before after status answer (learns_rules rules words before);
-  domains = cuts_text commands.Domains IsBlocks rules words before after status answer (lists_blocks rules words before);
-  check = cuts_text commands.Check IsAcceptance rules words before after status answer (accepts_refutations rules words before);
-  demo = cuts_text commands.Demo (IsDemonstration rules) rules words before after status answer (tells_numbers rules words before);
-}
+-- ---- what is cut off of each
+
+pub learn_cut : (call : Call) → IsAnswer call → (asked : RequestView) (files : List File) → IsCommand commands.Learn call asked files → CutsText IsRules call asked files
+learn_cut call answer = cuts_text commands.Learn IsRules call answer (learns_rules call)
+
+pub domains_cut : (call : Call) → IsAnswer call → (asked : RequestView) (files : List File) → IsCommand commands.Domains call asked files → CutsText IsBlocks call asked files
+domains_cut call answer = cuts_text commands.Domains IsBlocks call answer (lists_blocks call)
+
+pub check_cut : (call : Call) → IsAnswer call → (asked : RequestView) (files : List File) → IsCommand commands.Check call asked files → CutsText IsAcceptance call asked files
+check_cut call answer = cuts_text commands.Check IsAcceptance call answer (accepts_refutations call)
+
+pub demo_cut : (call : Call) → IsAnswer call → (asked : RequestView) (files : List File) → IsCommand commands.Demo call asked files → CutsText (IsDemonstration call.rules) call asked files
+demo_cut call answer = cuts_text commands.Demo (IsDemonstration call.rules) call answer (tells_numbers call)

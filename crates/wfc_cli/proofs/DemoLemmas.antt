@@ -9,7 +9,6 @@ use Rattle.wfc_problem.specs.Network.{IsProblem}
 use Rattle.wfc_overlap.specs.Bridge.{IsRoom, IsTaughtBy, numbers_of_windows, pairs}
 use Rattle.wfc_overlap.specs.Sample.{Output, output_with}
 use Rattle.wfc_overlap.proofs.CallerLemmas.{sample_problem, there}
-use Rattle.wfc_choose.specs.Pick.{Rule}
 use Rattle.wfc_choose.specs.declared.RuleKind.TheVariants.{Fewest}
 use Rattle.wfc_search.specs.Run.{State}
 use Rattle.wfc_search.specs.Volume.{volume_of}
@@ -19,11 +18,16 @@ use Rattle.wfc_search.proofs.CallerLemmas.{outcome_none, outcome_spent}
 use Rattle.wfc_task.specs.Demo.{demo_output, demo_patterns, demo_picture, demo_problem, demo_side}
 use Rattle.wfc_task.proofs.CallerLemmas.{demo_are_patterns, demo_problem_is}
 use Rattle.wfc_task.proofs.DemoLemmas.{demo_few}
-use Rattle.wfc_cli.specs.Answer.{Devices, IsAnswer}
+use Rattle.wfc_cli.specs.Answer.{IsAnswer}
 use Rattle.wfc_cli.specs.Answers.{demo_budget, outcome_status}
-use Rattle.wfc_cli.specs.DemoClaims.{EndsDemo, IsLegalDemo, demo_rules}
 use Rattle.wfc_cli.specs.Runs.{end_of, seeded}
 use Rattle.wfc_cli.proofs.CommandLemmas.{ran_by, writes_demo}
+use Rattle.wfc_cli.specs.Call.{Call}
+use Rattle.wfc_cli.specs.DemoClaims.{EndsDemo, IsLegalDemo, demo_rules}
+use Rattle.wfc_outside.specs.Folder.{File}
+use Rattle.wfc_words.specs.RequestView.{RequestView}
+use Rattle.wfc_words.specs.declared.kinds.CommandKind.TheVariants as commands
+use Rattle.wfc_cli.specs.Theorem.{IsCommand}
 
 -- the map of a demonstration
 abbrev square : Output
@@ -57,18 +61,18 @@ room n =
 is_problem : (n : ℕ) → IsProblem (demo_problem n)
 is_problem n = subst IsProblem (sym (demo_problem_is n)) (sample_problem (demo_patterns n) square [] (demo_are_patterns n) (room n))
 
-pub ends_demo : (rules : List Rule) (words : List (List ℕ)) (before after : Devices) (status : ℕ) → IsAnswer rules words before after status → EndsDemo words before status
-ends_demo rules words before after status answer asked files is = (
-  (λ one. let run = writes_demo rules words before after status answer asked files is (omega (arith, one)) in no_map run.0.0 run.0.1 run.1 run.2 one),
-  (λ two. let run = writes_demo rules words before after status answer asked files is (omega (arith, two)) in spent run.0.0 run.0.1 run.1 run.2 two),
+pub ends_demo : (call : Call) → IsAnswer call → (asked : RequestView) (files : List File) → IsCommand commands.Demo call asked files → EndsDemo call asked files
+ends_demo call answer asked files is = (
+  (λ one. let run = writes_demo call answer asked files is (omega (arith, one)) in no_map run.0.0 run.0.1 run.1 run.2 one),
+  (λ two. let run = writes_demo call answer asked files is (omega (arith, two)) in spent run.0.0 run.0.1 run.1 run.2 two),
 )
   where
     Ended : Outcome → State → Type 0
-    Ended o s = end_of rules Fewest (demo_problem asked.number) demo_budget asked.number ≡ Some (o, s)
+    Ended o s = end_of call.rules Fewest (demo_problem asked.number) demo_budget asked.number ≡ Some (o, s)
 
-    no_map : (o : Outcome) (s : State) → Ended o s → status ≡ outcome_status o → status ≡ 1 → (m : Raster) → IsLegalDemo asked.number m → ⊥
+    no_map : (o : Outcome) (s : State) → Ended o s → call.status ≡ outcome_status o → call.status ≡ 1 → (m : Raster) → IsLegalDemo asked.number m → ⊥
     no_map outcome.NoMap s ends same one m legal =
-        let ran = ran_by rules Fewest (demo_problem asked.number) demo_budget asked.number (outcome.NoMap, s) ends in
+        let ran = ran_by call.rules Fewest (demo_problem asked.number) demo_budget asked.number (outcome.NoMap, s) ends in
         let numbers = numbers_of_windows (demo_patterns asked.number) square m in
         outcome_none (demo_problem asked.number) (is_problem asked.number) ran.0 demo_budget (seeded asked.number) s ran.1 numbers
         (subst (λ P. IsLegalAssignment P numbers) (sym (demo_problem_is asked.number))
@@ -76,9 +80,9 @@ ends_demo rules words before after status answer asked files is = (
     no_map outcome.Map s ends same one m legal = absurd (omega (arith, same, one))
     no_map outcome.Spent s ends same one m legal = absurd (omega (arith, same, one))
 
-    spent : (o : Outcome) (s : State) → Ended o s → status ≡ outcome_status o → status ≡ 2 → demo_budget + 1 ≤ volume_of (demo_problem asked.number)
+    spent : (o : Outcome) (s : State) → Ended o s → call.status ≡ outcome_status o → call.status ≡ 2 → demo_budget + 1 ≤ volume_of (demo_problem asked.number)
     spent outcome.Spent s ends same two =
-        let ran = ran_by rules Fewest (demo_problem asked.number) demo_budget asked.number (outcome.Spent, s) ends in
+        let ran = ran_by call.rules Fewest (demo_problem asked.number) demo_budget asked.number (outcome.Spent, s) ends in
         let below = (outcome_spent (demo_problem asked.number) (is_problem asked.number) ran.0 demo_budget (seeded asked.number) s ran.1).1 in
         omega (arith, below)
     spent outcome.Map s ends same two = absurd (omega (arith, same, two))

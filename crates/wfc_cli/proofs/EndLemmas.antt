@@ -1,5 +1,5 @@
 -- How a command ends after its plan.
-use Rattle.std.proofs.Common.{◌≡◌, ℕ, ◌⊎◌, inl, inr, true, false, List, Option, Some, if◌then◌else◌, Result, Ok, Err, ap, subst, sym, ◌∙◌, refl}
+use Rattle.std.proofs.Common.{◌≡◌, ℕ, ◌⊎◌, inl, inr, true, false, List, Option, Some, Result, Ok, Err, ap, subst, sym, ◌∙◌, refl}
 use Rattle.wfc_outside.specs.Sink.{SinkView}
 use Rattle.wfc_outside.specs.Folder.{FolderView}
 use Rattle.wfc_choose.specs.Pick.{Rule}
@@ -15,11 +15,10 @@ use Rattle.wfc_task.specs.Fault.{status_of}
 use Rattle.wfc_task.specs.Plan.{Goes, Plan}
 use Rattle.wfc_task.specs.Task.{Task, plan_by, plan_of}
 use Rattle.wfc_task.specs.declared.fault.Fault.{Fault}
-use Rattle.wfc_task.specs.declared.fault.Fault.TheVariants.{Refused}
 use Rattle.wfc_words.specs.Request.{request_of}
 use Rattle.wfc_words.specs.declared.fault.CommandFault.{CommandFault}
 use Rattle.wfc_words.specs.declared.fault.CommandFault.TheVariants.{NoMemory}
-use Rattle.wfc_cli.specs.Answer.{AnswersAsked, Devices, Ends, IsAnswer, IsRefusedCall, Replied, Replies, devices}
+use Rattle.wfc_cli.specs.Answer.{AnswersAsked, Ends, IsAnswer, IsRefusedCall, Replied, Replies}
 use Rattle.wfc_lines.specs.Command.{text_of_command}
 use Rattle.wfc_cli.specs.ErrorLine.{command_status, fault_text}
 use Rattle.wfc_cli.specs.Choosers.{kinds_of}
@@ -28,6 +27,7 @@ use Rattle.wfc_cli.specs.Reply.{Reply, CutsOff, Delivers, Takes, Tells, said_of,
 use Rattle.wfc_cli.specs.declared.reply.Verdict.{Verdict}
 use Rattle.wfc_cli.specs.declared.reply.Stop.{Stop}
 use Rattle.wfc_cli.specs.declared.reply.Stop.TheVariants.{Cut, Unanswered}
+use Rattle.wfc_cli.specs.Call.{Call}
 
 -- the plan of a request is that of its command
 pub command_plan : (rules : List Rule) (asked : RequestView) (command : CommandKind) → asked.command ≡ command → plan_by command (kinds_of rules) asked ≡ plan_of (kinds_of rules) asked
@@ -104,22 +104,23 @@ output_asked asked command within is wide high = output_in_range asked within (a
 -- ---- the call
 
 -- a call for a request that ended so, and said so
-pub answered : (rules : List Rule) (words : List (List ℕ)) (asked : RequestView) (before after : Devices) (status : ℕ) (ended : Result Verdict Stop) → request_of words ≡ Ok asked
-    → EndsPut rules asked before.folder after.folder before.out after.out ended → Says asked ended before.err after.err status → IsAnswer rules words before after status
-answered rules words asked before after status ended spelled put says = record {
-  answers = inl (subst (λ request. AnswersAsked rules request before after status) (sym spelled) (record { reply = put.reply; ends = put.ends; delivers = by_reply put.reply ended put.leaves says }));
+pub answered : (call : Call) (asked : RequestView) (ended : Result Verdict Stop) → request_of call.words ≡ Ok asked
+    → EndsPut call.rules asked call.before.folder call.after.folder call.before.out call.after.out ended
+    → Says asked ended call.before.err call.after.err call.status → IsAnswer call
+answered call asked ended spelled put says = record {
+  answers = inl (subst (λ request. AnswersAsked call request) (sym spelled) (record { reply = put.reply; ends = put.ends; delivers = by_reply put.reply ended put.leaves says }));
 }
   where
-    by_reply : (reply : Reply) (ended : Result Verdict Stop) → Leaves reply before.out after.out ended → Says asked ended before.err after.err status → Delivers (said_of asked reply) before.out after.out before.err after.err status
+    by_reply : (reply : Reply) (ended : Result Verdict Stop) → Leaves reply call.before.out call.after.out ended → Says asked ended call.before.err call.after.err call.status → Delivers (said_of asked reply) call
     by_reply (Ok answer) (Ok verdict) leaves says = inl (record {
       taken = leaves.1;
-      told = subst (λ v. Tells (verdict_text asked v) before.err after.err) leaves.0 says.0;
+      told = subst (λ v. Tells (verdict_text asked v) call.before.err call.after.err) leaves.0 says.0;
       same_status = says.1 ∙ ap verdict_status leaves.0;
     })
     by_reply (Ok answer) (Err Cut) leaves says = inr (record { front = leaves; told = says.0; five = says.1 })
     by_reply (Err fault) (Err (Unanswered other)) leaves says = inl (record {
       taken = leaves.1;
-      told = subst (λ f. Tells (Some (fault_text asked f)) before.err after.err) leaves.0 says.0;
+      told = subst (λ f. Tells (Some (fault_text asked f)) call.before.err call.after.err) leaves.0 says.0;
       same_status = says.1 ∙ ap status_of leaves.0;
     })
     by_reply (Ok answer) (Err (Unanswered other)) leaves says = absurd leaves
@@ -127,13 +128,14 @@ answered rules words asked before after status ended spelled put says = record {
     by_reply (Err fault) (Err Cut) leaves says = absurd leaves
 
 -- a call whose words were read as no request
-pub unanswered : (rules : List Rule) (words : List (List ℕ)) (folder : FolderView) (out old new : SinkView) (status : ℕ) (fault : CommandFault) → (request_of words ≡ Err fault) ⊎ (fault ≡ NoMemory)
-    → status ≡ command_status fault → Tells (Some (text_of_command fault)) old new → IsAnswer rules words (devices folder out old) (devices folder out new) status
-unanswered rules words folder out old new status fault why same told = by_why why
+pub unanswered : (call : Call) (fault : CommandFault) → call.after.folder ≡ call.before.folder → call.after.out ≡ call.before.out
+    → (request_of call.words ≡ Err fault) ⊎ (fault ≡ NoMemory) → call.status ≡ command_status fault
+    → Tells (Some (text_of_command fault)) call.before.err call.after.err → IsAnswer call
+unanswered call fault folder out why same told = by_why why
   where
-    call : (fault : CommandFault) → status ≡ command_status fault → Tells (Some (text_of_command fault)) old new → IsRefusedCall fault (devices folder out old) (devices folder out new) status
-    call fault same told = record { folder = refl; delivers = inl (record { taken = refl; told = told; same_status = same }) }
+    denied : (fault : CommandFault) → call.status ≡ command_status fault → Tells (Some (text_of_command fault)) call.before.err call.after.err → IsRefusedCall fault call
+    denied fault same told = record { folder = folder; delivers = inl (record { taken = out; told = told; same_status = same }) }
 
-    by_why : (request_of words ≡ Err fault) ⊎ (fault ≡ NoMemory) → IsAnswer rules words (devices folder out old) (devices folder out new) status
-    by_why (inl is) = record { answers = inl (subst (λ request. AnswersAsked rules request (devices folder out old) (devices folder out new) status) (sym is) (call fault same told)) }
-    by_why (inr short) = record { answers = inr (call NoMemory (same ∙ ap command_status short) (subst (λ f. Tells (Some (text_of_command f)) old new) short told)) }
+    by_why : (request_of call.words ≡ Err fault) ⊎ (fault ≡ NoMemory) → IsAnswer call
+    by_why (inl is) = record { answers = inl (subst (λ request. AnswersAsked call request) (sym is) (denied fault same told)) }
+    by_why (inr short) = record { answers = inr (denied NoMemory (same ∙ ap command_status short) (subst (λ f. Tells (Some (text_of_command f)) call.before.err call.after.err) short told)) }

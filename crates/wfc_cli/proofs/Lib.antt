@@ -15,3 +15,4 @@ pub mod RunTextLemmas
 pub mod UpgradeLemmas
 pub mod CutLemmas
 pub mod LineLemmas
+pub mod PromiseLemmas

@@ -60,17 +60,15 @@ use Rattle.wfc_task.specs.declared.fault.Refusal.TheVariants as refused
 use Rattle.wfc_task.specs.declared.fault.Source.{Source}
 use Rattle.wfc_task.specs.declared.fault.Source.TheVariants as source
 use Rattle.wfc_task.proofs.CallerLemmas.{check_given, domains_given, refute_given, upgrade_given}
-use Rattle.wfc_cli.specs.Answer.{AnswersAsked, Devices, Ends, IsAnswer, IsAnswerTo, IsRefusedCall}
+use Rattle.wfc_cli.specs.Answer.{AnswersAsked, Ends, IsAnswer, IsAnswerTo, IsRefusedCall}
 use Rattle.wfc_cli.specs.Answers.{Answers, check_answer, demo_answer, demo_budget, domains_answer, verdict_of}
 use Rattle.wfc_cli.specs.Choosers.{kinds_of}
-use Rattle.wfc_cli.specs.Claims.{IsCommand}
-use Rattle.wfc_cli.specs.CutClaims.{demonstration}
 use Rattle.wfc_cli.specs.ErrorLine.{fault_text, grid_text, name_of, unread_text}
-use Rattle.wfc_cli.specs.LineClaims.{IsApartFromErr, IsNoText, TellsReason, TellsStatus, TellsWords, beside, budget_by, says_fault, says_file, says_no, says_out, says_short, says_spent}
+use Rattle.wfc_cli.specs.LineClaims.{IsApartFromErr, IsNoText, TellsReason, TellsStatus, TellsWords, budget_by, says_fault, says_file, says_no, says_out, says_short, says_spent}
 use Rattle.wfc_cli.specs.Refuting.{RefutesFront, RefutesWhole, refute_verdict}
 use Rattle.wfc_cli.specs.Reply.{Answered, Delivers, IsTold, Reply, TakesWhole, Tells, said_of, verdict_status, verdict_text}
 use Rattle.wfc_cli.specs.Runs.{end_of}
-use Rattle.wfc_cli.specs.Theorem.{IsGiven}
+use Rattle.wfc_cli.specs.Theorem.{IsCommand, IsGiven}
 use Rattle.wfc_cli.specs.UpgradeClaims.{UpgradeWork}
 use Rattle.wfc_cli.specs.Upgrading.{first_fault, upgrade_answer}
 use Rattle.wfc_cli.specs.declared.reply.Verdict.{Verdict}
@@ -80,6 +78,8 @@ use Rattle.wfc_cli.proofs.ReachLemmas.{goes_stopped}
 use Rattle.wfc_cli.proofs.RefuteLemmas.{has_refuted}
 use Rattle.wfc_cli.proofs.TheoremLemmas.{FaultOf, command_between, cut_counted, fault_between, fault_from, file_fault, of_plan, of_task, refused_status, told_reply}
 use Rattle.wfc_cli.proofs.UpgradeLemmas.{has_upgraded}
+use Rattle.wfc_cli.specs.Call.{Call, beside}
+use Rattle.wfc_cli.specs.DemoClaims.{demonstration}
 
 -- ---- want of memory has one line
 
@@ -212,17 +212,17 @@ front_taken false text old new is takes = takes
 -- what a call of this command may end with
 abbrev EndsSo : CommandKind → Type 0
 EndsSo command =
-    (rules : List Rule) (words : List (List ℕ)) (before after : Devices) (asked : RequestView) (files : List File) (answered : Answered) → IsCommand command words before asked files → HasAnswered rules asked files answered
-    → TakesWhole answered.whole answered.text before.out after.out → IsEnding command asked files answered.verdict
+    (call : Call) (asked : RequestView) (files : List File) (answered : Answered) → IsCommand command call asked files → HasAnswered call.rules asked files answered
+    → TakesWhole answered.whole answered.text call.before.out call.after.out → IsEnding command asked files answered.verdict
 
 learn_ends : EndsSo commands.Learn
-learn_ends rules words before after asked files answered is has takes =
-    let learned = has_learned asked.source rules asked files has.task answered refl (planned rules asked files commands.Learn has.task is.command_is has.is) has.answers in
+learn_ends call asked files answered is has takes =
+    let learned = has_learned asked.source call.rules asked files has.task answered refl (planned call.rules asked files commands.Learn has.task is.command_is has.is) has.answers in
     done (sym (ap (λ (a : Answered). a.verdict) learned.is))
 
 fill_ends : EndsSo commands.Fill
-fill_ends rules words before after asked files answered is has takes =
-    let filled = fill_answered rules words before asked files answered is has in
+fill_ends call asked files answered is has takes =
+    let filled = fill_answered call asked files answered is has in
     subst (λ (a : Answered). IsEnding commands.Fill asked files a.verdict) (sym filled.is) (by_outcome filled.end.0)
   where
     by_outcome : (o : Outcome) → IsEnding commands.Fill asked files (verdict_of asked.budget o)
@@ -231,9 +231,9 @@ fill_ends rules words before after asked files answered is has takes =
     by_outcome outcome.Spent = spent refl
 
 domains_ends : EndsSo commands.Domains
-domains_ends rules words before after asked files answered is has takes =
-    let given = domains_given asked files has.task (planned rules asked files commands.Domains has.task is.command_is has.is) in
-    let answers : Some (domains_answer given.0 given.1) ≡ Some answered = subst (λ task. Answers rules asked task answered) (sym given.2) has.answers in
+domains_ends call asked files answered is has takes =
+    let given = domains_given asked files has.task (planned call.rules asked files commands.Domains has.task is.command_is has.is) in
+    let answers : Some (domains_answer given.0 given.1) ≡ Some answered = subst (λ task. Answers call.rules asked task answered) (sym given.2) has.answers in
     let is_answer : domains_answer given.0 given.1 ≡ answered = cc (answers) in
     subst (λ (a : Answered). IsEnding commands.Domains asked files a.verdict) is_answer (by_dead (is_dead given.0 (greatest given.0 [])))
   where
@@ -242,9 +242,9 @@ domains_ends rules words before after asked files answered is has takes =
     by_dead false = done refl
 
 demo_ends : EndsSo commands.Demo
-demo_ends rules words before after asked files answered is has takes =
-    let given = demo_given (kinds_of rules) asked files has.task (planned rules asked files commands.Demo has.task is.command_is has.is) in
-    by_end (end_of rules Fewest (demo_problem asked.number) demo_budget asked.number) (subst (λ task. Answers rules asked task answered) (sym given) has.answers)
+demo_ends call asked files answered is has takes =
+    let given = demo_given (kinds_of call.rules) asked files has.task (planned call.rules asked files commands.Demo has.task is.command_is has.is) in
+    by_end (end_of call.rules Fewest (demo_problem asked.number) demo_budget asked.number) (subst (λ task. Answers call.rules asked task answered) (sym given) has.answers)
   where
     by_outcome : (o : Outcome) → IsEnding commands.Demo asked files (verdict_of demo_budget o)
     by_outcome outcome.Map = done refl
@@ -259,9 +259,9 @@ demo_ends rules words before after asked files answered is has takes =
         subst (λ (a : Answered). IsEnding commands.Demo asked files a.verdict) is_answer (by_outcome end.0)
 
 refute_ends : EndsSo commands.Refute
-refute_ends rules words before after asked files answered is has takes =
-    let given = refute_given (kinds_of rules) asked files has.task (planned rules asked files commands.Refute has.task is.command_is has.is) in
-    let refuted = has_refuted rules words before asked files has.task answered is given.0 given.1 given.2 has.answers in
+refute_ends call asked files answered is has takes =
+    let given = refute_given (kinds_of call.rules) asked files has.task (planned call.rules asked files commands.Refute has.task is.command_is has.is) in
+    let refuted = has_refuted call asked files has.task answered is given.0 given.1 given.2 has.answers in
     by_answer refuted.work.rule refuted.work.P refuted.is
   where
     by_outcome : (o : Outcome) → IsEnding commands.Refute asked files (refute_verdict asked.budget o)
@@ -271,12 +271,12 @@ refute_ends rules words before after asked files answered is has takes =
 
     by_answer : (rule : Rule) (P : Network) → RefutesWhole rule asked P answered ⊎ RefutesFront rule asked P answered → IsEnding commands.Refute asked files answered.verdict
     by_answer rule P (inl refuted) = subst (λ (a : Answered). IsEnding commands.Refute asked files a.verdict) (sym refuted.is) (by_outcome refuted.outcome)
-    by_answer rule P (inr front) = absurd (front_taken answered.whole answered.text before.out after.out front.front takes)
+    by_answer rule P (inr front) = absurd (front_taken answered.whole answered.text call.before.out call.after.out front.front takes)
 
 check_ends : EndsSo commands.Check
-check_ends rules words before after asked files answered is has takes =
-    let given = check_given asked files has.task (planned rules asked files commands.Check has.task is.command_is has.is) in
-    let answers : Some (check_answer given.0) ≡ Some answered = subst (λ task. Answers rules asked task answered) (sym given.1) has.answers in
+check_ends call asked files answered is has takes =
+    let given = check_given asked files has.task (planned call.rules asked files commands.Check has.task is.command_is has.is) in
+    let answers : Some (check_answer given.0) ≡ Some answered = subst (λ task. Answers call.rules asked task answered) (sym given.1) has.answers in
     let is_answer : check_answer given.0 ≡ answered = cc (answers) in
     subst (λ (a : Answered). IsEnding commands.Check asked files a.verdict) is_answer (by_found given.0 given.2)
   where
@@ -285,9 +285,9 @@ check_ends rules words before after asked files answered is has takes =
     by_found (Some fault) task = negative (text_of_check fault (refutation_name asked)) refl refl (fault, task, refl)
 
 upgrade_ends : EndsSo commands.Upgrade
-upgrade_ends rules words before after asked files answered is has takes =
-    let given = upgrade_given asked files has.task (planned rules asked files commands.Upgrade has.task is.command_is has.is) in
-    let said = has_upgraded rules asked files has.task answered given.0 given.1 given.2 given.3 has.answers in
+upgrade_ends call asked files answered is has takes =
+    let given = upgrade_given asked files has.task (planned call.rules asked files commands.Upgrade has.task is.command_is has.is) in
+    let said = has_upgraded call.rules asked files has.task answered given.0 given.1 given.2 given.3 has.answers in
     subst (λ (a : Answered). IsEnding commands.Upgrade asked files a.verdict) said.is (by_found said.work (first_fault asked said.work.P said.work.bytes) refl)
   where
     by_found : (work : UpgradeWork asked files) (found : Option CheckFault) → first_fault asked work.P work.bytes ≡ found → IsEnding commands.Upgrade asked files (upgrade_answer asked work.P work.bytes found).verdict
@@ -323,124 +323,124 @@ told_line asked verdict.MapExists old new some told = (map_exists_text, told)
 told_line asked (verdict.Unaccepted fault) old new some told = (text_of_check fault (name_of asked source.Refutation), told)
 
 -- words that are no request
-told_words : (fault : CommandFault) (before after : Devices) (status : ℕ) → IsRefusedCall fault before after status → TellsWords fault before after status
-told_words fault before after status call = elim (call.delivers) [ inl delivered ↦ inl (delivered.same_status, delivered.told) | inr cut ↦ absurd (cut.front) ]
+told_words : (fault : CommandFault) (call : Call) → IsRefusedCall fault call → TellsWords fault call
+told_words fault call denied = elim (denied.delivers) [ inl delivered ↦ inl (delivered.same_status, delivered.told) | inr cut ↦ absurd (cut.front) ]
 
-told_short : (fault : CommandFault) (before after : Devices) (status : ℕ) → IsRefusedCall words_fault.NoMemory before after status → TellsWords fault before after status
-told_short fault before after status call = elim (call.delivers) [ inl delivered ↦ inr (delivered.same_status, delivered.told) | inr cut ↦ absurd (cut.front) ]
+told_short : (fault : CommandFault) (call : Call) → IsRefusedCall words_fault.NoMemory call → TellsWords fault call
+told_short fault call denied = elim (denied.delivers) [ inl delivered ↦ inr (delivered.same_status, delivered.told) | inr cut ↦ absurd (cut.front) ]
 
 -- words that are no request end with another status than 0
-words_some : (fault : CommandFault) (before after : Devices) (status : ℕ) → IsRefusedCall fault before after status → status ≡ 0 → ⊥
-words_some fault before after status call nought = elim (command_between fault) [
-  | inl three ↦ omega (arith, (refused_status fault before after status call).0, three, nought)
-  | inr six ↦ omega (arith, (refused_status fault before after status call).0, six, nought)
+words_some : (fault : CommandFault) (call : Call) → IsRefusedCall fault call → call.status ≡ 0 → ⊥
+words_some fault call denied nought = elim (command_between fault) [
+  | inl three ↦ omega (arith, (refused_status fault call denied).0, three, nought)
+  | inr six ↦ omega (arith, (refused_status fault call denied).0, six, nought)
 ]
 
-words_line : (fault : CommandFault) (before after : Devices) (status : ℕ) → IsRefusedCall fault before after status → (text : List ℕ) × IsTold text before.err after.err
-words_line fault before after status call = elim (call.delivers) [ inl delivered ↦ (text_of_command fault, delivered.told) | inr cut ↦ absurd (cut.front) ]
+words_line : (fault : CommandFault) (call : Call) → IsRefusedCall fault call → (text : List ℕ) × IsTold text call.before.err call.after.err
+words_line fault call denied = elim (denied.delivers) [ inl delivered ↦ (text_of_command fault, delivered.told) | inr cut ↦ absurd (cut.front) ]
 
-pub tells_status : (rules : List Rule) (words : List (List ℕ)) (before after : Devices) (status : ℕ) → IsAnswer rules words before after status → TellsStatus rules words before after status
-tells_status rules words before after status answer = record {
+pub tells_status : (call : Call) → IsAnswer call → TellsStatus call
+tells_status call answer = record {
   nothing = λ nought. elim (answer.answers) [
-    | inl to ↦ nothing_asked (request_of words) nought to
-    | inr short ↦ absurd (words_some words_fault.NoMemory before after status short nought)
+    | inl to ↦ nothing_asked (request_of call.words) nought to
+    | inr short ↦ absurd (words_some words_fault.NoMemory call short nought)
   ];
-  one_line = λ some. elim (answer.answers) [ inl to ↦ line_asked (request_of words) some to | inr short ↦ words_line words_fault.NoMemory before after status short ];
+  one_line = λ some. elim (answer.answers) [ inl to ↦ line_asked (request_of call.words) some to | inr short ↦ words_line words_fault.NoMemory call short ];
   no_request = λ fault is. elim (answer.answers) [
-    | inl to ↦ told_words fault before after status (subst (λ request. AnswersAsked rules request before after status) is to)
-    | inr short ↦ told_short fault before after status short
+    | inl to ↦ told_words fault call (subst (λ request. AnswersAsked call request) is to)
+    | inr short ↦ told_short fault call short
   ];
   request = λ asked files given some. elim (answer.answers) [
-    | inl to ↦ by_answer asked files given some (subst (λ request. AnswersAsked rules request before after status) given.spelled to)
-    | inr short ↦ by_words asked files (told_short words_fault.NoMemory before after status short)
+    | inl to ↦ by_answer asked files given some (subst (λ request. AnswersAsked call request) given.spelled to)
+    | inr short ↦ by_words asked files (told_short words_fault.NoMemory call short)
   ];
 }
   where
-    nothing_said : (asked : RequestView) (reply : Reply) → status ≡ 0 → Delivers (said_of asked reply) before.out after.out before.err after.err status → after.err ≡ before.err
-    nothing_said asked (Ok answered) nought (inl delivered) = told_nothing asked answered.verdict before.err after.err (sym delivered.same_status ∙ nought) delivered.told
+    nothing_said : (asked : RequestView) (reply : Reply) → call.status ≡ 0 → Delivers (said_of asked reply) call → call.after.err ≡ call.before.err
+    nothing_said asked (Ok answered) nought (inl delivered) = told_nothing asked answered.verdict call.before.err call.after.err (sym delivered.same_status ∙ nought) delivered.told
     nothing_said asked (Err fault) nought (inl delivered) = absurd (omega (arith, (fault_between fault).0, delivered.same_status, nought))
     nothing_said asked reply nought (inr cut) = absurd (omega (arith, cut.five, nought))
 
-    nothing_asked : (request : Result RequestView CommandFault) → status ≡ 0 → AnswersAsked rules request before after status → after.err ≡ before.err
+    nothing_asked : (request : Result RequestView CommandFault) → call.status ≡ 0 → AnswersAsked call request → call.after.err ≡ call.before.err
     nothing_asked (Ok asked) nought to = nothing_said asked to.reply nought to.delivers
-    nothing_asked (Err fault) nought to = absurd (words_some fault before after status to nought)
+    nothing_asked (Err fault) nought to = absurd (words_some fault call to nought)
 
-    line_said : (asked : RequestView) (reply : Reply) → status ≢ 0 → Delivers (said_of asked reply) before.out after.out before.err after.err status → (text : List ℕ) × IsTold text before.err after.err
-    line_said asked (Ok answered) some (inl delivered) = told_line asked answered.verdict before.err after.err (λ nought. some (delivered.same_status ∙ nought)) delivered.told
+    line_said : (asked : RequestView) (reply : Reply) → call.status ≢ 0 → Delivers (said_of asked reply) call → (text : List ℕ) × IsTold text call.before.err call.after.err
+    line_said asked (Ok answered) some (inl delivered) = told_line asked answered.verdict call.before.err call.after.err (λ nought. some (delivered.same_status ∙ nought)) delivered.told
     line_said asked (Err fault) some (inl delivered) = (fault_text asked fault, delivered.told)
     line_said asked reply some (inr cut) = (out_failed_text, cut.told)
 
-    line_asked : (request : Result RequestView CommandFault) → status ≢ 0 → AnswersAsked rules request before after status → (text : List ℕ) × IsTold text before.err after.err
+    line_asked : (request : Result RequestView CommandFault) → call.status ≢ 0 → AnswersAsked call request → (text : List ℕ) × IsTold text call.before.err call.after.err
     line_asked (Ok asked) some to = line_said asked to.reply some to.delivers
-    line_asked (Err fault) some to = words_line fault before after status to
+    line_asked (Err fault) some to = words_line fault call to
 
-    by_words : (asked : RequestView) (files : List File) → TellsWords words_fault.NoMemory before after status → TellsReason rules asked files before after status
+    by_words : (asked : RequestView) (files : List File) → TellsWords words_fault.NoMemory call → TellsReason call asked files
     by_words asked files (inl told) = (no_memory_text, says_short told.0 refl, told.1)
     by_words asked files (inr told) = (no_memory_text, says_short told.0 refl, told.1)
 
     -- a verdict
-    by_ending : (asked : RequestView) (files : List File) (said : Verdict) → status ≢ 0 → status ≡ verdict_status said → Tells (verdict_text asked said) before.err after.err → IsEnding asked.command asked files said
-        → TellsReason rules asked files before after status
+    by_ending : (asked : RequestView) (files : List File) (said : Verdict) → call.status ≢ 0 → call.status ≡ verdict_status said → Tells (verdict_text asked said) call.before.err call.after.err → IsEnding asked.command asked files said
+        → TellsReason call asked files
     by_ending asked files said some same told (done is) = absurd (some (same ∙ ap verdict_status is))
     by_ending asked files said some same told (negative text is one denied) =
-        (text, says_no (same ∙ one) denied, subst (λ (t : Option (List ℕ)). Tells t before.err after.err) is told)
+        (text, says_no (same ∙ one) denied, subst (λ (t : Option (List ℕ)). Tells t call.before.err call.after.err) is told)
     by_ending asked files said some same told (spent is) =
-        (text_of_budget (budget_by asked.command asked), says_spent (same ∙ ap verdict_status is) refl, subst (λ v. Tells (verdict_text asked v) before.err after.err) is told)
+        (text_of_budget (budget_by asked.command asked), says_spent (same ∙ ap verdict_status is) refl, subst (λ v. Tells (verdict_text asked v) call.before.err call.after.err) is told)
 
     -- want of memory
-    by_short : (asked : RequestView) (files : List File) (fault : Fault) → status ≡ status_of fault → IsTold (fault_text asked fault) before.err after.err → status_of fault ≡ 6 → TellsReason rules asked files before after status
-    by_short asked files fault same told six = (no_memory_text, says_short (same ∙ six) refl, subst (λ t. IsTold t before.err after.err) (memory_text asked fault six) told)
+    by_short : (asked : RequestView) (files : List File) (fault : Fault) → call.status ≡ status_of fault → IsTold (fault_text asked fault) call.before.err call.after.err → status_of fault ≡ 6 → TellsReason call asked files
+    by_short asked files fault same told six = (no_memory_text, says_short (same ∙ six) refl, subst (λ t. IsTold t call.before.err call.after.err) (memory_text asked fault six) told)
 
     -- a fault of the plan
-    by_plan : (asked : RequestView) (files : List File) (fault : Fault) → before.folder.contents ≡ Some files → status ≡ status_of fault → IsTold (fault_text asked fault) before.err after.err
-        → Goes (plan_of (kinds_of rules) asked) before.folder after.folder (Err fault) → TellsReason rules asked files before after status
-    by_plan asked files fault contents same told goes = elim (goes_stopped (plan_of (kinds_of rules) asked) before.folder after.folder (Err fault) files contents goes) [
+    by_plan : (asked : RequestView) (files : List File) (fault : Fault) → call.before.folder.contents ≡ Some files → call.status ≡ status_of fault → IsTold (fault_text asked fault) call.before.err call.after.err
+        → Goes (plan_of (kinds_of call.rules) asked) call.before.folder call.after.folder (Err fault) → TellsReason call asked files
+    by_plan asked files fault contents same told goes = elim (goes_stopped (plan_of (kinds_of call.rules) asked) call.before.folder call.after.folder (Err fault) files contents goes) [
       | inl is ↦ (fault_text asked fault, says_fault fault (sym is) same refl, told)
       | inr other ↦ elim other [
         | inl short ↦ let fault_is : fault ≡ short.0 = cc (short.2) in by_short asked files fault same told (ap status_of fault_is ∙ short.1)
         | inr stopped ↦
             let fault_is : fault ≡ Unread stopped.source reads.Failed = cc (stopped.is) in
-            let file = file_fault rules asked before.folder after.folder fault goes (ap status_of fault_is) in
+            let file = file_fault call asked fault goes (ap status_of fault_is) in
             (fault_text asked fault, says_file file.0 (same ∙ ap status_of fault_is) (ap (fault_text asked) file.1), told)
       ]
     ]
 
-    by_fault : (asked : RequestView) (files : List File) (fault : Fault) → before.folder.contents ≡ Some files → status ≡ status_of fault → IsTold (fault_text asked fault) before.err after.err
-        → FaultOf rules asked before.folder after.folder fault → TellsReason rules asked files before after status
+    by_fault : (asked : RequestView) (files : List File) (fault : Fault) → call.before.folder.contents ≡ Some files → call.status ≡ status_of fault → IsTold (fault_text asked fault) call.before.err call.after.err
+        → FaultOf call asked fault → TellsReason call asked files
     by_fault asked files fault contents same told (of_plan goes) = by_plan asked files fault contents same told goes
     by_fault asked files fault contents same told (of_task six) = by_short asked files fault same told six
 
-    by_reply : (asked : RequestView) (files : List File) → IsGiven words before asked files → status ≢ 0 → (reply : Reply) → Ends rules asked before.folder after.folder reply
-        → Delivers (said_of asked reply) before.out after.out before.err after.err status → TellsReason rules asked files before after status
+    by_reply : (asked : RequestView) (files : List File) → IsGiven call asked files → call.status ≢ 0 → (reply : Reply) → Ends call.rules asked call.before.folder call.after.folder reply
+        → Delivers (said_of asked reply) call → TellsReason call asked files
     by_reply asked files given some (Ok answered) ends (inl delivered) =
-        let has = answered_task rules asked before after files answered (told_reply rules asked before.folder after.folder files (Ok answered) given.told ends) in
+        let has = answered_task call asked files answered (told_reply call asked files (Ok answered) given.told ends) in
         by_ending asked files answered.verdict some delivered.same_status delivered.told
-        (ends_so asked.command rules words before after asked files answered (record { given = given; command_is = refl }) has delivered.taken)
-    by_reply asked files given some (Ok answered) ends (inr cut) = (out_failed_text, says_out (cut_counted answered.text before.out after.out cut.front) cut.five refl, cut.told)
-    by_reply asked files given some (Err fault) ends (inl delivered) = by_fault asked files fault given.told delivered.same_status delivered.told (fault_from rules asked before.folder after.folder fault ends)
+        (ends_so asked.command call asked files answered (record { given = given; command_is = refl }) has delivered.taken)
+    by_reply asked files given some (Ok answered) ends (inr cut) = (out_failed_text, says_out (cut_counted answered.text call.before.out call.after.out cut.front) cut.five refl, cut.told)
+    by_reply asked files given some (Err fault) ends (inl delivered) = by_fault asked files fault given.told delivered.same_status delivered.told (fault_from call asked fault ends)
     by_reply asked files given some (Err fault) ends (inr cut) = absurd cut.front
 
-    by_answer : (asked : RequestView) (files : List File) → IsGiven words before asked files → status ≢ 0 → IsAnswerTo rules asked before after status → TellsReason rules asked files before after status
+    by_answer : (asked : RequestView) (files : List File) → IsGiven call asked files → call.status ≢ 0 → IsAnswerTo call asked → TellsReason call asked files
     by_answer asked files given some to = by_reply asked files given some to.reply to.ends to.delivers
 
 -- ---- the error stream alone
 
-pub is_apart_from_err : (rules : List Rule) (words : List (List ℕ)) (before after : Devices) (status : ℕ) → IsAnswer rules words before after status → IsApartFromErr rules words before after status
-is_apart_from_err rules words before after status answer = elim (answer.answers) [ inl to ↦ by_request (request_of words) refl to | inr short ↦ by_words words_fault.NoMemory (λ old new call. record { answers = inr call }) short ]
+pub is_apart_from_err : (call : Call) → IsAnswer call → IsApartFromErr call
+is_apart_from_err call answer = elim (answer.answers) [ inl to ↦ by_request (request_of call.words) refl to | inr short ↦ by_words words_fault.NoMemory (λ old new denied. record { answers = inr denied }) short ]
   where
-    by_words : (fault : CommandFault) → ((old new : SinkView) → IsRefusedCall fault (beside before old) (beside after new) status → IsAnswer rules words (beside before old) (beside after new) status)
-        → IsRefusedCall fault before after status → IsApartFromErr rules words before after status
-    by_words fault back call = elim (call.delivers) [
+    by_words : (fault : CommandFault) → ((old new : SinkView) → IsRefusedCall fault (beside call old new) → IsAnswer (beside call old new))
+        → IsRefusedCall fault call → IsApartFromErr call
+    by_words fault back denied = elim (denied.delivers) [
       | inl delivered ↦ (
         Some (text_of_command fault),
         delivered.told,
-        λ old new told. back old new (record { folder = call.folder; delivers = inl (record { taken = delivered.taken; told = told; same_status = delivered.same_status }) }),
+        λ old new told. back old new (record { folder = denied.folder; delivers = inl (record { taken = delivered.taken; told = told; same_status = delivered.same_status }) }),
       )
       | inr cut ↦ absurd (cut.front)
     ]
 
-    by_answer : (asked : RequestView) → ((old new : SinkView) → IsAnswerTo rules asked (beside before old) (beside after new) status → IsAnswer rules words (beside before old) (beside after new) status)
-        → IsAnswerTo rules asked before after status → IsApartFromErr rules words before after status
+    by_answer : (asked : RequestView) → ((old new : SinkView) → IsAnswerTo (beside call old new) asked → IsAnswer (beside call old new))
+        → IsAnswerTo call asked → IsApartFromErr call
     by_answer asked back to = elim (to.delivers) [
       | inl delivered ↦ (
         (said_of asked to.reply).told,
@@ -454,6 +454,6 @@ is_apart_from_err rules words before after status answer = elim (answer.answers)
       )
     ]
 
-    by_request : (request : Result RequestView CommandFault) → request_of words ≡ request → AnswersAsked rules request before after status → IsApartFromErr rules words before after status
-    by_request (Ok asked) is to = by_answer asked (λ old new to. record { answers = inl (subst (λ request. AnswersAsked rules request (beside before old) (beside after new) status) (sym is) to) }) to
-    by_request (Err fault) is call = by_words fault (λ old new call. record { answers = inl (subst (λ request. AnswersAsked rules request (beside before old) (beside after new) status) (sym is) call) }) call
+    by_request : (request : Result RequestView CommandFault) → request_of call.words ≡ request → AnswersAsked call request → IsApartFromErr call
+    by_request (Ok asked) is to = by_answer asked (λ old new to. record { answers = inl (subst (λ request. AnswersAsked (beside call old new) request) (sym is) to) }) to
+    by_request (Err fault) is denied = by_words fault (λ old new denied. record { answers = inl (subst (λ request. AnswersAsked (beside call old new) request) (sym is) denied) }) denied

@@ -39,10 +39,10 @@ use Rattle.wfc_task.specs.Checking.{shape_by, shape_of}
 use Rattle.wfc_task.specs.Posed.{OfTiles, Posed, PosedBy}
 use Rattle.wfc_task.specs.TileGiven.{HoldsPicture, HoldsPictures, IsTileSetOf}
 use Rattle.wfc_task.proofs.CallerLemmas.{held_mask, learned_is, pins_placed, sample_lesson}
-use Rattle.wfc_cli.specs.Answer.{Devices}
-use Rattle.wfc_cli.specs.Claims.{IsCommand}
 use Rattle.wfc_cli.specs.Maps.{IsLegal, IsLegalBy, map_by, output_of, rules_of}
 use Rattle.wfc_cli.proofs.EndLemmas.{output_asked, source_asked}
+use Rattle.wfc_cli.specs.Call.{Call}
+use Rattle.wfc_cli.specs.Theorem.{IsCommand}
 
 -- ---- the pins of a sample's map
 
@@ -145,10 +145,10 @@ pub record TakesSides (command : CommandKind) : Type 0 where
   pub height : takes_word command (codes "HEIGHT") ≡ true
 
 -- so is the problem of such a command
-pub command_bridged : (command : CommandKind) (words : List (List ℕ)) (before : Devices) (asked : RequestView) (files : List File) (P : Network) (posed : Posed asked files P) → TakesSides command
-    → IsCommand command words before asked files → IsBridged asked.source asked files P posed
-command_bridged command words before asked files P posed has is =
-    let range = asked-in_range words asked is.given.spelled in
+pub command_bridged : (command : CommandKind) (call : Call) (asked : RequestView) (files : List File) (P : Network) (posed : Posed asked files P) → TakesSides command
+    → IsCommand command call asked files → IsBridged asked.source asked files P posed
+command_bridged command call asked files P posed has is =
+    let range = asked-in_range call.words asked is.given.spelled in
     bridged asked.source asked files P posed (source_asked asked command range is.command_is has.model) (output_asked asked command range is.command_is has.width has.height)
 
 asked_shape : (asked : RequestView) → IsSourceAsked asked → IsOutputAsked asked → IsShape (shape_of asked)
@@ -171,7 +171,7 @@ asked_shape asked asks size = by_source asked.source refl asks
     }
 
 -- and its shape is one
-pub command_shape : (command : CommandKind) (words : List (List ℕ)) (before : Devices) (asked : RequestView) (files : List File) → TakesSides command → IsCommand command words before asked files → IsShape (shape_of asked)
-command_shape command words before asked files has is =
-    let range = asked-in_range words asked is.given.spelled in
+pub command_shape : (command : CommandKind) (call : Call) (asked : RequestView) (files : List File) → TakesSides command → IsCommand command call asked files → IsShape (shape_of asked)
+command_shape command call asked files has is =
+    let range = asked-in_range call.words asked is.given.spelled in
     asked_shape asked (source_asked asked command range is.command_is has.model) (output_asked asked command range is.command_is has.width has.height)

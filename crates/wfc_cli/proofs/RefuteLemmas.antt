@@ -42,10 +42,9 @@ use Rattle.wfc_task.specs.Task as tasks
 use Rattle.wfc_task.specs.Task.{Task, plan_by}
 use Rattle.wfc_task.proofs.CallerLemmas.{refute_given}
 use Rattle.wfc_task.specs.declared.fault.Fault.{Fault}
-use Rattle.wfc_cli.specs.Answer.{Devices, IsAnswer}
+use Rattle.wfc_cli.specs.Answer.{IsAnswer}
 use Rattle.wfc_cli.specs.Answers.{Answers}
 use Rattle.wfc_cli.specs.Choosers.{chosen, kinds_of}
-use Rattle.wfc_cli.specs.Claims.{IsCommand}
 use Rattle.wfc_cli.specs.Ending.{EndsPut}
 use Rattle.wfc_cli.specs.RefuteClaims.{IsRunFront, RefuteWork, WritesRefutation, WritesRun, WritesRunFront, refute_status}
 use Rattle.wfc_cli.specs.Refuting.{CutsFrom, CutsRefutation, IsBegunBy, IsToldBy, PutsFrom, PutsRefutation, Refutes, RefutesBy, RefutesFront, RefutesWhole, lines_in, refutation_text, refute_verdict, written_format}
@@ -60,6 +59,8 @@ use Rattle.wfc_cli.proofs.MapLemmas.{IsBridged, command_bridged, no_legal}
 use Rattle.wfc_cli.proofs.RunTextLemmas.{join_more, none_growing, none_joined, run_single, run_text}
 use Rattle.wfc_cli.proofs.EndLemmas.{ends_short, put_cut, put_front, put_none, put_short, put_whole}
 use Rattle.wfc_cli.proofs.TheoremLemmas.{verdict_apart}
+use Rattle.wfc_cli.specs.Call.{Call}
+use Rattle.wfc_cli.specs.Theorem.{IsCommand}
 
 -- ---- behind the line of an end no span is kept
 
@@ -366,27 +367,27 @@ run_spent P p rule budget words later outcome.Spent run two =
 run_spent P p rule budget words later outcome.Map run two = absurd (omega (arith, two))
 run_spent P p rule budget words later outcome.NoMap run two = absurd (omega (arith, two))
 
-pub has_refuted : (rules : List Rule) (words : List (List ℕ)) (before : Devices) (asked : RequestView) (files : List File) (task : Task) (answered : Answered) → IsCommand commands.Refute words before asked files
-    → (P : Network) → tasks.refute P ≡ task → IsRefuteTask (kinds_of rules) asked files P → Answers rules asked task answered → HasRefuted rules asked files answered
-has_refuted rules words before asked files task answered is P same given answers = refuted_by rules asked files answered P given (subst (λ (t : Task). Answers rules asked t answered) (sym same) answers)
+pub has_refuted : (call : Call) (asked : RequestView) (files : List File) (task : Task) (answered : Answered) → IsCommand commands.Refute call asked files
+    → (P : Network) → tasks.refute P ≡ task → IsRefuteTask (kinds_of call.rules) asked files P → Answers call.rules asked task answered → HasRefuted call.rules asked files answered
+has_refuted call asked files task answered is P same given answers = refuted_by call.rules asked files answered P given (subst (λ (t : Task). Answers call.rules asked t answered) (sym same) answers)
 
 -- what is known of the problem of a `refute`
-known : (rules : List Rule) (words : List (List ℕ)) (before : Devices) (asked : RequestView) (files : List File) → IsCommand commands.Refute words before asked files → (work : RefuteWork rules asked files)
+known : (call : Call) (asked : RequestView) (files : List File) → IsCommand commands.Refute call asked files → (work : RefuteWork call.rules asked files)
     → IsBridged asked.source asked files work.P work.task.posed
-known rules words before asked files is work = command_bridged commands.Refute words before asked files work.P work.task.posed (record { model = refl; width = refl; height = refl }) is
+known call asked files is work = command_bridged commands.Refute call asked files work.P work.task.posed (record { model = refl; width = refl; height = refl }) is
 
-pub writes_refutation : (rules : List Rule) (words : List (List ℕ)) (before after : Devices) (status : ℕ) → IsAnswer rules words before after status → WritesRefutation rules words before after status
-writes_refutation rules words before after status answer asked files is low = by_end (came_to rules commands.Refute words before after status answer asked files is)
+pub writes_refutation : (call : Call) → IsAnswer call → (asked : RequestView) (files : List File) → IsCommand commands.Refute call asked files → WritesRefutation call asked files
+writes_refutation call answer asked files is low = by_end (came_to commands.Refute call answer asked files is)
   where
-    by_whole : (answered : Answered) (work : RefuteWork rules asked files) → status ≡ verdict_status answered.verdict → TakesWhole answered.whole answered.text before.out after.out → RefutesWhole work.rule asked work.P answered
-        → (work : RefuteWork rules asked files) × WritesRun asked work before after status
+    by_whole : (answered : Answered) (work : RefuteWork call.rules asked files) → call.status ≡ verdict_status answered.verdict → TakesWhole answered.whole answered.text call.before.out call.after.out → RefutesWhole work.rule asked work.P answered
+        → (work : RefuteWork call.rules asked files) × WritesRun asked work call
     by_whole answered work same takes refuted =
         let first = refuted.told.first in
         let begin : State = start (seeded asked.seed) in
         let problem = store_problem work.P begin first refuted.told.opened in
         let proof = run_is_proof work.rule asked.budget work.P (seeded asked.seed) refuted.outcome refuted.lines refuted.told in
         let counts = run_counts work.P work.rule asked.budget begin first refuted.outcome refuted.lines refl refuted.told.opened refuted.told.tells in
-        let status_is : status ≡ refute_status refuted.outcome = same ∙ ap (λ (a : Answered). verdict_status a.verdict) refuted.is ∙ refuted_status asked.budget refuted.outcome in (
+        let status_is : call.status ≡ refute_status refuted.outcome = same ∙ ap (λ (a : Answered). verdict_status a.verdict) refuted.is ∙ refuted_status asked.budget refuted.outcome in (
           work,
           record {
             outcome = refuted.outcome;
@@ -395,55 +396,55 @@ writes_refutation rules words before after status answer asked files is low = by
             counts = counts;
             text = run_text asked work.P refuted.outcome refuted.lines problem proof (run_single work.P work.rule asked.budget begin first refuted.outcome refuted.lines refuted.told.tells);
             same_status = status_is;
-            written = subst (λ (a : Answered). TakesWhole a.whole a.text before.out after.out) refuted.is takes;
-            none = λ nought. no_legal asked files work.P work.task.posed (known rules words before asked files is work)
+            written = subst (λ (a : Answered). TakesWhole a.whole a.text call.before.out call.after.out) refuted.is takes;
+            none = λ nought. no_legal asked files work.P work.task.posed (known call asked files is work)
                 (run_none work.P problem refuted.outcome refuted.lines proof (sym status_is ∙ nought));
             spent = λ two. run_spent work.P problem work.rule asked.budget (seeded asked.seed) counts.later refuted.outcome counts.run (sym status_is ∙ two);
           },
         )
 
-    front_taken : (b : Bool) (text : Option (List ℕ)) → b ≡ false → TakesWhole b text before.out after.out → ⊥
+    front_taken : (b : Bool) (text : Option (List ℕ)) → b ≡ false → TakesWhole b text call.before.out call.after.out → ⊥
     front_taken true text is takes = false≢true (sym is)
     front_taken false text is takes = takes
 
-    by_answer : (answered : Answered) (work : RefuteWork rules asked files) → status ≡ verdict_status answered.verdict → TakesWhole answered.whole answered.text before.out after.out
-        → RefutesWhole work.rule asked work.P answered ⊎ RefutesFront work.rule asked work.P answered → (work : RefuteWork rules asked files) × WritesRun asked work before after status
+    by_answer : (answered : Answered) (work : RefuteWork call.rules asked files) → call.status ≡ verdict_status answered.verdict → TakesWhole answered.whole answered.text call.before.out call.after.out
+        → RefutesWhole work.rule asked work.P answered ⊎ RefutesFront work.rule asked work.P answered → (work : RefuteWork call.rules asked files) × WritesRun asked work call
     by_answer answered work same takes (inl refuted) = by_whole answered work same takes refuted
     by_answer answered work same takes (inr front) = absurd (front_taken answered.whole answered.text front.front takes)
 
-    by_end : CameTo rules asked files before after status → (work : RefuteWork rules asked files) × WritesRun asked work before after status
+    by_end : CameTo call asked files → (work : RefuteWork call.rules asked files) × WritesRun asked work call
     by_end (whole answered has same takes) =
-        let given = refute_given (kinds_of rules) asked files has.task (planned rules asked files commands.Refute has.task is.command_is has.is) in
-        let refuted = has_refuted rules words before asked files has.task answered is given.0 given.1 given.2 has.answers in
+        let given = refute_given (kinds_of call.rules) asked files has.task (planned call.rules asked files commands.Refute has.task is.command_is has.is) in
+        let refuted = has_refuted call asked files has.task answered is given.0 given.1 given.2 has.answers in
         by_answer answered refuted.work same takes refuted.is
     by_end (cut answered has five front) = absurd (omega (arith, five, low))
     by_end (none high same) = absurd (omega (arith, high, low))
 
-pub writes_run_front : (rules : List Rule) (words : List (List ℕ)) (before after : Devices) (status : ℕ) → IsAnswer rules words before after status → WritesRunFront rules words before after status
-writes_run_front rules words before after status answer asked files is five = by_end (came_to rules commands.Refute words before after status answer asked files is)
+pub writes_run_front : (call : Call) → IsAnswer call → (asked : RequestView) (files : List File) → IsCommand commands.Refute call asked files → WritesRunFront call asked files
+writes_run_front call answer asked files is five = by_end (came_to commands.Refute call answer asked files is)
   where
-    by_answer : (answered : Answered) (work : RefuteWork rules asked files) → CutsOff answered.text before.out after.out → RefutesWhole work.rule asked work.P answered ⊎ RefutesFront work.rule asked work.P answered
-        → IsRunFront asked work before after
+    by_answer : (answered : Answered) (work : RefuteWork call.rules asked files) → CutsOff answered.text call.before.out call.after.out → RefutesWhole work.rule asked work.P answered ⊎ RefutesFront work.rule asked work.P answered
+        → IsRunFront asked work call
     by_answer answered work parted (inl refuted) = record {
       lines = refuted.lines;
       told = inl (refuted.outcome, refuted.told);
       count = length refuted.lines;
       within = omega arith;
-      front = subst (λ (ls : List Line). IsFaultAfterFront before.out after.out (refutation_text asked work.P ls)) (sym (take_all (length refuted.lines) refuted.lines (omega arith)))
-          (subst (λ (a : Answered). CutsOff a.text before.out after.out) refuted.is parted);
+      front = subst (λ (ls : List Line). IsFaultAfterFront call.before.out call.after.out (refutation_text asked work.P ls)) (sym (take_all (length refuted.lines) refuted.lines (omega arith)))
+          (subst (λ (a : Answered). CutsOff a.text call.before.out call.after.out) refuted.is parted);
     }
     by_answer answered work parted (inr front) = record {
       lines = front.lines;
       told = inr front.begun;
       count = front.count;
       within = front.within;
-      front = subst (λ (t : Option (List ℕ)). CutsOff t before.out after.out) front.text parted;
+      front = subst (λ (t : Option (List ℕ)). CutsOff t call.before.out call.after.out) front.text parted;
     }
 
-    by_end : CameTo rules asked files before after status → (after.out ≡ before.out) ⊎ ((work : RefuteWork rules asked files) × IsRunFront asked work before after)
+    by_end : CameTo call asked files → (call.after.out ≡ call.before.out) ⊎ ((work : RefuteWork call.rules asked files) × IsRunFront asked work call)
     by_end (whole answered has same takes) = absurd (verdict_apart answered.verdict 5 (omega arith) (sym same ∙ five))
     by_end (cut answered has _ front) =
-        let given = refute_given (kinds_of rules) asked files has.task (planned rules asked files commands.Refute has.task is.command_is has.is) in
-        let refuted = has_refuted rules words before asked files has.task answered is given.0 given.1 given.2 has.answers in
+        let given = refute_given (kinds_of call.rules) asked files has.task (planned call.rules asked files commands.Refute has.task is.command_is has.is) in
+        let refuted = has_refuted call asked files has.task answered is given.0 given.1 given.2 has.answers in
         inr (refuted.work, by_answer answered refuted.work front refuted.is)
     by_end (none high same) = inl same

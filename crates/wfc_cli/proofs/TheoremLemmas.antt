@@ -1,8 +1,8 @@
 -- What the relation of a call says by the class of its end alone, whichever the command.
-use Rattle.std.proofs.Common.{◌≡◌, ◌≢◌, ℕ, ◌≤◌, ◌⊎◌, inl, inr, true, false, Bool, List, Option, None, Some, Result, Ok, Err, ap, sym, ◌∙◌, subst, refl, arith}
+use Rattle.std.proofs.Common.{◌≡◌, ℕ, ◌≤◌, ◌⊎◌, inl, inr, true, false, Bool, List, Option, None, Some, Result, Ok, Err, ap, sym, ◌∙◌, subst, refl, arith}
 use Rattle.std.specs.Result.{IsErr}
 use Rattle.wfc_outside.specs.Count.{HasRisen}
-use Rattle.wfc_outside.specs.Folder.{File, FolderView}
+use Rattle.wfc_outside.specs.Folder.{File}
 use Rattle.wfc_outside.specs.Sink.{SinkView}
 use Rattle.wfc_outside.specs.declared.whole.ReadFault.{ReadFault}
 use Rattle.wfc_outside.specs.declared.whole.ReadFault.TheVariants as reading
@@ -24,9 +24,10 @@ use Rattle.wfc_cli.specs.ErrorLine.{command_status}
 use Rattle.wfc_cli.specs.Reply.{Reply, CutsOff, Delivers, IsDelivered, Takes, TakesWhole, said_of, verdict_status}
 use Rattle.wfc_cli.specs.declared.reply.Verdict.{Verdict}
 use Rattle.wfc_cli.specs.declared.reply.Verdict.TheVariants.{Done, NoMap, Spent, Dead, MapExists, Unaccepted}
-use Rattle.wfc_cli.specs.Answer.{AnswersAsked, Devices, Ends, IsAnswer, IsAnswerTo, IsRefusedCall, Replied, Replies}
+use Rattle.wfc_cli.specs.Answer.{AnswersAsked, Ends, IsAnswer, IsAnswerTo, IsRefusedCall, Replied, Replies}
 use Rattle.wfc_cli.proofs.ReachLemmas.{IsStopped, first_missing, goes_reading, goes_stopped}
-use Rattle.wfc_cli.specs.Theorem.{AreQuiet, HasFirstFault, IsAnswered, IsComplete, IsDeviceFault, IsFileFault, IsGiven, IsNoCommand, IsRefusedFirst, IsRefusedWith, IsWithoutAnswer, NoneCounted, task_of}
+use Rattle.wfc_cli.specs.Theorem.{CountsFaults, HasDeviceFault, HasFirstFault, HasRefusedWords, IsAnswered, IsComplete, IsFileFault, IsGiven, IsNoCommand, IsQuiet, IsRefusedFirst, IsRefusedWith, KeepsOut, NoneCounted, RefusesWords, task_of}
+use Rattle.wfc_cli.specs.Call.{Call}
 
 -- no verdict has a status above 2
 pub verdict_low : (verdict : Verdict) → verdict_status verdict ≤ 2
@@ -72,55 +73,55 @@ replied_fault : (rules : List Rule) (asked : RequestView) (ended : Result Task F
 replied_fault rules asked ended reply fault is replied = subst (λ e. Replied rules asked e reply) is replied
 
 -- the fault of a reply to a task is want of memory, and else it is that of the plan
-pub data FaultOf (rules : List Rule) (asked : RequestView) (before after : FolderView) (fault : Fault) : Type 0 where
-  of_plan : Goes (plan_of (kinds_of rules) asked) before after (Err fault) → FaultOf rules asked before after fault
-  of_task : status_of fault ≡ 6 → FaultOf rules asked before after fault
+pub data FaultOf (call : Call) (asked : RequestView) (fault : Fault) : Type 0 where
+  of_plan : Goes (plan_of (kinds_of call.rules) asked) call.before.folder call.after.folder (Err fault) → FaultOf call asked fault
+  of_task : status_of fault ≡ 6 → FaultOf call asked fault
 
-pub fault_from : (rules : List Rule) (asked : RequestView) (before after : FolderView) (fault : Fault) → Ends rules asked before after (Err fault) → FaultOf rules asked before after fault
-fault_from rules asked before after fault ends = by_end ends.ended ends.goes ends.replied
+pub fault_from : (call : Call) (asked : RequestView) (fault : Fault) → Ends call.rules asked call.before.folder call.after.folder (Err fault) → FaultOf call asked fault
+fault_from call asked fault ends = by_end ends.ended ends.goes ends.replied
   where
-    by_end : (ended : Result Task Fault) → Goes (plan_of (kinds_of rules) asked) before after ended → Replied rules asked ended (Err fault) → FaultOf rules asked before after fault
-    by_end (Ok task) goes replied = of_task (replied_short rules asked task fault replied)
+    by_end : (ended : Result Task Fault) → Goes (plan_of (kinds_of call.rules) asked) call.before.folder call.after.folder ended → Replied call.rules asked ended (Err fault) → FaultOf call asked fault
+    by_end (Ok task) goes replied = of_task (replied_short call.rules asked task fault replied)
     by_end (Err other) goes replied =
         let same : other ≡ fault = cc (replied) in
-        of_plan (subst (λ f. let ended : Result Task Fault = Err f in Goes (plan_of (kinds_of rules) asked) before after ended) same goes)
+        of_plan (subst (λ f. let ended : Result Task Fault = Err f in Goes (plan_of (kinds_of call.rules) asked) call.before.folder call.after.folder ended) same goes)
 
 -- what a call with words that are no request does to its status
-pub refused_status : (fault : CommandFault) (before after : Devices) (status : ℕ) → IsRefusedCall fault before after status → (status ≡ command_status fault) × (after.out ≡ before.out)
-refused_status fault before after status call = elim (call.delivers) [ inl delivered ↦ (delivered.same_status, delivered.taken) | inr cut ↦ absurd (cut.front) ]
+pub refused_status : (fault : CommandFault) (call : Call) → IsRefusedCall fault call → (call.status ≡ command_status fault) × (call.after.out ≡ call.before.out)
+refused_status fault call denied = elim (denied.delivers) [ inl delivered ↦ (delivered.same_status, delivered.taken) | inr cut ↦ absurd (cut.front) ]
 
 -- a call for a request never ends with the status of other words
-never_other : (rules : List Rule) (asked : RequestView) (before after : Devices) (status : ℕ) → IsAnswerTo rules asked before after status → status ≡ 3 → ⊥
-never_other rules asked before after status answer three = by_reply answer.reply answer.delivers
+never_other : (call : Call) (asked : RequestView) → IsAnswerTo call asked → call.status ≡ 3 → ⊥
+never_other call asked answer three = by_reply answer.reply answer.delivers
   where
-    by_reply : (reply : Reply) → Delivers (said_of asked reply) before.out after.out before.err after.err status → ⊥
+    by_reply : (reply : Reply) → Delivers (said_of asked reply) call → ⊥
     by_reply (Ok answered) (inl delivered) = verdict_apart answered.verdict 3 (omega arith) (sym delivered.same_status ∙ three)
     by_reply (Err fault) (inl delivered) = never_3 fault (sym delivered.same_status ∙ three)
     by_reply reply (inr cut) = omega (arith, cut.five, three)
 
 -- status 3 comes only where the words are no command
-pub is_no_command : (rules : List Rule) (words : List (List ℕ)) (before after : Devices) (status : ℕ) → IsAnswer rules words before after status → status ≡ 3 → IsNoCommand words
-is_no_command rules words before after status answer three = elim (answer.answers) [
-  | inl to ↦ by_request (request_of words) refl to
-  | inr short ↦ absurd (omega (arith, (refused_status words_fault.NoMemory before after status short).0, three))
+pub is_no_command : (call : Call) → IsAnswer call → RefusesWords call
+is_no_command call answer three = elim (answer.answers) [
+  | inl to ↦ by_request (request_of call.words) refl to
+  | inr short ↦ absurd (omega (arith, (refused_status words_fault.NoMemory call short).0, three))
 ]
   where
-    by_request : (request : Result RequestView CommandFault) → request_of words ≡ request → AnswersAsked rules request before after status → IsNoCommand words
-    by_request (Ok asked) is answer = absurd (never_other rules asked before after status answer three)
+    by_request : (request : Result RequestView CommandFault) → request_of call.words ≡ request → AnswersAsked call request → IsNoCommand call
+    by_request (Ok asked) is answer = absurd (never_other call asked answer three)
     by_request (Err fault) is answer = subst IsErr (sym is) refl
 
 -- words that are no command are answered with status 3, or memory runs out
-pub no_command_is_3 : (rules : List Rule) (words : List (List ℕ)) (before after : Devices) (status : ℕ) → IsAnswer rules words before after status → IsNoCommand words → (status ≡ 3) ⊎ (status ≡ 6)
-no_command_is_3 rules words before after status answer none = elim (answer.answers) [
-  | inl to ↦ by_request (request_of words) to none
-  | inr short ↦ inr (refused_status words_fault.NoMemory before after status short).0
+pub no_command_is_3 : (call : Call) → IsAnswer call → HasRefusedWords call
+no_command_is_3 call answer none = elim (answer.answers) [
+  | inl to ↦ by_request (request_of call.words) to none
+  | inr short ↦ inr (refused_status words_fault.NoMemory call short).0
 ]
   where
-    by_request : (request : Result RequestView CommandFault) → AnswersAsked rules request before after status → IsErr request → (status ≡ 3) ⊎ (status ≡ 6)
+    by_request : (request : Result RequestView CommandFault) → AnswersAsked call request → IsErr request → (call.status ≡ 3) ⊎ (call.status ≡ 6)
     by_request (Ok asked) answer none = absurd (cc)
     by_request (Err fault) answer none = elim (command_between fault) [
-      | inl three ↦ inl ((refused_status fault before after status answer).0 ∙ three)
-      | inr six ↦ inr ((refused_status fault before after status answer).0 ∙ six)
+      | inl three ↦ inl ((refused_status fault call answer).0 ∙ three)
+      | inr six ↦ inr ((refused_status fault call answer).0 ∙ six)
     ]
 
 -- what is taken whole is taken
@@ -134,29 +135,29 @@ taken_quiet None old new takes = ap (λ (s : SinkView). s.faults) takes
 taken_quiet (Some text) old new takes = ap (λ (s : SinkView). s.faults) takes
 
 -- at each status but 5 no count rose
-pub keeps_counts : (rules : List Rule) (words : List (List ℕ)) (before after : Devices) (status : ℕ) → IsAnswer rules words before after status → status ≢ 5 → AreQuiet before after
-keeps_counts rules words before after status answer not5 = elim (answer.answers) [ inl to ↦ by_request (request_of words) to | inr short ↦ by_refusal words_fault.NoMemory short ]
+pub keeps_counts : (call : Call) → IsAnswer call → CountsFaults call
+keeps_counts call answer not5 = elim (answer.answers) [ inl to ↦ by_request (request_of call.words) to | inr short ↦ by_refusal words_fault.NoMemory short ]
   where
-    by_refusal : (fault : CommandFault) → IsRefusedCall fault before after status → AreQuiet before after
-    by_refusal fault answer = record { folder = answer.folder; out = ap (λ (s : SinkView). s.faults) (refused_status fault before after status answer).1 }
+    by_refusal : (fault : CommandFault) → IsRefusedCall fault call → IsQuiet call
+    by_refusal fault answer = record { folder = answer.folder; out = ap (λ (s : SinkView). s.faults) (refused_status fault call answer).1 }
 
-    by_reply : (asked : RequestView) (reply : Reply) → Ends rules asked before.folder after.folder reply → IsDelivered (said_of asked reply) before.out after.out before.err after.err status → AreQuiet before after
+    by_reply : (asked : RequestView) (reply : Reply) → Ends call.rules asked call.before.folder call.after.folder reply → IsDelivered (said_of asked reply) call → IsQuiet call
     by_reply asked reply ends delivered = record {
-      folder = goes_quiet (plan_of (kinds_of rules) asked) before.folder after.folder ends.ended ends.goes (λ fault is five.
-          let as_fault : reply ≡ Err fault = replied_fault rules asked ends.ended reply fault is ends.replied in
+      folder = goes_quiet (plan_of (kinds_of call.rules) asked) call.before.folder call.after.folder ends.ended ends.goes (λ fault is five.
+          let as_fault : reply ≡ Err fault = replied_fault call.rules asked ends.ended reply fault is ends.replied in
           not5 (delivered.same_status ∙ ap (λ r. (said_of asked r).status) as_fault ∙ five));
-      out = taken_quiet (said_of asked reply).text before.out after.out (taken_whole (said_of asked reply).whole (said_of asked reply).text before.out after.out delivered.taken);
+      out = taken_quiet (said_of asked reply).text call.before.out call.after.out (taken_whole (said_of asked reply).whole (said_of asked reply).text call.before.out call.after.out delivered.taken);
     }
 
-    by_request : (request : Result RequestView CommandFault) → AnswersAsked rules request before after status → AreQuiet before after
+    by_request : (request : Result RequestView CommandFault) → AnswersAsked call request → IsQuiet call
     by_request (Ok asked) answer = elim (answer.delivers) [ inl delivered ↦ by_reply asked answer.reply answer.ends delivered | inr cut ↦ absurd (not5 cut.five) ]
     by_request (Err fault) answer = by_refusal fault answer
 
 -- with the statuses of faults but 5 the sink of the answer is as before
-pub keeps_out : (rules : List Rule) (words : List (List ℕ)) (before after : Devices) (status : ℕ) → IsAnswer rules words before after status → IsWithoutAnswer status → after.out ≡ before.out
-keeps_out rules words before after status answer without = elim (answer.answers) [ inl to ↦ by_request (request_of words) to | inr short ↦ (refused_status words_fault.NoMemory before after status short).1 ]
+pub keeps_out : (call : Call) → IsAnswer call → KeepsOut call
+keeps_out call answer without = elim (answer.answers) [ inl to ↦ by_request (request_of call.words) to | inr short ↦ (refused_status words_fault.NoMemory call short).1 ]
   where
-    low : (3 ≤ status) × (status ≡ 5 → ⊥)
+    low : (3 ≤ call.status) × (call.status ≡ 5 → ⊥)
     low = elim without [
       | inl three ↦ (omega arith, λ five. omega arith)
       | inr other ↦ elim other [
@@ -165,14 +166,14 @@ keeps_out rules words before after status answer without = elim (answer.answers)
       ]
     ]
 
-    by_reply : (asked : RequestView) (reply : Reply) → Delivers (said_of asked reply) before.out after.out before.err after.err status → after.out ≡ before.out
-    by_reply asked (Ok answered) (inl delivered) = absurd (verdict_apart answered.verdict status low.0 (sym delivered.same_status))
+    by_reply : (asked : RequestView) (reply : Reply) → Delivers (said_of asked reply) call → call.after.out ≡ call.before.out
+    by_reply asked (Ok answered) (inl delivered) = absurd (verdict_apart answered.verdict call.status low.0 (sym delivered.same_status))
     by_reply asked (Err fault) (inl delivered) = delivered.taken
     by_reply asked reply (inr cut) = absurd (low.1 cut.five)
 
-    by_request : (request : Result RequestView CommandFault) → AnswersAsked rules request before after status → after.out ≡ before.out
+    by_request : (request : Result RequestView CommandFault) → AnswersAsked call request → call.after.out ≡ call.before.out
     by_request (Ok asked) answer = by_reply asked answer.reply answer.delivers
-    by_request (Err fault) answer = (refused_status fault before after status answer).1
+    by_request (Err fault) answer = (refused_status fault call answer).1
 
 -- a cut text leaves a counted fault
 pub cut_counted : (text : Option (List ℕ)) (old new : SinkView) → CutsOff text old new → HasRisen old.faults new.faults
@@ -180,157 +181,159 @@ cut_counted None old new cut = absurd cut
 cut_counted (Some text) old new cut = cut.counted
 
 -- the status of words that are no request isn't 5
-command_not_5 : (fault : CommandFault) (before after : Devices) (status : ℕ) → IsRefusedCall fault before after status → status ≡ 5 → ⊥
-command_not_5 fault before after status call five = elim (command_between fault) [
-  | inl three ↦ omega (arith, (refused_status fault before after status call).0, three, five)
-  | inr six ↦ omega (arith, (refused_status fault before after status call).0, six, five)
+command_not_5 : (fault : CommandFault) (call : Call) → IsRefusedCall fault call → call.status ≡ 5 → ⊥
+command_not_5 fault call denied five = elim (command_between fault) [
+  | inl three ↦ omega (arith, (refused_status fault call denied).0, three, five)
+  | inr six ↦ omega (arith, (refused_status fault call denied).0, six, five)
 ]
 
 -- a plan that ends with the status of a device ended at a file
-pub file_fault : (rules : List Rule) (asked : RequestView) (before after : FolderView) (fault : Fault) → Goes (plan_of (kinds_of rules) asked) before after (Err fault) → status_of fault ≡ 5
-    → (file : IsFileFault rules asked before after) × (fault ≡ Unread file.source file.fault)
-file_fault rules asked before after fault goes five =
-    let ends = goes_reading (plan_of (kinds_of rules) asked) before after fault goes five in (
+pub file_fault : (call : Call) (asked : RequestView) (fault : Fault) → Goes (plan_of (kinds_of call.rules) asked) call.before.folder call.after.folder (Err fault) → status_of fault ≡ 5
+    → (file : IsFileFault call asked) × (fault ≡ Unread file.source file.fault)
+file_fault call asked fault goes five =
+    let ends = goes_reading (plan_of (kinds_of call.rules) asked) call.before.folder call.after.folder fault goes five in (
       record {
         source = ends.source;
         name = ends.name;
         fault = ends.why;
         reached = ends.reached;
         cause = ends.cause;
-        first = λ missing files told. first_missing (plan_of (kinds_of rules) asked) before after fault ends.source files goes (ends.is ∙ ap (λ why. Unread ends.source why) missing) told;
+        first = λ missing files told. first_missing (plan_of (kinds_of call.rules) asked) call.before.folder call.after.folder fault ends.source files goes (ends.is ∙ ap (λ why. Unread ends.source why) missing) told;
       },
       ends.is,
     )
 
 -- status 5 comes only from a file or from the sink of the answer
-pub is_device_fault : (rules : List Rule) (words : List (List ℕ)) (before after : Devices) (status : ℕ) → IsAnswer rules words before after status → status ≡ 5 → IsDeviceFault rules words before after
-is_device_fault rules words before after status answer five = elim (answer.answers) [
-  | inl to ↦ by_request (request_of words) to
-  | inr short ↦ absurd (command_not_5 words_fault.NoMemory before after status short five)
+pub is_device_fault : (call : Call) → IsAnswer call → HasDeviceFault call
+is_device_fault call answer five = elim (answer.answers) [
+  | inl to ↦ by_request (request_of call.words) to
+  | inr short ↦ absurd (command_not_5 words_fault.NoMemory call short five)
 ]
   where
-    by_fault : (asked : RequestView) (fault : Fault) → status_of fault ≡ 5 → FaultOf rules asked before.folder after.folder fault → IsFileFault rules asked before.folder after.folder
-    by_fault asked fault is (of_plan goes) = (file_fault rules asked before.folder after.folder fault goes is).0
+    by_fault : (asked : RequestView) (fault : Fault) → status_of fault ≡ 5 → FaultOf call asked fault → IsFileFault call asked
+    by_fault asked fault is (of_plan goes) = (file_fault call asked fault goes is).0
     by_fault asked fault is (of_task six) = absurd (omega (arith, six, is))
 
-    by_reply : (asked : RequestView) (reply : Reply) → Ends rules asked before.folder after.folder reply → Delivers (said_of asked reply) before.out after.out before.err after.err status
-        → (IsFileFault rules asked before.folder after.folder × (after.out ≡ before.out)) ⊎ HasRisen before.out.faults after.out.faults
+    by_reply : (asked : RequestView) (reply : Reply) → Ends call.rules asked call.before.folder call.after.folder reply → Delivers (said_of asked reply) call
+        → (IsFileFault call asked × (call.after.out ≡ call.before.out)) ⊎ HasRisen call.before.out.faults call.after.out.faults
     by_reply asked (Ok answered) ends (inl delivered) = absurd (verdict_apart answered.verdict 5 (omega arith) (sym delivered.same_status ∙ five))
-    by_reply asked (Err fault) ends (inl delivered) = inl (by_fault asked fault (sym delivered.same_status ∙ five) (fault_from rules asked before.folder after.folder fault ends), delivered.taken)
-    by_reply asked reply ends (inr cut) = inr (cut_counted (said_of asked reply).text before.out after.out cut.front)
+    by_reply asked (Err fault) ends (inl delivered) = inl (by_fault asked fault (sym delivered.same_status ∙ five) (fault_from call asked fault ends), delivered.taken)
+    by_reply asked reply ends (inr cut) = inr (cut_counted (said_of asked reply).text call.before.out call.after.out cut.front)
 
-    by_request : (request : Result RequestView CommandFault) → AnswersAsked rules request before after status
+    by_request : (request : Result RequestView CommandFault) → AnswersAsked call request
         → (asked : RequestView) × (request ≡ Ok asked)
-        × ((IsFileFault rules asked before.folder after.folder × (after.out ≡ before.out)) ⊎ HasRisen before.out.faults after.out.faults)
+        × ((IsFileFault call asked × (call.after.out ≡ call.before.out)) ⊎ HasRisen call.before.out.faults call.after.out.faults)
     by_request (Ok asked) answer = (asked, refl, by_reply asked answer.reply answer.ends answer.delivers)
-    by_request (Err fault) answer = absurd (command_not_5 fault before after status answer five)
+    by_request (Err fault) answer = absurd (command_not_5 fault call answer five)
 
 -- what a reply is where the files are told: the one to the task, or want of memory, or a counted fault
-abbrev pub ToldReply : List Rule → RequestView → FolderView → FolderView → List File → Reply → Type 0
-ToldReply rules asked before after files reply = Replied rules asked (task_of rules asked files) reply ⊎ (IsShort reply ⊎ IsStopped (plan_of (kinds_of rules) asked) before after reply)
+abbrev pub ToldReply : Call → RequestView → List File → Reply → Type 0
+ToldReply call asked files reply =
+    Replied call.rules asked (task_of call.rules asked files) reply
+    ⊎ (IsShort reply ⊎ IsStopped (plan_of (kinds_of call.rules) asked) call.before.folder call.after.folder reply)
 
-pub told_reply : (rules : List Rule) (asked : RequestView) (before after : FolderView) (files : List File) (reply : Reply) → before.contents ≡ Some files → Ends rules asked before after reply → ToldReply rules asked before after files reply
-told_reply rules asked before after files reply told ends = by_end (goes_stopped (plan_of (kinds_of rules) asked) before after ends.ended files told ends.goes)
+pub told_reply : (call : Call) (asked : RequestView) (files : List File) (reply : Reply) → call.before.folder.contents ≡ Some files → Ends call.rules asked call.before.folder call.after.folder reply → ToldReply call asked files reply
+told_reply call asked files reply told ends = by_end (goes_stopped (plan_of (kinds_of call.rules) asked) call.before.folder call.after.folder ends.ended files told ends.goes)
   where
-    by_end : (ends.ended ≡ task_of rules asked files) ⊎ (IsShort ends.ended ⊎ IsStopped (plan_of (kinds_of rules) asked) before after ends.ended) → ToldReply rules asked before after files reply
-    by_end (inl is) = inl (subst (λ e. Replied rules asked e reply) is ends.replied)
-    by_end (inr (inl (fault, six, is))) = inr (inl (fault, six, replied_fault rules asked ends.ended reply fault is ends.replied))
+    by_end : (ends.ended ≡ task_of call.rules asked files) ⊎ (IsShort ends.ended ⊎ IsStopped (plan_of (kinds_of call.rules) asked) call.before.folder call.after.folder ends.ended) → ToldReply call asked files reply
+    by_end (inl is) = inl (subst (λ e. Replied call.rules asked e reply) is ends.replied)
+    by_end (inr (inl (fault, six, is))) = inr (inl (fault, six, replied_fault call.rules asked ends.ended reply fault is ends.replied))
     by_end (inr (inr hindered)) = inr (inr (record {
       source = hindered.source;
       name = hindered.name;
       reached = hindered.reached;
       counted = hindered.counted;
-      is = replied_fault rules asked ends.ended reply (Unread hindered.source reading.Failed) hindered.is ends.replied;
+      is = replied_fault call.rules asked ends.ended reply (Unread hindered.source reading.Failed) hindered.is ends.replied;
     }))
 
 -- a call that was given its request and files: memory ran out over the words, or its reply is that of the told files, and is delivered
-pub data IsToldCall (rules : List Rule) (asked : RequestView) (files : List File) (before after : Devices) (status : ℕ) : Type 0 where
-  short : status ≡ 6 → after.out ≡ before.out → IsToldCall rules asked files before after status
-  told : (reply : Reply) → ToldReply rules asked before.folder after.folder files reply → Delivers (said_of asked reply) before.out after.out before.err after.err status
-      → IsToldCall rules asked files before after status
+pub data IsToldCall (call : Call) (asked : RequestView) (files : List File) : Type 0 where
+  short : call.status ≡ 6 → call.after.out ≡ call.before.out → IsToldCall call asked files
+  told : (reply : Reply) → ToldReply call asked files reply → Delivers (said_of asked reply) call
+      → IsToldCall call asked files
 
-pub told_call : (rules : List Rule) (words : List (List ℕ)) (before after : Devices) (status : ℕ) → IsAnswer rules words before after status → (asked : RequestView) (files : List File) → IsGiven words before asked files
-    → IsToldCall rules asked files before after status
-told_call rules words before after status answer asked files given = elim (answer.answers) [ inl to ↦ by_request to | inr call ↦ by_words call ]
+pub told_call : (call : Call) → IsAnswer call → (asked : RequestView) (files : List File) → IsGiven call asked files
+    → IsToldCall call asked files
+told_call call answer asked files given = elim (answer.answers) [ inl to ↦ by_request to | inr denied ↦ by_words denied ]
   where
-    by_words : IsRefusedCall words_fault.NoMemory before after status → IsToldCall rules asked files before after status
-    by_words call = let is = refused_status words_fault.NoMemory before after status call in short is.0 is.1
+    by_words : IsRefusedCall words_fault.NoMemory call → IsToldCall call asked files
+    by_words denied = let is = refused_status words_fault.NoMemory call denied in short is.0 is.1
 
-    by_request : AnswersAsked rules (request_of words) before after status → IsToldCall rules asked files before after status
+    by_request : AnswersAsked call (request_of call.words) → IsToldCall call asked files
     by_request answers =
-        let to : IsAnswerTo rules asked before after status = subst (λ request. AnswersAsked rules request before after status) given.spelled answers in
-        told to.reply (told_reply rules asked before.folder after.folder files to.reply given.told to.ends) to.delivers
+        let to : IsAnswerTo call asked = subst (λ request. AnswersAsked call request) given.spelled answers in
+        told to.reply (told_reply call asked files to.reply given.told to.ends) to.delivers
 
 -- with status 4 or 7 the first fault has it
-pub has_first_fault : (rules : List Rule) (words : List (List ℕ)) (before after : Devices) (status : ℕ) → IsAnswer rules words before after status → (status ≡ 4) ⊎ (status ≡ 7) → HasFirstFault rules words before status
-has_first_fault rules words before after status answer which asked files given = by_call (told_call rules words before after status answer asked files given)
+pub has_first_fault : (call : Call) → IsAnswer call → HasFirstFault call
+has_first_fault call answer which asked files given = by_call (told_call call answer asked files given)
   where
-    apart : (3 ≤ status) × (status ≡ 5 → ⊥) × (status ≡ 6 → ⊥)
+    apart : (3 ≤ call.status) × (call.status ≡ 5 → ⊥) × (call.status ≡ 6 → ⊥)
     apart = elim which [ inl four ↦ (omega arith, λ five. omega arith, λ six. omega arith) | inr seven ↦ (omega arith, λ five. omega arith, λ six. omega arith) ]
 
-    by_task : (task : Result Task Fault) (fault : Fault) → status_of fault ≡ status → Replied rules asked task (Err fault) → (first : Fault) × (task ≡ Err first) × (status_of first ≡ status)
-    by_task (Ok task) fault is replied = absurd (apart.2 (sym is ∙ replied_short rules asked task fault replied))
+    by_task : (task : Result Task Fault) (fault : Fault) → status_of fault ≡ call.status → Replied call.rules asked task (Err fault) → (first : Fault) × (task ≡ Err first) × (status_of first ≡ call.status)
+    by_task (Ok task) fault is replied = absurd (apart.2 (sym is ∙ replied_short call.rules asked task fault replied))
     by_task (Err first) fault is replied = let same : fault ≡ first = cc (replied) in (first, refl, sym (ap status_of same) ∙ is)
 
-    by_end : (fault : Fault) → status_of fault ≡ status → ToldReply rules asked before.folder after.folder files (Err fault) → IsRefusedWith rules asked files status
-    by_end fault is (inl replied) = by_task (task_of rules asked files) fault is replied
+    by_end : (fault : Fault) → status_of fault ≡ call.status → ToldReply call asked files (Err fault) → IsRefusedWith call asked files
+    by_end fault is (inl replied) = by_task (task_of call.rules asked files) fault is replied
     by_end fault is (inr (inl (other, six, same))) = let fault_is : fault ≡ other = cc (same) in absurd (apart.2 (sym is ∙ ap status_of fault_is ∙ six))
     by_end fault is (inr (inr hindered)) = let fault_is : fault ≡ Unread hindered.source reading.Failed = cc (hindered.is) in absurd (apart.1 (sym is ∙ ap status_of fault_is))
 
-    by_delivery : (reply : Reply) → ToldReply rules asked before.folder after.folder files reply → Delivers (said_of asked reply) before.out after.out before.err after.err status → IsRefusedWith rules asked files status
-    by_delivery (Ok answered) replied (inl delivered) = absurd (verdict_apart answered.verdict status apart.0 (sym delivered.same_status))
+    by_delivery : (reply : Reply) → ToldReply call asked files reply → Delivers (said_of asked reply) call → IsRefusedWith call asked files
+    by_delivery (Ok answered) replied (inl delivered) = absurd (verdict_apart answered.verdict call.status apart.0 (sym delivered.same_status))
     by_delivery (Err fault) replied (inl delivered) = by_end fault (sym delivered.same_status) replied
     by_delivery reply replied (inr cut) = absurd (apart.1 cut.five)
 
-    by_call : IsToldCall rules asked files before after status → IsRefusedWith rules asked files status
+    by_call : IsToldCall call asked files → IsRefusedWith call asked files
     by_call (short six same) = absurd (apart.2 six)
     by_call (told reply replied delivers) = by_delivery reply replied delivers
 
 -- how a call ends that was told its files, where no fault is counted: want of memory, or the reply to the task, put whole
-data IsSettled (rules : List Rule) (asked : RequestView) (files : List File) (before after : Devices) (status : ℕ) : Type 0 where
-  exhausted : status ≡ 6 → IsSettled rules asked files before after status
-  replied : (reply : Reply) → Replied rules asked (task_of rules asked files) reply → IsDelivered (said_of asked reply) before.out after.out before.err after.err status
-      → IsSettled rules asked files before after status
+data IsSettled (call : Call) (asked : RequestView) (files : List File) : Type 0 where
+  exhausted : call.status ≡ 6 → IsSettled call asked files
+  replied : (reply : Reply) → Replied call.rules asked (task_of call.rules asked files) reply → IsDelivered (said_of asked reply) call
+      → IsSettled call asked files
 
-settled : (rules : List Rule) (words : List (List ℕ)) (before after : Devices) (status : ℕ) → IsAnswer rules words before after status → (asked : RequestView) (files : List File) → IsGiven words before asked files
-    → NoneCounted rules asked before after → IsSettled rules asked files before after status
-settled rules words before after status answer asked files given none = by_call (told_call rules words before after status answer asked files given)
+settled : (call : Call) → IsAnswer call → (asked : RequestView) (files : List File) → IsGiven call asked files
+    → NoneCounted call asked → IsSettled call asked files
+settled call answer asked files given none = by_call (told_call call answer asked files given)
   where
-    by_end : (reply : Reply) → ToldReply rules asked before.folder after.folder files reply → IsDelivered (said_of asked reply) before.out after.out before.err after.err status
-        → IsSettled rules asked files before after status
+    by_end : (reply : Reply) → ToldReply call asked files reply → IsDelivered (said_of asked reply) call
+        → IsSettled call asked files
     by_end reply (inl is) delivered = replied reply is delivered
     by_end reply (inr (inl (fault, six, is))) delivered = exhausted (delivered.same_status ∙ ap (λ r. (said_of asked r).status) is ∙ six)
     by_end reply (inr (inr hindered)) delivered = absurd (none.files hindered.source hindered.name hindered.reached hindered.counted)
 
-    by_delivery : (reply : Reply) → ToldReply rules asked before.folder after.folder files reply → Delivers (said_of asked reply) before.out after.out before.err after.err status
-        → IsSettled rules asked files before after status
+    by_delivery : (reply : Reply) → ToldReply call asked files reply → Delivers (said_of asked reply) call
+        → IsSettled call asked files
     by_delivery reply to (inl delivered) = by_end reply to delivered
-    by_delivery reply to (inr cut) = absurd (none.out (cut_counted (said_of asked reply).text before.out after.out cut.front))
+    by_delivery reply to (inr cut) = absurd (none.out (cut_counted (said_of asked reply).text call.before.out call.after.out cut.front))
 
-    by_call : IsToldCall rules asked files before after status → IsSettled rules asked files before after status
+    by_call : IsToldCall call asked files → IsSettled call asked files
     by_call (short six same) = exhausted six
     by_call (told reply to delivers) = by_delivery reply to delivers
 
 -- where no fault is counted, the first fault gives its status or want of memory, and nothing is written
-pub first_fault_decides : (rules : List Rule) (words : List (List ℕ)) (before after : Devices) (status : ℕ) → IsAnswer rules words before after status → IsRefusedFirst rules words before after status
-first_fault_decides rules words before after status answer asked files given none fault is = by_end (settled rules words before after status answer asked files given none)
+pub first_fault_decides : (call : Call) → IsAnswer call → IsRefusedFirst call
+first_fault_decides call answer asked files given none fault is = by_end (settled call answer asked files given none)
   where
-    by_end : IsSettled rules asked files before after status → ((status ≡ status_of fault) × (after.out ≡ before.out)) ⊎ (status ≡ 6)
+    by_end : IsSettled call asked files → ((call.status ≡ status_of fault) × (call.after.out ≡ call.before.out)) ⊎ (call.status ≡ 6)
     by_end (exhausted six) = inr six
     by_end (replied reply to delivered) =
-        let as_fault : reply ≡ Err fault = subst (λ e. Replied rules asked e reply) is to in
-        let put : IsDelivered (said_of asked (Err fault)) before.out after.out before.err after.err status =
-        subst (λ r. IsDelivered (said_of asked r) before.out after.out before.err after.err status) as_fault delivered in
+        let as_fault : reply ≡ Err fault = subst (λ e. Replied call.rules asked e reply) is to in
+        let put : IsDelivered (said_of asked (Err fault)) call =
+        subst (λ r. IsDelivered (said_of asked r) call) as_fault delivered in
         inl (put.same_status, put.taken)
 
 -- where no fault is counted and there is a task, it is answered, or memory ran out
-pub task_is_answered : (rules : List Rule) (words : List (List ℕ)) (before after : Devices) (status : ℕ) → IsAnswer rules words before after status → IsComplete rules words before after status
-task_is_answered rules words before after status answer asked files given none task is = by_end (settled rules words before after status answer asked files given none)
+pub task_is_answered : (call : Call) → IsAnswer call → IsComplete call
+task_is_answered call answer asked files given none task is = by_end (settled call answer asked files given none)
   where
-    by_reply : (reply : Reply) → Replies rules asked task reply → IsDelivered (said_of asked reply) before.out after.out before.err after.err status → IsAnswered rules asked task before after status ⊎ (status ≡ 6)
+    by_reply : (reply : Reply) → Replies call.rules asked task reply → IsDelivered (said_of asked reply) call → IsAnswered call asked task ⊎ (call.status ≡ 6)
     by_reply (Ok answered) to delivered = inl (answered, to, delivered)
-    by_reply (Err fault) to delivered = inr (delivered.same_status ∙ replied_short rules asked task fault to)
+    by_reply (Err fault) to delivered = inr (delivered.same_status ∙ replied_short call.rules asked task fault to)
 
-    by_end : IsSettled rules asked files before after status → IsAnswered rules asked task before after status ⊎ (status ≡ 6)
+    by_end : IsSettled call asked files → IsAnswered call asked task ⊎ (call.status ≡ 6)
     by_end (exhausted six) = inr six
-    by_end (replied reply to delivered) = by_reply reply (subst (λ e. Replied rules asked e reply) is to) delivered
+    by_end (replied reply to delivered) = by_reply reply (subst (λ e. Replied call.rules asked e reply) is to) delivered

@@ -26,10 +26,9 @@ use Rattle.wfc_task.specs.Task as tasks
 use Rattle.wfc_task.specs.Task.{Task, plan_by}
 use Rattle.wfc_task.specs.UpgradeGiven.{IsUpgradeTask}
 use Rattle.wfc_task.proofs.CallerLemmas.{upgrade_given}
-use Rattle.wfc_cli.specs.Answer.{Devices, IsAnswer}
+use Rattle.wfc_cli.specs.Answer.{IsAnswer}
 use Rattle.wfc_cli.specs.Answers.{Answers}
 use Rattle.wfc_cli.specs.Choosers.{kinds_of}
-use Rattle.wfc_cli.specs.Claims.{IsCommand}
 use Rattle.wfc_cli.specs.Ending.{EndsPut}
 use Rattle.wfc_cli.specs.Reply.{Answered, CutsOff, Takes, TakesWhole, done_with, verdict_status}
 use Rattle.wfc_cli.specs.UpgradeClaims.{KeepsOld, UpgradeWork, UpgradesFront, UpgradesRefutation, WritesUpgraded, WritesUpgradedFront}
@@ -42,6 +41,8 @@ use Rattle.wfc_cli.proofs.CommandLemmas.{CameTo, whole, cut, none, came_to, plan
 use Rattle.wfc_cli.proofs.EndLemmas.{put_cut, put_short, put_whole}
 use Rattle.wfc_cli.proofs.MapLemmas.{TakesSides, IsBridged, command_bridged, command_shape, no_legal}
 use Rattle.wfc_cli.proofs.TheoremLemmas.{verdict_apart}
+use Rattle.wfc_cli.specs.Call.{Call}
+use Rattle.wfc_cli.specs.Theorem.{IsCommand}
 
 -- ---- the fault of a text
 
@@ -97,10 +98,10 @@ record IsKnown (asked : RequestView) (files : List File) (work : UpgradeWork ask
   bridge : IsBridged asked.source asked files work.P work.task.posed
   shape : IsShape (shape_of asked)
 
-known : (words : List (List ℕ)) (before : Devices) (asked : RequestView) (files : List File) → IsCommand commands.Upgrade words before asked files → (work : UpgradeWork asked files) → IsKnown asked files work
-known words before asked files is work =
+known : (call : Call) (asked : RequestView) (files : List File) → IsCommand commands.Upgrade call asked files → (work : UpgradeWork asked files) → IsKnown asked files work
+known call asked files is work =
     let sides : TakesSides commands.Upgrade = record { model = refl; width = refl; height = refl } in
-    record { bridge = command_bridged commands.Upgrade words before asked files work.P work.task.posed sides is; shape = command_shape commands.Upgrade words before asked files sides is }
+    record { bridge = command_bridged commands.Upgrade call asked files work.P work.task.posed sides is; shape = command_shape commands.Upgrade call asked files sides is }
 
 -- its text keeps the proof
 keeps : (asked : RequestView) (files : List File) (work : UpgradeWork asked files) → IsKnown asked files work → (format : Format) (proof : Proof) → IsTextOf work.P (shape_of asked) format proof work.bytes
@@ -129,13 +130,13 @@ has_upgraded rules asked files task answered P bytes same given answers =
     let said : Some (upgrade_answer asked P bytes (first_fault asked P bytes)) ≡ Some answered = subst (λ (t : Task). Answers rules asked t answered) (sym same) answers in
     record { work = record { P = P; bytes = bytes; task = given }; is = cc (said) }
 
-pub upgrades_refutation : (rules : List Rule) (words : List (List ℕ)) (before after : Devices) (status : ℕ) → IsAnswer rules words before after status → UpgradesRefutation words before after status
-upgrades_refutation rules words before after status answer asked files is low = by_end (came_to rules commands.Upgrade words before after status answer asked files is)
+pub upgrades_refutation : (call : Call) → IsAnswer call → (asked : RequestView) (files : List File) → IsCommand commands.Upgrade call asked files → UpgradesRefutation call asked files
+upgrades_refutation call answer asked files is low = by_end (came_to commands.Upgrade call answer asked files is)
   where
-    by_found : (work : UpgradeWork asked files) (found : Option CheckFault) → first_fault asked work.P work.bytes ≡ found → status ≡ verdict_status (upgrade_answer asked work.P work.bytes found).verdict
-        → Takes (upgrade_answer asked work.P work.bytes found).text before.out after.out → (work : UpgradeWork asked files) × (((status ≡ 0) × WritesUpgraded asked work before after) ⊎ ((status ≡ 1) × KeepsOld asked work before after))
+    by_found : (work : UpgradeWork asked files) (found : Option CheckFault) → first_fault asked work.P work.bytes ≡ found → call.status ≡ verdict_status (upgrade_answer asked work.P work.bytes found).verdict
+        → Takes (upgrade_answer asked work.P work.bytes found).text call.before.out call.after.out → (work : UpgradeWork asked files) × (((call.status ≡ 0) × WritesUpgraded asked work call) ⊎ ((call.status ≡ 1) × KeepsOld asked work call))
     by_found work None found same takes =
-        let sure = known words before asked files is work in
+        let sure = known call asked files is work in
         let refutation = is_refutation asked files work sure found in (
           work,
           inl (
@@ -149,7 +150,7 @@ upgrades_refutation rules words before after status answer asked files is low = 
           ),
         )
     by_found work (Some fault) found same takes =
-        let sure = known words before asked files is work in (
+        let sure = known call asked files is work in (
           work,
           inr (
             same,
@@ -162,36 +163,36 @@ upgrades_refutation rules words before after status answer asked files is low = 
           ),
         )
 
-    taken : (work : UpgradeWork asked files) (found : Option CheckFault) → TakesWhole (upgrade_answer asked work.P work.bytes found).whole (upgrade_answer asked work.P work.bytes found).text before.out after.out
-        → Takes (upgrade_answer asked work.P work.bytes found).text before.out after.out
+    taken : (work : UpgradeWork asked files) (found : Option CheckFault) → TakesWhole (upgrade_answer asked work.P work.bytes found).whole (upgrade_answer asked work.P work.bytes found).text call.before.out call.after.out
+        → Takes (upgrade_answer asked work.P work.bytes found).text call.before.out call.after.out
     taken work None takes = takes
     taken work (Some fault) takes = takes
 
-    by_end : CameTo rules asked files before after status → (work : UpgradeWork asked files) × (((status ≡ 0) × WritesUpgraded asked work before after) ⊎ ((status ≡ 1) × KeepsOld asked work before after))
+    by_end : CameTo call asked files → (work : UpgradeWork asked files) × (((call.status ≡ 0) × WritesUpgraded asked work call) ⊎ ((call.status ≡ 1) × KeepsOld asked work call))
     by_end (whole answered has same takes) =
-        let given = upgrade_given asked files has.task (planned rules asked files commands.Upgrade has.task is.command_is has.is) in
-        let said = has_upgraded rules asked files has.task answered given.0 given.1 given.2 given.3 has.answers in
+        let given = upgrade_given asked files has.task (planned call.rules asked files commands.Upgrade has.task is.command_is has.is) in
+        let said = has_upgraded call.rules asked files has.task answered given.0 given.1 given.2 given.3 has.answers in
         let work = said.work in
         by_found work (first_fault asked work.P work.bytes) refl (same ∙ sym (ap (λ (a : Answered). verdict_status a.verdict) said.is))
-        (taken work (first_fault asked work.P work.bytes) (subst (λ (a : Answered). TakesWhole a.whole a.text before.out after.out) (sym said.is) takes))
+        (taken work (first_fault asked work.P work.bytes) (subst (λ (a : Answered). TakesWhole a.whole a.text call.before.out call.after.out) (sym said.is) takes))
     by_end (cut answered has five front) = absurd (omega (arith, five, low))
     by_end (none high same) = absurd (omega (arith, high, low))
 
-pub upgrades_front : (rules : List Rule) (words : List (List ℕ)) (before after : Devices) (status : ℕ) → IsAnswer rules words before after status → UpgradesFront words before after status
-upgrades_front rules words before after status answer asked files is five = by_end (came_to rules commands.Upgrade words before after status answer asked files is)
+pub upgrades_front : (call : Call) → IsAnswer call → (asked : RequestView) (files : List File) → IsCommand commands.Upgrade call asked files → UpgradesFront call asked files
+upgrades_front call answer asked files is five = by_end (came_to commands.Upgrade call answer asked files is)
   where
-    by_found : (work : UpgradeWork asked files) (found : Option CheckFault) → first_fault asked work.P work.bytes ≡ found → CutsOff (upgrade_answer asked work.P work.bytes found).text before.out after.out
-        → WritesUpgradedFront asked work before after
+    by_found : (work : UpgradeWork asked files) (found : Option CheckFault) → first_fault asked work.P work.bytes ≡ found → CutsOff (upgrade_answer asked work.P work.bytes found).text call.before.out call.after.out
+        → WritesUpgradedFront asked work call
     by_found work None found front =
-        let sure = known words before asked files is work in
+        let sure = known call asked files is work in
         record { refutation = is_refutation asked files work sure found; same_proof = keeps asked files work sure; front = front }
     by_found work (Some fault) found front = absurd front
 
-    by_end : CameTo rules asked files before after status → (after.out ≡ before.out) ⊎ ((work : UpgradeWork asked files) × WritesUpgradedFront asked work before after)
+    by_end : CameTo call asked files → (call.after.out ≡ call.before.out) ⊎ ((work : UpgradeWork asked files) × WritesUpgradedFront asked work call)
     by_end (whole answered has same takes) = absurd (verdict_apart answered.verdict 5 (omega arith) (sym same ∙ five))
     by_end (cut answered has _ front) =
-        let given = upgrade_given asked files has.task (planned rules asked files commands.Upgrade has.task is.command_is has.is) in
-        let said = has_upgraded rules asked files has.task answered given.0 given.1 given.2 given.3 has.answers in
+        let given = upgrade_given asked files has.task (planned call.rules asked files commands.Upgrade has.task is.command_is has.is) in
+        let said = has_upgraded call.rules asked files has.task answered given.0 given.1 given.2 given.3 has.answers in
         let work = said.work in
-        inr (work, by_found work (first_fault asked work.P work.bytes) refl (subst (λ (a : Answered). CutsOff a.text before.out after.out) (sym said.is) front))
+        inr (work, by_found work (first_fault asked work.P work.bytes) refl (subst (λ (a : Answered). CutsOff a.text call.before.out call.after.out) (sym said.is) front))
     by_end (none high same) = inl same

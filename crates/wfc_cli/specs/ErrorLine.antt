@@ -4,7 +4,7 @@ use Rattle.wfc_grid.specs.declared.reading.GridFault.{GridFault}
 use Rattle.wfc_outside.specs.declared.whole.ReadFault.{ReadFault}
 use Rattle.wfc_outside.specs.declared.whole.ReadFault.TheVariants as reads
 use Rattle.wfc_lines.specs.Build.{text_of_build}
-use Rattle.wfc_lines.specs.Command.{text_of_chooser, text_of_command}
+use Rattle.wfc_lines.specs.Command.{text_of_chooser}
 use Rattle.wfc_lines.specs.Grid.{text_of_grid}
 use Rattle.wfc_lines.specs.Learn.{text_of_learn}
 use Rattle.wfc_lines.specs.Mask.{text_of_mask, text_of_mask_grid}

@@ -1,3 +1,4 @@
+pub mod Call
 pub mod ErrorLine
 pub mod Choosers
 pub mod Maps
@@ -13,10 +14,12 @@ pub mod Answer
 pub mod Ending
 pub mod Reaching
 pub mod Theorem
-pub mod Claims
+pub mod CutClaims
+pub mod FillClaims
+pub mod LearnClaims
+pub mod DomainsClaims
 pub mod DemoClaims
 pub mod CheckClaims
 pub mod RefuteClaims
 pub mod UpgradeClaims
-pub mod CutClaims
 pub mod LineClaims

@@ -19,12 +19,12 @@ use Rattle.wfc_words.specs.RequestView.{RequestView}
 use Rattle.wfc_words.specs.declared.kinds.CommandKind.TheVariants as commands
 use Rattle.wfc_task.specs.Checking.{shape_of}
 use Rattle.wfc_task.specs.RefuteGiven.{IsRefuteTask}
-use Rattle.wfc_cli.specs.Answer.{Devices}
+use Rattle.wfc_cli.specs.Call.{Call}
 use Rattle.wfc_cli.specs.Choosers.{chosen, kinds_of}
-use Rattle.wfc_cli.specs.Claims.{IsCommand}
 use Rattle.wfc_cli.specs.Maps.{IsLegal}
 use Rattle.wfc_cli.specs.Refuting.{IsBegunBy, IsToldBy, refutation_text}
 use Rattle.wfc_cli.specs.Runs.{seeded}
+use Rattle.wfc_cli.specs.Theorem.{Promises}
 
 -- what `refute` works on over these files
 pub record RefuteWork (rules : List Rule) (asked : RequestView) (files : List File) : Type 0 where
@@ -62,35 +62,44 @@ IsRunText P shape outcome.Spent bytes = IsJournalText P shape Out bytes
 -- as it has dead states;
 -- without a map it is the text of a proof, and no map is legal; a spent budget is below the volume
 pub record WritesRun {rules : List Rule} {files : List File} (asked : RequestView) (work : RefuteWork rules asked files)
-    (before after : Devices) (status : ℕ) : Type 0 where
+    (call : Call) : Type 0 where
   pub outcome : Outcome
   pub lines : List Line
   pub told : AreToldBy asked work outcome lines
   pub counts : HasCounts work.P work.rule asked.budget (start (seeded asked.seed)) outcome lines
   pub text : IsRunText work.P (shape_of asked) outcome (refutation_text asked work.P lines)
-  pub same_status : status ≡ refute_status outcome
-  pub written : after.out ≡ after_finish (after_bytes before.out (refutation_text asked work.P lines))
-  pub none : status ≡ 0 → (m : Raster) → IsLegal asked files work.P work.task.posed m → ⊥
-  pub spent : status ≡ 2 → asked.budget + 1 ≤ volume_of work.P
+  pub same_status : call.status ≡ refute_status outcome
+  pub written : call.after.out ≡ after_finish (after_bytes call.before.out (refutation_text asked work.P lines))
+  pub none : call.status ≡ 0 → (m : Raster) → IsLegal asked files work.P work.task.posed m → ⊥
+  pub spent : call.status ≡ 2 → asked.budget + 1 ≤ volume_of work.P
 
 -- statuses 0, 1 and 2 of `refute`
-abbrev pub WritesRefutation : List Rule → List (List ℕ) → Devices → Devices → ℕ → Type 0
-WritesRefutation rules words before after status =
-    (asked : RequestView) (files : List File) → IsCommand commands.Refute words before asked files → status ≤ 2
-    → (work : RefuteWork rules asked files) × WritesRun asked work before after status
+abbrev pub WritesRefutation : Call → RequestView → List File → Type 0
+WritesRefutation call asked files =
+    call.status ≤ 2
+    → (work : RefuteWork call.rules asked files) × WritesRun asked work call
 
 -- a front was written of the text of all lines of the run, or of its first ones
 pub record IsRunFront {rules : List Rule} {files : List File} (asked : RequestView)
     (work : RefuteWork rules asked files)
-    (before after : Devices) : Type 0 where
+    (call : Call) : Type 0 where
   pub lines : List Line
   pub told : ((outcome : Outcome) × AreToldBy asked work outcome lines) ⊎ AreBegunBy asked work lines
   pub count : ℕ
   pub within : count ≤ length lines
-  pub front : IsFaultAfterFront before.out after.out (refutation_text asked work.P (take count lines))
+  pub front : IsFaultAfterFront call.before.out call.after.out (refutation_text asked work.P (take count lines))
 
 -- status 5 of `refute`: nothing was written, or a front of such a text
-abbrev pub WritesRunFront : List Rule → List (List ℕ) → Devices → Devices → ℕ → Type 0
-WritesRunFront rules words before after status =
-    (asked : RequestView) (files : List File) → IsCommand commands.Refute words before asked files → status ≡ 5
-    → (after.out ≡ before.out) ⊎ ((work : RefuteWork rules asked files) × IsRunFront asked work before after)
+abbrev pub WritesRunFront : Call → RequestView → List File → Type 0
+WritesRunFront call asked files =
+    call.status ≡ 5
+    → (call.after.out ≡ call.before.out) ⊎ ((work : RefuteWork call.rules asked files) × IsRunFront asked work call)
+
+-- what a call promises of a request for `refute`
+pub record RefutePromise (call : Call) (asked : RequestView) (files : List File) : Type 0 where
+  pub written : WritesRefutation call asked files
+  pub front : WritesRunFront call asked files
+
+-- this, of each request over told files
+abbrev pub RefutePromises : Call → Type 0
+RefutePromises call = Promises commands.Refute RefutePromise call

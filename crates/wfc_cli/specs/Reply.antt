@@ -10,6 +10,7 @@ use Rattle.wfc_lines.specs.Command.{text_of_command}
 use Rattle.wfc_lines.specs.Line.{line}
 use Rattle.wfc_lines.specs.Outcome.{map_exists_text, no_domains_text, no_map_text, out_failed_text, text_of_budget}
 use Rattle.wfc_task.specs.declared.fault.Source.TheVariants as source
+use Rattle.wfc_cli.specs.Call.{Call}
 use Rattle.wfc_cli.specs.ErrorLine.{command_status, fault_text, name_of}
 use Rattle.wfc_cli.specs.declared.reply.Verdict.{Verdict}
 use Rattle.wfc_cli.specs.declared.reply.Verdict.TheVariants.{Done, NoMap, Spent, Dead, MapExists, Unaccepted}
@@ -89,10 +90,10 @@ Tells None old new = new ≡ old
 Tells (Some text) old new = IsTold text old new
 
 -- all of it was put
-pub record IsDelivered (said : Said) (out_old out_new err_old err_new : SinkView) (status : ℕ) : Type 0 where
-  pub taken : TakesWhole said.whole said.text out_old out_new
-  pub told : Tells said.told err_old err_new
-  pub same_status : status ≡ said.status
+pub record IsDelivered (said : Said) (call : Call) : Type 0 where
+  pub taken : TakesWhole said.whole said.text call.before.out call.after.out
+  pub told : Tells said.told call.before.err call.after.err
+  pub same_status : call.status ≡ said.status
 
 -- the sink failed after a front of the text
 abbrev pub CutsOff : Option (List ℕ) → SinkView → SinkView → Type 0
@@ -100,13 +101,11 @@ CutsOff None old new = ⊥
 CutsOff (Some text) old new = IsFaultAfterFront old new text
 
 -- a front of the text was put, and the stream is told of the sink
-pub record IsCutOff (said : Said) (out_old out_new err_old err_new : SinkView) (status : ℕ) : Type 0 where
-  pub front : CutsOff said.text out_old out_new
-  pub told : Tells (Some out_failed_text) err_old err_new
-  pub five : status ≡ 5
+pub record IsCutOff (said : Said) (call : Call) : Type 0 where
+  pub front : CutsOff said.text call.before.out call.after.out
+  pub told : Tells (Some out_failed_text) call.before.err call.after.err
+  pub five : call.status ≡ 5
 
 -- what a call does to its streams that says this, and its status
-abbrev pub Delivers : Said → SinkView → SinkView → SinkView → SinkView → ℕ → Type 0
-Delivers said out_old out_new err_old err_new status =
-    IsDelivered said out_old out_new err_old err_new status
-    ⊎ IsCutOff said out_old out_new err_old err_new status
+abbrev pub Delivers : Said → Call → Type 0
+Delivers said call = IsDelivered said call ⊎ IsCutOff said call

@@ -13,10 +13,10 @@ use Rattle.wfc_words.specs.RequestView.{RequestView}
 use Rattle.wfc_words.specs.declared.kinds.CommandKind.TheVariants as commands
 use Rattle.wfc_task.specs.Checking.{shape_of}
 use Rattle.wfc_task.specs.UpgradeGiven.{IsUpgradeTask}
-use Rattle.wfc_cli.specs.Answer.{Devices}
-use Rattle.wfc_cli.specs.Claims.{IsCommand}
+use Rattle.wfc_cli.specs.Call.{Call}
 use Rattle.wfc_cli.specs.Maps.{IsLegal}
 use Rattle.wfc_cli.specs.Upgrading.{same_proof_text}
+use Rattle.wfc_cli.specs.Theorem.{Promises}
 
 -- what `upgrade` works on over these files: the problem, and the bytes of the file
 pub record UpgradeWork (asked : RequestView) (files : List File) : Type 0 where
@@ -36,34 +36,43 @@ KeepsProof asked work =
 
 -- the file is a refutation, so no map is legal, and its proof was written in format 2
 pub record WritesUpgraded {files : List File} (asked : RequestView)
-    (work : UpgradeWork asked files) (before after : Devices) : Type 0 where
+    (work : UpgradeWork asked files) (call : Call) : Type 0 where
   pub refutation : IsUpgradable asked work
   pub none : (m : Raster) → IsLegal asked files work.P work.task.posed m → ⊥
   pub same_proof : KeepsProof asked work
-  pub written : after.out ≡ after_finish (after_bytes before.out (same_proof_text asked work.P work.bytes))
+  pub written : call.after.out ≡ after_finish (after_bytes call.before.out (same_proof_text asked work.P work.bytes))
 
 -- the file is no refutation, and nothing was written
 pub record KeepsOld {files : List File} (asked : RequestView) (work : UpgradeWork asked files)
-    (before after : Devices) : Type 0 where
+    (call : Call) : Type 0 where
   pub none : IsUpgradable asked work → ⊥
-  pub same : after.out ≡ before.out
+  pub same : call.after.out ≡ call.before.out
 
 -- statuses 0 and 1 of `upgrade`: 0 exactly where the file is a refutation
-abbrev pub UpgradesRefutation : List (List ℕ) → Devices → Devices → ℕ → Type 0
-UpgradesRefutation words before after status =
-    (asked : RequestView) (files : List File) → IsCommand commands.Upgrade words before asked files → status ≤ 2
+abbrev pub UpgradesRefutation : Call → RequestView → List File → Type 0
+UpgradesRefutation call asked files =
+    call.status ≤ 2
     → (work : UpgradeWork asked files)
-    × (((status ≡ 0) × WritesUpgraded asked work before after) ⊎ ((status ≡ 1) × KeepsOld asked work before after))
+    × (((call.status ≡ 0) × WritesUpgraded asked work call) ⊎ ((call.status ≡ 1) × KeepsOld asked work call))
 
 -- the file is a refutation, and a front was written of its proof in format 2
 pub record WritesUpgradedFront {files : List File} (asked : RequestView)
-    (work : UpgradeWork asked files) (before after : Devices) : Type 0 where
+    (work : UpgradeWork asked files) (call : Call) : Type 0 where
   pub refutation : IsUpgradable asked work
   pub same_proof : KeepsProof asked work
-  pub front : IsFaultAfterFront before.out after.out (same_proof_text asked work.P work.bytes)
+  pub front : IsFaultAfterFront call.before.out call.after.out (same_proof_text asked work.P work.bytes)
 
 -- status 5 of `upgrade`: nothing was written, or a front of that text
-abbrev pub UpgradesFront : List (List ℕ) → Devices → Devices → ℕ → Type 0
-UpgradesFront words before after status =
-    (asked : RequestView) (files : List File) → IsCommand commands.Upgrade words before asked files → status ≡ 5
-    → (after.out ≡ before.out) ⊎ ((work : UpgradeWork asked files) × WritesUpgradedFront asked work before after)
+abbrev pub UpgradesFront : Call → RequestView → List File → Type 0
+UpgradesFront call asked files =
+    call.status ≡ 5
+    → (call.after.out ≡ call.before.out) ⊎ ((work : UpgradeWork asked files) × WritesUpgradedFront asked work call)
+
+-- what a call promises of a request for `upgrade`
+pub record UpgradePromise (call : Call) (asked : RequestView) (files : List File) : Type 0 where
+  pub written : UpgradesRefutation call asked files
+  pub front : UpgradesFront call asked files
+
+-- this, of each request over told files
+abbrev pub UpgradePromises : Call → Type 0
+UpgradePromises call = Promises commands.Upgrade UpgradePromise call

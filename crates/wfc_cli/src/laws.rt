@@ -1,7 +1,8 @@
 //! Laws of the definitions, each a function with no body whose contract is the law. They run nothing.
 
 ghost use Rattle.std.specs.Prelude.{◌≡◌, ◌∷◌, [], List, None, Some, codes, false, ℕ};
-ghost use Rattle.wfc_outside.specs.Folder.{File};
+ghost use Rattle.wfc_outside.specs.Folder.{File, FolderView};
+ghost use Rattle.wfc_outside.specs.Sink.{SinkView};
 ghost use Rattle.wfc_model.specs.Raster.{Raster};
 ghost use Rattle.wfc_choose.specs.Pick.{Rule};
 ghost use Rattle.wfc_choose.specs.declared.RuleKind.TheVariants as rules;
@@ -19,8 +20,9 @@ ghost use Rattle.wfc_task.specs.Posed.{Posed};
 ghost use Rattle.wfc_task.specs.declared.fault.Source.TheVariants.{Pins, Sample};
 ghost use Rattle.wfc_words.specs.RequestView.{RequestView};
 ghost use Rattle.wfc_cli.specs.Answers.{demo_text, outcome_status, standings};
+ghost use Rattle.wfc_cli.specs.Call.{Call, beside, call_of, devices};
 ghost use Rattle.wfc_cli.specs.Choosers.{chosen};
-ghost use Rattle.wfc_cli.specs.Claims.{FillWork, IsFoundMap};
+ghost use Rattle.wfc_cli.specs.FillClaims.{FillWork, IsFoundMap};
 ghost use Rattle.wfc_cli.specs.Maps.{IsLegal, map_of};
 ghost use Rattle.wfc_cli.specs.Reaching.{Reaches};
 ghost use Rattle.wfc_cli.specs.RefuteClaims.{refute_status};
@@ -107,4 +109,19 @@ pub fn files_are_reached_by_example()
         (record { contents = Some (record { name = 97 ∷ []; bytes = 7 ∷ [] } ∷ []); faults = λ name. 0 }) Pins (98 ∷ []) }
     ensures hidden { Reaches {T = ℕ} (read Sample (97 ∷ []) most_bytes (λ a. read Pins (98 ∷ []) most_bytes (λ b. done 0)))
         (record { contents = Some []; faults = λ name. 0 }) Pins (98 ∷ []) → ⊥ }
+{}
+
+/// What a call is made of: its devices are seen before it and after it, in their order, and another error stream changes nothing else.
+pub fn calls_are_seen_before_and_after()
+    ensures before { (rules : List Rule) (f g : FolderView) (a b c d : SinkView) →
+        (call_of (λ (r : Rule). r) rules [] (λ (s : FolderView). s) f g (λ (s : SinkView). s) a b (λ (s : SinkView). s) c d 5).before ≡ devices f a c }
+    ensures after { (rules : List Rule) (f g : FolderView) (a b c d : SinkView) →
+        (call_of (λ (r : Rule). r) rules [] (λ (s : FolderView). s) f g (λ (s : SinkView). s) a b (λ (s : SinkView). s) c d 5).after ≡ devices g b d }
+    ensures status { (rules : List Rule) (f g : FolderView) (a b c d : SinkView) →
+        (call_of (λ (r : Rule). r) rules [] (λ (s : FolderView). s) f g (λ (s : SinkView). s) a b (λ (s : SinkView). s) c d 5).status ≡ 5 }
+    ensures before_beside { (call : Call) (old new : SinkView) →
+        (beside call old new).before ≡ devices call.before.folder call.before.out old }
+    ensures after_beside { (call : Call) (old new : SinkView) →
+        (beside call old new).after ≡ devices call.after.folder call.after.out new }
+    ensures same { (call : Call) (old new : SinkView) → (beside call old new).status ≡ call.status }
 {}

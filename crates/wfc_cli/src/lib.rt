@@ -1,19 +1,20 @@
 //! The program as one call: words, a folder and sinks in, an exit status out.
 #![tactic(auto)]
 
-ghost use Rattle.std.specs.Prelude.{◌≡◌, ◌≢◌, ◌⊎◌, map};
-ghost use Rattle.wfc_words.specs.Request.{texts};
-ghost use Rattle.wfc_cli.specs.Answer.{IsAnswer, devices};
-ghost use Rattle.wfc_cli.specs.CheckClaims.{ChecksRefutation};
-ghost use Rattle.wfc_cli.specs.Claims.{HasNoMap, IsAsRun, IsNeverSpent, WritesDemo, WritesDomains};
-ghost use Rattle.wfc_cli.specs.Claims.{WritesFront, WritesLearned, WritesLegalMap};
-ghost use Rattle.wfc_cli.specs.CutClaims.{CutsAnswer};
-ghost use Rattle.wfc_cli.specs.DemoClaims.{EndsDemo};
+ghost use Rattle.std.specs.Prelude.{◌≡◌};
+ghost use Rattle.wfc_cli.specs.Answer.{IsAnswer};
+ghost use Rattle.wfc_cli.specs.Call.{call_of};
+ghost use Rattle.wfc_cli.specs.CheckClaims.{CheckPromises};
+ghost use Rattle.wfc_cli.specs.DemoClaims.{DemoPromises};
+ghost use Rattle.wfc_cli.specs.DomainsClaims.{DomainsPromises};
+ghost use Rattle.wfc_cli.specs.FillClaims.{FillPromises};
+ghost use Rattle.wfc_cli.specs.LearnClaims.{LearnPromises};
 ghost use Rattle.wfc_cli.specs.LineClaims.{IsApartFromErr, TellsStatus};
-ghost use Rattle.wfc_cli.specs.RefuteClaims.{WritesRefutation, WritesRunFront};
+ghost use Rattle.wfc_cli.specs.RefuteClaims.{RefutePromises};
 ghost use Rattle.wfc_cli.specs.Reply.{Tells, said_of_words};
-ghost use Rattle.wfc_cli.specs.UpgradeClaims.{UpgradesFront, UpgradesRefutation};
-ghost use Rattle.wfc_cli.specs.Theorem.{AreQuiet, HasFirstFault, IsComplete, IsDeviceFault, IsNoCommand, IsRefusedFirst, IsWithoutAnswer};
+ghost use Rattle.wfc_cli.specs.Theorem.{CountsFaults, HasDeviceFault, HasFirstFault, HasRefusedWords};
+ghost use Rattle.wfc_cli.specs.Theorem.{IsComplete, IsRefusedFirst, KeepsOut, RefusesWords};
+ghost use Rattle.wfc_cli.specs.UpgradeClaims.{UpgradePromises};
 
 mod choosers;
 mod commands;
@@ -41,83 +42,50 @@ pub fn run<F: Folder, O: Sink, E: Sink>(
     choosers: Vec<Box<dyn Chooser>>,
 ) -> u8
     // Which statuses, bytes and lines go together, and why each comes.
-    ensures answer { IsAnswer (map (λ chooser. (told chooser).rule) choosers.items) (texts words.now)
-        (devices (F.seen folder.old) (O.seen out.old) (E.seen err.old))
-        (devices (F.seen folder.new) (O.seen out.new) (E.seen err.new)) result }
+    ensures answer { IsAnswer (call_of (λ chooser. (told chooser).rule) choosers.items words.now
+        F.seen folder.old folder.new O.seen out.old out.new E.seen err.old err.new result) }
 
     // Each status has its cause.
-    ensures command { result ≡ 3 → IsNoCommand (texts words.now) }
-    ensures refused_command { IsNoCommand (texts words.now) → (result ≡ 3) ⊎ (result ≡ 6) }
-    ensures input { (result ≡ 4) ⊎ (result ≡ 7) → HasFirstFault (map (λ chooser. (told chooser).rule) choosers.items) (texts words.now)
-        (devices (F.seen folder.old) (O.seen out.old) (E.seen err.old)) result }
-    ensures device { result ≡ 5 → IsDeviceFault (map (λ chooser. (told chooser).rule) choosers.items) (texts words.now)
-        (devices (F.seen folder.old) (O.seen out.old) (E.seen err.old)) (devices (F.seen folder.new) (O.seen out.new) (E.seen err.new)) }
-    ensures counts { result ≢ 5 → AreQuiet (devices (F.seen folder.old) (O.seen out.old) (E.seen err.old))
-        (devices (F.seen folder.new) (O.seen out.new) (E.seen err.new)) }
-    ensures untouched { IsWithoutAnswer result → O.seen out.new ≡ O.seen out.old }
+    ensures command { RefusesWords (call_of (λ chooser. (told chooser).rule) choosers.items words.now
+        F.seen folder.old folder.new O.seen out.old out.new E.seen err.old err.new result) }
+    ensures refused_command { HasRefusedWords (call_of (λ chooser. (told chooser).rule) choosers.items words.now
+        F.seen folder.old folder.new O.seen out.old out.new E.seen err.old err.new result) }
+    ensures input { HasFirstFault (call_of (λ chooser. (told chooser).rule) choosers.items words.now
+        F.seen folder.old folder.new O.seen out.old out.new E.seen err.old err.new result) }
+    ensures device { HasDeviceFault (call_of (λ chooser. (told chooser).rule) choosers.items words.now
+        F.seen folder.old folder.new O.seen out.old out.new E.seen err.old err.new result) }
+    ensures counts { CountsFaults (call_of (λ chooser. (told chooser).rule) choosers.items words.now
+        F.seen folder.old folder.new O.seen out.old out.new E.seen err.old err.new result) }
+    ensures untouched { KeepsOut (call_of (λ chooser. (told chooser).rule) choosers.items words.now
+        F.seen folder.old folder.new O.seen out.old out.new E.seen err.old err.new result) }
 
     // The error stream takes the line of the status, and nothing else depends on that stream.
-    ensures told { TellsStatus (map (λ chooser. (told chooser).rule) choosers.items) (texts words.now)
-        (devices (F.seen folder.old) (O.seen out.old) (E.seen err.old))
-        (devices (F.seen folder.new) (O.seen out.new) (E.seen err.new)) result }
-    ensures apart { IsApartFromErr (map (λ chooser. (told chooser).rule) choosers.items) (texts words.now)
-        (devices (F.seen folder.old) (O.seen out.old) (E.seen err.old))
-        (devices (F.seen folder.new) (O.seen out.new) (E.seen err.new)) result }
+    ensures told { TellsStatus (call_of (λ chooser. (told chooser).rule) choosers.items words.now
+        F.seen folder.old folder.new O.seen out.old out.new E.seen err.old err.new result) }
+    ensures apart { IsApartFromErr (call_of (λ chooser. (told chooser).rule) choosers.items words.now
+        F.seen folder.old folder.new O.seen out.old out.new E.seen err.old err.new result) }
 
     // Where no fault is counted, the files and the words decide.
-    ensures refused { IsRefusedFirst (map (λ chooser. (told chooser).rule) choosers.items) (texts words.now)
-        (devices (F.seen folder.old) (O.seen out.old) (E.seen err.old))
-        (devices (F.seen folder.new) (O.seen out.new) (E.seen err.new)) result }
-    ensures complete { IsComplete (map (λ chooser. (told chooser).rule) choosers.items) (texts words.now)
-        (devices (F.seen folder.old) (O.seen out.old) (E.seen err.old))
-        (devices (F.seen folder.new) (O.seen out.new) (E.seen err.new)) result }
+    ensures refused { IsRefusedFirst (call_of (λ chooser. (told chooser).rule) choosers.items words.now
+        F.seen folder.old folder.new O.seen out.old out.new E.seen err.old err.new result) }
+    ensures complete { IsComplete (call_of (λ chooser. (told chooser).rule) choosers.items words.now
+        F.seen folder.old folder.new O.seen out.old out.new E.seen err.old err.new result) }
 
-    // What `fill` writes is a legal map; 'no map' is answered only where none exists.
-    ensures legal { WritesLegalMap (map (λ chooser. (told chooser).rule) choosers.items) (texts words.now)
-        (devices (F.seen folder.old) (O.seen out.old) (E.seen err.old))
-        (devices (F.seen folder.new) (O.seen out.new) (E.seen err.new)) result }
-    ensures front { WritesFront (map (λ chooser. (told chooser).rule) choosers.items) (texts words.now)
-        (devices (F.seen folder.old) (O.seen out.old) (E.seen err.old))
-        (devices (F.seen folder.new) (O.seen out.new) (E.seen err.new)) result }
-    ensures no_map { HasNoMap (map (λ chooser. (told chooser).rule) choosers.items) (texts words.now)
-        (devices (F.seen folder.old) (O.seen out.old) (E.seen err.old))
-        (devices (F.seen folder.new) (O.seen out.new) (E.seen err.new)) result }
-    ensures as_run { IsAsRun (map (λ chooser. (told chooser).rule) choosers.items) (texts words.now)
-        (devices (F.seen folder.old) (O.seen out.old) (E.seen err.old))
-        (devices (F.seen folder.new) (O.seen out.new) (E.seen err.new)) result }
-    ensures never_spent { IsNeverSpent (map (λ chooser. (told chooser).rule) choosers.items) (texts words.now)
-        (devices (F.seen folder.old) (O.seen out.old) (E.seen err.old)) result }
-
-    // What the other commands write; `check` accepts exactly the refutations, and then no picture is legal.
-    ensures learned { WritesLearned (texts words.now)
-        (devices (F.seen folder.old) (O.seen out.old) (E.seen err.old))
-        (devices (F.seen folder.new) (O.seen out.new) (E.seen err.new)) result }
-    ensures domains { WritesDomains (texts words.now)
-        (devices (F.seen folder.old) (O.seen out.old) (E.seen err.old))
-        (devices (F.seen folder.new) (O.seen out.new) (E.seen err.new)) result }
-    ensures checked { ChecksRefutation (texts words.now)
-        (devices (F.seen folder.old) (O.seen out.old) (E.seen err.old))
-        (devices (F.seen folder.new) (O.seen out.new) (E.seen err.new)) result }
-    ensures refuted { WritesRefutation (map (λ chooser. (told chooser).rule) choosers.items) (texts words.now)
-        (devices (F.seen folder.old) (O.seen out.old) (E.seen err.old))
-        (devices (F.seen folder.new) (O.seen out.new) (E.seen err.new)) result }
-    ensures refuted_front { WritesRunFront (map (λ chooser. (told chooser).rule) choosers.items) (texts words.now)
-        (devices (F.seen folder.old) (O.seen out.old) (E.seen err.old))
-        (devices (F.seen folder.new) (O.seen out.new) (E.seen err.new)) result }
-    ensures upgraded { UpgradesRefutation (texts words.now)
-        (devices (F.seen folder.old) (O.seen out.old) (E.seen err.old))
-        (devices (F.seen folder.new) (O.seen out.new) (E.seen err.new)) result }
-    ensures upgraded_front { UpgradesFront (texts words.now)
-        (devices (F.seen folder.old) (O.seen out.old) (E.seen err.old))
-        (devices (F.seen folder.new) (O.seen out.new) (E.seen err.new)) result }
-    ensures demo { WritesDemo (map (λ chooser. (told chooser).rule) choosers.items) (texts words.now)
-        (devices (F.seen folder.old) (O.seen out.old) (E.seen err.old))
-        (devices (F.seen folder.new) (O.seen out.new) (E.seen err.new)) result }
-    ensures demo_ends { EndsDemo (texts words.now)
-        (devices (F.seen folder.old) (O.seen out.old) (E.seen err.old)) result }
-    ensures cut { CutsAnswer (map (λ chooser. (told chooser).rule) choosers.items) (texts words.now)
-        (devices (F.seen folder.old) (O.seen out.old) (E.seen err.old))
-        (devices (F.seen folder.new) (O.seen out.new) (E.seen err.new)) result }
+    // What each command promises.
+    ensures learn { LearnPromises (call_of (λ chooser. (told chooser).rule) choosers.items words.now
+        F.seen folder.old folder.new O.seen out.old out.new E.seen err.old err.new result) }
+    ensures fill { FillPromises (call_of (λ chooser. (told chooser).rule) choosers.items words.now
+        F.seen folder.old folder.new O.seen out.old out.new E.seen err.old err.new result) }
+    ensures domains { DomainsPromises (call_of (λ chooser. (told chooser).rule) choosers.items words.now
+        F.seen folder.old folder.new O.seen out.old out.new E.seen err.old err.new result) }
+    ensures demo { DemoPromises (call_of (λ chooser. (told chooser).rule) choosers.items words.now
+        F.seen folder.old folder.new O.seen out.old out.new E.seen err.old err.new result) }
+    ensures refute { RefutePromises (call_of (λ chooser. (told chooser).rule) choosers.items words.now
+        F.seen folder.old folder.new O.seen out.old out.new E.seen err.old err.new result) }
+    ensures check { CheckPromises (call_of (λ chooser. (told chooser).rule) choosers.items words.now
+        F.seen folder.old folder.new O.seen out.old out.new E.seen err.old err.new result) }
+    ensures upgrade { UpgradePromises (call_of (λ chooser. (told chooser).rule) choosers.items words.now
+        F.seen folder.old folder.new O.seen out.old out.new E.seen err.old err.new result) }
 {
     answer(alloc, words, folder, out, err, choosers)
 }
@@ -131,9 +99,8 @@ fn answer<F: Folder, O: Sink, E: Sink>(
     err: &mut E,
     choosers: Vec<Box<dyn Chooser>>,
 ) -> u8
-    ensures answer { IsAnswer (map (λ chooser. (told chooser).rule) choosers.items) (texts words.now)
-        (devices (F.seen folder.old) (O.seen out.old) (E.seen err.old))
-        (devices (F.seen folder.new) (O.seen out.new) (E.seen err.new)) result }
+    ensures answer { IsAnswer (call_of (λ chooser. (told chooser).rule) choosers.items words.now
+        F.seen folder.old folder.new O.seen out.old out.new E.seen err.old err.new result) }
 {
     match request(alloc, words) {
         Ok(request) => {
