@@ -20,6 +20,7 @@ use Rattle.wfc_cli.proofs.CommandLemmas.{CameTo, whole, cut, none, came_to, plan
 use Rattle.wfc_cli.proofs.MapLemmas.{TakesSides, IsBridged, command_bridged, command_shape, no_legal}
 use Rattle.wfc_cli.specs.Call.{Call}
 use Rattle.wfc_cli.specs.Theorem.{IsCommand}
+use Rattle.wfc_cli.proofs.TheoremLemmas.{five_apart}
 
 -- what is known of the problem of a `check`
 record IsKnown (asked : RequestView) (files : List File) (work : IsCheckWork asked files) : Type 0 where
@@ -87,5 +88,5 @@ checks_refutation call answer asked files is low = by_end (came_to commands.Chec
         let answers : Some (check_answer given.0) ≡ Some answered = subst (λ task. Answers call.rules asked task answered) (sym given.1) has.answers in
         let is_answer : check_answer given.0 ≡ answered = cc (answers) in
         by_found given.0 given.2 (same ∙ sym (ap (λ (a : Answered). verdict_status a.verdict) is_answer)) (taken given.0 (subst (λ (a : Answered). TakesWhole a.whole a.text call.before.out call.after.out) (sym is_answer) takes))
-    by_end (cut answered has five front) = absurd (omega (arith, five, low))
-    by_end (none high same) = absurd (omega (arith, high, low))
+    by_end (cut answered has five front) = absurd (five_apart call.status five low)
+    by_end (none high same) = absurd (high low)

@@ -42,13 +42,13 @@ use Rattle.wfc_cli.specs.Answer.{IsAnswer, Replied}
 use Rattle.wfc_cli.specs.Answers.{Answers, demo_answer, demo_budget, demo_text, domains_answer, fill_answer, fill_by, fill_text, outcome_status, root_verdict, steps_text, verdict_of}
 use Rattle.wfc_cli.specs.Choosers.{chosen, kinds_of}
 use Rattle.wfc_cli.specs.Maps.{IsLaidBy, map_by, map_of, map_text_by}
-use Rattle.wfc_cli.specs.Reply.{Answered, CutsOff, Delivers, Reply, Takes, TakesWhole, done_with, said_of, verdict_status}
+use Rattle.wfc_cli.specs.Reply.{HasAnswer, Answered, CutsOff, Delivers, Reply, Takes, TakesWhole, done_with, said_of, verdict_status}
 use Rattle.wfc_cli.specs.Runs.{end_by, end_of, seeded}
 use Rattle.wfc_cli.specs.Theorem.{IsCommand, task_of}
 use Rattle.wfc_cli.specs.declared.reply.Verdict.TheVariants as verdict
 use Rattle.wfc_cli.proofs.EndLemmas.{command_plan}
 use Rattle.wfc_cli.proofs.MapLemmas.{TakesSides, IsBridged, command_bridged, no_legal}
-use Rattle.wfc_cli.proofs.TheoremLemmas.{IsToldCall, ToldReply, fault_between, told, short, told_call, verdict_apart}
+use Rattle.wfc_cli.proofs.TheoremLemmas.{IsToldCall, ToldReply, answer_apart, fault_apart, five_apart, told, short, told_call, verdict_apart}
 use Rattle.wfc_cli.specs.Call.{Call}
 use Rattle.wfc_cli.specs.FillClaims.{FillWork, HasNoMap, IsAsRun, IsFoundMap, IsLegalMap, IsNeverSpent, WritesFront, WritesLegalMap, assignment_text, map_text_of}
 use Rattle.wfc_cli.specs.LearnClaims.{IsRules, IsRulesBy, WritesLearned}
@@ -76,7 +76,7 @@ answered_task call asked files answered (inr (inr hindered)) = absurd (cc (hinde
 pub data CameTo (call : Call) (asked : RequestView) (files : List File) : Type 0 where
   whole : (answered : Answered) → HasAnswered call.rules asked files answered → call.status ≡ verdict_status answered.verdict → TakesWhole answered.whole answered.text call.before.out call.after.out → CameTo call asked files
   cut : (answered : Answered) → HasAnswered call.rules asked files answered → call.status ≡ 5 → CutsOff answered.text call.before.out call.after.out → CameTo call asked files
-  none : 3 ≤ call.status → call.after.out ≡ call.before.out → CameTo call asked files
+  none : (HasAnswer call.status → ⊥) → call.after.out ≡ call.before.out → CameTo call asked files
 
 pub came_to : (command : CommandKind) (call : Call) → IsAnswer call → (asked : RequestView) (files : List File)
     → IsCommand command call asked files → CameTo call asked files
@@ -86,11 +86,11 @@ came_to command call answer asked files given = by_call (told_call call answer a
         → CameTo call asked files
     by_reply (Ok answered) replied (inl delivered) = whole answered (answered_task call asked files answered replied) delivered.same_status delivered.taken
     by_reply (Ok answered) replied (inr cut_off) = cut answered (answered_task call asked files answered replied) cut_off.five cut_off.front
-    by_reply (Err fault) replied (inl delivered) = none (subst (λ k. 3 ≤ k) (sym delivered.same_status) (fault_between fault).0) delivered.taken
+    by_reply (Err fault) replied (inl delivered) = none (λ has. fault_apart fault (subst HasAnswer delivered.same_status has)) delivered.taken
     by_reply (Err fault) replied (inr cut_off) = absurd cut_off.front
 
     by_call : IsToldCall call asked files → CameTo call asked files
-    by_call (short six same) = none (omega (arith, six)) same
+    by_call (short six same) = none (λ has. answer_apart call.status has (omega (arith, six)) (omega (arith, six))) same
     by_call (told reply replied delivers) = by_reply reply replied delivers
 
 -- the outcome of the plan of its command
@@ -128,8 +128,8 @@ writes_learned call answer asked files is low = by_end (came_to commands.Learn c
           learned.rules,
           subst (λ (a : Answered). TakesWhole a.whole a.text call.before.out call.after.out) (sym learned.is) takes,
         )
-    by_end (cut answered has five front) = absurd (omega (arith, five, low))
-    by_end (none high same) = absurd (omega (arith, high, low))
+    by_end (cut answered has five front) = absurd (five_apart call.status five low)
+    by_end (none high same) = absurd (high low)
 
 -- ---- `fill`
 
@@ -233,8 +233,8 @@ is_as_run call answer asked files is low = by_end (came_to commands.Fill call an
           same ∙ ap (λ (a : Answered). verdict_status a.verdict) filled.is ∙ verdict_outcome asked.budget filled.end.0,
           subst (λ (a : Answered). TakesWhole a.whole a.text call.before.out call.after.out) filled.is takes,
         )
-    by_end (cut answered has five front) = absurd (omega (arith, five, low))
-    by_end (none high same) = absurd (omega (arith, high, low))
+    by_end (cut answered has five front) = absurd (five_apart call.status five low)
+    by_end (none high same) = absurd (high low)
 
 -- the map that a run ended in
 abbrev found_map : (rules : List Rule) (asked : RequestView) (files : List File) → FillWork rules asked files → State → Raster
@@ -258,7 +258,7 @@ found_once rules asked files work m other first second =
 
 pub writes_legal : (call : Call) → IsAnswer call → (asked : RequestView) (files : List File) → IsCommand commands.Fill call asked files → WritesLegalMap call asked files
 writes_legal call answer asked files is nought =
-    let run = is_as_run call answer asked files is (omega (arith, nought)) in by_outcome run.0 run.1.0 run.1.1 run.2 run.3 run.4
+    let run = is_as_run call answer asked files is (inl (omega (arith, nought))) in by_outcome run.0 run.1.0 run.1.1 run.2 run.3 run.4
   where
     by_outcome : (work : FillWork call.rules asked files) (o : Outcome) (s : State) → end_of call.rules asked.rule work.P asked.budget asked.seed ≡ Some (o, s) → call.status ≡ outcome_status o
         → Takes (fill_text (assignment_text asked work) work.P (o, s)) call.before.out call.after.out
@@ -269,7 +269,7 @@ writes_legal call answer asked files is nought =
 
 pub has_no_map : (call : Call) → IsAnswer call → (asked : RequestView) (files : List File) → IsCommand commands.Fill call asked files → HasNoMap call asked files
 has_no_map call answer asked files is one =
-    let run = is_as_run call answer asked files is (omega (arith, one)) in by_outcome run.0 run.1.0 run.1.1 run.2 run.3 run.4
+    let run = is_as_run call answer asked files is (inl (omega (arith, one))) in by_outcome run.0 run.1.0 run.1.1 run.2 run.3 run.4
   where
     by_outcome : (work : FillWork call.rules asked files) (o : Outcome) (s : State) → end_of call.rules asked.rule work.P asked.budget asked.seed ≡ Some (o, s) → call.status ≡ outcome_status o
         → Takes (fill_text (assignment_text asked work) work.P (o, s)) call.before.out call.after.out
@@ -283,7 +283,7 @@ has_no_map call answer asked files is one =
 
 pub is_never_spent : (call : Call) → IsAnswer call → (asked : RequestView) (files : List File) → IsCommand commands.Fill call asked files → IsNeverSpent call asked files
 is_never_spent call answer asked files is two =
-    let run = is_as_run call answer asked files is (omega (arith, two)) in by_outcome run.0 run.1.0 run.1.1 run.2 run.3
+    let run = is_as_run call answer asked files is (inl (omega (arith, two))) in by_outcome run.0 run.1.0 run.1.1 run.2 run.3
   where
     by_outcome : (work : FillWork call.rules asked files) (o : Outcome) (s : State) → end_of call.rules asked.rule work.P asked.budget asked.seed ≡ Some (o, s) → call.status ≡ outcome_status o
         → (work : FillWork call.rules asked files) × (asked.budget + 1 ≤ volume_of work.P)
@@ -307,7 +307,7 @@ writes_front call answer asked files is five = by_end (came_to commands.Fill cal
 
     by_end : CameTo call asked files
         → (call.after.out ≡ call.before.out) ⊎ ((work : FillWork call.rules asked files) × (m : Raster) × IsFoundMap asked work m × IsLegalMap asked work m × IsFaultAfterFront call.before.out call.after.out (map_text_of asked work m))
-    by_end (whole answered has same takes) = absurd (verdict_apart answered.verdict 5 (omega arith) (sym same ∙ five))
+    by_end (whole answered has same takes) = absurd (verdict_apart answered.verdict 5 (omega arith) (omega arith) (sym same ∙ five))
     by_end (cut answered has _ front) =
         let filled = fill_answered call asked files answered is has in
         inr (by_outcome filled.work filled.end.0 filled.end.1 filled.ends (subst (λ (a : Answered). CutsOff a.text call.before.out call.after.out) filled.is front))
@@ -339,8 +339,8 @@ writes_domains call answer asked files is low = by_end (came_to commands.Domains
           subst (λ (a : Answered). TakesWhole a.whole a.text call.before.out call.after.out) (sym is_answer) takes,
           root_verdict_status given.0 call.status (same ∙ sym (ap (λ (a : Answered). verdict_status a.verdict) is_answer)),
         )
-    by_end (cut answered has five front) = absurd (omega (arith, five, low))
-    by_end (none high same) = absurd (omega (arith, high, low))
+    by_end (cut answered has five front) = absurd (five_apart call.status five low)
+    by_end (none high same) = absurd (high low)
 
 -- ---- `demo`
 
@@ -383,5 +383,5 @@ writes_demo call answer asked files is low = by_end (came_to commands.Demo call 
     by_end (whole answered has same takes) =
         let given = demo_given (kinds_of call.rules) asked files has.task (planned call.rules asked files commands.Demo has.task is.command_is has.is) in
         by_answer answered same takes (end_of call.rules Fewest P demo_budget asked.number) refl (subst (λ task. Answers call.rules asked task answered) (sym given) has.answers)
-    by_end (cut answered has five front) = absurd (omega (arith, five, low))
-    by_end (none high same) = absurd (omega (arith, high, low))
+    by_end (cut answered has five front) = absurd (five_apart call.status five low)
+    by_end (none high same) = absurd (high low)

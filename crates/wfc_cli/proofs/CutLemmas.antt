@@ -45,7 +45,7 @@ cuts_text command IsText call answer only asked files is five = by_end (came_to 
     by_text answered has (Some text) same front = (text, only asked files is answered has text same, front)
 
     by_end : CameTo call asked files → (call.after.out ≡ call.before.out) ⊎ ((text : List ℕ) × IsText asked files text × IsFaultAfterFront call.before.out call.after.out text)
-    by_end (whole answered has same takes) = absurd (verdict_apart answered.verdict 5 (omega arith) (sym same ∙ five))
+    by_end (whole answered has same takes) = absurd (verdict_apart answered.verdict 5 (omega arith) (omega arith) (sym same ∙ five))
     by_end (cut answered has _ front) = inr (by_text answered has answered.text refl front)
     by_end (none high same) = inl same
 

@@ -1,5 +1,5 @@
 -- What the end of a demonstration means.
-use Rattle.std.proofs.Common.{◌≡◌, ℕ, ◌+◌, ◌*◌, ◌≤◌, false, List, [], length, Some, ap, sym, ◌∙◌, subst, refl, arith}
+use Rattle.std.proofs.Common.{◌≡◌, ℕ, ◌+◌, ◌*◌, ◌≤◌, false, List, [], length, Some, ap, sym, ◌∙◌, subst, refl, arith, inl}
 use Rattle.std.proofs.lemmas.Nat.{mul-le}
 use Rattle.wfc_model.specs.Raster.{Raster}
 use Rattle.wfc_model.specs.Window.{places, starts}
@@ -63,8 +63,8 @@ is_problem n = subst IsProblem (sym (demo_problem_is n)) (sample_problem (demo_p
 
 pub ends_demo : (call : Call) → IsAnswer call → (asked : RequestView) (files : List File) → IsCommand commands.Demo call asked files → EndsDemo call asked files
 ends_demo call answer asked files is = (
-  (λ one. let run = writes_demo call answer asked files is (omega (arith, one)) in no_map run.0.0 run.0.1 run.1 run.2 one),
-  (λ two. let run = writes_demo call answer asked files is (omega (arith, two)) in spent run.0.0 run.0.1 run.1 run.2 two),
+  (λ one. let run = writes_demo call answer asked files is (inl (omega (arith, one))) in no_map run.0.0 run.0.1 run.1 run.2 one),
+  (λ two. let run = writes_demo call answer asked files is (inl (omega (arith, two))) in spent run.0.0 run.0.1 run.1 run.2 two),
 )
   where
     Ended : Outcome → State → Type 0

@@ -58,7 +58,7 @@ use Rattle.wfc_cli.proofs.CommandLemmas.{CameTo, whole, cut, none, came_to, plan
 use Rattle.wfc_cli.proofs.MapLemmas.{IsBridged, command_bridged, no_legal}
 use Rattle.wfc_cli.proofs.RunTextLemmas.{join_more, none_growing, none_joined, run_single, run_text}
 use Rattle.wfc_cli.proofs.EndLemmas.{ends_short, put_cut, put_front, put_none, put_short, put_whole}
-use Rattle.wfc_cli.proofs.TheoremLemmas.{verdict_apart}
+use Rattle.wfc_cli.proofs.TheoremLemmas.{five_apart, verdict_apart}
 use Rattle.wfc_cli.specs.Call.{Call}
 use Rattle.wfc_cli.specs.Theorem.{IsCommand}
 
@@ -417,8 +417,8 @@ writes_refutation call answer asked files is low = by_end (came_to commands.Refu
         let given = refute_given (kinds_of call.rules) asked files has.task (planned call.rules asked files commands.Refute has.task is.command_is has.is) in
         let refuted = has_refuted call asked files has.task answered is given.0 given.1 given.2 has.answers in
         by_answer answered refuted.work same takes refuted.is
-    by_end (cut answered has five front) = absurd (omega (arith, five, low))
-    by_end (none high same) = absurd (omega (arith, high, low))
+    by_end (cut answered has five front) = absurd (five_apart call.status five low)
+    by_end (none high same) = absurd (high low)
 
 pub writes_run_front : (call : Call) → IsAnswer call → (asked : RequestView) (files : List File) → IsCommand commands.Refute call asked files → WritesRunFront call asked files
 writes_run_front call answer asked files is five = by_end (came_to commands.Refute call answer asked files is)
@@ -442,7 +442,7 @@ writes_run_front call answer asked files is five = by_end (came_to commands.Refu
     }
 
     by_end : CameTo call asked files → (call.after.out ≡ call.before.out) ⊎ ((work : RefuteWork call.rules asked files) × IsRunFront asked work call)
-    by_end (whole answered has same takes) = absurd (verdict_apart answered.verdict 5 (omega arith) (sym same ∙ five))
+    by_end (whole answered has same takes) = absurd (verdict_apart answered.verdict 5 (omega arith) (omega arith) (sym same ∙ five))
     by_end (cut answered has _ front) =
         let given = refute_given (kinds_of call.rules) asked files has.task (planned call.rules asked files commands.Refute has.task is.command_is has.is) in
         let refuted = has_refuted call asked files has.task answered is given.0 given.1 given.2 has.answers in

@@ -21,7 +21,7 @@ use Rattle.wfc_task.specs.declared.fault.Class.TheVariants.{Input, Memory, NoCho
 use Rattle.wfc_task.proofs.CallerLemmas.{goes_quiet, never_3}
 use Rattle.wfc_cli.specs.Choosers.{kinds_of}
 use Rattle.wfc_cli.specs.ErrorLine.{command_status}
-use Rattle.wfc_cli.specs.Reply.{Reply, CutsOff, Delivers, IsDelivered, Takes, TakesWhole, said_of, verdict_status}
+use Rattle.wfc_cli.specs.Reply.{Reply, HasAnswer, CutsOff, Delivers, IsDelivered, Takes, TakesWhole, said_of, verdict_status}
 use Rattle.wfc_cli.specs.declared.reply.Verdict.{Verdict}
 use Rattle.wfc_cli.specs.declared.reply.Verdict.TheVariants.{Done, NoMap, Spent, Dead, MapExists, Unaccepted}
 use Rattle.wfc_cli.specs.Answer.{AnswersAsked, Ends, IsAnswer, IsAnswerTo, IsRefusedCall, Replied, Replies}
@@ -29,18 +29,27 @@ use Rattle.wfc_cli.proofs.ReachLemmas.{IsStopped, first_missing, goes_reading, g
 use Rattle.wfc_cli.specs.Theorem.{CountsFaults, HasDeviceFault, HasFirstFault, HasRefusedWords, IsAnswered, IsComplete, IsFileFault, IsGiven, IsNoCommand, IsQuiet, IsRefusedFirst, IsRefusedWith, KeepsOut, NoneCounted, RefusesWords, task_of}
 use Rattle.wfc_cli.specs.Call.{Call}
 
--- no verdict has a status above 2
-pub verdict_low : (verdict : Verdict) → verdict_status verdict ≤ 2
-verdict_low Done = omega arith
-verdict_low NoMap = omega arith
-verdict_low (Spent budget) = omega arith
-verdict_low Dead = omega arith
-verdict_low MapExists = omega arith
-verdict_low (Unaccepted fault) = omega arith
+-- each verdict has the status of an answer
+pub verdict_answers : (verdict : Verdict) → HasAnswer (verdict_status verdict)
+verdict_answers Done = inl (omega arith)
+verdict_answers NoMap = inl (omega arith)
+verdict_answers (Spent budget) = inl (omega arith)
+verdict_answers Dead = inl (omega arith)
+verdict_answers MapExists = inl (omega arith)
+verdict_answers (Unaccepted fault) = inl (omega arith)
 
--- so none has one from 3 to 7
-pub verdict_apart : (verdict : Verdict) (k : ℕ) → 3 ≤ k → verdict_status verdict ≡ k → ⊥
-verdict_apart verdict k low is = omega (arith, verdict_low verdict, low, is)
+-- which is none from 3 to 7
+pub answer_apart : (k : ℕ) → HasAnswer k → 3 ≤ k → k ≤ 7 → ⊥
+answer_apart k (inl low) above below = omega (arith, low, above)
+answer_apart k (inr eight) above below = omega (arith, eight, below)
+
+-- so no verdict has one of these
+pub verdict_apart : (verdict : Verdict) (k : ℕ) → 3 ≤ k → k ≤ 7 → verdict_status verdict ≡ k → ⊥
+verdict_apart verdict k above below is = answer_apart k (subst HasAnswer is (verdict_answers verdict)) above below
+
+-- so none is 5
+pub five_apart : (k : ℕ) → k ≡ 5 → HasAnswer k → ⊥
+five_apart k five has = answer_apart k has (omega (arith, five)) (omega (arith, five))
 
 -- the status of a fault is from 3 to 7
 pub fault_between : (fault : Fault) → (3 ≤ status_of fault) × (status_of fault ≤ 7)
@@ -57,6 +66,10 @@ fault_between (Refused refusal) = by_class (class_of refusal)
     by_class Input = (omega arith, omega arith)
     by_class Memory = (omega arith, omega arith)
     by_class NoChooser = (omega arith, omega arith)
+
+-- which is no status of an answer
+pub fault_apart : (fault : Fault) → HasAnswer (status_of fault) → ⊥
+fault_apart fault has = let between = fault_between fault in answer_apart (status_of fault) has between.0 between.1
 
 -- the status of words that are no request is 3 or 6
 pub command_between : (fault : CommandFault) → (command_status fault ≡ 3) ⊎ (command_status fault ≡ 6)
@@ -95,7 +108,7 @@ never_other : (call : Call) (asked : RequestView) → IsAnswerTo call asked → 
 never_other call asked answer three = by_reply answer.reply answer.delivers
   where
     by_reply : (reply : Reply) → Delivers (said_of asked reply) call → ⊥
-    by_reply (Ok answered) (inl delivered) = verdict_apart answered.verdict 3 (omega arith) (sym delivered.same_status ∙ three)
+    by_reply (Ok answered) (inl delivered) = verdict_apart answered.verdict 3 (omega arith) (omega arith) (sym delivered.same_status ∙ three)
     by_reply (Err fault) (inl delivered) = never_3 fault (sym delivered.same_status ∙ three)
     by_reply reply (inr cut) = omega (arith, cut.five, three)
 
@@ -157,19 +170,19 @@ keeps_counts call answer not5 = elim (answer.answers) [ inl to ↦ by_request (r
 pub keeps_out : (call : Call) → IsAnswer call → KeepsOut call
 keeps_out call answer without = elim (answer.answers) [ inl to ↦ by_request (request_of call.words) to | inr short ↦ (refused_status words_fault.NoMemory call short).1 ]
   where
-    low : (3 ≤ call.status) × (call.status ≡ 5 → ⊥)
+    low : (3 ≤ call.status) × (call.status ≤ 7) × (call.status ≡ 5 → ⊥)
     low = elim without [
-      | inl three ↦ (omega arith, λ five. omega arith)
+      | inl three ↦ (omega arith, omega arith, λ five. omega arith)
       | inr other ↦ elim other [
-        | inl four ↦ (omega arith, λ five. omega arith)
-        | inr more ↦ elim more [ inl six ↦ (omega arith, λ five. omega arith) | inr seven ↦ (omega arith, λ five. omega arith) ]
+        | inl four ↦ (omega arith, omega arith, λ five. omega arith)
+        | inr more ↦ elim more [ inl six ↦ (omega arith, omega arith, λ five. omega arith) | inr seven ↦ (omega arith, omega arith, λ five. omega arith) ]
       ]
     ]
 
     by_reply : (asked : RequestView) (reply : Reply) → Delivers (said_of asked reply) call → call.after.out ≡ call.before.out
-    by_reply asked (Ok answered) (inl delivered) = absurd (verdict_apart answered.verdict call.status low.0 (sym delivered.same_status))
+    by_reply asked (Ok answered) (inl delivered) = absurd (verdict_apart answered.verdict call.status low.0 low.1 (sym delivered.same_status))
     by_reply asked (Err fault) (inl delivered) = delivered.taken
-    by_reply asked reply (inr cut) = absurd (low.1 cut.five)
+    by_reply asked reply (inr cut) = absurd (low.2 cut.five)
 
     by_request : (request : Result RequestView CommandFault) → AnswersAsked call request → call.after.out ≡ call.before.out
     by_request (Ok asked) answer = by_reply asked answer.reply answer.delivers
@@ -216,7 +229,7 @@ is_device_fault call answer five = elim (answer.answers) [
 
     by_reply : (asked : RequestView) (reply : Reply) → Ends call.rules asked call.before.folder call.after.folder reply → Delivers (said_of asked reply) call
         → (IsFileFault call asked × (call.after.out ≡ call.before.out)) ⊎ HasRisen call.before.out.faults call.after.out.faults
-    by_reply asked (Ok answered) ends (inl delivered) = absurd (verdict_apart answered.verdict 5 (omega arith) (sym delivered.same_status ∙ five))
+    by_reply asked (Ok answered) ends (inl delivered) = absurd (verdict_apart answered.verdict 5 (omega arith) (omega arith) (sym delivered.same_status ∙ five))
     by_reply asked (Err fault) ends (inl delivered) = inl (by_fault asked fault (sym delivered.same_status ∙ five) (fault_from call asked fault ends), delivered.taken)
     by_reply asked reply ends (inr cut) = inr (cut_counted (said_of asked reply).text call.before.out call.after.out cut.front)
 
@@ -268,8 +281,8 @@ told_call call answer asked files given = elim (answer.answers) [ inl to ↦ by_
 pub has_first_fault : (call : Call) → IsAnswer call → HasFirstFault call
 has_first_fault call answer which asked files given = by_call (told_call call answer asked files given)
   where
-    apart : (3 ≤ call.status) × (call.status ≡ 5 → ⊥) × (call.status ≡ 6 → ⊥)
-    apart = elim which [ inl four ↦ (omega arith, λ five. omega arith, λ six. omega arith) | inr seven ↦ (omega arith, λ five. omega arith, λ six. omega arith) ]
+    apart : (3 ≤ call.status) × (call.status ≡ 5 → ⊥) × (call.status ≡ 6 → ⊥) × (call.status ≤ 7)
+    apart = elim which [ inl four ↦ (omega arith, λ five. omega arith, λ six. omega arith, omega arith) | inr seven ↦ (omega arith, λ five. omega arith, λ six. omega arith, omega arith) ]
 
     by_task : (task : Result Task Fault) (fault : Fault) → status_of fault ≡ call.status → Replied call.rules asked task (Err fault) → (first : Fault) × (task ≡ Err first) × (status_of first ≡ call.status)
     by_task (Ok task) fault is replied = absurd (apart.2 (sym is ∙ replied_short call.rules asked task fault replied))
@@ -281,7 +294,7 @@ has_first_fault call answer which asked files given = by_call (told_call call an
     by_end fault is (inr (inr hindered)) = let fault_is : fault ≡ Unread hindered.source reading.Failed = cc (hindered.is) in absurd (apart.1 (sym is ∙ ap status_of fault_is))
 
     by_delivery : (reply : Reply) → ToldReply call asked files reply → Delivers (said_of asked reply) call → IsRefusedWith call asked files
-    by_delivery (Ok answered) replied (inl delivered) = absurd (verdict_apart answered.verdict call.status apart.0 (sym delivered.same_status))
+    by_delivery (Ok answered) replied (inl delivered) = absurd (verdict_apart answered.verdict call.status apart.0 apart.3 (sym delivered.same_status))
     by_delivery (Err fault) replied (inl delivered) = by_end fault (sym delivered.same_status) replied
     by_delivery reply replied (inr cut) = absurd (apart.1 cut.five)
 

@@ -40,7 +40,7 @@ use Rattle.wfc_cli.specs.declared.reply.Verdict.TheVariants as verdict
 use Rattle.wfc_cli.proofs.CommandLemmas.{CameTo, whole, cut, none, came_to, planned}
 use Rattle.wfc_cli.proofs.EndLemmas.{put_cut, put_short, put_whole}
 use Rattle.wfc_cli.proofs.MapLemmas.{TakesSides, IsBridged, command_bridged, command_shape, no_legal}
-use Rattle.wfc_cli.proofs.TheoremLemmas.{verdict_apart}
+use Rattle.wfc_cli.proofs.TheoremLemmas.{five_apart, verdict_apart}
 use Rattle.wfc_cli.specs.Call.{Call}
 use Rattle.wfc_cli.specs.Theorem.{IsCommand}
 
@@ -175,8 +175,8 @@ upgrades_refutation call answer asked files is low = by_end (came_to commands.Up
         let work = said.work in
         by_found work (first_fault asked work.P work.bytes) refl (same ∙ sym (ap (λ (a : Answered). verdict_status a.verdict) said.is))
         (taken work (first_fault asked work.P work.bytes) (subst (λ (a : Answered). TakesWhole a.whole a.text call.before.out call.after.out) (sym said.is) takes))
-    by_end (cut answered has five front) = absurd (omega (arith, five, low))
-    by_end (none high same) = absurd (omega (arith, high, low))
+    by_end (cut answered has five front) = absurd (five_apart call.status five low)
+    by_end (none high same) = absurd (high low)
 
 pub upgrades_front : (call : Call) → IsAnswer call → (asked : RequestView) (files : List File) → IsCommand commands.Upgrade call asked files → UpgradesFront call asked files
 upgrades_front call answer asked files is five = by_end (came_to commands.Upgrade call answer asked files is)
@@ -189,7 +189,7 @@ upgrades_front call answer asked files is five = by_end (came_to commands.Upgrad
     by_found work (Some fault) found front = absurd front
 
     by_end : CameTo call asked files → (call.after.out ≡ call.before.out) ⊎ ((work : UpgradeWork asked files) × WritesUpgradedFront asked work call)
-    by_end (whole answered has same takes) = absurd (verdict_apart answered.verdict 5 (omega arith) (sym same ∙ five))
+    by_end (whole answered has same takes) = absurd (verdict_apart answered.verdict 5 (omega arith) (omega arith) (sym same ∙ five))
     by_end (cut answered has _ front) =
         let given = upgrade_given asked files has.task (planned call.rules asked files commands.Upgrade has.task is.command_is has.is) in
         let said = has_upgraded call.rules asked files has.task answered given.0 given.1 given.2 given.3 has.answers in

@@ -12,6 +12,7 @@ use Rattle.wfc_cli.specs.Call.{Call}
 use Rattle.wfc_cli.specs.Answers.{accepted_text}
 use Rattle.wfc_cli.specs.Maps.{IsLegal}
 use Rattle.wfc_cli.specs.CutClaims.{CutsText}
+use Rattle.wfc_cli.specs.Reply.{HasAnswer}
 use Rattle.wfc_cli.specs.Theorem.{Promises}
 
 -- the file's bytes are a refutation of the problem and of the shape asked for
@@ -34,7 +35,7 @@ pub record Refuses {files : List File} (asked : RequestView) (work : IsCheckWork
 -- statuses 0 and 1 of `check`: 0 exactly where the file is a refutation
 abbrev pub ChecksRefutation : Call → RequestView → List File → Type 0
 ChecksRefutation call asked files =
-    call.status ≤ 2
+    HasAnswer call.status
     → (work : IsCheckWork asked files)
     × (((call.status ≡ 0) × Accepts asked work call) ⊎ ((call.status ≡ 1) × Refuses asked work call))
 

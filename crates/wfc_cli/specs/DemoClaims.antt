@@ -16,12 +16,13 @@ use Rattle.wfc_cli.specs.Runs.{end_of}
 use Rattle.wfc_model.specs.Legal.{IsLegalPicture, Rules}
 use Rattle.wfc_task.specs.Demo.{demo_output, demo_patterns, demo_picture, demo_problem, demo_side}
 use Rattle.wfc_cli.specs.CutClaims.{CutsText}
+use Rattle.wfc_cli.specs.Reply.{HasAnswer}
 use Rattle.wfc_cli.specs.Theorem.{Promises}
 
 -- statuses 0, 1 and 2 of `demo`: its four numbers were written, and the status is that of its run
 abbrev pub WritesDemo : Call → RequestView → List File → Type 0
 WritesDemo call asked files =
-    call.status ≤ 2
+    HasAnswer call.status
     → (end : Outcome × State) × (end_of call.rules Fewest (demo_problem asked.number) demo_budget asked.number ≡ Some end)
     × (call.status ≡ outcome_status end.0)
     × (call.after.out ≡ after_finish (after_bytes call.before.out

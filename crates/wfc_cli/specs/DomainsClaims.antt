@@ -12,6 +12,7 @@ use Rattle.wfc_task.specs.DomainsGiven.{IsDomainsTask}
 use Rattle.wfc_cli.specs.Call.{Call}
 use Rattle.wfc_cli.specs.Answers.{steps_text}
 use Rattle.wfc_cli.specs.CutClaims.{CutsText}
+use Rattle.wfc_cli.specs.Reply.{HasAnswer}
 use Rattle.wfc_cli.specs.Theorem.{Promises}
 
 -- the text is the blocks before the first step and after each
@@ -24,7 +25,7 @@ IsBlocks asked files text =
 -- the root is dead
 abbrev pub WritesDomains : Call → RequestView → List File → Type 0
 WritesDomains call asked files =
-    call.status ≤ 2
+    HasAnswer call.status
     → (P : Network) × (steps : List StepLine) × IsDomainsTask asked files P steps
     × (call.after.out ≡ after_finish (after_bytes call.before.out (steps_text P steps)))
     × (((call.status ≡ 0) × (is_dead P (greatest P []) ≡ false)) ⊎ ((call.status ≡ 1) × (is_dead P (greatest P []) ≡ true)))

@@ -18,7 +18,7 @@ use Rattle.wfc_cli.specs.Call.{Call}
 use Rattle.wfc_cli.specs.Answers.{fill_text, outcome_status}
 use Rattle.wfc_cli.specs.Choosers.{kinds_of}
 use Rattle.wfc_cli.specs.Maps.{IsLaid, IsLegal, map_of, text_of_map}
-use Rattle.wfc_cli.specs.Reply.{Takes}
+use Rattle.wfc_cli.specs.Reply.{HasAnswer, Takes}
 use Rattle.wfc_cli.specs.Runs.{end_of}
 use Rattle.wfc_cli.specs.Theorem.{Promises}
 
@@ -80,7 +80,7 @@ HasNoMap call asked files =
 -- in no map, or spent, and what is written is the map of its assignment
 abbrev pub IsAsRun : Call → RequestView → List File → Type 0
 IsAsRun call asked files =
-    call.status ≤ 2
+    HasAnswer call.status
     → (work : FillWork call.rules asked files) × (end : Outcome × State)
     × (end_of call.rules asked.rule work.P asked.budget asked.seed ≡ Some end)
     × (call.status ≡ outcome_status end.0) × Takes (fill_text (assignment_text asked work) work.P end) call.before.out call.after.out

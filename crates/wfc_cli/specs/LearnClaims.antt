@@ -15,6 +15,7 @@ use Rattle.wfc_task.specs.TileGiven.{IsTileSetOf}
 use Rattle.wfc_tileset.specs.Tiles.{TileSetView}
 use Rattle.wfc_cli.specs.Call.{Call}
 use Rattle.wfc_cli.specs.CutClaims.{CutsText}
+use Rattle.wfc_cli.specs.Reply.{HasAnswer}
 use Rattle.wfc_cli.specs.Theorem.{Promises}
 
 -- the text of the rules of a request: what the sample teaches, or what the tile set allows
@@ -30,7 +31,7 @@ IsRules asked files text = IsRulesBy asked.source asked files text
 -- status 0 of `learn`: the rules were written
 abbrev pub WritesLearned : Call → RequestView → List File → Type 0
 WritesLearned call asked files =
-    call.status ≤ 2
+    HasAnswer call.status
     → (call.status ≡ 0) × (text : List ℕ) × IsRules asked files text
     × (call.after.out ≡ after_finish (after_bytes call.before.out text))
 

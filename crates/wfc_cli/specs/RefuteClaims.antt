@@ -24,6 +24,7 @@ use Rattle.wfc_cli.specs.Choosers.{chosen, kinds_of}
 use Rattle.wfc_cli.specs.Maps.{IsLegal}
 use Rattle.wfc_cli.specs.Refuting.{IsBegunBy, IsToldBy, refutation_text}
 use Rattle.wfc_cli.specs.Runs.{seeded}
+use Rattle.wfc_cli.specs.Reply.{HasAnswer}
 use Rattle.wfc_cli.specs.Theorem.{Promises}
 
 -- what `refute` works on over these files
@@ -76,7 +77,7 @@ pub record WritesRun {rules : List Rule} {files : List File} (asked : RequestVie
 -- statuses 0, 1 and 2 of `refute`
 abbrev pub WritesRefutation : Call → RequestView → List File → Type 0
 WritesRefutation call asked files =
-    call.status ≤ 2
+    HasAnswer call.status
     → (work : RefuteWork call.rules asked files) × WritesRun asked work call
 
 -- a front was written of the text of all lines of the run, or of its first ones

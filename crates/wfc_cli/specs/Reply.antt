@@ -1,5 +1,5 @@
 -- What a command replies, and what of it the streams and the status say.
-use Rattle.std.specs.Prelude.{◌≡◌, ℕ, ◌⊎◌, Bool, true, false, List, Option, None, Some, Result, Ok, Err}
+use Rattle.std.specs.Prelude.{◌≡◌, ℕ, ◌≤◌, ◌⊎◌, Bool, true, false, List, Option, None, Some, Result, Ok, Err}
 use Rattle.wfc_outside.specs.Sink.{SinkView, after_bytes, after_finish, IsFaultAfterFront}
 use Rattle.wfc_words.specs.RequestView.{RequestView}
 use Rattle.wfc_words.specs.declared.fault.CommandFault.{CommandFault}
@@ -39,6 +39,10 @@ verdict_status (Spent budget) = 2
 verdict_status Dead = 1
 verdict_status MapExists = 1
 verdict_status (Unaccepted fault) = 1
+
+-- a status of an answer: 0, 1 and 2, and 8; a fault has one from 3 to 7
+abbrev pub HasAnswer : ℕ → Type 0
+HasAnswer status = (status ≤ 2) ⊎ (status ≡ 8)
 
 -- what the error stream is told of a verdict
 abbrev pub verdict_text : RequestView → Verdict → Option (List ℕ)

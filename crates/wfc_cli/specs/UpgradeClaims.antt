@@ -16,6 +16,7 @@ use Rattle.wfc_task.specs.UpgradeGiven.{IsUpgradeTask}
 use Rattle.wfc_cli.specs.Call.{Call}
 use Rattle.wfc_cli.specs.Maps.{IsLegal}
 use Rattle.wfc_cli.specs.Upgrading.{same_proof_text}
+use Rattle.wfc_cli.specs.Reply.{HasAnswer}
 use Rattle.wfc_cli.specs.Theorem.{Promises}
 
 -- what `upgrade` works on over these files: the problem, and the bytes of the file
@@ -51,7 +52,7 @@ pub record KeepsOld {files : List File} (asked : RequestView) (work : UpgradeWor
 -- statuses 0 and 1 of `upgrade`: 0 exactly where the file is a refutation
 abbrev pub UpgradesRefutation : Call → RequestView → List File → Type 0
 UpgradesRefutation call asked files =
-    call.status ≤ 2
+    HasAnswer call.status
     → (work : UpgradeWork asked files)
     × (((call.status ≡ 0) × WritesUpgraded asked work call) ⊎ ((call.status ≡ 1) × KeepsOld asked work call))
 

@@ -27,7 +27,7 @@ ghost use Rattle.wfc_cli.specs.Maps.{IsLegal, map_of};
 ghost use Rattle.wfc_cli.specs.Reaching.{Reaches};
 ghost use Rattle.wfc_cli.specs.RefuteClaims.{refute_status};
 ghost use Rattle.wfc_cli.specs.Refuting.{lines_in, refute_verdict, written_format};
-ghost use Rattle.wfc_cli.specs.Reply.{Tells, verdict_status};
+ghost use Rattle.wfc_cli.specs.Reply.{HasAnswer, Tells, verdict_status};
 ghost use Rattle.wfc_cli.specs.declared.reply.Verdict.TheVariants as verdicts;
 
 /// What stands before steps and after each, by example: an undo takes the last literal that stands.
@@ -55,6 +55,11 @@ pub fn statuses_are()
     ensures dead { verdict_status verdicts.Dead ≡ 1 }
     ensures exists { verdict_status verdicts.MapExists ≡ 1 }
     ensures budget { verdict_status (verdicts.Spent 1000) ≡ 2 }
+    ensures spent_answers { HasAnswer 2 }
+    ensures eight_answers { HasAnswer 8 }
+    ensures three_is_none { HasAnswer 3 → ⊥ }
+    ensures seven_is_none { HasAnswer 7 → ⊥ }
+    ensures nine_is_none { HasAnswer 9 → ⊥ }
 {}
 
 /// What `refute` writes and how it ends, by example: removals of one cell and direction whose values follow are one line of format 2.
