@@ -1,5 +1,5 @@
 -- What the relation of a call says of `check`, in the subject's words.
-use Rattle.std.proofs.Common.{◌≡◌, ◌⊎◌, inl, inr, List, Option, None, Some, Result, Ok, Err, ap, sym, ◌∙◌, subst, refl, arith}
+use Rattle.std.proofs.Common.{◌≡◌, ◌⊎◌, inl, inr, List, Option, None, Some, Result, Ok, Err, ap, sym, ◌∙◌, subst, refl}
 use Rattle.wfc_outside.specs.Folder.{File}
 use Rattle.wfc_proof.specs.Heads.{IsShape}
 use Rattle.wfc_check.specs.Text.{checked}
@@ -13,14 +13,15 @@ use Rattle.wfc_task.specs.Checking.{shape_of, verdict_in}
 use Rattle.wfc_task.specs.declared.fault.Refusal.{Refusal}
 use Rattle.wfc_task.proofs.CallerLemmas.{check_given}
 use Rattle.wfc_cli.specs.Answer.{IsAnswer}
-use Rattle.wfc_cli.specs.Answers.{Answers, check_answer}
+use Rattle.wfc_cli.specs.Answers.{check_answer}
 use Rattle.wfc_cli.specs.CheckClaims.{Accepts, ChecksRefutation, IsRefuted, Refuses}
 use Rattle.wfc_cli.specs.Reply.{Answered, Takes, TakesWhole, verdict_status}
-use Rattle.wfc_cli.proofs.CommandLemmas.{CameTo, whole, cut, none, came_to, planned}
+use Rattle.wfc_cli.proofs.CommandLemmas.{CameTo, whole, cut, none, came_to}
 use Rattle.wfc_cli.proofs.MapLemmas.{TakesSides, IsBridged, command_bridged, command_shape, no_legal}
 use Rattle.wfc_cli.specs.Call.{Call}
 use Rattle.wfc_cli.specs.Theorem.{IsCommand}
 use Rattle.wfc_cli.proofs.TheoremLemmas.{five_apart}
+use Rattle.wfc_cli.specs.CheckCommand.{CheckAnswers, check_command}
 
 -- what is known of the problem of a `check`
 record IsKnown (asked : RequestView) (files : List File) (work : IsCheckWork asked files) : Type 0 where
@@ -82,10 +83,10 @@ checks_refutation call answer asked files is low = by_end (came_to commands.Chec
     taken None takes = takes
     taken (Some fault) takes = takes
 
-    by_end : CameTo call asked files → (work : IsCheckWork asked files) × (((call.status ≡ 0) × Accepts asked work call) ⊎ ((call.status ≡ 1) × Refuses asked work call))
+    by_end : CameTo check_command call asked files → (work : IsCheckWork asked files) × (((call.status ≡ 0) × Accepts asked work call) ⊎ ((call.status ≡ 1) × Refuses asked work call))
     by_end (whole answered has same takes) =
-        let given = check_given asked files has.task (planned call.rules asked files commands.Check has.task is.command_is has.is) in
-        let answers : Some (check_answer given.0) ≡ Some answered = subst (λ task. Answers call.rules asked task answered) (sym given.1) has.answers in
+        let given = check_given asked files has.task has.is in
+        let answers : check_answer given.0 ≡ answered = subst (λ task. CheckAnswers task answered) (sym given.1) has.answers in
         let is_answer : check_answer given.0 ≡ answered = cc (answers) in
         by_found given.0 given.2 (same ∙ sym (ap (λ (a : Answered). verdict_status a.verdict) is_answer)) (taken given.0 (subst (λ (a : Answered). TakesWhole a.whole a.text call.before.out call.after.out) (sym is_answer) takes))
     by_end (cut answered has five front) = absurd (five_apart call.status five low)

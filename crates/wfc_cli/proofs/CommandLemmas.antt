@@ -28,25 +28,22 @@ use Rattle.wfc_words.specs.declared.kinds.SourceModel.{SourceModel}
 use Rattle.wfc_words.specs.declared.kinds.SourceModel.TheVariants.{Overlap, Tiles}
 use Rattle.wfc_task.specs.Sources.{is_of_windows}
 use Rattle.wfc_task.specs.Plan.{Plan, outcome}
-use Rattle.wfc_task.specs.Task.{Task, fill, fill_plan, fill_tiles, demo, learn_plan, plan_by}
 use Rattle.wfc_task.specs.declared.fault.Fault.{Fault}
 use Rattle.wfc_task.specs.Demo.{demo_patterns, demo_problem}
 use Rattle.wfc_task.specs.DomainsGiven.{IsDomainsTask}
 use Rattle.wfc_task.specs.Posed.{PosedBy}
 use Rattle.wfc_task.specs.Plan.{and_then, done, step}
 use Rattle.wfc_task.specs.Steps.{chosen as choosing}
-use Rattle.wfc_task.specs.Task.{demo_plan}
 use Rattle.wfc_task.specs.declared.fault.Refusal.{Refusal}
 use Rattle.wfc_task.proofs.CallerLemmas.{domains_given, fill_given, fill_tiles_given, learn_given, learn_tiles_given}
 use Rattle.wfc_cli.specs.Answer.{IsAnswer, Replied}
-use Rattle.wfc_cli.specs.Answers.{Answers, demo_answer, demo_budget, demo_text, domains_answer, fill_answer, fill_by, fill_text, outcome_status, root_verdict, steps_text, verdict_of}
+use Rattle.wfc_cli.specs.Answers.{demo_answer, demo_budget, demo_text, domains_answer, fill_answer, fill_by, fill_text, outcome_status, root_verdict, steps_text, verdict_of}
 use Rattle.wfc_cli.specs.Choosers.{chosen, kinds_of}
 use Rattle.wfc_cli.specs.Maps.{IsLaidBy, map_by, map_of, map_text_by}
 use Rattle.wfc_cli.specs.Reply.{HasAnswer, Answered, CutsOff, Delivers, Reply, Takes, TakesWhole, done_with, said_of, verdict_status}
 use Rattle.wfc_cli.specs.Runs.{end_by, end_of, seeded}
-use Rattle.wfc_cli.specs.Theorem.{IsCommand, task_of}
+use Rattle.wfc_cli.specs.Theorem.{IsCommand}
 use Rattle.wfc_cli.specs.declared.reply.Verdict.TheVariants as verdict
-use Rattle.wfc_cli.proofs.EndLemmas.{command_plan}
 use Rattle.wfc_cli.proofs.MapLemmas.{TakesSides, IsBridged, command_bridged, no_legal}
 use Rattle.wfc_cli.proofs.TheoremLemmas.{IsToldCall, ToldReply, answer_apart, fault_apart, five_apart, told, short, told_call, verdict_apart}
 use Rattle.wfc_cli.specs.Call.{Call}
@@ -54,49 +51,52 @@ use Rattle.wfc_cli.specs.FillClaims.{FillWork, HasNoMap, IsAsRun, IsFoundMap, Is
 use Rattle.wfc_cli.specs.LearnClaims.{IsRules, IsRulesBy, WritesLearned}
 use Rattle.wfc_cli.specs.DemoClaims.{WritesDemo}
 use Rattle.wfc_cli.specs.DomainsClaims.{WritesDomains}
+use Rattle.wfc_task.specs.FillTask.{fill, fill_plan, fill_tiles, FillTask}
+use Rattle.wfc_task.specs.DemoTask.{demo, demo_plan, DemoTask}
+use Rattle.wfc_task.specs.LearnTask.{learn_plan, LearnTask}
+use Rattle.wfc_cli.specs.LearnCommand.{LearnAnswers, learn_command}
+use Rattle.wfc_cli.specs.FillCommand.{FillAnswers, fill_command}
+use Rattle.wfc_cli.specs.DomainsCommand.{DomainsAnswers, domains_command}
+use Rattle.wfc_cli.specs.DemoCommand.{DemoAnswers, demo_command}
+use Rattle.wfc_cli.specs.Command.{Command}
+use Rattle.wfc_cli.specs.Commands.{Answers, asked_command, command_of, task_of}
 
 -- ---- what a call came to
 
--- an answer that was given, with its task
-pub record HasAnswered (rules : List Rule) (asked : RequestView) (files : List File) (answered : Answered) : Type 0 where
-  pub task : Task
-  pub is : task_of rules asked files ≡ Ok task
-  pub answers : Answers rules asked task answered
+-- an answer of a command that was given, with its task
+pub record HasAnswered (command : Command) (rules : List Rule) (asked : RequestView) (files : List File) (answered : Answered) : Type 0 where
+  pub task : command.Task
+  pub is : outcome (command.plan (kinds_of rules) asked) files ≡ Ok task
+  pub answers : command.Answers rules asked task answered
 
-pub answered_task : (call : Call) (asked : RequestView) (files : List File) (answered : Answered) → ToldReply call asked files (Ok answered) → HasAnswered call.rules asked files answered
+pub answered_task : (call : Call) (asked : RequestView) (files : List File) (answered : Answered) → ToldReply call asked files (Ok answered) → HasAnswered (asked_command asked) call.rules asked files answered
 answered_task call asked files answered (inl replied) = by_task (task_of call.rules asked files) refl replied
   where
-    by_task : (task : Result Task Fault) → task_of call.rules asked files ≡ task → Replied call.rules asked task (Ok answered) → HasAnswered call.rules asked files answered
+    by_task : (task : Result (asked_command asked).Task Fault) → task_of call.rules asked files ≡ task → Replied (Answers call.rules asked) task (Ok answered) → HasAnswered (asked_command asked) call.rules asked files answered
     by_task (Ok task) is replied = record { task = task; is = is; answers = replied }
     by_task (Err fault) is replied = absurd (cc (replied))
 answered_task call asked files answered (inr (inl want)) = absurd (cc (want.2))
 answered_task call asked files answered (inr (inr hindered)) = absurd (cc (hindered.is))
 
--- a call that came to an answer, and what it did to the sink
-pub data CameTo (call : Call) (asked : RequestView) (files : List File) : Type 0 where
-  whole : (answered : Answered) → HasAnswered call.rules asked files answered → call.status ≡ verdict_status answered.verdict → TakesWhole answered.whole answered.text call.before.out call.after.out → CameTo call asked files
-  cut : (answered : Answered) → HasAnswered call.rules asked files answered → call.status ≡ 5 → CutsOff answered.text call.before.out call.after.out → CameTo call asked files
-  none : (HasAnswer call.status → ⊥) → call.after.out ≡ call.before.out → CameTo call asked files
+-- a call that came to an answer of a command, and what it did to the sink
+pub data CameTo (command : Command) (call : Call) (asked : RequestView) (files : List File) : Type 0 where
+  whole : (answered : Answered) → HasAnswered command call.rules asked files answered → call.status ≡ verdict_status answered.verdict → TakesWhole answered.whole answered.text call.before.out call.after.out → CameTo command call asked files
+  cut : (answered : Answered) → HasAnswered command call.rules asked files answered → call.status ≡ 5 → CutsOff answered.text call.before.out call.after.out → CameTo command call asked files
+  none : (HasAnswer call.status → ⊥) → call.after.out ≡ call.before.out → CameTo command call asked files
 
-pub came_to : (command : CommandKind) (call : Call) → IsAnswer call → (asked : RequestView) (files : List File)
-    → IsCommand command call asked files → CameTo call asked files
-came_to command call answer asked files given = by_call (told_call call answer asked files given.given)
+pub came_to : (kind : CommandKind) (call : Call) → IsAnswer call → (asked : RequestView) (files : List File) → IsCommand kind call asked files → CameTo (command_of kind) call asked files
+came_to kind call answer asked files given =
+    subst (λ (k : CommandKind). CameTo (command_of k) call asked files) given.command_is (by_call (told_call call answer asked files given.given))
   where
-    by_reply : (reply : Reply) → ToldReply call asked files reply → Delivers (said_of asked reply) call
-        → CameTo call asked files
+    by_reply : (reply : Reply) → ToldReply call asked files reply → Delivers (said_of asked reply) call → CameTo (asked_command asked) call asked files
     by_reply (Ok answered) replied (inl delivered) = whole answered (answered_task call asked files answered replied) delivered.same_status delivered.taken
     by_reply (Ok answered) replied (inr cut_off) = cut answered (answered_task call asked files answered replied) cut_off.five cut_off.front
     by_reply (Err fault) replied (inl delivered) = none (λ has. fault_apart fault (subst HasAnswer delivered.same_status has)) delivered.taken
     by_reply (Err fault) replied (inr cut_off) = absurd cut_off.front
 
-    by_call : IsToldCall call asked files → CameTo call asked files
+    by_call : IsToldCall call asked files → CameTo (asked_command asked) call asked files
     by_call (short six same) = none (λ has. answer_apart call.status has (omega (arith, six)) (omega (arith, six))) same
     by_call (told reply replied delivers) = by_reply reply replied delivers
-
--- the outcome of the plan of its command
-pub planned : (rules : List Rule) (asked : RequestView) (files : List File) (command : CommandKind) (task : Task) → asked.command ≡ command → task_of rules asked files ≡ Ok task
-    → outcome (plan_by command (kinds_of rules) asked) files ≡ Ok task
-planned rules asked files command task is comes = ap (λ (plan : Plan Task). outcome plan files) (command_plan rules asked command is) ∙ comes
 
 -- ---- `learn`
 
@@ -106,23 +106,23 @@ pub record HasLearned (source : SourceModel) (asked : RequestView) (files : List
   pub rules : IsRulesBy source asked files text
   pub is : done_with text ≡ answered
 
-pub has_learned : (source : SourceModel) (rules : List Rule) (asked : RequestView) (files : List File) (task : Task) (answered : Answered) → asked.source ≡ source → outcome (learn_plan asked) files ≡ Ok task
-    → Answers rules asked task answered → HasLearned source asked files answered
+pub has_learned : (source : SourceModel) (rules : List Rule) (asked : RequestView) (files : List File) (task : LearnTask) (answered : Answered) → asked.source ≡ source → outcome (learn_plan asked) files ≡ Ok task
+    → LearnAnswers task answered → HasLearned source asked files answered
 has_learned (Overlap n) rules asked files task answered is comes answers =
     let given = learn_given asked files task (ap is_of_windows is) comes in
-    let said : Some (done_with (learned_text given.0 given.1)) ≡ Some answered = subst (λ task. Answers rules asked task answered) (sym given.2) answers in
+    let said : done_with (learned_text given.0 given.1) ≡ answered = subst (λ task. LearnAnswers task answered) (sym given.2) answers in
     record { text = learned_text given.0 given.1; rules = (given.0, given.1, given.3, refl); is = cc (said) }
 has_learned Tiles rules asked files task answered is comes answers =
     let given = learn_tiles_given asked files task (ap is_of_windows is) comes in
-    let said : Some (done_with (learned_tiles_text given.0)) ≡ Some answered = subst (λ task. Answers rules asked task answered) (sym given.1) answers in
+    let said : done_with (learned_tiles_text given.0) ≡ answered = subst (λ task. LearnAnswers task answered) (sym given.1) answers in
     record { text = learned_tiles_text given.0; rules = (given.0, given.2, refl); is = cc (said) }
 
 pub writes_learned : (call : Call) → IsAnswer call → (asked : RequestView) (files : List File) → IsCommand commands.Learn call asked files → WritesLearned call asked files
 writes_learned call answer asked files is low = by_end (came_to commands.Learn call answer asked files is)
   where
-    by_end : CameTo call asked files → (call.status ≡ 0) × (text : List ℕ) × IsRules asked files text × (call.after.out ≡ after_finish (after_bytes call.before.out text))
+    by_end : CameTo learn_command call asked files → (call.status ≡ 0) × (text : List ℕ) × IsRules asked files text × (call.after.out ≡ after_finish (after_bytes call.before.out text))
     by_end (whole answered has same takes) =
-        let learned = has_learned asked.source call.rules asked files has.task answered refl (planned call.rules asked files commands.Learn has.task is.command_is has.is) has.answers in (
+        let learned = has_learned asked.source call.rules asked files has.task answered refl has.is has.answers in (
           same ∙ sym (ap (λ (a : Answered). verdict_status a.verdict) learned.is),
           learned.text,
           learned.rules,
@@ -134,12 +134,12 @@ writes_learned call answer asked files is low = by_end (came_to commands.Learn c
 -- ---- `fill`
 
 -- the task of `fill` for a problem of the request
-abbrev fill_task_by : (source : SourceModel) (asked : RequestView) (files : List File) (P : Network) → PosedBy source asked files P → Layout → Task
+abbrev fill_task_by : (source : SourceModel) (asked : RequestView) (files : List File) (P : Network) → PosedBy source asked files P → Layout → FillTask
 fill_task_by (Overlap n) asked files P of layout = fill of.patterns of.palette layout P
 fill_task_by Tiles asked files P of layout = fill_tiles of.set of.mask layout P
 
 -- what `fill` came to
-record HasFillTask (source : SourceModel) (rules : List Rule) (asked : RequestView) (files : List File) (task : Task) : Type 0 where
+record HasFillTask (source : SourceModel) (rules : List Rule) (asked : RequestView) (files : List File) (task : FillTask) : Type 0 where
   chooser : Contains (kinds_of rules) asked.rule
   P : Network
   posed : PosedBy source asked files P
@@ -147,7 +147,7 @@ record HasFillTask (source : SourceModel) (rules : List Rule) (asked : RequestVi
   laid : IsLaidBy source asked files P posed layout
   same : fill_task_by source asked files P posed layout ≡ task
 
-has_fill_task : (source : SourceModel) (rules : List Rule) (asked : RequestView) (files : List File) (task : Task) → asked.source ≡ source → outcome (fill_plan (kinds_of rules) asked) files ≡ Ok task
+has_fill_task : (source : SourceModel) (rules : List Rule) (asked : RequestView) (files : List File) (task : FillTask) → asked.source ≡ source → outcome (fill_plan (kinds_of rules) asked) files ≡ Ok task
     → HasFillTask source rules asked files task
 has_fill_task (Overlap n) rules asked files task is comes =
     let given = fill_given (kinds_of rules) asked files task (ap is_of_windows is) comes in
@@ -174,7 +174,7 @@ has_fill_task Tiles rules asked files task is comes =
 
 -- an answer to it
 fill_answers : (source : SourceModel) (rules : List Rule) (asked : RequestView) (files : List File) (P : Network) (posed : PosedBy source asked files P) (layout : Layout) (answered : Answered)
-    → Answers rules asked (fill_task_by source asked files P posed layout) answered
+    → FillAnswers rules asked (fill_task_by source asked files P posed layout) answered
     → fill_by rules asked (λ a. map_text_by source asked files P posed layout (map_by source asked files P posed a)) P ≡ Some answered
 fill_answers (Overlap n) rules asked files P of layout answered answers = answers
 fill_answers Tiles rules asked files P of layout answered answers = answers
@@ -202,11 +202,11 @@ pub record HasFilled (rules : List Rule) (asked : RequestView) (files : List Fil
   pub ends : end_of rules asked.rule work.P asked.budget asked.seed ≡ Some end
   pub is : answered ≡ record { verdict = verdict_of asked.budget end.0; text = fill_text (assignment_text asked work) work.P end; whole = true }
 
-pub fill_answered : (call : Call) (asked : RequestView) (files : List File) (answered : Answered) → IsCommand commands.Fill call asked files → HasAnswered call.rules asked files answered
+pub fill_answered : (call : Call) (asked : RequestView) (files : List File) (answered : Answered) → IsCommand commands.Fill call asked files → HasAnswered fill_command call.rules asked files answered
     → HasFilled call.rules asked files answered
 fill_answered call asked files answered is has =
-    let made = has_fill_task asked.source call.rules asked files has.task refl (planned call.rules asked files commands.Fill has.task is.command_is has.is) in
-    let answers = fill_answers asked.source call.rules asked files made.P made.posed made.layout answered (subst (λ task. Answers call.rules asked task answered) (sym made.same) has.answers) in
+    let made = has_fill_task asked.source call.rules asked files has.task refl has.is in
+    let answers = fill_answers asked.source call.rules asked files made.P made.posed made.layout answered (subst (λ task. FillAnswers call.rules asked task answered) (sym made.same) has.answers) in
     by_end (record { chooser = made.chooser; P = made.P; posed = made.posed; layout = made.layout; laid = made.laid }) (end_of call.rules asked.rule made.P asked.budget asked.seed) refl answers
   where
     by_end : (work : FillWork call.rules asked files) (end : Option (Outcome × State)) → end_of call.rules asked.rule work.P asked.budget asked.seed ≡ end
@@ -222,7 +222,7 @@ verdict_outcome budget outcome.Spent = refl
 pub is_as_run : (call : Call) → IsAnswer call → (asked : RequestView) (files : List File) → IsCommand commands.Fill call asked files → IsAsRun call asked files
 is_as_run call answer asked files is low = by_end (came_to commands.Fill call answer asked files is)
   where
-    by_end : CameTo call asked files
+    by_end : CameTo fill_command call asked files
         → (work : FillWork call.rules asked files) × (end : Outcome × State) × (end_of call.rules asked.rule work.P asked.budget asked.seed ≡ Some end)
         × (call.status ≡ outcome_status end.0) × Takes (fill_text (assignment_text asked work) work.P end) call.before.out call.after.out
     by_end (whole answered has same takes) =
@@ -305,7 +305,7 @@ writes_front call answer asked files is five = by_end (came_to commands.Fill cal
     by_outcome work outcome.NoMap s ends front = absurd front
     by_outcome work outcome.Spent s ends front = absurd front
 
-    by_end : CameTo call asked files
+    by_end : CameTo fill_command call asked files
         → (call.after.out ≡ call.before.out) ⊎ ((work : FillWork call.rules asked files) × (m : Raster) × IsFoundMap asked work m × IsLegalMap asked work m × IsFaultAfterFront call.before.out call.after.out (map_text_of asked work m))
     by_end (whole answered has same takes) = absurd (verdict_apart answered.verdict 5 (omega arith) (omega arith) (sym same ∙ five))
     by_end (cut answered has _ front) =
@@ -326,12 +326,12 @@ root_verdict_status P status is = by_dead (is_dead P (greatest P [])) refl is
 pub writes_domains : (call : Call) → IsAnswer call → (asked : RequestView) (files : List File) → IsCommand commands.Domains call asked files → WritesDomains call asked files
 writes_domains call answer asked files is low = by_end (came_to commands.Domains call answer asked files is)
   where
-    by_end : CameTo call asked files
+    by_end : CameTo domains_command call asked files
         → (P : Network) × (steps : List StepLine) × IsDomainsTask asked files P steps × (call.after.out ≡ after_finish (after_bytes call.before.out (steps_text P steps)))
         × (((call.status ≡ 0) × (is_dead P (greatest P []) ≡ false)) ⊎ ((call.status ≡ 1) × (is_dead P (greatest P []) ≡ true)))
     by_end (whole answered has same takes) =
-        let given = domains_given asked files has.task (planned call.rules asked files commands.Domains has.task is.command_is has.is) in
-        let answers : Some (domains_answer given.0 given.1) ≡ Some answered = subst (λ task. Answers call.rules asked task answered) (sym given.2) has.answers in
+        let given = domains_given asked files has.task has.is in
+        let answers : domains_answer given.0 given.1 ≡ answered = subst (λ task. DomainsAnswers task answered) (sym given.2) has.answers in
         let is_answer : domains_answer given.0 given.1 ≡ answered = cc (answers) in (
           given.0,
           given.1,
@@ -345,10 +345,10 @@ writes_domains call answer asked files is low = by_end (came_to commands.Domains
 -- ---- `demo`
 
 -- what `demo` comes to
-pub demo_given : (kinds : List RuleKind) (asked : RequestView) (files : List File) (task : Task) → outcome (demo_plan kinds asked) files ≡ Ok task → demo (demo_patterns asked.number) (demo_problem asked.number) ≡ task
+pub demo_given : (kinds : List RuleKind) (asked : RequestView) (files : List File) (task : DemoTask) → outcome (demo_plan kinds asked) files ≡ Ok task → demo (demo_patterns asked.number) (demo_problem asked.number) ≡ task
 demo_given kinds asked files task is = by_chosen (choosing kinds Fewest) is
   where
-    by_chosen : (found : Result (Unit {0}) Refusal) → outcome (and_then (step found) (λ _. let end : Plan Task = done (demo (demo_patterns asked.number) (demo_problem asked.number)) in end)) files ≡ Ok task
+    by_chosen : (found : Result (Unit {0}) Refusal) → outcome (and_then (step found) (λ _. let end : Plan DemoTask = done (demo (demo_patterns asked.number) (demo_problem asked.number)) in end)) files ≡ Ok task
         → demo (demo_patterns asked.number) (demo_problem asked.number) ≡ task
     by_chosen (Ok given) is = cc (is)
     by_chosen (Err refusal) is = absurd (cc (is))
@@ -377,11 +377,11 @@ writes_demo call answer asked files is low = by_end (came_to commands.Demo call 
           subst (λ (a : Answered). TakesWhole a.whole a.text call.before.out call.after.out) (sym is_answer) takes ∙ ap (λ k. after_finish (after_bytes call.before.out (demo_text (length patterns.windows) P.cells end.1.retractions k))) (sym status_is),
         )
 
-    by_end : CameTo call asked files
+    by_end : CameTo demo_command call asked files
         → (end : Outcome × State) × (end_of call.rules Fewest P demo_budget asked.number ≡ Some end) × (call.status ≡ outcome_status end.0)
         × (call.after.out ≡ after_finish (after_bytes call.before.out (demo_text (length patterns.windows) P.cells end.1.retractions call.status)))
     by_end (whole answered has same takes) =
-        let given = demo_given (kinds_of call.rules) asked files has.task (planned call.rules asked files commands.Demo has.task is.command_is has.is) in
-        by_answer answered same takes (end_of call.rules Fewest P demo_budget asked.number) refl (subst (λ task. Answers call.rules asked task answered) (sym given) has.answers)
+        let given = demo_given (kinds_of call.rules) asked files has.task has.is in
+        by_answer answered same takes (end_of call.rules Fewest P demo_budget asked.number) refl (subst (λ task. DemoAnswers call.rules asked task answered) (sym given) has.answers)
     by_end (cut answered has five front) = absurd (five_apart call.status five low)
     by_end (none high same) = absurd (high low)

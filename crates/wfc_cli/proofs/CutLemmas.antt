@@ -13,12 +13,12 @@ use Rattle.wfc_task.specs.CheckGiven.{IsCheckTask}
 use Rattle.wfc_task.specs.Demo.{demo_patterns, demo_problem}
 use Rattle.wfc_task.proofs.CallerLemmas.{check_given, domains_given}
 use Rattle.wfc_cli.specs.Answer.{IsAnswer}
-use Rattle.wfc_cli.specs.Answers.{Answers, check_answer, demo_answer, demo_budget, domains_answer, verdict_of}
+use Rattle.wfc_cli.specs.Answers.{check_answer, demo_answer, demo_budget, domains_answer, verdict_of}
 use Rattle.wfc_cli.specs.Choosers.{kinds_of}
 use Rattle.wfc_cli.specs.Reply.{Answered, CutsOff}
 use Rattle.wfc_cli.specs.Runs.{end_of}
 use Rattle.wfc_cli.proofs.CheckLemmas.{is_accepted}
-use Rattle.wfc_cli.proofs.CommandLemmas.{CameTo, HasAnswered, whole, cut, none, came_to, demo_given, has_learned, planned}
+use Rattle.wfc_cli.proofs.CommandLemmas.{CameTo, HasAnswered, whole, cut, none, came_to, demo_given, has_learned}
 use Rattle.wfc_cli.proofs.TheoremLemmas.{verdict_apart}
 use Rattle.wfc_cli.specs.Call.{Call}
 use Rattle.wfc_cli.specs.Theorem.{IsCommand}
@@ -27,24 +27,28 @@ use Rattle.wfc_cli.specs.CutClaims.{CutsText}
 use Rattle.wfc_cli.specs.CheckClaims.{IsAcceptance}
 use Rattle.wfc_cli.specs.DomainsClaims.{IsBlocks}
 use Rattle.wfc_cli.specs.DemoClaims.{IsDemonstration, demonstration}
+use Rattle.wfc_cli.specs.DomainsCommand.{DomainsAnswers}
+use Rattle.wfc_cli.specs.DemoCommand.{DemoAnswers}
+use Rattle.wfc_cli.specs.CheckCommand.{CheckAnswers}
+use Rattle.wfc_cli.specs.Commands.{command_of}
 
 -- every text that a command answers is one of these
 abbrev AnswersOnly : CommandKind → (RequestView → List File → List ℕ → Type 0) → Call → Type 0
 AnswersOnly command IsText call =
     (asked : RequestView) (files : List File) → IsCommand command call asked files
-    → (answered : Answered) → HasAnswered call.rules asked files answered → (text : List ℕ) → answered.text ≡ Some text → IsText asked files text
+    → (answered : Answered) → HasAnswered (command_of command) call.rules asked files answered → (text : List ℕ) → answered.text ≡ Some text → IsText asked files text
 
 -- then what is cut off is a front of one
 cuts_text : (command : CommandKind) (IsText : RequestView → List File → List ℕ → Type 0) (call : Call) → IsAnswer call
     → AnswersOnly command IsText call → (asked : RequestView) (files : List File) → IsCommand command call asked files → CutsText IsText call asked files
 cuts_text command IsText call answer only asked files is five = by_end (came_to command call answer asked files is)
   where
-    by_text : (answered : Answered) → HasAnswered call.rules asked files answered → (text : Option (List ℕ)) → answered.text ≡ text → CutsOff text call.before.out call.after.out
+    by_text : (answered : Answered) → HasAnswered (command_of command) call.rules asked files answered → (text : Option (List ℕ)) → answered.text ≡ text → CutsOff text call.before.out call.after.out
         → (text : List ℕ) × IsText asked files text × IsFaultAfterFront call.before.out call.after.out text
     by_text answered has None same front = absurd front
     by_text answered has (Some text) same front = (text, only asked files is answered has text same, front)
 
-    by_end : CameTo call asked files → (call.after.out ≡ call.before.out) ⊎ ((text : List ℕ) × IsText asked files text × IsFaultAfterFront call.before.out call.after.out text)
+    by_end : CameTo (command_of command) call asked files → (call.after.out ≡ call.before.out) ⊎ ((text : List ℕ) × IsText asked files text × IsFaultAfterFront call.before.out call.after.out text)
     by_end (whole answered has same takes) = absurd (verdict_apart answered.verdict 5 (omega arith) (omega arith) (sym same ∙ five))
     by_end (cut answered has _ front) = inr (by_text answered has answered.text refl front)
     by_end (none high same) = inl same
@@ -58,20 +62,20 @@ text_of answered made text own is has same =
 
 learns_rules : (call : Call) → AnswersOnly commands.Learn IsRules call
 learns_rules call asked files is answered has text same =
-    let learned = has_learned asked.source call.rules asked files has.task answered refl (planned call.rules asked files commands.Learn has.task is.command_is has.is) has.answers in
+    let learned = has_learned asked.source call.rules asked files has.task answered refl has.is has.answers in
     subst (λ t. IsRules asked files t) (sym (text_of answered _ text learned.text learned.is refl same)) learned.rules
 
 lists_blocks : (call : Call) → AnswersOnly commands.Domains IsBlocks call
 lists_blocks call asked files is answered has text same =
-    let given = domains_given asked files has.task (planned call.rules asked files commands.Domains has.task is.command_is has.is) in
-    let answers : Some (domains_answer given.0 given.1) ≡ Some answered = subst (λ task. Answers call.rules asked task answered) (sym given.2) has.answers in
+    let given = domains_given asked files has.task has.is in
+    let answers : domains_answer given.0 given.1 ≡ answered = subst (λ task. DomainsAnswers task answered) (sym given.2) has.answers in
     let is_answer : domains_answer given.0 given.1 ≡ answered = cc (answers) in
     (given.0, given.1, given.3, text_of answered _ text _ is_answer refl same)
 
 accepts_refutations : (call : Call) → AnswersOnly commands.Check IsAcceptance call
 accepts_refutations call asked files is answered has text same =
-    let given = check_given asked files has.task (planned call.rules asked files commands.Check has.task is.command_is has.is) in
-    let answers : Some (check_answer given.0) ≡ Some answered = subst (λ task. Answers call.rules asked task answered) (sym given.1) has.answers in
+    let given = check_given asked files has.task has.is in
+    let answers : check_answer given.0 ≡ answered = subst (λ task. CheckAnswers task answered) (sym given.1) has.answers in
     by_found given.0 given.2 (cc (answers))
   where
     by_found : (found : Option CheckFault) → IsCheckTask asked files found → check_answer found ≡ answered → IsAcceptance asked files text
@@ -81,8 +85,8 @@ accepts_refutations call asked files is answered has text same =
 
 tells_numbers : (call : Call) → AnswersOnly commands.Demo (IsDemonstration call.rules) call
 tells_numbers call asked files is answered has text same =
-    let given = demo_given (kinds_of call.rules) asked files has.task (planned call.rules asked files commands.Demo has.task is.command_is has.is) in
-    by_end (end_of call.rules Fewest (demo_problem asked.number) demo_budget asked.number) refl (subst (λ task. Answers call.rules asked task answered) (sym given) has.answers)
+    let given = demo_given (kinds_of call.rules) asked files has.task has.is in
+    by_end (end_of call.rules Fewest (demo_problem asked.number) demo_budget asked.number) refl (subst (λ task. DemoAnswers call.rules asked task answered) (sym given) has.answers)
   where
     by_end : (end : Option (Outcome × State)) → end_of call.rules Fewest (demo_problem asked.number) demo_budget asked.number ≡ end → demo_answer (demo_patterns asked.number) (demo_problem asked.number) end ≡ Some answered
         → IsDemonstration call.rules asked files text

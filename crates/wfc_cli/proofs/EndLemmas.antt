@@ -1,5 +1,5 @@
 -- How a command ends after its plan.
-use Rattle.std.proofs.Common.{◌≡◌, ℕ, ◌⊎◌, inl, inr, true, false, List, Option, Some, Result, Ok, Err, ap, subst, sym, ◌∙◌, refl}
+use Rattle.std.proofs.Common.{◌≡◌, ℕ, ◌⊎◌, inl, inr, true, Bool, List, Option, Some, Result, Ok, Err, ap, subst, sym, ◌∙◌, refl}
 use Rattle.wfc_outside.specs.Sink.{SinkView}
 use Rattle.wfc_outside.specs.Folder.{FolderView}
 use Rattle.wfc_choose.specs.Pick.{Rule}
@@ -13,83 +13,84 @@ use Rattle.wfc_task.specs.Asked.{IsOutputAsked, IsSourceAsked}
 use Rattle.wfc_task.proofs.CallerLemmas.{source_asked as source_in_range, output_asked as output_in_range}
 use Rattle.wfc_task.specs.Fault.{status_of}
 use Rattle.wfc_task.specs.Plan.{Goes, Plan}
-use Rattle.wfc_task.specs.Task.{Task, plan_by, plan_of}
 use Rattle.wfc_task.specs.declared.fault.Fault.{Fault}
 use Rattle.wfc_words.specs.Request.{request_of}
 use Rattle.wfc_words.specs.declared.fault.CommandFault.{CommandFault}
 use Rattle.wfc_words.specs.declared.fault.CommandFault.TheVariants.{NoMemory}
-use Rattle.wfc_cli.specs.Answer.{AnswersAsked, Ends, IsAnswer, IsRefusedCall, Replied, Replies}
+use Rattle.wfc_cli.specs.Answer.{AnswersAsked, Ends, IsAnswer, IsRefusedCall, Replied}
 use Rattle.wfc_lines.specs.Command.{text_of_command}
 use Rattle.wfc_cli.specs.ErrorLine.{command_status, fault_text}
 use Rattle.wfc_cli.specs.Choosers.{kinds_of}
-use Rattle.wfc_cli.specs.Ending.{EndsPut, Leaves, Says}
-use Rattle.wfc_cli.specs.Reply.{Reply, CutsOff, Delivers, Takes, Tells, said_of, verdict_status, verdict_text}
+use Rattle.wfc_cli.specs.Ending.{EndsAs, EndsPut, Leaves, Says}
+use Rattle.wfc_cli.specs.Reply.{Answered, Reply, CutsOff, Delivers, Takes, Tells, said_of, verdict_status, verdict_text}
 use Rattle.wfc_cli.specs.declared.reply.Verdict.{Verdict}
 use Rattle.wfc_cli.specs.declared.reply.Stop.{Stop}
 use Rattle.wfc_cli.specs.declared.reply.Stop.TheVariants.{Cut, Unanswered}
 use Rattle.wfc_cli.specs.Call.{Call}
-
--- the plan of a request is that of its command
-pub command_plan : (rules : List Rule) (asked : RequestView) (command : CommandKind) → asked.command ≡ command → plan_by command (kinds_of rules) asked ≡ plan_of (kinds_of rules) asked
-command_plan rules asked command is = ap (λ command. plan_by command (kinds_of rules) asked) (sym is)
+use Rattle.wfc_cli.specs.Commands.{asked_command, command_of}
 
 -- a command ends as its plan does, and then with its reply
-pub ends_by : (rules : List Rule) (asked : RequestView) (command : CommandKind) (before after : FolderView) (ended : Result Task Fault) (reply : Reply) → asked.command ≡ command
-    → Goes (plan_by command (kinds_of rules) asked) before after ended → Replied rules asked ended reply → Ends rules asked before after reply
-ends_by rules asked command before after ended reply is goes replied =
-    record { ended = ended; goes = subst (λ (plan : Plan Task). Goes plan before after ended) (command_plan rules asked command is) goes; replied = replied }
+pub ends_by : {T : Type 0} (plan : Plan T) (Answers : T → Answered → Type 0) (before after : FolderView) (ended : Result T Fault) (reply : Reply)
+    → Goes plan before after ended → Replied Answers ended reply → Ends plan Answers before after reply
+ends_by plan Answers before after ended reply goes replied = record { ended = ended; goes = goes; replied = replied }
 
 -- the same of a command that was given the kinds of its choosers
-pub ends_with : (rules : List Rule) (asked : RequestView) (command : CommandKind) (kinds : List RuleKind) (before after : FolderView) (ended : Result Task Fault) (reply : Reply) → asked.command ≡ command
-    → kinds ≡ kinds_of rules → Goes (plan_by command kinds asked) before after ended → Replied rules asked ended reply → Ends rules asked before after reply
-ends_with rules asked command kinds before after ended reply is same goes replied =
-    ends_by rules asked command before after ended reply is (subst (λ kinds. Goes (plan_by command kinds asked) before after ended) same goes) replied
+pub ends_with : {T : Type 0} (rules : List Rule) (kinds : List RuleKind) (plan : List RuleKind → Plan T) (Answers : List Rule → T → Answered → Type 0) (before after : FolderView) (ended : Result T Fault) (reply : Reply)
+    → kinds ≡ kinds_of rules → Goes (plan kinds) before after ended → Replied (Answers rules) ended reply → Ends (plan (kinds_of rules)) (Answers rules) before after reply
+ends_with rules kinds plan Answers before after ended reply same goes replied =
+    record { ended = ended; goes = subst (λ ks. Goes (plan ks) before after ended) same goes; replied = replied }
 
 -- a command for which there is no memory
-pub ends_short : (rules : List Rule) (asked : RequestView) (folder : FolderView) (fault : Fault) → status_of fault ≡ 6 → Ends rules asked folder folder (Err fault)
-ends_short rules asked folder fault six = record { ended = Err fault; goes = inr (refl, (fault, six, refl)); replied = refl }
+pub ends_short : {T : Type 0} (plan : Plan T) (Answers : T → Answered → Type 0) (folder : FolderView) (fault : Fault) → status_of fault ≡ 6 → Ends plan Answers folder folder (Err fault)
+ends_short plan Answers folder fault six = record { ended = Err fault; goes = inr (refl, (fault, six, refl)); replied = refl }
+
+-- the same of one that puts its text itself
+pub put_exhausted : {T : Type 0} (plan : Plan T) (Answers : T → Answered → Type 0) (folder : FolderView) (sink : SinkView) (fault : Fault) → status_of fault ≡ 6
+    → EndsPut plan Answers folder folder sink sink (Err (Unanswered fault))
+put_exhausted plan Answers folder sink fault six = record { reply = Err fault; ends = ends_short plan Answers folder fault six; leaves = (refl, refl) }
+
+-- a command whose reply is put behind it
+pub put_reply : {T : Type 0} (plan : Plan T) (Answers : T → Answered → Type 0) (before after : FolderView) (old new : SinkView) (reply : Reply) (ended : Result Verdict Stop)
+    → Ends plan Answers before after reply → Leaves reply old new ended → EndsPut plan Answers before after old new ended
+put_reply plan Answers before after old new reply ended ends leaves = record { reply = reply; ends = ends; leaves = leaves }
 
 -- a command that puts its text itself: its plan ended with a fault, and nothing was put
-pub put_none : (rules : List Rule) (asked : RequestView) (command : CommandKind) (before after : FolderView) (sink : SinkView) (fault : Fault) → asked.command ≡ command
-    → Goes (plan_by command (kinds_of rules) asked) before after (Err fault) → EndsPut rules asked before after sink sink (Err (Unanswered fault))
-put_none rules asked command before after sink fault is goes =
-    record { reply = Err fault; ends = ends_by rules asked command before after (Err fault) (Err fault) is goes refl; leaves = (refl, refl) }
+pub put_none : {T : Type 0} (plan : Plan T) (Answers : T → Answered → Type 0) (before after : FolderView) (sink : SinkView) (fault : Fault)
+    → Goes plan before after (Err fault) → EndsPut plan Answers before after sink sink (Err (Unanswered fault))
+put_none plan Answers before after sink fault goes =
+    record { reply = Err fault; ends = ends_by plan Answers before after (Err fault) (Err fault) goes refl; leaves = (refl, refl) }
 
 -- its plan came to a task, and then memory ran out before anything was put
-pub put_short : (rules : List Rule) (asked : RequestView) (command : CommandKind) (before after : FolderView) (sink : SinkView) (task : Task) (fault : Fault) → asked.command ≡ command
-    → Goes (plan_by command (kinds_of rules) asked) before after (Ok task) → status_of fault ≡ 6 → EndsPut rules asked before after sink sink (Err (Unanswered fault))
-put_short rules asked command before after sink task fault is goes short =
-    record { reply = Err fault; ends = ends_by rules asked command before after (Ok task) (Err fault) is goes short; leaves = (refl, refl) }
+pub put_short : {T : Type 0} (plan : Plan T) (Answers : T → Answered → Type 0) (before after : FolderView) (sink : SinkView) (task : T) (fault : Fault)
+    → Goes plan before after (Ok task) → status_of fault ≡ 6 → EndsPut plan Answers before after sink sink (Err (Unanswered fault))
+put_short plan Answers before after sink task fault goes short =
+    record { reply = Err fault; ends = ends_by plan Answers before after (Ok task) (Err fault) goes short; leaves = (refl, refl) }
 
 -- the whole text of an answer was put
-pub put_whole : (rules : List Rule) (asked : RequestView) (command : CommandKind) (before after : FolderView) (old new : SinkView) (task : Task) (verdict : Verdict) (text : Option (List ℕ)) → asked.command ≡ command
-    → Goes (plan_by command (kinds_of rules) asked) before after (Ok task) → Replies rules asked task (Ok (record { verdict = verdict; text = text; whole = true })) → Takes text old new → EndsPut rules asked before after old new (Ok verdict)
-put_whole rules asked command before after old new task verdict text is goes replied takes =
+pub put_whole : {T : Type 0} (plan : Plan T) (Answers : T → Answered → Type 0) (before after : FolderView) (old new : SinkView) (task : T) (verdict : Verdict) (text : Option (List ℕ))
+    → Goes plan before after (Ok task) → Answers task (record { verdict = verdict; text = text; whole = true }) → Takes text old new → EndsPut plan Answers before after old new (Ok verdict)
+put_whole plan Answers before after old new task verdict text goes answers takes =
     record {
       reply = Ok (record { verdict = verdict; text = text; whole = true });
-      ends = ends_by rules asked command before after (Ok task) (Ok (record { verdict = verdict; text = text; whole = true })) is goes replied;
+      ends = ends_by plan Answers before after (Ok task) (Ok (record { verdict = verdict; text = text; whole = true })) goes answers;
       leaves = (refl, takes);
     }
 
 -- a front of it was put
-pub put_cut : (rules : List Rule) (asked : RequestView) (command : CommandKind) (before after : FolderView) (old new : SinkView) (task : Task) (verdict : Verdict) (text : Option (List ℕ)) → asked.command ≡ command
-    → Goes (plan_by command (kinds_of rules) asked) before after (Ok task) → Replies rules asked task (Ok (record { verdict = verdict; text = text; whole = true })) → CutsOff text old new → EndsPut rules asked before after old new (Err Cut)
-put_cut rules asked command before after old new task verdict text is goes replied cut =
+pub put_cut : {T : Type 0} (plan : Plan T) (Answers : T → Answered → Type 0) (before after : FolderView) (old new : SinkView) (task : T) (verdict : Verdict) (text : Option (List ℕ)) (whole : Bool)
+    → Goes plan before after (Ok task) → Answers task (record { verdict = verdict; text = text; whole = whole }) → CutsOff text old new → EndsPut plan Answers before after old new (Err Cut)
+put_cut plan Answers before after old new task verdict text whole goes answers cut =
     record {
-      reply = Ok (record { verdict = verdict; text = text; whole = true });
-      ends = ends_by rules asked command before after (Ok task) (Ok (record { verdict = verdict; text = text; whole = true })) is goes replied;
+      reply = Ok (record { verdict = verdict; text = text; whole = whole });
+      ends = ends_by plan Answers before after (Ok task) (Ok (record { verdict = verdict; text = text; whole = whole })) goes answers;
       leaves = cut;
     }
 
--- a front of a text that isn't a whole answer was put
-pub put_front : (rules : List Rule) (asked : RequestView) (command : CommandKind) (before after : FolderView) (old new : SinkView) (task : Task) (verdict : Verdict) (text : Option (List ℕ)) → asked.command ≡ command
-    → Goes (plan_by command (kinds_of rules) asked) before after (Ok task) → Replies rules asked task (Ok (record { verdict = verdict; text = text; whole = false })) → CutsOff text old new → EndsPut rules asked before after old new (Err Cut)
-put_front rules asked command before after old new task verdict text is goes replied cut =
-    record {
-      reply = Ok (record { verdict = verdict; text = text; whole = false });
-      ends = ends_by rules asked command before after (Ok task) (Ok (record { verdict = verdict; text = text; whole = false })) is goes replied;
-      leaves = cut;
-    }
+-- the command of a request ends so where that of its kind does
+pub ends_of : (rules : List Rule) (asked : RequestView) (kind : CommandKind) (before after : FolderView) (old new : SinkView) (ended : Result Verdict Stop) → asked.command ≡ kind
+    → EndsAs (command_of kind) rules asked before after old new ended → EndsAs (asked_command asked) rules asked before after old new ended
+ends_of rules asked kind before after old new ended is ends =
+    subst (λ (k : CommandKind). EndsAs (command_of k) rules asked before after old new ended) (sym is) ends
 
 -- ---- what a command needs of its values
 
@@ -105,7 +106,7 @@ output_asked asked command within is wide high = output_in_range asked within (a
 
 -- a call for a request that ended so, and said so
 pub answered : (call : Call) (asked : RequestView) (ended : Result Verdict Stop) → request_of call.words ≡ Ok asked
-    → EndsPut call.rules asked call.before.folder call.after.folder call.before.out call.after.out ended
+    → EndsAs (asked_command asked) call.rules asked call.before.folder call.after.folder call.before.out call.after.out ended
     → Says asked ended call.before.err call.after.err call.status → IsAnswer call
 answered call asked ended spelled put says = record {
   answers = inl (subst (λ request. AnswersAsked call request) (sym spelled) (record { reply = put.reply; ends = put.ends; delivers = by_reply put.reply ended put.leaves says }));

@@ -53,7 +53,6 @@ use Rattle.wfc_task.specs.Checking.{refutation_name}
 use Rattle.wfc_task.specs.Demo.{demo_patterns, demo_problem}
 use Rattle.wfc_task.specs.Fault.{build_class, class_status, colours_class, grid_class, learn_class, mask_class, pins_class, ppm_class, status_of, steps_class, tiles_class}
 use Rattle.wfc_task.specs.Plan.{Goes}
-use Rattle.wfc_task.specs.Task.{plan_of}
 use Rattle.wfc_task.specs.declared.fault.Fault.{Fault}
 use Rattle.wfc_task.specs.declared.fault.Fault.TheVariants.{Unread, Refused}
 use Rattle.wfc_task.specs.declared.fault.Refusal.TheVariants as refused
@@ -61,25 +60,32 @@ use Rattle.wfc_task.specs.declared.fault.Source.{Source}
 use Rattle.wfc_task.specs.declared.fault.Source.TheVariants as source
 use Rattle.wfc_task.proofs.CallerLemmas.{check_given, domains_given, refute_given, upgrade_given}
 use Rattle.wfc_cli.specs.Answer.{AnswersAsked, Ends, IsAnswer, IsAnswerTo, IsRefusedCall}
-use Rattle.wfc_cli.specs.Answers.{Answers, check_answer, demo_answer, demo_budget, domains_answer, verdict_of}
+use Rattle.wfc_cli.specs.Answers.{check_answer, demo_answer, demo_budget, domains_answer, verdict_of}
 use Rattle.wfc_cli.specs.Choosers.{kinds_of}
 use Rattle.wfc_cli.specs.ErrorLine.{fault_text, grid_text, name_of, unread_text}
-use Rattle.wfc_cli.specs.LineClaims.{IsApartFromErr, IsNoText, TellsReason, TellsStatus, TellsWords, budget_by, says_fault, says_file, says_no, says_out, says_short, says_spent}
+use Rattle.wfc_cli.specs.LineClaims.{IsApartFromErr, TellsReason, TellsStatus, TellsWords, says_fault, says_file, says_no, says_out, says_short, says_spent}
 use Rattle.wfc_cli.specs.Refuting.{RefutesFront, RefutesWhole, refute_verdict}
 use Rattle.wfc_cli.specs.Reply.{Answered, Delivers, IsTold, Reply, TakesWhole, Tells, said_of, verdict_status, verdict_text}
 use Rattle.wfc_cli.specs.Runs.{end_of}
 use Rattle.wfc_cli.specs.Theorem.{IsCommand, IsGiven}
-use Rattle.wfc_cli.specs.UpgradeClaims.{UpgradeWork}
-use Rattle.wfc_cli.specs.Upgrading.{first_fault, upgrade_answer}
+use Rattle.wfc_cli.specs.Upgrading.{first_fault, upgrade_answer, UpgradeWork}
 use Rattle.wfc_cli.specs.declared.reply.Verdict.{Verdict}
 use Rattle.wfc_cli.specs.declared.reply.Verdict.TheVariants as verdict
-use Rattle.wfc_cli.proofs.CommandLemmas.{HasAnswered, answered_task, demo_given, fill_answered, has_learned, planned}
+use Rattle.wfc_cli.proofs.CommandLemmas.{HasAnswered, answered_task, demo_given, fill_answered, has_learned}
 use Rattle.wfc_cli.proofs.ReachLemmas.{goes_stopped}
 use Rattle.wfc_cli.proofs.RefuteLemmas.{has_refuted}
 use Rattle.wfc_cli.proofs.TheoremLemmas.{FaultOf, command_between, cut_counted, fault_between, fault_from, file_fault, of_plan, of_task, refused_status, told_reply}
 use Rattle.wfc_cli.proofs.UpgradeLemmas.{has_upgraded}
 use Rattle.wfc_cli.specs.Call.{Call, beside}
 use Rattle.wfc_cli.specs.DemoClaims.{demonstration}
+use Rattle.wfc_cli.specs.FillCommand.{fill_command}
+use Rattle.wfc_cli.specs.DomainsCommand.{DomainsAnswers, domains_command}
+use Rattle.wfc_cli.specs.DemoCommand.{DemoAnswers, demo_command}
+use Rattle.wfc_cli.specs.RefuteCommand.{refute_command}
+use Rattle.wfc_cli.specs.CheckCommand.{CheckAnswers, check_command}
+use Rattle.wfc_cli.specs.UpgradeCommand.{upgrade_command}
+use Rattle.wfc_cli.specs.Command.{Command}
+use Rattle.wfc_cli.specs.Commands.{Answers, asked_command, command_of, plan_of}
 
 -- ---- want of memory has one line
 
@@ -199,10 +205,10 @@ memory_text asked (Refused (refused.Mask fault)) six = mask_memory fault (name_o
 -- ---- how each command ends
 
 -- a verdict of this command: it is done, its answer is no, or its budget is spent
-data IsEnding (command : CommandKind) (asked : RequestView) (files : List File) (said : Verdict) : Type 0 where
+data IsEnding (command : Command) (asked : RequestView) (files : List File) (said : Verdict) : Type 0 where
   done : said ≡ verdict.Done → IsEnding command asked files said
-  negative : (text : List ℕ) → verdict_text asked said ≡ Some text → verdict_status said ≡ 1 → IsNoText command asked files text → IsEnding command asked files said
-  spent : said ≡ verdict.Spent (budget_by command asked) → IsEnding command asked files said
+  negative : (text : List ℕ) → verdict_text asked said ≡ Some text → verdict_status said ≡ 1 → command.IsNo asked files text → IsEnding command asked files said
+  spent : said ≡ verdict.Spent (command.budget asked) → IsEnding command asked files said
 
 -- what is taken whole is whole
 front_taken : (whole : Bool) (text : Option (List ℕ)) (old new : SinkView) → whole ≡ false → TakesWhole whole text old new → ⊥
@@ -212,85 +218,85 @@ front_taken false text old new is takes = takes
 -- what a call of this command may end with
 abbrev EndsSo : CommandKind → Type 0
 EndsSo command =
-    (call : Call) (asked : RequestView) (files : List File) (answered : Answered) → IsCommand command call asked files → HasAnswered call.rules asked files answered
-    → TakesWhole answered.whole answered.text call.before.out call.after.out → IsEnding command asked files answered.verdict
+    (call : Call) (asked : RequestView) (files : List File) (answered : Answered) → IsCommand command call asked files → HasAnswered (command_of command) call.rules asked files answered
+    → TakesWhole answered.whole answered.text call.before.out call.after.out → IsEnding (command_of command) asked files answered.verdict
 
 learn_ends : EndsSo commands.Learn
 learn_ends call asked files answered is has takes =
-    let learned = has_learned asked.source call.rules asked files has.task answered refl (planned call.rules asked files commands.Learn has.task is.command_is has.is) has.answers in
+    let learned = has_learned asked.source call.rules asked files has.task answered refl has.is has.answers in
     done (sym (ap (λ (a : Answered). a.verdict) learned.is))
 
 fill_ends : EndsSo commands.Fill
 fill_ends call asked files answered is has takes =
     let filled = fill_answered call asked files answered is has in
-    subst (λ (a : Answered). IsEnding commands.Fill asked files a.verdict) (sym filled.is) (by_outcome filled.end.0)
+    subst (λ (a : Answered). IsEnding fill_command asked files a.verdict) (sym filled.is) (by_outcome filled.end.0)
   where
-    by_outcome : (o : Outcome) → IsEnding commands.Fill asked files (verdict_of asked.budget o)
+    by_outcome : (o : Outcome) → IsEnding fill_command asked files (verdict_of asked.budget o)
     by_outcome outcome.Map = done refl
     by_outcome outcome.NoMap = negative no_map_text refl refl refl
     by_outcome outcome.Spent = spent refl
 
 domains_ends : EndsSo commands.Domains
 domains_ends call asked files answered is has takes =
-    let given = domains_given asked files has.task (planned call.rules asked files commands.Domains has.task is.command_is has.is) in
-    let answers : Some (domains_answer given.0 given.1) ≡ Some answered = subst (λ task. Answers call.rules asked task answered) (sym given.2) has.answers in
+    let given = domains_given asked files has.task has.is in
+    let answers : domains_answer given.0 given.1 ≡ answered = subst (λ task. DomainsAnswers task answered) (sym given.2) has.answers in
     let is_answer : domains_answer given.0 given.1 ≡ answered = cc (answers) in
-    subst (λ (a : Answered). IsEnding commands.Domains asked files a.verdict) is_answer (by_dead (is_dead given.0 (greatest given.0 [])))
+    subst (λ (a : Answered). IsEnding domains_command asked files a.verdict) is_answer (by_dead (is_dead given.0 (greatest given.0 [])))
   where
-    by_dead : (dead : Bool) → IsEnding commands.Domains asked files (if dead then verdict.Dead else verdict.Done)
+    by_dead : (dead : Bool) → IsEnding domains_command asked files (if dead then verdict.Dead else verdict.Done)
     by_dead true = negative no_domains_text refl refl refl
     by_dead false = done refl
 
 demo_ends : EndsSo commands.Demo
 demo_ends call asked files answered is has takes =
-    let given = demo_given (kinds_of call.rules) asked files has.task (planned call.rules asked files commands.Demo has.task is.command_is has.is) in
-    by_end (end_of call.rules Fewest (demo_problem asked.number) demo_budget asked.number) (subst (λ task. Answers call.rules asked task answered) (sym given) has.answers)
+    let given = demo_given (kinds_of call.rules) asked files has.task has.is in
+    by_end (end_of call.rules Fewest (demo_problem asked.number) demo_budget asked.number) (subst (λ task. DemoAnswers call.rules asked task answered) (sym given) has.answers)
   where
-    by_outcome : (o : Outcome) → IsEnding commands.Demo asked files (verdict_of demo_budget o)
+    by_outcome : (o : Outcome) → IsEnding demo_command asked files (verdict_of demo_budget o)
     by_outcome outcome.Map = done refl
     by_outcome outcome.NoMap = negative no_map_text refl refl refl
     by_outcome outcome.Spent = spent refl
 
-    by_end : (end : Option (Outcome × State)) → demo_answer (demo_patterns asked.number) (demo_problem asked.number) end ≡ Some answered → IsEnding commands.Demo asked files answered.verdict
+    by_end : (end : Option (Outcome × State)) → demo_answer (demo_patterns asked.number) (demo_problem asked.number) end ≡ Some answered → IsEnding demo_command asked files answered.verdict
     by_end None answers = absurd (cc (answers))
     by_end (Some end) answers =
         let made : Answered = record { verdict = verdict_of demo_budget end.0; text = Some (demonstration asked.number end); whole = true } in
         let is_answer : made ≡ answered = cc (answers) in
-        subst (λ (a : Answered). IsEnding commands.Demo asked files a.verdict) is_answer (by_outcome end.0)
+        subst (λ (a : Answered). IsEnding demo_command asked files a.verdict) is_answer (by_outcome end.0)
 
 refute_ends : EndsSo commands.Refute
 refute_ends call asked files answered is has takes =
-    let given = refute_given (kinds_of call.rules) asked files has.task (planned call.rules asked files commands.Refute has.task is.command_is has.is) in
+    let given = refute_given (kinds_of call.rules) asked files has.task has.is in
     let refuted = has_refuted call asked files has.task answered is given.0 given.1 given.2 has.answers in
     by_answer refuted.work.rule refuted.work.P refuted.is
   where
-    by_outcome : (o : Outcome) → IsEnding commands.Refute asked files (refute_verdict asked.budget o)
+    by_outcome : (o : Outcome) → IsEnding refute_command asked files (refute_verdict asked.budget o)
     by_outcome outcome.Map = negative map_exists_text refl refl refl
     by_outcome outcome.NoMap = done refl
     by_outcome outcome.Spent = spent refl
 
-    by_answer : (rule : Rule) (P : Network) → RefutesWhole rule asked P answered ⊎ RefutesFront rule asked P answered → IsEnding commands.Refute asked files answered.verdict
-    by_answer rule P (inl refuted) = subst (λ (a : Answered). IsEnding commands.Refute asked files a.verdict) (sym refuted.is) (by_outcome refuted.outcome)
+    by_answer : (rule : Rule) (P : Network) → RefutesWhole rule asked P answered ⊎ RefutesFront rule asked P answered → IsEnding refute_command asked files answered.verdict
+    by_answer rule P (inl refuted) = subst (λ (a : Answered). IsEnding refute_command asked files a.verdict) (sym refuted.is) (by_outcome refuted.outcome)
     by_answer rule P (inr front) = absurd (front_taken answered.whole answered.text call.before.out call.after.out front.front takes)
 
 check_ends : EndsSo commands.Check
 check_ends call asked files answered is has takes =
-    let given = check_given asked files has.task (planned call.rules asked files commands.Check has.task is.command_is has.is) in
-    let answers : Some (check_answer given.0) ≡ Some answered = subst (λ task. Answers call.rules asked task answered) (sym given.1) has.answers in
+    let given = check_given asked files has.task has.is in
+    let answers : check_answer given.0 ≡ answered = subst (λ task. CheckAnswers task answered) (sym given.1) has.answers in
     let is_answer : check_answer given.0 ≡ answered = cc (answers) in
-    subst (λ (a : Answered). IsEnding commands.Check asked files a.verdict) is_answer (by_found given.0 given.2)
+    subst (λ (a : Answered). IsEnding check_command asked files a.verdict) is_answer (by_found given.0 given.2)
   where
-    by_found : (found : Option CheckFault) → IsCheckTask asked files found → IsEnding commands.Check asked files (check_answer found).verdict
+    by_found : (found : Option CheckFault) → IsCheckTask asked files found → IsEnding check_command asked files (check_answer found).verdict
     by_found None task = done refl
     by_found (Some fault) task = negative (text_of_check fault (refutation_name asked)) refl refl (fault, task, refl)
 
 upgrade_ends : EndsSo commands.Upgrade
 upgrade_ends call asked files answered is has takes =
-    let given = upgrade_given asked files has.task (planned call.rules asked files commands.Upgrade has.task is.command_is has.is) in
+    let given = upgrade_given asked files has.task has.is in
     let said = has_upgraded call.rules asked files has.task answered given.0 given.1 given.2 given.3 has.answers in
-    subst (λ (a : Answered). IsEnding commands.Upgrade asked files a.verdict) said.is (by_found said.work (first_fault asked said.work.P said.work.bytes) refl)
+    subst (λ (a : Answered). IsEnding upgrade_command asked files a.verdict) said.is (by_found said.work (first_fault asked said.work.P said.work.bytes) refl)
   where
-    by_found : (work : UpgradeWork asked files) (found : Option CheckFault) → first_fault asked work.P work.bytes ≡ found → IsEnding commands.Upgrade asked files (upgrade_answer asked work.P work.bytes found).verdict
+    by_found : (work : UpgradeWork asked files) (found : Option CheckFault) → first_fault asked work.P work.bytes ≡ found → IsEnding upgrade_command asked files (upgrade_answer asked work.P work.bytes found).verdict
     by_found work None found = done refl
     by_found work (Some fault) found = negative (text_of_check fault (refutation_name asked)) refl refl (work, fault, found, refl)
 
@@ -379,13 +385,13 @@ tells_status call answer = record {
     by_words asked files (inr told) = (no_memory_text, says_short told.0 refl, told.1)
 
     -- a verdict
-    by_ending : (asked : RequestView) (files : List File) (said : Verdict) → call.status ≢ 0 → call.status ≡ verdict_status said → Tells (verdict_text asked said) call.before.err call.after.err → IsEnding asked.command asked files said
+    by_ending : (asked : RequestView) (files : List File) (said : Verdict) → call.status ≢ 0 → call.status ≡ verdict_status said → Tells (verdict_text asked said) call.before.err call.after.err → IsEnding (asked_command asked) asked files said
         → TellsReason call asked files
     by_ending asked files said some same told (done is) = absurd (some (same ∙ ap verdict_status is))
     by_ending asked files said some same told (negative text is one denied) =
         (text, says_no (same ∙ one) denied, subst (λ (t : Option (List ℕ)). Tells t call.before.err call.after.err) is told)
     by_ending asked files said some same told (spent is) =
-        (text_of_budget (budget_by asked.command asked), says_spent (same ∙ ap verdict_status is) refl, subst (λ v. Tells (verdict_text asked v) call.before.err call.after.err) is told)
+        (text_of_budget ((asked_command asked).budget asked), says_spent (same ∙ ap verdict_status is) refl, subst (λ v. Tells (verdict_text asked v) call.before.err call.after.err) is told)
 
     -- want of memory
     by_short : (asked : RequestView) (files : List File) (fault : Fault) → call.status ≡ status_of fault → IsTold (fault_text asked fault) call.before.err call.after.err → status_of fault ≡ 6 → TellsReason call asked files
@@ -393,8 +399,8 @@ tells_status call answer = record {
 
     -- a fault of the plan
     by_plan : (asked : RequestView) (files : List File) (fault : Fault) → call.before.folder.contents ≡ Some files → call.status ≡ status_of fault → IsTold (fault_text asked fault) call.before.err call.after.err
-        → Goes (plan_of (kinds_of call.rules) asked) call.before.folder call.after.folder (Err fault) → TellsReason call asked files
-    by_plan asked files fault contents same told goes = elim (goes_stopped (plan_of (kinds_of call.rules) asked) call.before.folder call.after.folder (Err fault) files contents goes) [
+        → Goes (plan_of call.rules asked) call.before.folder call.after.folder (Err fault) → TellsReason call asked files
+    by_plan asked files fault contents same told goes = elim (goes_stopped (plan_of call.rules asked) call.before.folder call.after.folder (Err fault) files contents goes) [
       | inl is ↦ (fault_text asked fault, says_fault fault (sym is) same refl, told)
       | inr other ↦ elim other [
         | inl short ↦ let fault_is : fault ≡ short.0 = cc (short.2) in by_short asked files fault same told (ap status_of fault_is ∙ short.1)
@@ -410,7 +416,7 @@ tells_status call answer = record {
     by_fault asked files fault contents same told (of_plan goes) = by_plan asked files fault contents same told goes
     by_fault asked files fault contents same told (of_task six) = by_short asked files fault same told six
 
-    by_reply : (asked : RequestView) (files : List File) → IsGiven call asked files → call.status ≢ 0 → (reply : Reply) → Ends call.rules asked call.before.folder call.after.folder reply
+    by_reply : (asked : RequestView) (files : List File) → IsGiven call asked files → call.status ≢ 0 → (reply : Reply) → Ends (plan_of call.rules asked) (Answers call.rules asked) call.before.folder call.after.folder reply
         → Delivers (said_of asked reply) call → TellsReason call asked files
     by_reply asked files given some (Ok answered) ends (inl delivered) =
         let has = answered_task call asked files answered (told_reply call asked files (Ok answered) given.told ends) in

@@ -38,14 +38,14 @@ use Rattle.wfc_task.specs.Checking.{shape_of}
 use Rattle.wfc_task.specs.Fault.{status_of}
 use Rattle.wfc_task.specs.Plan.{Goes}
 use Rattle.wfc_task.specs.RefuteGiven.{IsRefuteTask}
-use Rattle.wfc_task.specs.Task as tasks
-use Rattle.wfc_task.specs.Task.{Task, plan_by}
+use Rattle.wfc_task.specs.RefuteTask as tasks
 use Rattle.wfc_task.proofs.CallerLemmas.{refute_given}
 use Rattle.wfc_task.specs.declared.fault.Fault.{Fault}
 use Rattle.wfc_cli.specs.Answer.{IsAnswer}
-use Rattle.wfc_cli.specs.Answers.{Answers}
+use Rattle.wfc_task.specs.RefuteTask.{refute_plan, RefuteTask}
+use Rattle.wfc_cli.specs.RefuteCommand.{RefuteAnswers, refute_command}
 use Rattle.wfc_cli.specs.Choosers.{chosen, kinds_of}
-use Rattle.wfc_cli.specs.Ending.{EndsPut}
+use Rattle.wfc_cli.specs.Ending.{EndsAs}
 use Rattle.wfc_cli.specs.RefuteClaims.{IsRunFront, RefuteWork, WritesRefutation, WritesRun, WritesRunFront, refute_status}
 use Rattle.wfc_cli.specs.Refuting.{CutsFrom, CutsRefutation, IsBegunBy, IsToldBy, PutsFrom, PutsRefutation, Refutes, RefutesBy, RefutesFront, RefutesWhole, lines_in, refutation_text, refute_verdict, written_format}
 use Rattle.wfc_cli.specs.Reply.{Answered, CutsOff, TakesWhole, verdict_status}
@@ -54,10 +54,10 @@ use Rattle.wfc_cli.specs.declared.reply.Stop.{Stop}
 use Rattle.wfc_cli.specs.declared.reply.Stop.TheVariants.{Cut, Unanswered}
 use Rattle.wfc_cli.specs.declared.reply.Verdict.{Verdict}
 use Rattle.wfc_cli.specs.declared.reply.Verdict.TheVariants as verdict
-use Rattle.wfc_cli.proofs.CommandLemmas.{CameTo, whole, cut, none, came_to, planned}
+use Rattle.wfc_cli.proofs.CommandLemmas.{CameTo, whole, cut, none, came_to}
 use Rattle.wfc_cli.proofs.MapLemmas.{IsBridged, command_bridged, no_legal}
 use Rattle.wfc_cli.proofs.RunTextLemmas.{join_more, none_growing, none_joined, run_single, run_text}
-use Rattle.wfc_cli.proofs.EndLemmas.{ends_short, put_cut, put_front, put_none, put_short, put_whole}
+use Rattle.wfc_cli.proofs.EndLemmas.{put_cut, put_none, put_short, put_whole}
 use Rattle.wfc_cli.proofs.TheoremLemmas.{five_apart, verdict_apart}
 use Rattle.wfc_cli.specs.Call.{Call}
 use Rattle.wfc_cli.specs.Theorem.{IsCommand}
@@ -275,55 +275,51 @@ head_cut rule asked P s words old new begins fault =
 
 -- ---- the answer
 
-goes_by : (rules : List Rule) (asked : RequestView) (kinds : List RuleKind) (before after : FolderView) (task : Task) → kinds ≡ kinds_of rules → Goes (plan_by commands.Refute kinds asked) before after (Ok task)
-    → Goes (plan_by commands.Refute (kinds_of rules) asked) before after (Ok task)
-goes_by rules asked kinds before after task same goes = subst (λ (ks : List RuleKind). Goes (plan_by commands.Refute ks asked) before after (Ok task)) same goes
+goes_by : (rules : List Rule) (asked : RequestView) (kinds : List RuleKind) (before after : FolderView) (task : RefuteTask) → kinds ≡ kinds_of rules → Goes (refute_plan kinds asked) before after (Ok task)
+    → Goes (refute_plan (kinds_of rules) asked) before after (Ok task)
+goes_by rules asked kinds before after task same goes = subst (λ (ks : List RuleKind). Goes (refute_plan ks asked) before after (Ok task)) same goes
 
 whole_text : (rules : List Rule) (asked : RequestView) (P : Network) (rule : Rule) (o : Outcome) (old mid : SinkView) → chosen asked.rule rules ≡ Some rule → (put : PutsRefutation rule asked P o old mid)
-    → Answers rules asked (tasks.refute P) (record { verdict = refute_verdict asked.budget o; text = Some (refutation_text asked P put.lines); whole = true })
+    → RefuteAnswers rules asked (tasks.refute P) (record { verdict = refute_verdict asked.budget o; text = Some (refutation_text asked P put.lines); whole = true })
 whole_text rules asked P rule o old mid found put =
     subst (λ (r : Option Rule). RefutesBy r asked P (record { verdict = refute_verdict asked.budget o; text = Some (refutation_text asked P put.lines); whole = true })) (sym found)
     (inl (record { outcome = o; lines = put.lines; told = put.told; is = refl }))
 
--- memory ran out before the plan began, or the plan ended with a fault
-pub refute_short : (rules : List Rule) (asked : RequestView) (folder : FolderView) (sink : SinkView) (fault : Fault) → status_of fault ≡ 6 → EndsPut rules asked folder folder sink sink (Err (Unanswered fault))
-refute_short rules asked folder sink fault six = record { reply = Err fault; ends = ends_short rules asked folder fault six; leaves = (refl, refl) }
+-- the plan ended with a fault
+pub refute_none : (rules : List Rule) (asked : RequestView) (kinds : List RuleKind) (before after : FolderView) (sink : SinkView) (fault : Fault) → kinds ≡ kinds_of rules
+    → Goes (refute_plan kinds asked) before after (Err fault) → EndsAs refute_command rules asked before after sink sink (Err (Unanswered fault))
+refute_none rules asked kinds before after sink fault same goes =
+    put_none (refute_plan (kinds_of rules) asked) (RefuteAnswers rules asked) before after sink fault
+    (subst (λ (ks : List RuleKind). let end : Result RefuteTask Fault = Err fault in Goes (refute_plan ks asked) before after end) same goes)
 
-pub refute_none : (rules : List Rule) (asked : RequestView) (kinds : List RuleKind) (before after : FolderView) (sink : SinkView) (fault : Fault) → asked.command ≡ commands.Refute → kinds ≡ kinds_of rules
-    → Goes (plan_by commands.Refute kinds asked) before after (Err fault) → EndsPut rules asked before after sink sink (Err (Unanswered fault))
-refute_none rules asked kinds before after sink fault is same goes =
-    put_none rules asked commands.Refute before after sink fault is
-    (subst (λ (ks : List RuleKind). let end : Result Task Fault = Err fault in Goes (plan_by commands.Refute ks asked) before after end) same goes)
-
-pub refute_stopped : (rules : List Rule) (asked : RequestView) (kinds : List RuleKind) (before after : FolderView) (old new : SinkView) (P : Network) (rule : Rule) (kind : RuleKind) (stop : Stop) → asked.command ≡ commands.Refute
-    → kinds ≡ kinds_of rules → Goes (plan_by commands.Refute kinds asked) before after (Ok (tasks.refute P)) → kind ≡ asked.rule → chosen kind rules ≡ Some rule → Refutes rule asked P old new (Err stop)
-    → EndsPut rules asked before after old new (Err stop)
-refute_stopped rules asked kinds before after old new P rule kind stop is same goes of_kind found refutes = by_stop stop refutes
+pub refute_stopped : (rules : List Rule) (asked : RequestView) (kinds : List RuleKind) (before after : FolderView) (old new : SinkView) (P : Network) (rule : Rule) (kind : RuleKind) (stop : Stop) → kinds ≡ kinds_of rules → Goes (refute_plan kinds asked) before after (Ok (tasks.refute P)) → kind ≡ asked.rule → chosen kind rules ≡ Some rule → Refutes rule asked P old new (Err stop)
+    → EndsAs refute_command rules asked before after old new (Err stop)
+refute_stopped rules asked kinds before after old new P rule kind stop same goes of_kind found refutes = by_stop stop refutes
   where
-    by_stop : (stop : Stop) → Refutes rule asked P old new (Err stop) → EndsPut rules asked before after old new (Err stop)
+    by_stop : (stop : Stop) → Refutes rule asked P old new (Err stop) → EndsAs refute_command rules asked before after old new (Err stop)
     by_stop Cut parted =
         let text : Option (List ℕ) = Some (refutation_text asked P (take parted.count parted.lines)) in
-        put_front rules asked commands.Refute before after old new (tasks.refute P) verdict.Done text is (goes_by rules asked kinds before after (tasks.refute P) same goes)
+        put_cut (refute_plan (kinds_of rules) asked) (RefuteAnswers rules asked) before after old new (tasks.refute P) verdict.Done text false (goes_by rules asked kinds before after (tasks.refute P) same goes)
         (subst (λ (r : Option Rule). RefutesBy r asked P (record { verdict = verdict.Done; text = text; whole = false })) (sym (ap (λ (k : RuleKind). chosen k rules) (sym of_kind) ∙ found))
         (inr (record { lines = parted.lines; begun = parted.begun; count = parted.count; within = parted.within; front = refl; text = refl })))
         parted.fault
     by_stop (Unanswered fault) short =
-        subst (λ (n : SinkView). EndsPut rules asked before after old n (Err (Unanswered fault))) (sym short.1)
-        (put_short rules asked commands.Refute before after old (tasks.refute P) fault is (goes_by rules asked kinds before after (tasks.refute P) same goes) short.0)
+        subst (λ (n : SinkView). EndsAs refute_command rules asked before after old n (Err (Unanswered fault))) (sym short.1)
+        (put_short (refute_plan (kinds_of rules) asked) (RefuteAnswers rules asked) before after old (tasks.refute P) fault (goes_by rules asked kinds before after (tasks.refute P) same goes) short.0)
 
 pub refute_done : (rules : List Rule) (asked : RequestView) (kinds : List RuleKind) (before after : FolderView) (old mid new : SinkView) (P : Network) (rule : Rule) (kind : RuleKind) (o : Outcome) (ended : Verdict)
-    → asked.command ≡ commands.Refute → kinds ≡ kinds_of rules → Goes (plan_by commands.Refute kinds asked) before after (Ok (tasks.refute P)) → kind ≡ asked.rule → chosen kind rules ≡ Some rule → Refutes rule asked P old mid (Ok o)
-    → new ≡ after_finish mid → ended ≡ refute_verdict asked.budget o → EndsPut rules asked before after old new (Ok ended)
-refute_done rules asked kinds before after old mid new P rule kind o ended is same goes of_kind found put finished ends =
-    subst (λ (v : Verdict). EndsPut rules asked before after old new (Ok v)) (sym ends)
-    (put_whole rules asked commands.Refute before after old new (tasks.refute P) (refute_verdict asked.budget o) (Some (refutation_text asked P put.lines)) is
+    → kinds ≡ kinds_of rules → Goes (refute_plan kinds asked) before after (Ok (tasks.refute P)) → kind ≡ asked.rule → chosen kind rules ≡ Some rule → Refutes rule asked P old mid (Ok o)
+    → new ≡ after_finish mid → ended ≡ refute_verdict asked.budget o → EndsAs refute_command rules asked before after old new (Ok ended)
+refute_done rules asked kinds before after old mid new P rule kind o ended same goes of_kind found put finished ends =
+    subst (λ (v : Verdict). EndsAs refute_command rules asked before after old new (Ok v)) (sym ends)
+    (put_whole (refute_plan (kinds_of rules) asked) (RefuteAnswers rules asked) before after old new (tasks.refute P) (refute_verdict asked.budget o) (Some (refutation_text asked P put.lines))
     (goes_by rules asked kinds before after (tasks.refute P) same goes) (whole_text rules asked P rule o old mid (ap (λ (k : RuleKind). chosen k rules) (sym of_kind) ∙ found) put) (finished ∙ ap after_finish put.put))
 
 pub refute_unfinished : (rules : List Rule) (asked : RequestView) (kinds : List RuleKind) (before after : FolderView) (old mid new : SinkView) (P : Network) (rule : Rule) (kind : RuleKind) (o : Outcome)
-    → asked.command ≡ commands.Refute → kinds ≡ kinds_of rules → Goes (plan_by commands.Refute kinds asked) before after (Ok (tasks.refute P)) → kind ≡ asked.rule → chosen kind rules ≡ Some rule → Refutes rule asked P old mid (Ok o)
-    → IsFault mid new → EndsPut rules asked before after old new (Err Cut)
-refute_unfinished rules asked kinds before after old mid new P rule kind o is same goes of_kind found put fault =
-    put_cut rules asked commands.Refute before after old new (tasks.refute P) (refute_verdict asked.budget o) (Some (refutation_text asked P put.lines)) is
+    → kinds ≡ kinds_of rules → Goes (refute_plan kinds asked) before after (Ok (tasks.refute P)) → kind ≡ asked.rule → chosen kind rules ≡ Some rule → Refutes rule asked P old mid (Ok o)
+    → IsFault mid new → EndsAs refute_command rules asked before after old new (Err Cut)
+refute_unfinished rules asked kinds before after old mid new P rule kind o same goes of_kind found put fault =
+    put_cut (refute_plan (kinds_of rules) asked) (RefuteAnswers rules asked) before after old new (tasks.refute P) (refute_verdict asked.budget o) (Some (refutation_text asked P put.lines)) true
     (goes_by rules asked kinds before after (tasks.refute P) same goes) (whole_text rules asked P rule o old mid (ap (λ (k : RuleKind). chosen k rules) (sym of_kind) ∙ found) put) (fault_behind old mid new (refutation_text asked P put.lines) put.put fault)
 
 -- ---- the claims
@@ -338,7 +334,7 @@ pub record HasRefuted (rules : List Rule) (asked : RequestView) (files : List Fi
   pub work : RefuteWork rules asked files
   pub is : RefutesWhole work.rule asked work.P answered ⊎ RefutesFront work.rule asked work.P answered
 
-refuted_by : (rules : List Rule) (asked : RequestView) (files : List File) (answered : Answered) (P : Network) → IsRefuteTask (kinds_of rules) asked files P → Answers rules asked (tasks.refute P) answered → HasRefuted rules asked files answered
+refuted_by : (rules : List Rule) (asked : RequestView) (files : List File) (answered : Answered) (P : Network) → IsRefuteTask (kinds_of rules) asked files P → RefuteAnswers rules asked (tasks.refute P) answered → HasRefuted rules asked files answered
 refuted_by rules asked files answered P task answers = by_rule (chosen asked.rule rules) refl answers
   where
     by_rule : (found : Option Rule) → chosen asked.rule rules ≡ found → RefutesBy found asked P answered → HasRefuted rules asked files answered
@@ -367,9 +363,9 @@ run_spent P p rule budget words later outcome.Spent run two =
 run_spent P p rule budget words later outcome.Map run two = absurd (omega (arith, two))
 run_spent P p rule budget words later outcome.NoMap run two = absurd (omega (arith, two))
 
-pub has_refuted : (call : Call) (asked : RequestView) (files : List File) (task : Task) (answered : Answered) → IsCommand commands.Refute call asked files
-    → (P : Network) → tasks.refute P ≡ task → IsRefuteTask (kinds_of call.rules) asked files P → Answers call.rules asked task answered → HasRefuted call.rules asked files answered
-has_refuted call asked files task answered is P same given answers = refuted_by call.rules asked files answered P given (subst (λ (t : Task). Answers call.rules asked t answered) (sym same) answers)
+pub has_refuted : (call : Call) (asked : RequestView) (files : List File) (task : RefuteTask) (answered : Answered) → IsCommand commands.Refute call asked files
+    → (P : Network) → tasks.refute P ≡ task → IsRefuteTask (kinds_of call.rules) asked files P → RefuteAnswers call.rules asked task answered → HasRefuted call.rules asked files answered
+has_refuted call asked files task answered is P same given answers = refuted_by call.rules asked files answered P given (subst (λ (t : RefuteTask). RefuteAnswers call.rules asked t answered) (sym same) answers)
 
 -- what is known of the problem of a `refute`
 known : (call : Call) (asked : RequestView) (files : List File) → IsCommand commands.Refute call asked files → (work : RefuteWork call.rules asked files)
@@ -412,9 +408,9 @@ writes_refutation call answer asked files is low = by_end (came_to commands.Refu
     by_answer answered work same takes (inl refuted) = by_whole answered work same takes refuted
     by_answer answered work same takes (inr front) = absurd (front_taken answered.whole answered.text front.front takes)
 
-    by_end : CameTo call asked files → (work : RefuteWork call.rules asked files) × WritesRun asked work call
+    by_end : CameTo refute_command call asked files → (work : RefuteWork call.rules asked files) × WritesRun asked work call
     by_end (whole answered has same takes) =
-        let given = refute_given (kinds_of call.rules) asked files has.task (planned call.rules asked files commands.Refute has.task is.command_is has.is) in
+        let given = refute_given (kinds_of call.rules) asked files has.task has.is in
         let refuted = has_refuted call asked files has.task answered is given.0 given.1 given.2 has.answers in
         by_answer answered refuted.work same takes refuted.is
     by_end (cut answered has five front) = absurd (five_apart call.status five low)
@@ -441,10 +437,10 @@ writes_run_front call answer asked files is five = by_end (came_to commands.Refu
       front = subst (λ (t : Option (List ℕ)). CutsOff t call.before.out call.after.out) front.text parted;
     }
 
-    by_end : CameTo call asked files → (call.after.out ≡ call.before.out) ⊎ ((work : RefuteWork call.rules asked files) × IsRunFront asked work call)
+    by_end : CameTo refute_command call asked files → (call.after.out ≡ call.before.out) ⊎ ((work : RefuteWork call.rules asked files) × IsRunFront asked work call)
     by_end (whole answered has same takes) = absurd (verdict_apart answered.verdict 5 (omega arith) (omega arith) (sym same ∙ five))
     by_end (cut answered has _ front) =
-        let given = refute_given (kinds_of call.rules) asked files has.task (planned call.rules asked files commands.Refute has.task is.command_is has.is) in
+        let given = refute_given (kinds_of call.rules) asked files has.task has.is in
         let refuted = has_refuted call asked files has.task answered is given.0 given.1 given.2 has.answers in
         inr (refuted.work, by_answer answered refuted.work front refuted.is)
     by_end (none high same) = inl same

@@ -6,28 +6,26 @@ use Rattle.wfc_outside.specs.Folder.{File}
 use Rattle.wfc_outside.specs.Sink.{SinkView}
 use Rattle.wfc_outside.specs.declared.whole.ReadFault.{ReadFault}
 use Rattle.wfc_outside.specs.declared.whole.ReadFault.TheVariants as reading
-use Rattle.wfc_choose.specs.Pick.{Rule}
 use Rattle.wfc_words.specs.Request.{request_of}
 use Rattle.wfc_words.specs.RequestView.{RequestView}
 use Rattle.wfc_words.specs.declared.fault.CommandFault.{CommandFault}
 use Rattle.wfc_words.specs.declared.fault.CommandFault.TheVariants as words_fault
 use Rattle.wfc_task.specs.Fault.{class_of, class_status, reading_status, status_of}
 use Rattle.wfc_task.specs.Plan.{Goes, IsShort}
-use Rattle.wfc_task.specs.Task.{Task, plan_of}
 use Rattle.wfc_task.specs.declared.fault.Fault.{Fault}
 use Rattle.wfc_task.specs.declared.fault.Fault.TheVariants.{Unread, Refused}
 use Rattle.wfc_task.specs.declared.fault.Class.{Class}
 use Rattle.wfc_task.specs.declared.fault.Class.TheVariants.{Input, Memory, NoChooser}
 use Rattle.wfc_task.proofs.CallerLemmas.{goes_quiet, never_3}
-use Rattle.wfc_cli.specs.Choosers.{kinds_of}
 use Rattle.wfc_cli.specs.ErrorLine.{command_status}
-use Rattle.wfc_cli.specs.Reply.{Reply, HasAnswer, CutsOff, Delivers, IsDelivered, Takes, TakesWhole, said_of, verdict_status}
+use Rattle.wfc_cli.specs.Reply.{Answered, Reply, HasAnswer, CutsOff, Delivers, IsDelivered, Takes, TakesWhole, said_of, verdict_status}
 use Rattle.wfc_cli.specs.declared.reply.Verdict.{Verdict}
 use Rattle.wfc_cli.specs.declared.reply.Verdict.TheVariants.{Done, NoMap, Spent, Dead, MapExists, Unaccepted}
 use Rattle.wfc_cli.specs.Answer.{AnswersAsked, Ends, IsAnswer, IsAnswerTo, IsRefusedCall, Replied, Replies}
 use Rattle.wfc_cli.proofs.ReachLemmas.{IsStopped, first_missing, goes_reading, goes_stopped}
-use Rattle.wfc_cli.specs.Theorem.{CountsFaults, HasDeviceFault, HasFirstFault, HasRefusedWords, IsAnswered, IsComplete, IsFileFault, IsGiven, IsNoCommand, IsQuiet, IsRefusedFirst, IsRefusedWith, KeepsOut, NoneCounted, RefusesWords, task_of}
+use Rattle.wfc_cli.specs.Theorem.{CountsFaults, HasDeviceFault, HasFirstFault, HasRefusedWords, IsAnswered, IsComplete, IsFileFault, IsGiven, IsNoCommand, IsQuiet, IsRefusedFirst, IsRefusedWith, KeepsOut, NoneCounted, RefusesWords}
 use Rattle.wfc_cli.specs.Call.{Call}
+use Rattle.wfc_cli.specs.Commands.{Answers, asked_command, plan_of, task_of}
 
 -- each verdict has the status of an answer
 pub verdict_answers : (verdict : Verdict) → HasAnswer (verdict_status verdict)
@@ -78,26 +76,26 @@ command_between (words_fault.Value name) = inl refl
 command_between words_fault.NoMemory = inr refl
 
 -- a command that was given its task has no other fault than want of memory
-pub replied_short : (rules : List Rule) (asked : RequestView) (task : Task) (fault : Fault) → Replies rules asked task (Err fault) → status_of fault ≡ 6
-replied_short rules asked task fault replied = replied
+pub replied_short : {T : Type 0} (Answers : T → Answered → Type 0) (task : T) (fault : Fault) → Replies Answers task (Err fault) → status_of fault ≡ 6
+replied_short Answers task fault replied = replied
 
 -- a reply to a plan that ended with a fault is that fault
-replied_fault : (rules : List Rule) (asked : RequestView) (ended : Result Task Fault) (reply : Reply) (fault : Fault) → ended ≡ Err fault → Replied rules asked ended reply → reply ≡ Err fault
-replied_fault rules asked ended reply fault is replied = subst (λ e. Replied rules asked e reply) is replied
+replied_fault : {T : Type 0} (Answers : T → Answered → Type 0) (ended : Result T Fault) (reply : Reply) (fault : Fault) → ended ≡ Err fault → Replied Answers ended reply → reply ≡ Err fault
+replied_fault Answers ended reply fault is replied = subst (λ e. Replied Answers e reply) is replied
 
 -- the fault of a reply to a task is want of memory, and else it is that of the plan
 pub data FaultOf (call : Call) (asked : RequestView) (fault : Fault) : Type 0 where
-  of_plan : Goes (plan_of (kinds_of call.rules) asked) call.before.folder call.after.folder (Err fault) → FaultOf call asked fault
+  of_plan : Goes (plan_of call.rules asked) call.before.folder call.after.folder (Err fault) → FaultOf call asked fault
   of_task : status_of fault ≡ 6 → FaultOf call asked fault
 
-pub fault_from : (call : Call) (asked : RequestView) (fault : Fault) → Ends call.rules asked call.before.folder call.after.folder (Err fault) → FaultOf call asked fault
+pub fault_from : (call : Call) (asked : RequestView) (fault : Fault) → Ends (plan_of call.rules asked) (Answers call.rules asked) call.before.folder call.after.folder (Err fault) → FaultOf call asked fault
 fault_from call asked fault ends = by_end ends.ended ends.goes ends.replied
   where
-    by_end : (ended : Result Task Fault) → Goes (plan_of (kinds_of call.rules) asked) call.before.folder call.after.folder ended → Replied call.rules asked ended (Err fault) → FaultOf call asked fault
-    by_end (Ok task) goes replied = of_task (replied_short call.rules asked task fault replied)
+    by_end : (ended : Result (asked_command asked).Task Fault) → Goes (plan_of call.rules asked) call.before.folder call.after.folder ended → Replied (Answers call.rules asked) ended (Err fault) → FaultOf call asked fault
+    by_end (Ok task) goes replied = of_task (replied_short (Answers call.rules asked) task fault replied)
     by_end (Err other) goes replied =
         let same : other ≡ fault = cc (replied) in
-        of_plan (subst (λ f. let ended : Result Task Fault = Err f in Goes (plan_of (kinds_of call.rules) asked) call.before.folder call.after.folder ended) same goes)
+        of_plan (subst (λ f. let ended : Result (asked_command asked).Task Fault = Err f in Goes (plan_of call.rules asked) call.before.folder call.after.folder ended) same goes)
 
 -- what a call with words that are no request does to its status
 pub refused_status : (fault : CommandFault) (call : Call) → IsRefusedCall fault call → (call.status ≡ command_status fault) × (call.after.out ≡ call.before.out)
@@ -154,10 +152,10 @@ keeps_counts call answer not5 = elim (answer.answers) [ inl to ↦ by_request (r
     by_refusal : (fault : CommandFault) → IsRefusedCall fault call → IsQuiet call
     by_refusal fault answer = record { folder = answer.folder; out = ap (λ (s : SinkView). s.faults) (refused_status fault call answer).1 }
 
-    by_reply : (asked : RequestView) (reply : Reply) → Ends call.rules asked call.before.folder call.after.folder reply → IsDelivered (said_of asked reply) call → IsQuiet call
+    by_reply : (asked : RequestView) (reply : Reply) → Ends (plan_of call.rules asked) (Answers call.rules asked) call.before.folder call.after.folder reply → IsDelivered (said_of asked reply) call → IsQuiet call
     by_reply asked reply ends delivered = record {
-      folder = goes_quiet (plan_of (kinds_of call.rules) asked) call.before.folder call.after.folder ends.ended ends.goes (λ fault is five.
-          let as_fault : reply ≡ Err fault = replied_fault call.rules asked ends.ended reply fault is ends.replied in
+      folder = goes_quiet (plan_of call.rules asked) call.before.folder call.after.folder ends.ended ends.goes (λ fault is five.
+          let as_fault : reply ≡ Err fault = replied_fault (Answers call.rules asked) ends.ended reply fault is ends.replied in
           not5 (delivered.same_status ∙ ap (λ r. (said_of asked r).status) as_fault ∙ five));
       out = taken_quiet (said_of asked reply).text call.before.out call.after.out (taken_whole (said_of asked reply).whole (said_of asked reply).text call.before.out call.after.out delivered.taken);
     }
@@ -201,17 +199,17 @@ command_not_5 fault call denied five = elim (command_between fault) [
 ]
 
 -- a plan that ends with the status of a device ended at a file
-pub file_fault : (call : Call) (asked : RequestView) (fault : Fault) → Goes (plan_of (kinds_of call.rules) asked) call.before.folder call.after.folder (Err fault) → status_of fault ≡ 5
+pub file_fault : (call : Call) (asked : RequestView) (fault : Fault) → Goes (plan_of call.rules asked) call.before.folder call.after.folder (Err fault) → status_of fault ≡ 5
     → (file : IsFileFault call asked) × (fault ≡ Unread file.source file.fault)
 file_fault call asked fault goes five =
-    let ends = goes_reading (plan_of (kinds_of call.rules) asked) call.before.folder call.after.folder fault goes five in (
+    let ends = goes_reading (plan_of call.rules asked) call.before.folder call.after.folder fault goes five in (
       record {
         source = ends.source;
         name = ends.name;
         fault = ends.why;
         reached = ends.reached;
         cause = ends.cause;
-        first = λ missing files told. first_missing (plan_of (kinds_of call.rules) asked) call.before.folder call.after.folder fault ends.source files goes (ends.is ∙ ap (λ why. Unread ends.source why) missing) told;
+        first = λ missing files told. first_missing (plan_of call.rules asked) call.before.folder call.after.folder fault ends.source files goes (ends.is ∙ ap (λ why. Unread ends.source why) missing) told;
       },
       ends.is,
     )
@@ -227,7 +225,7 @@ is_device_fault call answer five = elim (answer.answers) [
     by_fault asked fault is (of_plan goes) = (file_fault call asked fault goes is).0
     by_fault asked fault is (of_task six) = absurd (omega (arith, six, is))
 
-    by_reply : (asked : RequestView) (reply : Reply) → Ends call.rules asked call.before.folder call.after.folder reply → Delivers (said_of asked reply) call
+    by_reply : (asked : RequestView) (reply : Reply) → Ends (plan_of call.rules asked) (Answers call.rules asked) call.before.folder call.after.folder reply → Delivers (said_of asked reply) call
         → (IsFileFault call asked × (call.after.out ≡ call.before.out)) ⊎ HasRisen call.before.out.faults call.after.out.faults
     by_reply asked (Ok answered) ends (inl delivered) = absurd (verdict_apart answered.verdict 5 (omega arith) (omega arith) (sym delivered.same_status ∙ five))
     by_reply asked (Err fault) ends (inl delivered) = inl (by_fault asked fault (sym delivered.same_status ∙ five) (fault_from call asked fault ends), delivered.taken)
@@ -242,21 +240,21 @@ is_device_fault call answer five = elim (answer.answers) [
 -- what a reply is where the files are told: the one to the task, or want of memory, or a counted fault
 abbrev pub ToldReply : Call → RequestView → List File → Reply → Type 0
 ToldReply call asked files reply =
-    Replied call.rules asked (task_of call.rules asked files) reply
-    ⊎ (IsShort reply ⊎ IsStopped (plan_of (kinds_of call.rules) asked) call.before.folder call.after.folder reply)
+    Replied (Answers call.rules asked) (task_of call.rules asked files) reply
+    ⊎ (IsShort reply ⊎ IsStopped (plan_of call.rules asked) call.before.folder call.after.folder reply)
 
-pub told_reply : (call : Call) (asked : RequestView) (files : List File) (reply : Reply) → call.before.folder.contents ≡ Some files → Ends call.rules asked call.before.folder call.after.folder reply → ToldReply call asked files reply
-told_reply call asked files reply told ends = by_end (goes_stopped (plan_of (kinds_of call.rules) asked) call.before.folder call.after.folder ends.ended files told ends.goes)
+pub told_reply : (call : Call) (asked : RequestView) (files : List File) (reply : Reply) → call.before.folder.contents ≡ Some files → Ends (plan_of call.rules asked) (Answers call.rules asked) call.before.folder call.after.folder reply → ToldReply call asked files reply
+told_reply call asked files reply told ends = by_end (goes_stopped (plan_of call.rules asked) call.before.folder call.after.folder ends.ended files told ends.goes)
   where
-    by_end : (ends.ended ≡ task_of call.rules asked files) ⊎ (IsShort ends.ended ⊎ IsStopped (plan_of (kinds_of call.rules) asked) call.before.folder call.after.folder ends.ended) → ToldReply call asked files reply
-    by_end (inl is) = inl (subst (λ e. Replied call.rules asked e reply) is ends.replied)
-    by_end (inr (inl (fault, six, is))) = inr (inl (fault, six, replied_fault call.rules asked ends.ended reply fault is ends.replied))
+    by_end : (ends.ended ≡ task_of call.rules asked files) ⊎ (IsShort ends.ended ⊎ IsStopped (plan_of call.rules asked) call.before.folder call.after.folder ends.ended) → ToldReply call asked files reply
+    by_end (inl is) = inl (subst (λ e. Replied (Answers call.rules asked) e reply) is ends.replied)
+    by_end (inr (inl (fault, six, is))) = inr (inl (fault, six, replied_fault (Answers call.rules asked) ends.ended reply fault is ends.replied))
     by_end (inr (inr hindered)) = inr (inr (record {
       source = hindered.source;
       name = hindered.name;
       reached = hindered.reached;
       counted = hindered.counted;
-      is = replied_fault call.rules asked ends.ended reply (Unread hindered.source reading.Failed) hindered.is ends.replied;
+      is = replied_fault (Answers call.rules asked) ends.ended reply (Unread hindered.source reading.Failed) hindered.is ends.replied;
     }))
 
 -- a call that was given its request and files: memory ran out over the words, or its reply is that of the told files, and is delivered
@@ -284,8 +282,8 @@ has_first_fault call answer which asked files given = by_call (told_call call an
     apart : (3 ≤ call.status) × (call.status ≡ 5 → ⊥) × (call.status ≡ 6 → ⊥) × (call.status ≤ 7)
     apart = elim which [ inl four ↦ (omega arith, λ five. omega arith, λ six. omega arith, omega arith) | inr seven ↦ (omega arith, λ five. omega arith, λ six. omega arith, omega arith) ]
 
-    by_task : (task : Result Task Fault) (fault : Fault) → status_of fault ≡ call.status → Replied call.rules asked task (Err fault) → (first : Fault) × (task ≡ Err first) × (status_of first ≡ call.status)
-    by_task (Ok task) fault is replied = absurd (apart.2 (sym is ∙ replied_short call.rules asked task fault replied))
+    by_task : (task : Result (asked_command asked).Task Fault) (fault : Fault) → status_of fault ≡ call.status → Replied (Answers call.rules asked) task (Err fault) → (first : Fault) × (task ≡ Err first) × (status_of first ≡ call.status)
+    by_task (Ok task) fault is replied = absurd (apart.2 (sym is ∙ replied_short (Answers call.rules asked) task fault replied))
     by_task (Err first) fault is replied = let same : fault ≡ first = cc (replied) in (first, refl, sym (ap status_of same) ∙ is)
 
     by_end : (fault : Fault) → status_of fault ≡ call.status → ToldReply call asked files (Err fault) → IsRefusedWith call asked files
@@ -305,7 +303,7 @@ has_first_fault call answer which asked files given = by_call (told_call call an
 -- how a call ends that was told its files, where no fault is counted: want of memory, or the reply to the task, put whole
 data IsSettled (call : Call) (asked : RequestView) (files : List File) : Type 0 where
   exhausted : call.status ≡ 6 → IsSettled call asked files
-  replied : (reply : Reply) → Replied call.rules asked (task_of call.rules asked files) reply → IsDelivered (said_of asked reply) call
+  replied : (reply : Reply) → Replied (Answers call.rules asked) (task_of call.rules asked files) reply → IsDelivered (said_of asked reply) call
       → IsSettled call asked files
 
 settled : (call : Call) → IsAnswer call → (asked : RequestView) (files : List File) → IsGiven call asked files
@@ -334,7 +332,7 @@ first_fault_decides call answer asked files given none fault is = by_end (settle
     by_end : IsSettled call asked files → ((call.status ≡ status_of fault) × (call.after.out ≡ call.before.out)) ⊎ (call.status ≡ 6)
     by_end (exhausted six) = inr six
     by_end (replied reply to delivered) =
-        let as_fault : reply ≡ Err fault = subst (λ e. Replied call.rules asked e reply) is to in
+        let as_fault : reply ≡ Err fault = subst (λ e. Replied (Answers call.rules asked) e reply) is to in
         let put : IsDelivered (said_of asked (Err fault)) call =
         subst (λ r. IsDelivered (said_of asked r) call) as_fault delivered in
         inl (put.same_status, put.taken)
@@ -343,10 +341,10 @@ first_fault_decides call answer asked files given none fault is = by_end (settle
 pub task_is_answered : (call : Call) → IsAnswer call → IsComplete call
 task_is_answered call answer asked files given none task is = by_end (settled call answer asked files given none)
   where
-    by_reply : (reply : Reply) → Replies call.rules asked task reply → IsDelivered (said_of asked reply) call → IsAnswered call asked task ⊎ (call.status ≡ 6)
+    by_reply : (reply : Reply) → Replies (Answers call.rules asked) task reply → IsDelivered (said_of asked reply) call → IsAnswered call asked task ⊎ (call.status ≡ 6)
     by_reply (Ok answered) to delivered = inl (answered, to, delivered)
-    by_reply (Err fault) to delivered = inr (delivered.same_status ∙ replied_short call.rules asked task fault to)
+    by_reply (Err fault) to delivered = inr (delivered.same_status ∙ replied_short (Answers call.rules asked) task fault to)
 
     by_end : IsSettled call asked files → IsAnswered call asked task ⊎ (call.status ≡ 6)
     by_end (exhausted six) = inr six
-    by_end (replied reply to delivered) = by_reply reply (subst (λ e. Replied call.rules asked e reply) is to) delivered
+    by_end (replied reply to delivered) = by_reply reply (subst (λ e. Replied (Answers call.rules asked) e reply) is to) delivered

@@ -22,22 +22,22 @@ use Rattle.wfc_words.specs.RequestView.{RequestView}
 use Rattle.wfc_words.specs.declared.kinds.CommandKind.TheVariants as commands
 use Rattle.wfc_task.specs.Checking.{shape_of}
 use Rattle.wfc_task.specs.Plan.{Goes}
-use Rattle.wfc_task.specs.Task as tasks
-use Rattle.wfc_task.specs.Task.{Task, plan_by}
+use Rattle.wfc_task.specs.UpgradeTask as tasks
 use Rattle.wfc_task.specs.UpgradeGiven.{IsUpgradeTask}
 use Rattle.wfc_task.proofs.CallerLemmas.{upgrade_given}
 use Rattle.wfc_cli.specs.Answer.{IsAnswer}
-use Rattle.wfc_cli.specs.Answers.{Answers}
+use Rattle.wfc_task.specs.UpgradeTask.{upgrade_plan, UpgradeTask}
+use Rattle.wfc_cli.specs.UpgradeCommand.{UpgradeAnswers, upgrade_command}
 use Rattle.wfc_cli.specs.Choosers.{kinds_of}
 use Rattle.wfc_cli.specs.Ending.{EndsPut}
 use Rattle.wfc_cli.specs.Reply.{Answered, CutsOff, Takes, TakesWhole, done_with, verdict_status}
-use Rattle.wfc_cli.specs.UpgradeClaims.{KeepsOld, UpgradeWork, UpgradesFront, UpgradesRefutation, WritesUpgraded, WritesUpgradedFront}
-use Rattle.wfc_cli.specs.Upgrading.{Answering, Upgrades, fault_in, first_fault, same_proof_text, upgrade_answer}
+use Rattle.wfc_cli.specs.UpgradeClaims.{KeepsOld, UpgradesFront, UpgradesRefutation, WritesUpgraded, WritesUpgradedFront}
+use Rattle.wfc_cli.specs.Upgrading.{UpgradeWork, Answering, Upgrades, fault_in, first_fault, same_proof_text, upgrade_answer}
 use Rattle.wfc_cli.specs.declared.reply.Stop.{Stop}
 use Rattle.wfc_cli.specs.declared.reply.Stop.TheVariants.{Cut, Unanswered}
 use Rattle.wfc_cli.specs.declared.reply.Verdict.{Verdict}
 use Rattle.wfc_cli.specs.declared.reply.Verdict.TheVariants as verdict
-use Rattle.wfc_cli.proofs.CommandLemmas.{CameTo, whole, cut, none, came_to, planned}
+use Rattle.wfc_cli.proofs.CommandLemmas.{CameTo, whole, cut, none, came_to}
 use Rattle.wfc_cli.proofs.EndLemmas.{put_cut, put_short, put_whole}
 use Rattle.wfc_cli.proofs.MapLemmas.{TakesSides, IsBridged, command_bridged, command_shape, no_legal}
 use Rattle.wfc_cli.proofs.TheoremLemmas.{five_apart, verdict_apart}
@@ -75,21 +75,21 @@ answer_is : (asked : RequestView) (P : Network) (bytes : List ℕ) (found : Opti
 answer_is asked P bytes None = refl
 answer_is asked P bytes (Some fault) = refl
 
-pub upgrade_ended : (rules : List Rule) (asked : RequestView) (before after : FolderView) (old new : SinkView) (P : Network) (bytes : List ℕ) (ended : Result Verdict Stop) → asked.command ≡ commands.Upgrade
-    → Goes (plan_by commands.Upgrade (kinds_of rules) asked) before after (Ok (tasks.upgrade P bytes)) → Upgrades asked P bytes old new ended → EndsPut rules asked before after old new ended
-upgrade_ended rules asked before after old new P bytes ended is goes upgrades = by_end ended upgrades
+pub upgrade_ended : (asked : RequestView) (before after : FolderView) (old new : SinkView) (P : Network) (bytes : List ℕ) (ended : Result Verdict Stop)
+    → Goes (upgrade_plan asked) before after (Ok (tasks.upgrade P bytes)) → Upgrades asked P bytes old new ended → EndsPut (upgrade_plan asked) (UpgradeAnswers asked) before after old new ended
+upgrade_ended asked before after old new P bytes ended goes upgrades = by_end ended upgrades
   where
-    by_end : (ended : Result Verdict Stop) → Answering (upgrade_answer asked P bytes (first_fault asked P bytes)) old new ended → EndsPut rules asked before after old new ended
+    by_end : (ended : Result Verdict Stop) → Answering (upgrade_answer asked P bytes (first_fault asked P bytes)) old new ended → EndsPut (upgrade_plan asked) (UpgradeAnswers asked) before after old new ended
     by_end (Ok said) put =
-        subst (λ (v : Verdict). EndsPut rules asked before after old new (Ok v)) (sym put.0)
-        (put_whole rules asked commands.Upgrade before after old new (tasks.upgrade P bytes) (upgrade_answer asked P bytes (first_fault asked P bytes)).verdict (upgrade_answer asked P bytes (first_fault asked P bytes)).text is goes
-        (ap (λ (a : Answered). Some a) (sym (answer_is asked P bytes (first_fault asked P bytes)))) put.1)
+        subst (λ (v : Verdict). EndsPut (upgrade_plan asked) (UpgradeAnswers asked) before after old new (Ok v)) (sym put.0)
+        (put_whole (upgrade_plan asked) (UpgradeAnswers asked) before after old new (tasks.upgrade P bytes) (upgrade_answer asked P bytes (first_fault asked P bytes)).verdict (upgrade_answer asked P bytes (first_fault asked P bytes)).text goes
+        (sym (answer_is asked P bytes (first_fault asked P bytes))) put.1)
     by_end (Err Cut) parted =
-        put_cut rules asked commands.Upgrade before after old new (tasks.upgrade P bytes) (upgrade_answer asked P bytes (first_fault asked P bytes)).verdict (upgrade_answer asked P bytes (first_fault asked P bytes)).text is goes
-        (ap (λ (a : Answered). Some a) (sym (answer_is asked P bytes (first_fault asked P bytes)))) parted
+        put_cut (upgrade_plan asked) (UpgradeAnswers asked) before after old new (tasks.upgrade P bytes) (upgrade_answer asked P bytes (first_fault asked P bytes)).verdict (upgrade_answer asked P bytes (first_fault asked P bytes)).text true goes
+        (sym (answer_is asked P bytes (first_fault asked P bytes))) parted
     by_end (Err (Unanswered fault)) short =
-        subst (λ (n : SinkView). EndsPut rules asked before after old n (Err (Unanswered fault))) (sym short.1)
-        (put_short rules asked commands.Upgrade before after old (tasks.upgrade P bytes) fault is goes short.0)
+        subst (λ (n : SinkView). EndsPut (upgrade_plan asked) (UpgradeAnswers asked) before after old n (Err (Unanswered fault))) (sym short.1)
+        (put_short (upgrade_plan asked) (UpgradeAnswers asked) before after old (tasks.upgrade P bytes) fault goes short.0)
 
 -- ---- the claims
 
@@ -124,10 +124,10 @@ pub record HasUpgraded (asked : RequestView) (files : List File) (answered : Ans
   pub work : UpgradeWork asked files
   pub is : upgrade_answer asked work.P work.bytes (first_fault asked work.P work.bytes) ≡ answered
 
-pub has_upgraded : (rules : List Rule) (asked : RequestView) (files : List File) (task : Task) (answered : Answered) (P : Network) (bytes : List ℕ) → tasks.upgrade P bytes ≡ task → IsUpgradeTask asked files P bytes
-    → Answers rules asked task answered → HasUpgraded asked files answered
+pub has_upgraded : (rules : List Rule) (asked : RequestView) (files : List File) (task : UpgradeTask) (answered : Answered) (P : Network) (bytes : List ℕ) → tasks.upgrade P bytes ≡ task → IsUpgradeTask asked files P bytes
+    → UpgradeAnswers asked task answered → HasUpgraded asked files answered
 has_upgraded rules asked files task answered P bytes same given answers =
-    let said : Some (upgrade_answer asked P bytes (first_fault asked P bytes)) ≡ Some answered = subst (λ (t : Task). Answers rules asked t answered) (sym same) answers in
+    let said : upgrade_answer asked P bytes (first_fault asked P bytes) ≡ answered = subst (λ (t : UpgradeTask). UpgradeAnswers asked t answered) (sym same) answers in
     record { work = record { P = P; bytes = bytes; task = given }; is = cc (said) }
 
 pub upgrades_refutation : (call : Call) → IsAnswer call → (asked : RequestView) (files : List File) → IsCommand commands.Upgrade call asked files → UpgradesRefutation call asked files
@@ -168,9 +168,9 @@ upgrades_refutation call answer asked files is low = by_end (came_to commands.Up
     taken work None takes = takes
     taken work (Some fault) takes = takes
 
-    by_end : CameTo call asked files → (work : UpgradeWork asked files) × (((call.status ≡ 0) × WritesUpgraded asked work call) ⊎ ((call.status ≡ 1) × KeepsOld asked work call))
+    by_end : CameTo upgrade_command call asked files → (work : UpgradeWork asked files) × (((call.status ≡ 0) × WritesUpgraded asked work call) ⊎ ((call.status ≡ 1) × KeepsOld asked work call))
     by_end (whole answered has same takes) =
-        let given = upgrade_given asked files has.task (planned call.rules asked files commands.Upgrade has.task is.command_is has.is) in
+        let given = upgrade_given asked files has.task has.is in
         let said = has_upgraded call.rules asked files has.task answered given.0 given.1 given.2 given.3 has.answers in
         let work = said.work in
         by_found work (first_fault asked work.P work.bytes) refl (same ∙ sym (ap (λ (a : Answered). verdict_status a.verdict) said.is))
@@ -188,10 +188,10 @@ upgrades_front call answer asked files is five = by_end (came_to commands.Upgrad
         record { refutation = is_refutation asked files work sure found; same_proof = keeps asked files work sure; front = front }
     by_found work (Some fault) found front = absurd front
 
-    by_end : CameTo call asked files → (call.after.out ≡ call.before.out) ⊎ ((work : UpgradeWork asked files) × WritesUpgradedFront asked work call)
+    by_end : CameTo upgrade_command call asked files → (call.after.out ≡ call.before.out) ⊎ ((work : UpgradeWork asked files) × WritesUpgradedFront asked work call)
     by_end (whole answered has same takes) = absurd (verdict_apart answered.verdict 5 (omega arith) (omega arith) (sym same ∙ five))
     by_end (cut answered has _ front) =
-        let given = upgrade_given asked files has.task (planned call.rules asked files commands.Upgrade has.task is.command_is has.is) in
+        let given = upgrade_given asked files has.task has.is in
         let said = has_upgraded call.rules asked files has.task answered given.0 given.1 given.2 given.3 has.answers in
         let work = said.work in
         inr (work, by_found work (first_fault asked work.P work.bytes) refl (subst (λ (a : Answered). CutsOff a.text call.before.out call.after.out) (sym said.is) front))

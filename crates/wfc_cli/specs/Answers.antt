@@ -1,5 +1,5 @@
 -- The answer of each command to its task.
-use Rattle.std.specs.Prelude.{◌≡◌, ℕ, ◌-◌, true, List, [], ◌∷◌, ◌++◌, length, map, codes, decimal, take, Option, None, Some, if◌then◌else◌}
+use Rattle.std.specs.Prelude.{ℕ, ◌-◌, true, List, [], ◌∷◌, ◌++◌, length, map, codes, decimal, take, Option, None, Some, if◌then◌else◌}
 use Rattle.wfc_problem.specs.Domains.{Test}
 use Rattle.wfc_problem.specs.Network.{Network, values}
 use Rattle.wfc_problem.specs.Rounds.{greatest}
@@ -13,14 +13,11 @@ use Rattle.wfc_pins.specs.declared.steps.StepLine.{StepLine}
 use Rattle.wfc_overlap.specs.Bridge.{picture_of}
 use Rattle.wfc_check.specs.declared.fault.CheckFault.{CheckFault}
 use Rattle.wfc_choose.specs.Pick.{Rule}
-use Rattle.wfc_choose.specs.declared.RuleKind.TheVariants.{Fewest}
 use Rattle.wfc_search.specs.Run.{State}
 use Rattle.wfc_search.specs.Search.{assignment_of}
 use Rattle.wfc_search.specs.declared.Outcome.{Outcome}
 use Rattle.wfc_search.specs.declared.Outcome.TheVariants as outcome
 use Rattle.wfc_render.specs.Block.{domain_text}
-use Rattle.wfc_render.specs.Learned.{learned_text}
-use Rattle.wfc_render.specs.LearnedTiles.{learned_tiles_text}
 use Rattle.wfc_render.specs.Map.{map_text}
 use Rattle.wfc_render.specs.Tiled.{tile_text}
 use Rattle.wfc_render.specs.declared.form.Layout.{Layout}
@@ -28,13 +25,9 @@ use Rattle.wfc_tiled.specs.Mask.{MaskView}
 use Rattle.wfc_tiled.specs.Maps.{tile_map}
 use Rattle.wfc_tileset.specs.Tiles.{TileSetView}
 use Rattle.wfc_words.specs.RequestView.{RequestView}
-use Rattle.wfc_task.specs.Task.{Task, learn, learn_tiles, fill, fill_tiles, domains, demo, refute, check, upgrade}
-use Rattle.wfc_cli.specs.Choosers.{chosen}
 use Rattle.wfc_cli.specs.Maps.{output_of}
-use Rattle.wfc_cli.specs.Refuting.{RefutesBy}
 use Rattle.wfc_cli.specs.Reply.{Answered, done_with}
 use Rattle.wfc_cli.specs.Runs.{end_of}
-use Rattle.wfc_cli.specs.Upgrading.{first_fault, upgrade_answer}
 use Rattle.wfc_cli.specs.declared.runs.End.{End}
 use Rattle.wfc_cli.specs.declared.runs.End.TheVariants as held
 use Rattle.wfc_cli.specs.declared.reply.Verdict.{Verdict}
@@ -136,34 +129,6 @@ accepted_text = codes "accepted\n"
 abbrev pub check_answer : Option CheckFault → Answered
 check_answer None = done_with accepted_text
 check_answer (Some fault) = record { verdict = Unaccepted fault; text = None; whole = true }
-
--- the one answer to a task that has one, where these are the rules of the choosers
-abbrev pub answer_of : List Rule → RequestView → Task → Option Answered
-answer_of rules asked (learn patterns palette) = Some (done_with (learned_text patterns palette))
-answer_of rules asked (learn_tiles set) = Some (done_with (learned_tiles_text set))
-answer_of rules asked (fill patterns palette layout P) =
-    fill_by rules asked (picture_text asked patterns palette layout) P
-answer_of rules asked (fill_tiles set mask layout P) = fill_by rules asked (tiles_text set mask layout) P
-answer_of rules asked (domains P steps) = Some (domains_answer P steps)
-answer_of rules asked (refute P) = None
-answer_of rules asked (check found) = Some (check_answer found)
-answer_of rules asked (upgrade P bytes) = Some (upgrade_answer asked P bytes (first_fault asked P bytes))
-answer_of rules asked (demo patterns P) = demo_answer patterns P (end_of rules Fewest P demo_budget asked.number)
-
--- an answer to a task, where these are the rules of the choosers: of a refutation the lines of a
--- run, and else the one there is
-abbrev pub Answers : List Rule → RequestView → Task → Answered → Type 0
-Answers rules asked (learn patterns palette) answered = answer_of rules asked (learn patterns palette) ≡ Some answered
-Answers rules asked (learn_tiles set) answered = answer_of rules asked (learn_tiles set) ≡ Some answered
-Answers rules asked (fill patterns palette layout P) answered =
-    answer_of rules asked (fill patterns palette layout P) ≡ Some answered
-Answers rules asked (fill_tiles set mask layout P) answered =
-    answer_of rules asked (fill_tiles set mask layout P) ≡ Some answered
-Answers rules asked (domains P steps) answered = answer_of rules asked (domains P steps) ≡ Some answered
-Answers rules asked (refute P) answered = RefutesBy (chosen asked.rule rules) asked P answered
-Answers rules asked (check found) answered = answer_of rules asked (check found) ≡ Some answered
-Answers rules asked (upgrade P bytes) answered = answer_of rules asked (upgrade P bytes) ≡ Some answered
-Answers rules asked (demo patterns P) answered = answer_of rules asked (demo patterns P) ≡ Some answered
 
 -- how a demonstration ends whose run ends so
 abbrev pub demo_verdict : End → Verdict

@@ -5,10 +5,13 @@ use Rattle.wfc_outside.specs.Sink.{SinkView}
 use Rattle.wfc_choose.specs.Pick.{Rule}
 use Rattle.wfc_words.specs.RequestView.{RequestView}
 use Rattle.wfc_task.specs.Fault.{status_of}
+use Rattle.wfc_task.specs.Plan.{Plan}
 use Rattle.wfc_cli.specs.Answer.{Ends}
+use Rattle.wfc_cli.specs.Choosers.{kinds_of}
+use Rattle.wfc_cli.specs.Command.{Command}
 use Rattle.wfc_lines.specs.Outcome.{out_failed_text}
 use Rattle.wfc_cli.specs.ErrorLine.{fault_text}
-use Rattle.wfc_cli.specs.Reply.{Reply, CutsOff, TakesWhole, Tells, verdict_status, verdict_text}
+use Rattle.wfc_cli.specs.Reply.{Answered, Reply, CutsOff, TakesWhole, Tells, verdict_status, verdict_text}
 use Rattle.wfc_cli.specs.declared.reply.Verdict.{Verdict}
 use Rattle.wfc_cli.specs.declared.reply.Stop.{Stop}
 use Rattle.wfc_cli.specs.declared.reply.Stop.TheVariants.{Cut, Unanswered}
@@ -22,11 +25,11 @@ Leaves (Ok answered) old new (Err Cut) = CutsOff answered.text old new
 Leaves (Err fault) old new (Err (Unanswered other)) = (other ≡ fault) × (new ≡ old)
 Leaves _ _ _ _ = ⊥
 
--- a command may end so over this folder and sink
-pub record EndsPut (rules : List Rule) (asked : RequestView) (before after : FolderView)
+-- a command with this plan and these answers may end so over this folder and sink
+pub record EndsPut {T : Type 0} (plan : Plan T) (Answers : T → Answered → Type 0) (before after : FolderView)
     (old new : SinkView) (ended : Result Verdict Stop) : Type 0 where
   pub reply : Reply
-  pub ends : Ends rules asked before after reply
+  pub ends : Ends plan Answers before after reply
   pub leaves : Leaves reply old new ended
 
 -- what the error stream is told of an ending, and the status
@@ -35,3 +38,9 @@ Says asked (Ok verdict) old new status = Tells (verdict_text asked verdict) old 
 Says asked (Err Cut) old new status = Tells (Some out_failed_text) old new × (status ≡ 5)
 Says asked (Err (Unanswered fault)) old new status =
     Tells (Some (fault_text asked fault)) old new × (status ≡ status_of fault)
+
+-- this command may end so, for this request
+abbrev pub EndsAs : Command → List Rule → RequestView → FolderView → FolderView → SinkView → SinkView
+    → Result Verdict Stop → Type 0
+EndsAs command rules asked before after old new ended =
+    EndsPut (command.plan (kinds_of rules) asked) (command.Answers rules asked) before after old new ended

@@ -10,6 +10,15 @@ pub mod Upgrading
 pub mod Answers
 pub mod Held
 pub mod Walk
+pub mod Command
+pub mod LearnCommand
+pub mod FillCommand
+pub mod DomainsCommand
+pub mod DemoCommand
+pub mod RefuteCommand
+pub mod CheckCommand
+pub mod UpgradeCommand
+pub mod Commands
 pub mod Answer
 pub mod Ending
 pub mod Reaching

@@ -1,57 +1,29 @@
 -- What the error stream is told with each status, and that nothing else depends on that stream.
-use Rattle.std.specs.Prelude.{◌≡◌, ◌≢◌, ℕ, ◌⊎◌, List, Option, Some, Err}
+use Rattle.std.specs.Prelude.{◌≡◌, ◌≢◌, ℕ, ◌⊎◌, List, Option, Err}
 use Rattle.wfc_outside.specs.Count.{HasRisen}
 use Rattle.wfc_outside.specs.Folder.{File}
 use Rattle.wfc_outside.specs.Sink.{SinkView}
-use Rattle.wfc_check.specs.declared.fault.CheckFault.{CheckFault}
-use Rattle.wfc_lines.specs.Check.{text_of_check}
 use Rattle.wfc_lines.specs.Command.{text_of_command}
-use Rattle.wfc_lines.specs.Outcome.{map_exists_text, no_domains_text, no_map_text, no_memory_text, out_failed_text, text_of_budget}
+use Rattle.wfc_lines.specs.Outcome.{no_memory_text, out_failed_text, text_of_budget}
 use Rattle.wfc_words.specs.Request.{request_of}
 use Rattle.wfc_words.specs.RequestView.{RequestView}
 use Rattle.wfc_words.specs.declared.fault.CommandFault.{CommandFault}
-use Rattle.wfc_words.specs.declared.kinds.CommandKind.{CommandKind}
-use Rattle.wfc_words.specs.declared.kinds.CommandKind.TheVariants as commands
-use Rattle.wfc_task.specs.CheckGiven.{IsCheckTask}
-use Rattle.wfc_task.specs.Checking.{refutation_name}
 use Rattle.wfc_task.specs.Fault.{status_of}
 use Rattle.wfc_task.specs.declared.fault.Fault.{Fault}
 use Rattle.wfc_task.specs.declared.fault.Fault.TheVariants.{Unread}
 use Rattle.wfc_cli.specs.Answer.{IsAnswer}
-use Rattle.wfc_cli.specs.Answers.{demo_budget}
 use Rattle.wfc_cli.specs.Call.{Call, beside}
+use Rattle.wfc_cli.specs.Commands.{asked_command, task_of}
 use Rattle.wfc_cli.specs.ErrorLine.{command_status, fault_text}
 use Rattle.wfc_cli.specs.Reply.{IsTold, Tells}
-use Rattle.wfc_cli.specs.Theorem.{IsFileFault, IsGiven, task_of}
-use Rattle.wfc_cli.specs.UpgradeClaims.{UpgradeWork}
-use Rattle.wfc_cli.specs.Upgrading.{first_fault}
-
--- the text of the line where the answer of a command is no: there is no map, no cell has its
--- domains, a map exists, or the first fault of the file as a refutation; `learn` is never answered no
-abbrev pub IsNoText : CommandKind → RequestView → List File → List ℕ → Type 0
-IsNoText commands.Learn asked files text = ⊥
-IsNoText commands.Fill asked files text = text ≡ no_map_text
-IsNoText commands.Demo asked files text = text ≡ no_map_text
-IsNoText commands.Domains asked files text = text ≡ no_domains_text
-IsNoText commands.Refute asked files text = text ≡ map_exists_text
-IsNoText commands.Check asked files text =
-    (fault : CheckFault) × IsCheckTask asked files (Some fault)
-    × (text ≡ text_of_check fault (refutation_name asked))
-IsNoText commands.Upgrade asked files text =
-    (work : UpgradeWork asked files) × (fault : CheckFault) × (first_fault asked work.P work.bytes ≡ Some fault)
-    × (text ≡ text_of_check fault (refutation_name asked))
-
--- the budget of the run of a command
-abbrev pub budget_by : CommandKind → RequestView → ℕ
-budget_by commands.Demo asked = demo_budget
-budget_by _ asked = asked.budget
+use Rattle.wfc_cli.specs.Theorem.{IsFileFault, IsGiven}
 
 -- why a call ends with its status, and the text of the line that says so: the answer is no, the
 -- budget is spent, the request has a first fault, a file can't be read, the sink of the answer
 -- failed, or memory ran out
 pub data IsReason (call : Call) (asked : RequestView) (files : List File) (text : List ℕ) : Type 0 where
-  says_no : call.status ≡ 1 → IsNoText asked.command asked files text → IsReason call asked files text
-  says_spent : call.status ≡ 2 → text ≡ text_of_budget (budget_by asked.command asked)
+  says_no : call.status ≡ 1 → (asked_command asked).IsNo asked files text → IsReason call asked files text
+  says_spent : call.status ≡ 2 → text ≡ text_of_budget ((asked_command asked).budget asked)
       → IsReason call asked files text
   says_fault : (fault : Fault) → task_of call.rules asked files ≡ Err fault → call.status ≡ status_of fault
       → text ≡ fault_text asked fault → IsReason call asked files text

@@ -1,22 +1,19 @@
 -- The words of the main theorem on a call of the program.
-use Rattle.std.specs.Prelude.{◌≡◌, ◌≢◌, ℕ, ◌⊎◌, List, Some, Result, Ok, Err, IsErr}
+use Rattle.std.specs.Prelude.{◌≡◌, ◌≢◌, ℕ, ◌⊎◌, List, Some, Ok, Err, IsErr}
 use Rattle.wfc_outside.specs.Count.{HasRisen}
 use Rattle.wfc_outside.specs.Folder.{File, IsFaultOf}
 use Rattle.wfc_outside.specs.declared.whole.ReadFault.{ReadFault}
 use Rattle.wfc_outside.specs.declared.whole.ReadFault.TheVariants as reading
-use Rattle.wfc_choose.specs.Pick.{Rule}
 use Rattle.wfc_words.specs.Request.{request_of}
 use Rattle.wfc_words.specs.RequestView.{RequestView}
 use Rattle.wfc_words.specs.declared.kinds.CommandKind.{CommandKind}
 use Rattle.wfc_task.specs.Fault.{status_of}
-use Rattle.wfc_task.specs.Plan.{outcome}
-use Rattle.wfc_task.specs.Task.{Task, plan_of}
 use Rattle.wfc_task.specs.declared.fault.Fault.{Fault}
 use Rattle.wfc_task.specs.declared.fault.Fault.TheVariants.{Unread}
 use Rattle.wfc_task.specs.declared.fault.Source.{Source}
 use Rattle.wfc_cli.specs.Answer.{Replies}
 use Rattle.wfc_cli.specs.Call.{Call}
-use Rattle.wfc_cli.specs.Choosers.{kinds_of}
+use Rattle.wfc_cli.specs.Commands.{Answers, asked_command, plan_of, task_of}
 use Rattle.wfc_cli.specs.Reaching.{IsDeviceCause, Reaches}
 use Rattle.wfc_cli.specs.Reply.{Answered, IsDelivered, said_of}
 
@@ -39,10 +36,6 @@ Promises command Promise call =
 abbrev pub IsNoCommand : Call → Type 0
 IsNoCommand call = IsErr (request_of call.words)
 
--- the task of the request over these files
-abbrev pub task_of : List Rule → RequestView → List File → Result Task Fault
-task_of rules asked files = outcome (plan_of (kinds_of rules) asked) files
-
 -- the first fault of the request over these files has the status of the call
 abbrev pub IsRefusedWith : Call → RequestView → List File → Type 0
 IsRefusedWith call asked files =
@@ -60,7 +53,7 @@ pub record IsFileFault (call : Call) (asked : RequestView) : Type 0 where
   pub source : Source
   pub name : List ℕ
   pub fault : ReadFault
-  pub reached : Reaches (plan_of (kinds_of call.rules) asked) call.before.folder source name
+  pub reached : Reaches (plan_of call.rules asked) call.before.folder source name
   pub cause : IsDeviceCause fault call.before.folder call.after.folder name
   pub first : fault ≡ reading.Missing → IsFirstMissing call asked source
 
@@ -74,7 +67,7 @@ IsDeviceFault call =
 -- no fault of a file that the request comes to, or of the sink of the answer, was counted
 pub record NoneCounted (call : Call) (asked : RequestView) : Type 0 where
   pub files : (source : Source) (name : List ℕ)
-      → Reaches (plan_of (kinds_of call.rules) asked) call.before.folder source name
+      → Reaches (plan_of call.rules asked) call.before.folder source name
       → IsFaultOf call.before.folder call.after.folder name → ⊥
   pub out : HasRisen call.before.out.faults call.after.out.faults → ⊥
 
@@ -88,9 +81,9 @@ abbrev pub IsWithoutAnswer : ℕ → Type 0
 IsWithoutAnswer status = (status ≡ 3) ⊎ ((status ≡ 4) ⊎ ((status ≡ 6) ⊎ (status ≡ 7)))
 
 -- the answer to the task was put whole
-abbrev pub IsAnswered : Call → RequestView → Task → Type 0
+abbrev pub IsAnswered : Call → (asked : RequestView) → (asked_command asked).Task → Type 0
 IsAnswered call asked task =
-    (answered : Answered) × Replies call.rules asked task (Ok answered)
+    (answered : Answered) × Replies (Answers call.rules asked) task (Ok answered)
     × IsDelivered (said_of asked (Ok answered)) call
 
 -- ---- the clauses of any command
@@ -133,5 +126,5 @@ IsRefusedFirst call =
 abbrev pub IsComplete : Call → Type 0
 IsComplete call =
     (asked : RequestView) (files : List File) → IsGiven call asked files → NoneCounted call asked
-    → (task : Task) → task_of call.rules asked files ≡ Ok task
+    → (task : (asked_command asked).Task) → task_of call.rules asked files ≡ Ok task
     → IsAnswered call asked task ⊎ (call.status ≡ 6)

@@ -1,9 +1,8 @@
 -- What `upgrade` promises, in the words of its subject.
-use Rattle.std.specs.Prelude.{◌≡◌, ℕ, ◌≤◌, ◌⊎◌, List}
+use Rattle.std.specs.Prelude.{◌≡◌, ◌⊎◌, List}
 use Rattle.wfc_outside.specs.Folder.{File}
 use Rattle.wfc_outside.specs.Sink.{after_bytes, after_finish, IsFaultAfterFront}
 use Rattle.wfc_model.specs.Raster.{Raster}
-use Rattle.wfc_problem.specs.Network.{Network}
 use Rattle.wfc_proof.specs.Proof.{Proof}
 use Rattle.wfc_proof.specs.ProofText.{IsTextOf}
 use Rattle.wfc_proof.specs.declared.heads.Format.{Format}
@@ -12,18 +11,11 @@ use Rattle.wfc_check.specs.Text.{IsRefutation}
 use Rattle.wfc_words.specs.RequestView.{RequestView}
 use Rattle.wfc_words.specs.declared.kinds.CommandKind.TheVariants as commands
 use Rattle.wfc_task.specs.Checking.{shape_of}
-use Rattle.wfc_task.specs.UpgradeGiven.{IsUpgradeTask}
 use Rattle.wfc_cli.specs.Call.{Call}
 use Rattle.wfc_cli.specs.Maps.{IsLegal}
-use Rattle.wfc_cli.specs.Upgrading.{same_proof_text}
+use Rattle.wfc_cli.specs.Upgrading.{UpgradeWork, same_proof_text}
 use Rattle.wfc_cli.specs.Reply.{HasAnswer}
 use Rattle.wfc_cli.specs.Theorem.{Promises}
-
--- what `upgrade` works on over these files: the problem, and the bytes of the file
-pub record UpgradeWork (asked : RequestView) (files : List File) : Type 0 where
-  pub P : Network
-  pub bytes : List ℕ
-  pub task : IsUpgradeTask asked files P bytes
 
 -- the file's bytes are a refutation of the problem and of the shape asked for
 abbrev pub IsUpgradable : {files : List File} (asked : RequestView) → UpgradeWork asked files → Type 0

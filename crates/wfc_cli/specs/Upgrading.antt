@@ -1,5 +1,6 @@
 -- What `upgrade` writes: the proof of a refutation in format 2.
 use Rattle.std.specs.Prelude.{◌≡◌, ℕ, true, List, Option, None, Some, Result, Ok, Err}
+use Rattle.wfc_outside.specs.Folder.{File}
 use Rattle.wfc_outside.specs.Sink.{SinkView}
 use Rattle.wfc_problem.specs.Network.{Network}
 use Rattle.wfc_proof.specs.Upgrade.{upgraded_text}
@@ -8,11 +9,18 @@ use Rattle.wfc_check.specs.declared.fault.CheckFault.{CheckFault}
 use Rattle.wfc_words.specs.RequestView.{RequestView}
 use Rattle.wfc_task.specs.Checking.{shape_of}
 use Rattle.wfc_task.specs.Fault.{status_of}
+use Rattle.wfc_task.specs.UpgradeGiven.{IsUpgradeTask}
 use Rattle.wfc_cli.specs.Reply.{Answered, CutsOff, Takes, done_with}
 use Rattle.wfc_cli.specs.declared.reply.Stop.{Stop}
 use Rattle.wfc_cli.specs.declared.reply.Stop.TheVariants.{Cut, Unanswered}
 use Rattle.wfc_cli.specs.declared.reply.Verdict.{Verdict}
 use Rattle.wfc_cli.specs.declared.reply.Verdict.TheVariants.{Unaccepted}
+
+-- what `upgrade` works on over these files: the problem, and the bytes of the file
+pub record UpgradeWork (asked : RequestView) (files : List File) : Type 0 where
+  pub P : Network
+  pub bytes : List ℕ
+  pub task : IsUpgradeTask asked files P bytes
 
 -- the fault that a text has, if it has one
 abbrev pub fault_in : Result (Unit {0}) CheckFault → Option CheckFault

@@ -2,7 +2,8 @@
 
 ghost use Rattle.std.specs.Prelude.{map};
 ghost use Rattle.wfc_words.specs.InRange.{IsInRange};
-ghost use Rattle.wfc_cli.specs.Ending.{EndsPut};
+ghost use Rattle.wfc_cli.specs.Commands.{asked_command};
+ghost use Rattle.wfc_cli.specs.Ending.{EndsAs};
 
 mod check;
 mod demo;
@@ -35,7 +36,7 @@ pub(crate) fn run<F: Folder, O: Sink>(
     out: &mut O,
 ) -> Result<Verdict, Stop>
     requires in_range { IsInRange request.now }
-    ensures ends { EndsPut (map (λ chooser. (told chooser).rule) choosers.items) request.now
+    ensures ends { EndsAs (asked_command request.now) (map (λ chooser. (told chooser).rule) choosers.items) request.now
         (F.seen folder.old) (F.seen folder.new) (O.seen out.old) (O.seen out.new) result }
 {
     match request.command {

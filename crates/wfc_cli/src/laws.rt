@@ -5,6 +5,7 @@ ghost use Rattle.wfc_outside.specs.Folder.{File, FolderView};
 ghost use Rattle.wfc_outside.specs.Sink.{SinkView};
 ghost use Rattle.wfc_model.specs.Raster.{Raster};
 ghost use Rattle.wfc_choose.specs.Pick.{Rule};
+ghost use Rattle.wfc_choose.specs.declared.RuleKind.{RuleKind};
 ghost use Rattle.wfc_choose.specs.declared.RuleKind.TheVariants as rules;
 ghost use Rattle.wfc_lines.specs.Outcome.{no_map_text};
 ghost use Rattle.wfc_pins.specs.declared.steps.Step.TheVariants.{Assume, Undo};
@@ -18,10 +19,19 @@ ghost use Rattle.wfc_task.specs.Asked.{IsOutputAsked, IsSourceAsked};
 ghost use Rattle.wfc_task.specs.Plan.{done, most_bytes, read};
 ghost use Rattle.wfc_task.specs.Posed.{Posed};
 ghost use Rattle.wfc_task.specs.declared.fault.Source.TheVariants.{Pins, Sample};
+ghost use Rattle.wfc_task.specs.CheckTask.{check_plan};
+ghost use Rattle.wfc_task.specs.DemoTask.{demo_plan};
+ghost use Rattle.wfc_task.specs.DomainsTask.{domains_plan};
+ghost use Rattle.wfc_task.specs.FillTask.{fill_plan};
+ghost use Rattle.wfc_task.specs.LearnTask.{learn_plan};
+ghost use Rattle.wfc_task.specs.RefuteTask.{refute_plan};
+ghost use Rattle.wfc_task.specs.UpgradeTask.{upgrade_plan};
 ghost use Rattle.wfc_words.specs.RequestView.{RequestView};
+ghost use Rattle.wfc_words.specs.declared.kinds.CommandKind.TheVariants as commands;
 ghost use Rattle.wfc_cli.specs.Answers.{demo_text, outcome_status, standings};
 ghost use Rattle.wfc_cli.specs.Call.{Call, beside, call_of, devices};
 ghost use Rattle.wfc_cli.specs.Choosers.{chosen};
+ghost use Rattle.wfc_cli.specs.Commands.{command_of};
 ghost use Rattle.wfc_cli.specs.FillClaims.{FillWork, IsFoundMap};
 ghost use Rattle.wfc_cli.specs.Maps.{IsLegal, map_of};
 ghost use Rattle.wfc_cli.specs.Reaching.{Reaches};
@@ -129,4 +139,18 @@ pub fn calls_are_seen_before_and_after()
     ensures after_beside { (call : Call) (old new : SinkView) →
         (beside call old new).after ≡ devices call.after.folder call.after.out new }
     ensures same { (call : Call) (old new : SinkView) → (beside call old new).status ≡ call.status }
+{}
+
+/// Which command each kind has, by its plan, its budget and its line.
+pub fn commands_are_of_their_kinds()
+    ensures fill { (kinds : List RuleKind) (asked : RequestView) → (command_of commands.Fill).plan kinds asked ≡ fill_plan kinds asked }
+    ensures refute { (kinds : List RuleKind) (asked : RequestView) → (command_of commands.Refute).plan kinds asked ≡ refute_plan kinds asked }
+    ensures check { (kinds : List RuleKind) (asked : RequestView) → (command_of commands.Check).plan kinds asked ≡ check_plan asked }
+    ensures upgrade { (kinds : List RuleKind) (asked : RequestView) → (command_of commands.Upgrade).plan kinds asked ≡ upgrade_plan asked }
+    ensures learn { (kinds : List RuleKind) (asked : RequestView) → (command_of commands.Learn).plan kinds asked ≡ learn_plan asked }
+    ensures domains { (kinds : List RuleKind) (asked : RequestView) → (command_of commands.Domains).plan kinds asked ≡ domains_plan asked }
+    ensures demo { (kinds : List RuleKind) (asked : RequestView) → (command_of commands.Demo).plan kinds asked ≡ demo_plan kinds asked }
+    ensures own_budget { (asked : RequestView) → (command_of commands.Demo).budget asked ≡ 1000 }
+    ensures budget { (asked : RequestView) → (command_of commands.Refute).budget asked ≡ asked.budget }
+    ensures line { (asked : RequestView) (files : List File) → (command_of commands.Refute).IsNo asked files (codes "map exists") }
 {}

@@ -12,11 +12,11 @@ use Rattle.wfc_task.specs.Checking.{shape_of, verdict_in, judged, refutation_nam
 use Rattle.wfc_task.specs.CheckGiven.{IsCheckTask}
 use Rattle.wfc_task.specs.Plan.{Goes, Plan, step, done, outcome, after_reading, reading_of}
 use Rattle.wfc_task.specs.Posed.{posed_plan}
-use Rattle.wfc_task.specs.Task.{Task, check, check_plan}
 use Rattle.wfc_task.specs.declared.fault.Fault.{Fault}
 use Rattle.wfc_task.specs.declared.fault.Fault.TheVariants.{Refused}
 use Rattle.wfc_task.specs.declared.fault.Refusal.TheVariants as refusals
 use Rattle.wfc_task.specs.declared.fault.Source.TheVariants.{Refutation}
+use Rattle.wfc_task.specs.CheckTask.{CheckTask, check, check_plan}
 use Rattle.wfc_task.proofs.GivenLemmas.{done_is, ok_step, step_ok}
 use Rattle.wfc_task.proofs.PlanLemmas.{refused, goes_read, goes_step, outcome_on, outcome_parts}
 use Rattle.wfc_task.proofs.PosedLemmas.{given_posed, posed_given}
@@ -61,10 +61,10 @@ there_refutation asked P files bytes found there is =
     ap (λ file. after_reading Refutation (λ text. outcome (step (judged asked P text)) files) (reading_of None file)) there ∙ ok_step (judged asked P bytes) files found is
 
 -- what `check` comes to
-pub check_given : (asked : RequestView) (files : List File) (task : Task) → outcome (check_plan asked) files ≡ Ok task → (found : Option CheckFault) × (check found ≡ task) × IsCheckTask asked files found
+pub check_given : (asked : RequestView) (files : List File) (task : CheckTask) → outcome (check_plan asked) files ≡ Ok task → (found : Option CheckFault) × (check found ≡ task) × IsCheckTask asked files found
 check_given asked files task is =
     let made = outcome_parts (posed_plan asked) (behind_checked_problem asked) files task is in
-    let said = outcome_parts (refutation_plan asked made.0) (λ found. let end : Plan Task = done (check found) in end) files task made.2 in
+    let said = outcome_parts (refutation_plan asked made.0) (λ found. let end : Plan CheckTask = done (check found) in end) files task made.2 in
     let there = refutation_there asked made.0 files said.0 said.1 in
     (said.0, done_is _ task files said.2, record { work = record { P = made.0; posed = posed_given asked files made.0 made.1; bytes = there.0; there = there.1 }; answer = there.2 })
 
@@ -72,7 +72,7 @@ pub given_check : (asked : RequestView) (files : List File) (found : Option Chec
 given_check asked files found task =
     let work = task.work in
     outcome_on (posed_plan asked) (behind_checked_problem asked) files work.P (given_posed asked files work.P work.posed)
-    ∙ outcome_on (refutation_plan asked work.P) (λ found. let end : Plan Task = done (check found) in end) files found (there_refutation asked work.P files work.bytes found work.there task.answer)
+    ∙ outcome_on (refutation_plan asked work.P) (λ found. let end : Plan CheckTask = done (check found) in end) files found (there_refutation asked work.P files work.bytes found work.there task.answer)
 
 -- the same of a call that was given this shape and this name
 pub refutation_found : (asked : RequestView) (P : Network) (old new : FolderView) (shape : Shape) (name : List ℕ) (answer : Result (Unit {0}) CheckFault) (found : Result (Option CheckFault) Fault) → shape ≡ shape_of asked

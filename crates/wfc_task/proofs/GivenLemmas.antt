@@ -51,9 +51,9 @@ use Rattle.wfc_task.specs.Sampled.{SampledView, of_grid, of_ppm}
 use Rattle.wfc_task.specs.Steps.{chosen, coloured, fitting, or_refuse, posed, same_rule, sampled_in, shown_in, steps_in, taught, unless_out}
 use Rattle.wfc_task.specs.Steps.{pins_in as lines_in}
 use Rattle.wfc_task.specs.SamplePlans.{file_plan, picture_plan, sample_plan, sampled_plan, pins_plan, problem_plan, steps_plan}
-use Rattle.wfc_task.specs.Task.{Task, demo, demo_plan}
 use Rattle.wfc_task.specs.Asked.{IsSampleAsked}
 use Rattle.wfc_task.specs.Filling.{IsLesson, IsNumbered, IsSampled}
+use Rattle.wfc_task.specs.DemoTask.{DemoTask, demo, demo_plan}
 use Rattle.wfc_task.proofs.FillingLemmas.{built_is, grid_sampled, ppm_sampled, lesson_of, numbered_sample, unrefused}
 use Rattle.wfc_task.proofs.StepLemmas.{made_small}
 use Rattle.wfc_task.proofs.PlanLemmas.{outcome_on, outcome_parts}
@@ -270,4 +270,4 @@ given_chooser kinds rule there = rw (Contains_any (same_rule rule) kinds rule th
 -- what `demo` comes to
 pub given_demo : (kinds : List RuleKind) (asked : RequestView) (files : List File) → Contains kinds Fewest → outcome (demo_plan kinds asked) files ≡ Ok (demo (demo_patterns asked.number) (demo_problem asked.number))
 given_demo kinds asked files there =
-    outcome_on (step (chosen kinds Fewest)) (λ _. let end : Plan Task = done (demo (demo_patterns asked.number) (demo_problem asked.number)) in end) files tt (ok_step (chosen kinds Fewest) files tt (given_chooser kinds Fewest there))
+    outcome_on (step (chosen kinds Fewest)) (λ _. let end : Plan DemoTask = done (demo (demo_patterns asked.number) (demo_problem asked.number)) in end) files tt (ok_step (chosen kinds Fewest) files tt (given_chooser kinds Fewest there))

@@ -8,19 +8,19 @@ use Rattle.wfc_task.specs.Plan.{Plan, and_then, done, outcome, step}
 use Rattle.wfc_task.specs.Posed.{posed_plan}
 use Rattle.wfc_task.specs.RefuteGiven.{IsRefuteTask}
 use Rattle.wfc_task.specs.Steps.{chosen}
-use Rattle.wfc_task.specs.Task.{Task, refute, refute_plan}
+use Rattle.wfc_task.specs.RefuteTask.{RefuteTask, refute, refute_plan}
 use Rattle.wfc_task.proofs.GivenLemmas.{chooser_given, done_is, given_chooser, ok_step, step_ok}
 use Rattle.wfc_task.proofs.PlanLemmas.{outcome_on, outcome_parts}
 use Rattle.wfc_task.proofs.PosedLemmas.{given_posed, posed_given}
 
 -- what follows a problem in `refute`, and what follows its chooser
-abbrev pub behind_refuted : Network → Plan Task
+abbrev pub behind_refuted : Network → Plan RefuteTask
 behind_refuted P = done (refute P)
 
-abbrev pub behind_refuter : RequestView → Plan Task
+abbrev pub behind_refuter : RequestView → Plan RefuteTask
 behind_refuter asked = and_then (posed_plan asked) behind_refuted
 
-pub refute_given : (kinds : List RuleKind) (asked : RequestView) (files : List File) (task : Task) → outcome (refute_plan kinds asked) files ≡ Ok task
+pub refute_given : (kinds : List RuleKind) (asked : RequestView) (files : List File) (task : RefuteTask) → outcome (refute_plan kinds asked) files ≡ Ok task
     → (P : Network) × (refute P ≡ task) × IsRefuteTask kinds asked files P
 refute_given kinds asked files task is =
     let found = outcome_parts (step (chosen kinds asked.rule)) (λ _. behind_refuter asked) files task is in

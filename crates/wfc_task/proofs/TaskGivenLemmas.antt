@@ -22,12 +22,14 @@ use Rattle.wfc_task.specs.Plan.{Plan, done, step, outcome}
 use Rattle.wfc_task.specs.Posed.{posed_plan}
 use Rattle.wfc_task.specs.SamplePlans.{problem_plan, sample_plan, steps_plan}
 use Rattle.wfc_task.specs.Steps.{chosen, laid}
-use Rattle.wfc_task.specs.Task.{Task, learn, learn_tiles, fill, fill_tiles, domains, domains_plan, fill_plan, fill_plan_by, fill_sample_plan, fill_tiles_plan, learn_plan, learn_plan_by, learn_sample_plan, learn_tiles_plan}
 use Rattle.wfc_task.specs.TileGiven.{IsTileFillTask, IsTileSetOf}
 use Rattle.wfc_task.specs.TilePlans.{tiled_plan, tiles_plan}
 use Rattle.wfc_task.specs.TileSteps.{laid_tiles}
 use Rattle.wfc_task.specs.declared.fault.Refusal.TheVariants as refusals
 use Rattle.wfc_task.specs.declared.task.Taught.{Taught}
+use Rattle.wfc_task.specs.LearnTask.{LearnTask, learn, learn_plan, learn_plan_by, learn_sample_plan, learn_tiles, learn_tiles_plan}
+use Rattle.wfc_task.specs.FillTask.{FillTask, fill, fill_plan, fill_plan_by, fill_sample_plan, fill_tiles, fill_tiles_plan}
+use Rattle.wfc_task.specs.DomainsTask.{DomainsTask, domains, domains_plan}
 use Rattle.wfc_task.proofs.FillingLemmas.{unrefused}
 use Rattle.wfc_task.proofs.GivenLemmas.{chooser_given, done_is, given_chooser, given_problem, given_sample, given_steps, ok_refused, ok_step, problem_given, sample_given, step_ok, steps_given}
 use Rattle.wfc_task.proofs.PlanLemmas.{outcome_on, outcome_parts}
@@ -38,7 +40,7 @@ use Rattle.wfc_task.proofs.TileTaskLemmas.{behind_set, behind_tile_layout, fill_
 
 -- ---- `learn`
 
-sample_learned : (asked : RequestView) (files : List File) (task : Task) → outcome (learn_sample_plan asked) files ≡ Ok task
+sample_learned : (asked : RequestView) (files : List File) (task : LearnTask) → outcome (learn_sample_plan asked) files ≡ Ok task
     → (patterns : PatternsView) × (palette : List Symbol) × (learn patterns palette ≡ task) × IsTaught asked files patterns palette
 sample_learned asked files task is =
     let known = outcome_parts (sample_plan asked) learned_sample files task is in
@@ -48,7 +50,7 @@ learned_of_sample : (asked : RequestView) (files : List File) (patterns : Patter
 learned_of_sample asked files patterns palette sample =
     outcome_on (sample_plan asked) learned_sample files (record { kind = sample.0; palette = palette; patterns = patterns }) (given_sample asked files sample.0 patterns palette sample.1)
 
-tiles_learned : (asked : RequestView) (files : List File) (task : Task) → outcome (learn_tiles_plan asked) files ≡ Ok task → (set : TileSetView) × (learn_tiles set ≡ task) × IsTileSetOf asked files set
+tiles_learned : (asked : RequestView) (files : List File) (task : LearnTask) → outcome (learn_tiles_plan asked) files ≡ Ok task → (set : TileSetView) × (learn_tiles set ≡ task) × IsTileSetOf asked files set
 tiles_learned asked files task is =
     let known = outcome_parts (tiles_plan asked) learned_tiles files task is in
     (known.0, done_is _ task files known.2, tiles_given asked files known.0 known.1)
@@ -59,7 +61,7 @@ learned_of_tiles asked files set of = outcome_on (tiles_plan asked) learned_tile
 -- ---- `fill` behind its chooser
 
 -- what `fill` comes to for a sample
-pub record SampleFilled (asked : RequestView) (files : List File) (task : Task) : Type 0 where
+pub record SampleFilled (asked : RequestView) (files : List File) (task : FillTask) : Type 0 where
   pub patterns : PatternsView
   pub palette : List Symbol
   pub layout : Layout
@@ -68,7 +70,7 @@ pub record SampleFilled (asked : RequestView) (files : List File) (task : Task) 
   pub given : (kinds : List RuleKind) → Contains kinds asked.rule → IsFillTask kinds asked files patterns palette layout P
 
 -- and for a tile set
-pub record TilesFilled (asked : RequestView) (files : List File) (task : Task) : Type 0 where
+pub record TilesFilled (asked : RequestView) (files : List File) (task : FillTask) : Type 0 where
   pub set : TileSetView
   pub mask : MaskView
   pub layout : Layout
@@ -76,11 +78,11 @@ pub record TilesFilled (asked : RequestView) (files : List File) (task : Task) :
   pub is : fill_tiles set mask layout P ≡ task
   pub given : (kinds : List RuleKind) → Contains kinds asked.rule → IsTileFillTask kinds asked files set mask layout P
 
-sample_filled : (asked : RequestView) (files : List File) (task : Task) → outcome (fill_sample_plan asked) files ≡ Ok task → SampleFilled asked files task
+sample_filled : (asked : RequestView) (files : List File) (task : FillTask) → outcome (fill_sample_plan asked) files ≡ Ok task → SampleFilled asked files task
 sample_filled asked files task is =
     let known = outcome_parts (sample_plan asked) (behind_sample asked) files task is in
     let written = outcome_parts (step (laid known.0.kind asked)) (behind_layout asked known.0) files task known.2 in
-    let made = outcome_parts (problem_plan asked known.0) (λ P. let end : Plan Task = done (fill known.0.patterns known.0.palette written.0 P) in end) files task written.2 in
+    let made = outcome_parts (problem_plan asked known.0) (λ P. let end : Plan FillTask = done (fill known.0.patterns known.0.palette written.0 P) in end) files task written.2 in
     record {
       patterns = known.0.patterns;
       palette = known.0.palette;
@@ -102,9 +104,9 @@ filled_of_sample kinds asked files patterns palette layout P task =
     let lesson : Taught = record { kind = task.kind; palette = palette; patterns = patterns } in
     outcome_on (sample_plan asked) (behind_sample asked) files lesson (given_sample asked files task.kind patterns palette task.sample)
     ∙ outcome_on (step (laid task.kind asked)) (behind_layout asked lesson) files layout (ok_step (laid task.kind asked) files layout (ok_refused refusals.Render (layout_of task.kind asked.form asked.width asked.height 1) layout task.written))
-    ∙ outcome_on (problem_plan asked lesson) (λ P. let end : Plan Task = done (fill patterns palette layout P) in end) files P (given_problem asked files lesson P task.problem)
+    ∙ outcome_on (problem_plan asked lesson) (λ P. let end : Plan FillTask = done (fill patterns palette layout P) in end) files P (given_problem asked files lesson P task.problem)
 
-tiles_filled : (asked : RequestView) (files : List File) (task : Task) → outcome (fill_tiles_plan asked) files ≡ Ok task → TilesFilled asked files task
+tiles_filled : (asked : RequestView) (files : List File) (task : FillTask) → outcome (fill_tiles_plan asked) files ≡ Ok task → TilesFilled asked files task
 tiles_filled asked files task is =
     let known = outcome_parts (tiles_plan asked) (behind_set asked) files task is in
     let set = known.0 in
@@ -151,11 +153,11 @@ tiles_fill (Overlap n) asked is = absurd (cc)
 tiles_fill Tiles asked is = refl
 
 -- the same outcome, of a plan that is the same
-as_outcome : (plan other : Plan Task) (files : List File) (task : Task) → plan ≡ other → outcome plan files ≡ Ok task → outcome other files ≡ Ok task
+as_outcome : {T : Type 0} (plan other : Plan T) (files : List File) (task : T) → plan ≡ other → outcome plan files ≡ Ok task → outcome other files ≡ Ok task
 as_outcome plan other files task same is = ap (λ p. outcome p files) (sym same) ∙ is
 
 -- what `learn` comes to
-pub learn_given : (asked : RequestView) (files : List File) (task : Task) → is_of_windows asked.source ≡ true → outcome (learn_plan asked) files ≡ Ok task
+pub learn_given : (asked : RequestView) (files : List File) (task : LearnTask) → is_of_windows asked.source ≡ true → outcome (learn_plan asked) files ≡ Ok task
     → (patterns : PatternsView) × (palette : List Symbol) × (learn patterns palette ≡ task) × IsTaught asked files patterns palette
 learn_given asked files task windows is = sample_learned asked files task (as_outcome (learn_plan asked) (learn_sample_plan asked) files task (windows_learn asked.source asked windows) is)
 
@@ -164,7 +166,7 @@ pub given_learn : (asked : RequestView) (files : List File) (patterns : Patterns
 given_learn asked files patterns palette windows sample =
     as_outcome (learn_sample_plan asked) (learn_plan asked) files (learn patterns palette) (sym (windows_learn asked.source asked windows)) (learned_of_sample asked files patterns palette sample)
 
-pub learn_tiles_given : (asked : RequestView) (files : List File) (task : Task) → is_of_windows asked.source ≡ false → outcome (learn_plan asked) files ≡ Ok task
+pub learn_tiles_given : (asked : RequestView) (files : List File) (task : LearnTask) → is_of_windows asked.source ≡ false → outcome (learn_plan asked) files ≡ Ok task
     → (set : TileSetView) × (learn_tiles set ≡ task) × IsTileSetOf asked files set
 learn_tiles_given asked files task tiles is = tiles_learned asked files task (as_outcome (learn_plan asked) (learn_tiles_plan asked) files task (tiles_learn asked.source asked tiles) is)
 
@@ -173,7 +175,7 @@ given_learn_tiles asked files set tiles of =
     as_outcome (learn_tiles_plan asked) (learn_plan asked) files (learn_tiles set) (sym (tiles_learn asked.source asked tiles)) (learned_of_tiles asked files set of)
 
 -- what `fill` comes to
-pub fill_given : (kinds : List RuleKind) (asked : RequestView) (files : List File) (task : Task) → is_of_windows asked.source ≡ true → outcome (fill_plan kinds asked) files ≡ Ok task
+pub fill_given : (kinds : List RuleKind) (asked : RequestView) (files : List File) (task : FillTask) → is_of_windows asked.source ≡ true → outcome (fill_plan kinds asked) files ≡ Ok task
     → (patterns : PatternsView) × (palette : List Symbol) × (layout : Layout) × (P : Network) × (fill patterns palette layout P ≡ task) × IsFillTask kinds asked files patterns palette layout P
 fill_given kinds asked files task windows is =
     let found = outcome_parts (step (chosen kinds asked.rule)) (λ _. fill_plan_by asked.source asked) files task is in
@@ -186,7 +188,7 @@ given_fill kinds asked files patterns palette layout P windows task =
     outcome_on (step (chosen kinds asked.rule)) (λ _. fill_plan_by asked.source asked) files tt (ok_step (chosen kinds asked.rule) files tt (given_chooser kinds asked.rule task.chooser))
     ∙ as_outcome (fill_sample_plan asked) (fill_plan_by asked.source asked) files (fill patterns palette layout P) (sym (windows_fill asked.source asked windows)) (filled_of_sample kinds asked files patterns palette layout P task)
 
-pub fill_tiles_given : (kinds : List RuleKind) (asked : RequestView) (files : List File) (task : Task) → is_of_windows asked.source ≡ false → outcome (fill_plan kinds asked) files ≡ Ok task
+pub fill_tiles_given : (kinds : List RuleKind) (asked : RequestView) (files : List File) (task : FillTask) → is_of_windows asked.source ≡ false → outcome (fill_plan kinds asked) files ≡ Ok task
     → (set : TileSetView) × (mask : MaskView) × (layout : Layout) × (P : Network) × (fill_tiles set mask layout P ≡ task) × IsTileFillTask kinds asked files set mask layout P
 fill_tiles_given kinds asked files task tiles is =
     let found = outcome_parts (step (chosen kinds asked.rule)) (λ _. fill_plan_by asked.source asked) files task is in
@@ -200,15 +202,15 @@ given_fill_tiles kinds asked files set mask layout P tiles task =
     ∙ as_outcome (fill_tiles_plan asked) (fill_plan_by asked.source asked) files (fill_tiles set mask layout P) (sym (tiles_fill asked.source asked tiles)) (filled_of_tiles kinds asked files set mask layout P task)
 
 -- what `domains` comes to
-pub domains_given : (asked : RequestView) (files : List File) (task : Task) → outcome (domains_plan asked) files ≡ Ok task
+pub domains_given : (asked : RequestView) (files : List File) (task : DomainsTask) → outcome (domains_plan asked) files ≡ Ok task
     → (P : Network) × (steps : List StepLine) × (domains P steps ≡ task) × IsDomainsTask asked files P steps
 domains_given asked files task is =
     let made = outcome_parts (posed_plan asked) (behind_problem asked) files task is in
-    let said = outcome_parts (steps_plan asked.steps made.0) (λ steps. let end : Plan Task = done (domains made.0 steps) in end) files task made.2 in
+    let said = outcome_parts (steps_plan asked.steps made.0) (λ steps. let end : Plan DomainsTask = done (domains made.0 steps) in end) files task made.2 in
     let held = steps_given asked.steps made.0 files said.0 said.1 in
     (made.0, said.0, done_is _ task files said.2, record { posed = posed_given asked files made.0 made.1; held = held.0; inside = held.1 })
 
 pub given_domains : (asked : RequestView) (files : List File) (P : Network) (steps : List StepLine) → IsDomainsTask asked files P steps → outcome (domains_plan asked) files ≡ Ok (domains P steps)
 given_domains asked files P steps task =
     outcome_on (posed_plan asked) (behind_problem asked) files P (given_posed asked files P task.posed)
-    ∙ outcome_on (steps_plan asked.steps P) (λ steps. let end : Plan Task = done (domains P steps) in end) files steps (given_steps asked.steps P files steps task.held task.inside)
+    ∙ outcome_on (steps_plan asked.steps P) (λ steps. let end : Plan DomainsTask = done (domains P steps) in end) files steps (given_steps asked.steps P files steps task.held task.inside)

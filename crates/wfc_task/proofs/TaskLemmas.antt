@@ -17,7 +17,9 @@ use Rattle.wfc_task.specs.Sampled.{SampledView}
 use Rattle.wfc_task.specs.Checking.{refutation_plan}
 use Rattle.wfc_task.specs.Steps.{chosen, coloured, laid, taught}
 use Rattle.wfc_task.specs.SamplePlans.{problem_plan, steps_plan}
-use Rattle.wfc_task.specs.Task.{Task, fill, domains, check}
+use Rattle.wfc_task.specs.FillTask.{FillTask, fill}
+use Rattle.wfc_task.specs.DomainsTask.{DomainsTask, domains}
+use Rattle.wfc_task.specs.CheckTask.{CheckTask, check}
 use Rattle.wfc_task.proofs.PlanLemmas.{refused, goes_step, goes_on, goes_out}
 
 -- a step behind a plan that came to something, as the last
@@ -43,17 +45,17 @@ behind_sampled sampled = and_then (step (coloured sampled)) (λ made. done (samp
 abbrev pub behind_picture : RequestView → Kind × Raster × List Symbol → Plan Taught
 behind_picture asked made = and_then (step (taught asked made.1)) (λ patterns. done (record { kind = made.0; palette = made.2; patterns = patterns }))
 
-abbrev pub behind_layout : RequestView → Taught → Layout → Plan Task
+abbrev pub behind_layout : RequestView → Taught → Layout → Plan FillTask
 behind_layout asked lesson layout = and_then (problem_plan asked lesson) (λ P. done (fill lesson.patterns lesson.palette layout P))
 
-abbrev pub behind_sample : RequestView → Taught → Plan Task
+abbrev pub behind_sample : RequestView → Taught → Plan FillTask
 behind_sample asked lesson = and_then (step (laid lesson.kind asked)) (behind_layout asked lesson)
 
-abbrev pub behind_problem : RequestView → Network → Plan Task
+abbrev pub behind_problem : RequestView → Network → Plan DomainsTask
 behind_problem asked P = and_then (steps_plan asked.steps P) (λ steps. done (domains P steps))
 
 -- what follows a problem in `check`
-abbrev pub behind_checked_problem : RequestView → Network → Plan Task
+abbrev pub behind_checked_problem : RequestView → Network → Plan CheckTask
 behind_checked_problem asked P = and_then (refutation_plan asked P) (λ found. done (check found))
 
 -- a chooser that is there, and what follows

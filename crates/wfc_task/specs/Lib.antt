@@ -17,6 +17,11 @@ pub mod DomainsGiven
 pub mod RefuteGiven
 pub mod CheckGiven
 pub mod UpgradeGiven
-pub mod Task
-pub mod Made
+pub mod LearnTask
+pub mod FillTask
+pub mod DomainsTask
+pub mod DemoTask
+pub mod RefuteTask
+pub mod CheckTask
+pub mod UpgradeTask
 pub mod Filling

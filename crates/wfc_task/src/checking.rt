@@ -3,11 +3,10 @@
 ghost use Rattle.std.specs.Prelude.{◌≡◌};
 ghost use Rattle.wfc_task.specs.Asked.{IsOutputAsked, IsSourceAsked};
 ghost use Rattle.wfc_task.specs.Checking.{found_in, refutation_name, refutation_plan, shape_by, shape_of};
-ghost use Rattle.wfc_task.specs.Made.{check_made};
 ghost use Rattle.wfc_task.specs.Plan.{Goes};
-ghost use Rattle.wfc_task.specs.Task.{check_plan};
 ghost use Rattle.wfc_task.specs.declared.fault.Fault.TheVariants.{Unread};
 ghost use Rattle.wfc_task.specs.declared.fault.Source.TheVariants.{Refutation};
+ghost use Rattle.wfc_task.specs.CheckTask.{check_made, check_plan};
 
 use crate::fault::{Fault, Refusal, Source};
 use crate::posing::posed_problem;

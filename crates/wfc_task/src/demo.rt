@@ -2,7 +2,7 @@
 
 ghost use Rattle.std.specs.Prelude.{◌≡◌, ◌<◌, ◌≤◌, ◌*◌, length, IfOk};
 ghost use Rattle.wfc_task.specs.Demo.{columns_apart, demo_symbol, demo_symbols, rows_apart};
-ghost use Rattle.wfc_task.specs.Made.{IsDemoMade};
+ghost use Rattle.wfc_task.specs.DemoTask.{IsDemoMade};
 
 use crate::fault::Refusal;
 use crate::steps::{Output, indexed, learned, posed_for};

@@ -25,11 +25,17 @@ ghost use Rattle.wfc_tiled.specs.Mask.{MaskView};
 ghost use Rattle.wfc_tileset.specs.Tiles.{TileSetView};
 ghost use Rattle.wfc_task.specs.Plan.{outcome};
 ghost use Rattle.wfc_task.specs.Steps.{chosen};
-ghost use Rattle.wfc_task.specs.Task.{check, check_plan, demo, demo_plan, domains, domains_plan, fill, fill_plan, fill_tiles, learn, learn_plan, learn_tiles, refute, refute_plan, upgrade, upgrade_plan};
 ghost use Rattle.wfc_outside.specs.declared.whole.ReadFault.TheVariants.{Missing};
 ghost use Rattle.wfc_task.specs.declared.fault.Refusal.TheVariants.{Chooser};
 ghost use Rattle.wfc_task.specs.declared.fault.Fault.TheVariants.{Refused, Unread};
 ghost use Rattle.wfc_task.specs.declared.fault.Source.TheVariants.{Sample};
+ghost use Rattle.wfc_task.specs.CheckTask.{check, check_plan};
+ghost use Rattle.wfc_task.specs.DemoTask.{demo, demo_plan};
+ghost use Rattle.wfc_task.specs.DomainsTask.{domains, domains_plan};
+ghost use Rattle.wfc_task.specs.FillTask.{fill, fill_plan, fill_tiles};
+ghost use Rattle.wfc_task.specs.LearnTask.{learn, learn_plan, learn_tiles};
+ghost use Rattle.wfc_task.specs.RefuteTask.{refute, refute_plan};
+ghost use Rattle.wfc_task.specs.UpgradeTask.{upgrade, upgrade_plan};
 
 /// `learn` of a sample comes to these patterns and this palette exactly where the file spells a sample that teaches them.
 pub fn learn_tasks_are_given()

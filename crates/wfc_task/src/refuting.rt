@@ -2,9 +2,8 @@
 
 ghost use Rattle.std.specs.Prelude.{Contains, OnOk};
 ghost use Rattle.wfc_task.specs.Asked.{IsOutputAsked, IsSourceAsked};
-ghost use Rattle.wfc_task.specs.Made.{refute_made};
 ghost use Rattle.wfc_task.specs.Plan.{Goes};
-ghost use Rattle.wfc_task.specs.Task.{refute_plan};
+ghost use Rattle.wfc_task.specs.RefuteTask.{refute_made, refute_plan};
 
 use crate::fault::Fault;
 use crate::posing::posed_problem;

@@ -8,9 +8,11 @@ ghost use Rattle.wfc_outside.specs.Gives.{result_map};
 ghost use Rattle.wfc_task.specs.Asked.{AskedBy, IsOutputAsked, IsSampleAsked, IsSourceAsked};
 ghost use Rattle.wfc_task.specs.Filling.{IsFilling, IsFillingBy, IsTileFilling};
 ghost use Rattle.wfc_task.specs.Plan.{Goes};
-ghost use Rattle.wfc_task.specs.Task.{demo_plan, domains_plan, fill, fill_plan, fill_plan_by, fill_sample_plan, fill_tiles, fill_tiles_plan, learn_plan, learn_plan_by};
 ghost use Rattle.wfc_task.specs.Tiling.{masked};
-ghost use Rattle.wfc_task.specs.Made.{demo_made, domains_made, fill_made, learn_made};
+ghost use Rattle.wfc_task.specs.DemoTask.{demo_made, demo_plan};
+ghost use Rattle.wfc_task.specs.DomainsTask.{domains_made, domains_plan};
+ghost use Rattle.wfc_task.specs.FillTask.{fill, fill_made, fill_plan, fill_plan_by, fill_sample_plan, fill_tiles, fill_tiles_plan};
+ghost use Rattle.wfc_task.specs.LearnTask.{learn_made, learn_plan, learn_plan_by};
 
 use crate::demo::demo;
 use crate::fault::Fault;

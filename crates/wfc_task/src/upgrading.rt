@@ -3,9 +3,8 @@
 ghost use Rattle.std.specs.Prelude.{◌≤◌, length, IfOk};
 ghost use Rattle.wfc_outside.specs.Gives.{result_map};
 ghost use Rattle.wfc_task.specs.Asked.{IsOutputAsked, IsSourceAsked};
-ghost use Rattle.wfc_task.specs.Made.{upgrade_made};
 ghost use Rattle.wfc_task.specs.Plan.{Goes};
-ghost use Rattle.wfc_task.specs.Task.{refutation_file_plan, upgrade_plan};
+ghost use Rattle.wfc_task.specs.UpgradeTask.{refutation_file_plan, upgrade_made, upgrade_plan};
 
 use crate::checking::refutation_name;
 use crate::fault::{Fault, Source};

@@ -1,9 +1,9 @@
 //! The command `check`: whether a file is a refutation.
 
-ghost use Rattle.std.specs.Prelude.{◌≡◌, true, IfOk, List};
-ghost use Rattle.wfc_choose.specs.Pick.{Rule};
+ghost use Rattle.std.specs.Prelude.{◌≡◌, true, IfOk};
 ghost use Rattle.wfc_task.specs.Asked.{IsOutputAsked, IsSourceAsked};
-ghost use Rattle.wfc_words.specs.declared.kinds.CommandKind.TheVariants.{Check};
+ghost use Rattle.wfc_task.specs.CheckTask.{check_plan};
+ghost use Rattle.wfc_cli.specs.CheckCommand.{CheckAnswers};
 ghost use Rattle.wfc_cli.specs.Answer.{Ends};
 ghost use Rattle.wfc_cli.specs.Answers.{check_answer};
 ghost use Rattle.wfc_cli.specs.ReplyView.{answer_view, reply_view};
@@ -21,11 +21,10 @@ pub(super) fn check<F: Folder>(
     request: &Request,
     folder: &mut F,
 ) -> Result<Answer, Fault>
-    requires check { request.now.command ≡ Check }
     requires source { IsSourceAsked request.now }
     requires output { IsOutputAsked request.now }
-    ensures ends { (rules : List Rule)
-        → Ends rules request.now (F.seen folder.old) (F.seen folder.new) (reply_view result) }
+    ensures ends { Ends (check_plan request.now) CheckAnswers
+        (F.seen folder.old) (F.seen folder.new) (reply_view result) }
 {
     let found = check_task(alloc, request, folder)?;
     match answer(alloc, found) {

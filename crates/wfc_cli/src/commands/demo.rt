@@ -2,8 +2,8 @@
 
 ghost use Rattle.std.specs.Prelude.{◌≡◌, ◌++◌, true, IfOk, OnOk, Contains, Some, map};
 ghost use Rattle.wfc_choose.specs.declared.RuleKind.TheVariants.{Fewest};
-ghost use Rattle.wfc_words.specs.declared.kinds.CommandKind.TheVariants as commands;
-ghost use Rattle.wfc_cli.specs.Answer.{Ends};
+ghost use Rattle.wfc_cli.specs.DemoCommand.{demo_command};
+ghost use Rattle.wfc_cli.specs.Answer.{EndsBy};
 ghost use Rattle.wfc_cli.specs.Answers.{count_line, demo_answer, demo_budget, demo_text, demo_verdict};
 ghost use Rattle.wfc_cli.specs.Choosers.{kinds_of};
 ghost use Rattle.wfc_cli.specs.ReplyView.{answer_view, reply_view};
@@ -29,8 +29,7 @@ pub(super) fn demo<F: Folder>(
     choosers: Vec<Box<dyn Chooser>>,
     folder: &mut F,
 ) -> Result<Answer, Fault>
-    requires demo { request.now.command ≡ commands.Demo }
-    ensures ends { Ends (map (λ chooser. (told chooser).rule) choosers.items) request.now
+    ensures ends { EndsBy demo_command (map (λ chooser. (told chooser).rule) choosers.items) request.now
         (F.seen folder.old) (F.seen folder.new) (reply_view result) }
 {
     let kinds = match kinds(alloc, &choosers) {

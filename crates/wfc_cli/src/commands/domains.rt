@@ -1,7 +1,6 @@
 //! The command `domains`: the greatest domains before any step and after each, put while the steps are made.
 
 ghost use Rattle.std.specs.Prelude.{◌≡◌, ◌+◌, ◌≤◌, ◌<◌, ◌^◌, ◌↔◌, true, [], List, All, IsTrue, IfOk, OnOk, length};
-ghost use Rattle.wfc_choose.specs.Pick.{Rule};
 ghost use Rattle.wfc_domains.specs.Store.{IsOpened};
 ghost use Rattle.wfc_domains.specs.declared.Verdict.TheVariants.{Alive};
 ghost use Rattle.wfc_outside.specs.Sink.{Puts};
@@ -12,7 +11,8 @@ ghost use Rattle.wfc_problem.specs.Network.{values};
 ghost use Rattle.wfc_problem.specs.declared.Literal.{Literal};
 ghost use Rattle.wfc_render.specs.Block.{block_text};
 ghost use Rattle.wfc_task.specs.Asked.{IsOutputAsked, IsSourceAsked};
-ghost use Rattle.wfc_words.specs.declared.kinds.CommandKind.TheVariants as commands;
+ghost use Rattle.wfc_task.specs.DomainsTask.{domains_plan};
+ghost use Rattle.wfc_cli.specs.DomainsCommand.{DomainsAnswers};
 ghost use Rattle.wfc_cli.specs.Answers.{after_step, root_verdict, shown, steps_text};
 ghost use Rattle.wfc_cli.specs.Ending.{EndsPut};
 ghost use Rattle.wfc_cli.specs.Walk.{IsWalk, WalksTo, left_text};
@@ -37,12 +37,10 @@ pub(super) fn domains<F: Folder, O: Sink>(
     folder: &mut F,
     out: &mut O,
 ) -> Result<Verdict, Stop>
-    requires domains { request.now.command ≡ commands.Domains }
     requires source { IsSourceAsked request.now }
     requires output { IsOutputAsked request.now }
-    ensures ends { (rules : List Rule)
-        → EndsPut rules request.now (F.seen folder.old) (F.seen folder.new) (O.seen out.old)
-        (O.seen out.new) result }
+    ensures ends { EndsPut (domains_plan request.now) DomainsAnswers
+        (F.seen folder.old) (F.seen folder.new) (O.seen out.old) (O.seen out.new) result }
 {
     let stepping = domains_task(alloc, request, folder)?;
     let walk = match begun(alloc, &stepping) {

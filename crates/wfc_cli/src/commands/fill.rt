@@ -4,11 +4,11 @@ ghost use Rattle.std.specs.Prelude.{◌≡◌, true, IfOk, Contains, Some, map};
 ghost use Rattle.wfc_problem.specs.Assignment.{IsLegalAssignment};
 ghost use Rattle.wfc_task.specs.Asked.{IsOutputAsked, IsSourceAsked};
 ghost use Rattle.wfc_task.specs.Filling.{IsFilling, IsFillingBy, IsTileFilling};
-ghost use Rattle.wfc_task.specs.Made.{filled_by};
+ghost use Rattle.wfc_task.specs.FillTask.{filled_by};
+ghost use Rattle.wfc_cli.specs.FillCommand.{FillAnswers, fill_command};
 ghost use Rattle.wfc_task.specs.Tiling.{masked};
 ghost use Rattle.wfc_tiled.specs.Maps.{tile_map};
-ghost use Rattle.wfc_words.specs.declared.kinds.CommandKind.TheVariants.{Fill};
-ghost use Rattle.wfc_cli.specs.Answer.{Ends, Replies};
+ghost use Rattle.wfc_cli.specs.Answer.{EndsBy, Replies};
 ghost use Rattle.wfc_cli.specs.Answers.{fill_by, picture_text, tiles_text};
 ghost use Rattle.wfc_cli.specs.Choosers.{kinds_of};
 ghost use Rattle.wfc_cli.specs.Held.{problem_in, text_in};
@@ -36,10 +36,9 @@ pub(super) fn fill<F: Folder>(
     choosers: Vec<Box<dyn Chooser>>,
     folder: &mut F,
 ) -> Result<Answer, Fault>
-    requires fill { request.now.command ≡ Fill }
     requires source { IsSourceAsked request.now }
     requires output { IsOutputAsked request.now }
-    ensures ends { Ends (map (λ chooser. (told chooser).rule) choosers.items) request.now
+    ensures ends { EndsBy fill_command (map (λ chooser. (told chooser).rule) choosers.items) request.now
         (F.seen folder.old) (F.seen folder.new) (reply_view result) }
 {
     let kinds = match kinds(alloc, &choosers) {
@@ -57,11 +56,10 @@ fn filled_with<F: Folder>(
     kinds: &[RuleKind],
     folder: &mut F,
 ) -> Result<Answer, Fault>
-    requires fill { request.now.command ≡ Fill }
     requires source { IsSourceAsked request.now }
     requires output { IsOutputAsked request.now }
     requires kinds { kinds.now ≡ kinds_of (map (λ chooser. (told chooser).rule) choosers.items) }
-    ensures ends { Ends (map (λ chooser. (told chooser).rule) choosers.items) request.now
+    ensures ends { EndsBy fill_command (map (λ chooser. (told chooser).rule) choosers.items) request.now
         (F.seen folder.old) (F.seen folder.new) (reply_view result) }
 {
     let filled = fill_task(alloc, request, kinds, folder)?;
@@ -78,7 +76,7 @@ fn replied(
     requires chooser { Contains (kinds_of (map (λ chooser. (told chooser).rule) choosers.items)) request.now.rule }
     requires output { IsOutputAsked request.now }
     requires filling { IsFillingBy request.now filled.now }
-    ensures replies { Replies (map (λ chooser. (told chooser).rule) choosers.items) request.now
+    ensures replies { Replies (FillAnswers (map (λ chooser. (told chooser).rule) choosers.items) request.now)
         (filled_by request.now filled.now) (reply_view result) }
 {
     match answer(alloc, request, choosers, filled) {

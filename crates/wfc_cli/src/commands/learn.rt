@@ -1,11 +1,9 @@
 //! The command `learn`: what a sample teaches, or what a tile set allows.
 
-ghost use Rattle.std.specs.Prelude.{◌≡◌, true, IfOk, List};
-ghost use Rattle.wfc_choose.specs.Pick.{Rule};
+ghost use Rattle.std.specs.Prelude.{◌≡◌, true, IfOk};
 ghost use Rattle.wfc_task.specs.Asked.{IsSourceAsked};
-ghost use Rattle.wfc_task.specs.Made.{learned_by};
-ghost use Rattle.wfc_words.specs.RequestView.{RequestView};
-ghost use Rattle.wfc_words.specs.declared.kinds.CommandKind.TheVariants.{Learn};
+ghost use Rattle.wfc_task.specs.LearnTask.{learn_plan, learned_by};
+ghost use Rattle.wfc_cli.specs.LearnCommand.{LearnAnswers};
 ghost use Rattle.wfc_cli.specs.Answer.{Ends, Replies};
 ghost use Rattle.wfc_cli.specs.Held.{rules_text};
 ghost use Rattle.wfc_cli.specs.Reply.{done_with};
@@ -24,10 +22,9 @@ pub(super) fn learn<F: Folder>(
     request: &Request,
     folder: &mut F,
 ) -> Result<Answer, Fault>
-    requires learn { request.now.command ≡ Learn }
     requires source { IsSourceAsked request.now }
-    ensures ends { (rules : List Rule)
-        → Ends rules request.now (F.seen folder.old) (F.seen folder.new) (reply_view result) }
+    ensures ends { Ends (learn_plan request.now) LearnAnswers
+        (F.seen folder.old) (F.seen folder.new) (reply_view result) }
 {
     let learned = learn_task(alloc, request, folder)?;
     replied(alloc, &learned)
@@ -35,8 +32,7 @@ pub(super) fn learn<F: Folder>(
 
 /// The reply with the text of the rules.
 fn replied(alloc: Global, learned: &Learned) -> Result<Answer, Fault>
-    ensures replies { (rules : List Rule) (asked : RequestView)
-        → Replies rules asked (learned_by learned.now) (reply_view result) }
+    ensures replies { Replies LearnAnswers (learned_by learned.now) (reply_view result) }
 {
     match answer(alloc, learned) {
         Ok(answer) => Ok(answer),

@@ -11,8 +11,8 @@ ghost use Rattle.wfc_search.specs.Shown.{shown};
 ghost use Rattle.wfc_task.specs.Asked.{IsOutputAsked, IsSourceAsked};
 ghost use Rattle.wfc_task.specs.Sources.{side_of};
 ghost use Rattle.wfc_task.specs.Checking.{shape_of};
-ghost use Rattle.wfc_words.specs.declared.kinds.CommandKind.TheVariants as commands;
-ghost use Rattle.wfc_cli.specs.Ending.{EndsPut};
+ghost use Rattle.wfc_cli.specs.RefuteCommand.{refute_command};
+ghost use Rattle.wfc_cli.specs.Ending.{EndsAs};
 ghost use Rattle.wfc_cli.specs.Refuting.{CutsFrom, IsShortStop, PutsFrom, Refutes, refute_verdict, written_format};
 ghost use Rattle.wfc_cli.specs.Runs.{seeded};
 
@@ -42,10 +42,9 @@ pub(super) fn refute<F: Folder, O: Sink>(
     folder: &mut F,
     out: &mut O,
 ) -> Result<Verdict, Stop>
-    requires refute { request.now.command ≡ commands.Refute }
     requires source { IsSourceAsked request.now }
     requires output { IsOutputAsked request.now }
-    ensures ends { EndsPut (map (λ chooser. (told chooser).rule) choosers.items) request.now
+    ensures ends { EndsAs refute_command (map (λ chooser. (told chooser).rule) choosers.items) request.now
         (F.seen folder.old) (F.seen folder.new) (O.seen out.old) (O.seen out.new) result }
 {
     let kinds = match kinds(alloc, &choosers) {

@@ -1,13 +1,13 @@
 //! The command `upgrade`: the proof of a refutation, written in format 2.
 
-ghost use Rattle.std.specs.Prelude.{◌≡◌, ◌≤◌, true, List, length, IfOk, None, Some, Ok};
-ghost use Rattle.wfc_choose.specs.Pick.{Rule};
+ghost use Rattle.std.specs.Prelude.{◌≡◌, ◌≤◌, true, length, IfOk, None, Some, Ok};
 ghost use Rattle.wfc_check.specs.Text.{checked, IsRefutation};
 ghost use Rattle.wfc_proof.specs.ProofText.{IsProofText};
 ghost use Rattle.wfc_proof.specs.Upgrade.{upgraded_text};
 ghost use Rattle.wfc_task.specs.Asked.{IsOutputAsked, IsSourceAsked};
 ghost use Rattle.wfc_task.specs.Sources.{side_of};
-ghost use Rattle.wfc_words.specs.declared.kinds.CommandKind.TheVariants as commands;
+ghost use Rattle.wfc_task.specs.UpgradeTask.{upgrade_plan};
+ghost use Rattle.wfc_cli.specs.UpgradeCommand.{UpgradeAnswers};
 ghost use Rattle.wfc_cli.specs.Ending.{EndsPut};
 ghost use Rattle.wfc_cli.specs.Reply.{done_with};
 ghost use Rattle.wfc_cli.specs.Upgrading.{Answering, Upgrades, fault_in};
@@ -28,12 +28,10 @@ pub(super) fn upgrade<F: Folder, O: Sink>(
     folder: &mut F,
     out: &mut O,
 ) -> Result<Verdict, Stop>
-    requires upgrade { request.now.command ≡ commands.Upgrade }
     requires source { IsSourceAsked request.now }
     requires output { IsOutputAsked request.now }
-    ensures ends { (rules : List Rule)
-        → EndsPut rules request.now (F.seen folder.old) (F.seen folder.new) (O.seen out.old)
-        (O.seen out.new) result }
+    ensures ends { EndsPut (upgrade_plan request.now) (UpgradeAnswers request.now)
+        (F.seen folder.old) (F.seen folder.new) (O.seen out.old) (O.seen out.new) result }
 {
     let upgrading = upgrade_task(alloc, request, folder)?;
     upgraded(alloc, request, &upgrading, out)

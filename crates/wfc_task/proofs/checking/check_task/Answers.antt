@@ -4,7 +4,7 @@ use Rattle.wfc_check.specs.declared.fault.CheckFault.{CheckFault}
 use Rattle.wfc_task.specs.Checking.{refutation_plan}
 use Rattle.wfc_task.specs.Plan.{Plan, done}
 use Rattle.wfc_task.specs.Posed.{posed_plan}
-use Rattle.wfc_task.specs.Task.{Task, check}
+use Rattle.wfc_task.specs.CheckTask.{CheckTask, check}
 use Rattle.wfc_task.proofs.PlanLemmas.{goes_done, goes_on, goes_out}
 use Rattle.wfc_task.proofs.TaskLemmas.{behind_checked_problem}
 use Rattle.wfc_task.proofs.checking.check_task.Goals as goal
@@ -22,7 +22,7 @@ returns-in_err-found g c =
     let P = c.in_ok-problem.problem in
     record {
       goes = rw (p.1, p.2) (goes_on (posed_plan asked) (behind_checked_problem asked) _ _ _ _ _ c.in_ok-problem.ensures.goes
-          (goes_out (refutation_plan asked P) (λ (found : Option CheckFault). let end : Plan Task = done (check found) in end) _ _ _ c.in_err-found.ensures.goes));
+          (goes_out (refutation_plan asked P) (λ (found : Option CheckFault). let end : Plan CheckTask = done (check found) in end) _ _ _ c.in_err-found.ensures.goes));
     }
 
 pub returns : goal.returns
@@ -31,5 +31,5 @@ returns g c =
     let P = c.in_ok-problem.problem in
     record {
       goes = goes_on (posed_plan asked) (behind_checked_problem asked) _ _ _ _ _ c.in_ok-problem.ensures.goes
-          (goes_on (refutation_plan asked P) (λ (found : Option CheckFault). let end : Plan Task = done (check found) in end) _ _ _ _ _ c.in_ok-found.ensures.goes goes_done);
+          (goes_on (refutation_plan asked P) (λ (found : Option CheckFault). let end : Plan CheckTask = done (check found) in end) _ _ _ _ _ c.in_ok-found.ensures.goes goes_done);
     }

@@ -1,7 +1,7 @@
 use Rattle.std.proofs.Common.{◌≡◌, Option, subst}
 use Rattle.wfc_check.specs.declared.fault.CheckFault.{CheckFault}
 use Rattle.wfc_task.specs.CheckGiven.{IsCheckTask}
-use Rattle.wfc_task.specs.Task.{check}
+use Rattle.wfc_task.specs.CheckTask.{check}
 use Rattle.wfc_task.proofs.CheckingLemmas.{check_given, given_check}
 use Rattle.wfc_task.proofs.laws.check_tasks_are_given.Goals as goal
 

@@ -2,7 +2,7 @@ use Rattle.std.proofs.Common.{◌≡◌, List, subst}
 use Rattle.wfc_problem.specs.Network.{Network}
 use Rattle.wfc_pins.specs.declared.steps.StepLine.{StepLine}
 use Rattle.wfc_task.specs.DomainsGiven.{IsDomainsTask}
-use Rattle.wfc_task.specs.Task.{domains}
+use Rattle.wfc_task.specs.DomainsTask.{domains}
 use Rattle.wfc_task.proofs.TaskGivenLemmas.{domains_given, given_domains}
 use Rattle.wfc_task.proofs.laws.domains_tasks_are_given.Goals as goal
 

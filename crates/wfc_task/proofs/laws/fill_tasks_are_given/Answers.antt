@@ -4,7 +4,7 @@ use Rattle.wfc_pattern.specs.Patterns.{PatternsView}
 use Rattle.wfc_problem.specs.Network.{Network}
 use Rattle.wfc_render.specs.declared.form.Layout.{Layout}
 use Rattle.wfc_task.specs.Given.{IsFillTask}
-use Rattle.wfc_task.specs.Task.{fill}
+use Rattle.wfc_task.specs.FillTask.{fill}
 use Rattle.wfc_task.proofs.TaskGivenLemmas.{fill_given, given_fill}
 use Rattle.wfc_task.proofs.laws.fill_tasks_are_given.Goals as goal
 

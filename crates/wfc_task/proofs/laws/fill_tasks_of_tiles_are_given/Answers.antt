@@ -3,8 +3,8 @@ use Rattle.wfc_problem.specs.Network.{Network}
 use Rattle.wfc_render.specs.declared.form.Layout.{Layout}
 use Rattle.wfc_tiled.specs.Mask.{MaskView}
 use Rattle.wfc_tileset.specs.Tiles.{TileSetView}
-use Rattle.wfc_task.specs.Task.{fill_tiles}
 use Rattle.wfc_task.specs.TileGiven.{IsTileFillTask}
+use Rattle.wfc_task.specs.FillTask.{fill_tiles}
 use Rattle.wfc_task.proofs.TaskGivenLemmas.{fill_tiles_given, given_fill_tiles}
 use Rattle.wfc_task.proofs.laws.fill_tasks_of_tiles_are_given.Goals as goal
 

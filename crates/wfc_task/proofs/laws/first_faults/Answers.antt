@@ -5,9 +5,9 @@ use Rattle.wfc_words.specs.declared.kinds.SourceModel.{SourceModel}
 use Rattle.wfc_words.specs.declared.kinds.SourceModel.TheVariants.{Overlap, Tiles}
 use Rattle.wfc_task.specs.Plan.{and_then, outcome}
 use Rattle.wfc_task.specs.Posed.{posed_plan_by}
-use Rattle.wfc_task.specs.Task.{learn_plan_by}
 use Rattle.wfc_task.specs.declared.fault.Fault.TheVariants.{Unread}
 use Rattle.wfc_task.specs.declared.fault.Source.TheVariants.{Sample}
+use Rattle.wfc_task.specs.LearnTask.{learn_plan_by}
 use Rattle.wfc_task.proofs.TaskLemmas.{behind_problem}
 use Rattle.wfc_task.proofs.laws.first_faults.Goals as goal
 

@@ -2,7 +2,7 @@ use Rattle.std.proofs.Common.{◌≡◌, List, subst}
 use Rattle.wfc_picture.specs.declared.symbol.Symbol.{Symbol}
 use Rattle.wfc_pattern.specs.Patterns.{PatternsView}
 use Rattle.wfc_task.specs.Given.{IsTaught}
-use Rattle.wfc_task.specs.Task.{learn}
+use Rattle.wfc_task.specs.LearnTask.{learn}
 use Rattle.wfc_task.proofs.TaskGivenLemmas.{given_learn, learn_given}
 use Rattle.wfc_task.proofs.laws.learn_tasks_are_given.Goals as goal
 

@@ -1,7 +1,7 @@
 use Rattle.std.proofs.Common.{◌≡◌, subst}
 use Rattle.wfc_tileset.specs.Tiles.{TileSetView}
-use Rattle.wfc_task.specs.Task.{learn_tiles}
 use Rattle.wfc_task.specs.TileGiven.{IsTileSetOf}
+use Rattle.wfc_task.specs.LearnTask.{learn_tiles}
 use Rattle.wfc_task.proofs.TaskGivenLemmas.{given_learn_tiles, learn_tiles_given}
 use Rattle.wfc_task.proofs.laws.learn_tasks_of_tiles_are_given.Goals as goal
 

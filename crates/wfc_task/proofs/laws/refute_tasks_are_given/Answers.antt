@@ -1,7 +1,7 @@
 use Rattle.std.proofs.Common.{◌≡◌, subst}
 use Rattle.wfc_problem.specs.Network.{Network}
 use Rattle.wfc_task.specs.RefuteGiven.{IsRefuteTask}
-use Rattle.wfc_task.specs.Task.{refute}
+use Rattle.wfc_task.specs.RefuteTask.{refute}
 use Rattle.wfc_task.proofs.RefutingLemmas.{refute_given, given_refute}
 use Rattle.wfc_task.proofs.laws.refute_tasks_are_given.Goals as goal
 

@@ -1,7 +1,7 @@
 use Rattle.std.proofs.Common.{◌≡◌, ℕ, List, subst}
 use Rattle.wfc_problem.specs.Network.{Network}
-use Rattle.wfc_task.specs.Task.{upgrade}
 use Rattle.wfc_task.specs.UpgradeGiven.{IsUpgradeTask}
+use Rattle.wfc_task.specs.UpgradeTask.{upgrade}
 use Rattle.wfc_task.proofs.UpgradingLemmas.{upgrade_given, given_upgrade}
 use Rattle.wfc_task.proofs.laws.upgrade_tasks_are_given.Goals as goal
 

@@ -4,7 +4,7 @@ use Rattle.wfc_pins.specs.declared.steps.StepLine.{StepLine}
 use Rattle.wfc_task.specs.Plan.{Plan, done}
 use Rattle.wfc_task.specs.Posed.{posed_plan}
 use Rattle.wfc_task.specs.SamplePlans.{steps_plan}
-use Rattle.wfc_task.specs.Task.{Task, domains}
+use Rattle.wfc_task.specs.DomainsTask.{DomainsTask, domains}
 use Rattle.wfc_task.proofs.PlanLemmas.{goes_done, goes_on, goes_out}
 use Rattle.wfc_task.proofs.TaskLemmas.{behind_problem}
 use Rattle.wfc_task.proofs.task.domains_task.Goals as goal
@@ -21,11 +21,11 @@ returns-in_err-steps-clause-goes g c =
     let asked = c.args.request.now in
     let P = c.in_ok-problem.problem in
     rw (p.1, p.2) (goes_on (posed_plan asked) (behind_problem asked) _ _ _ _ _ c.in_ok-problem.ensures.goes
-    (goes_out (steps_plan asked.steps P) (λ (steps : List StepLine). let end : Plan Task = done (domains P steps) in end) _ _ _ (rw c.steps.ensures.value at c.in_err-steps.ensures.goes)))
+    (goes_out (steps_plan asked.steps P) (λ (steps : List StepLine). let end : Plan DomainsTask = done (domains P steps) in end) _ _ _ (rw c.steps.ensures.value at c.in_err-steps.ensures.goes)))
 
 pub returns-clause-goes : goal.returns-clause-goes
 returns-clause-goes g c =
     let asked = c.args.request.now in
     let P = c.in_ok-problem.problem in
     goes_on (posed_plan asked) (behind_problem asked) _ _ _ _ _ c.in_ok-problem.ensures.goes
-    (goes_on (steps_plan asked.steps P) (λ (steps : List StepLine). let end : Plan Task = done (domains P steps) in end) _ _ _ _ _ (rw c.steps.ensures.value at c.in_ok-steps.ensures.goes) goes_done)
+    (goes_on (steps_plan asked.steps P) (λ (steps : List StepLine). let end : Plan DomainsTask = done (domains P steps) in end) _ _ _ _ _ (rw c.steps.ensures.value at c.in_ok-steps.ensures.goes) goes_done)

@@ -1,9 +1,9 @@
 use Rattle.std.proofs.Common.{ap}
 use Rattle.std.proofs.lemmas.Result.{err_from_is_err_and}
 use Rattle.wfc_words.specs.RequestView.{RequestView}
-use Rattle.wfc_task.specs.Task.{fill_plan_by}
 use Rattle.wfc_task.proofs.TaskLemmas.{behind_chooser}
 use Rattle.wfc_task.proofs.task.fill_task.Goals as goal
+use Rattle.wfc_task.specs.FillTask.{fill_plan_by}
 
 pub returns-in_err-filled-clause-goes : goal.returns-in_err-filled-clause-goes
 returns-in_err-filled-clause-goes g c =

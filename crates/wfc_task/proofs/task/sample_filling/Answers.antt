@@ -4,7 +4,7 @@ use Rattle.wfc_problem.specs.Network.{Network}
 use Rattle.wfc_task.specs.Plan.{Plan, done}
 use Rattle.wfc_task.specs.SamplePlans.{problem_plan, sample_plan}
 use Rattle.wfc_task.specs.Steps.{laid}
-use Rattle.wfc_task.specs.Task.{Task, fill}
+use Rattle.wfc_task.specs.FillTask.{FillTask, fill}
 use Rattle.wfc_task.proofs.PlanLemmas.{goes_done, goes_on, goes_out}
 use Rattle.wfc_task.proofs.TaskLemmas.{behind_layout, behind_sample, step_on, step_out}
 use Rattle.wfc_task.proofs.task.sample_filling.Goals as goal
@@ -29,7 +29,7 @@ returns-in_err-problem-clause-goes g c =
     let lesson = c.in_ok-taught.taught in
     rw (p.1, p.2) (goes_on (sample_plan asked) (behind_sample asked) _ _ _ _ _ c.in_ok-taught.ensures.goes
     (step_on (laid lesson.kind asked) (behind_layout asked lesson) _ _ _ _ (inl c.in_ok-layout.ensures.exact)
-    (goes_out (problem_plan asked lesson) (λ (P : Network). let end : Plan Task = done (fill lesson.patterns lesson.palette c.in_ok-layout.layout P) in end) _ _ _ c.in_err-problem.ensures.goes)))
+    (goes_out (problem_plan asked lesson) (λ (P : Network). let end : Plan FillTask = done (fill lesson.patterns lesson.palette c.in_ok-layout.layout P) in end) _ _ _ c.in_err-problem.ensures.goes)))
 
 pub returns-clause-goes : goal.returns-clause-goes
 returns-clause-goes g c =
@@ -37,4 +37,4 @@ returns-clause-goes g c =
     let lesson = c.in_ok-taught.taught in
     goes_on (sample_plan asked) (behind_sample asked) _ _ _ _ _ c.in_ok-taught.ensures.goes
     (step_on (laid lesson.kind asked) (behind_layout asked lesson) _ _ _ _ (inl c.in_ok-layout.ensures.exact)
-    (goes_on (problem_plan asked lesson) (λ (P : Network). let end : Plan Task = done (fill lesson.patterns lesson.palette c.in_ok-layout.layout P) in end) _ _ _ _ _ c.in_ok-problem.ensures.goes goes_done))
+    (goes_on (problem_plan asked lesson) (λ (P : Network). let end : Plan FillTask = done (fill lesson.patterns lesson.palette c.in_ok-layout.layout P) in end) _ _ _ _ _ c.in_ok-problem.ensures.goes goes_done))

@@ -2,7 +2,7 @@ use Rattle.std.proofs.Common.{ℕ, List}
 use Rattle.std.proofs.lemmas.Result.{err_from_is_err_and}
 use Rattle.wfc_task.specs.Plan.{Plan, done}
 use Rattle.wfc_task.specs.Posed.{posed_plan}
-use Rattle.wfc_task.specs.Task.{Task, upgrade, refutation_file_plan}
+use Rattle.wfc_task.specs.UpgradeTask.{UpgradeTask, refutation_file_plan, upgrade}
 use Rattle.wfc_task.proofs.PlanLemmas.{goes_done, goes_on, goes_out}
 use Rattle.wfc_task.proofs.UpgradingLemmas.{behind_upgraded_problem}
 use Rattle.wfc_task.proofs.upgrading.upgrade_task.Goals as goal
@@ -19,11 +19,11 @@ returns-in_err-refutation-clause-goes g c =
     let asked = c.args.request.now in
     let P = c.in_ok-problem.problem in
     rw (p.1, p.2) (goes_on (posed_plan asked) (behind_upgraded_problem asked) _ _ _ _ _ c.in_ok-problem.ensures.goes
-    (goes_out (refutation_file_plan asked) (λ (bytes : List ℕ). let end : Plan Task = done (upgrade P bytes) in end) _ _ _ c.in_err-refutation.ensures.goes))
+    (goes_out (refutation_file_plan asked) (λ (bytes : List ℕ). let end : Plan UpgradeTask = done (upgrade P bytes) in end) _ _ _ c.in_err-refutation.ensures.goes))
 
 pub returns-clause-goes : goal.returns-clause-goes
 returns-clause-goes g c =
     let asked = c.args.request.now in
     let P = c.in_ok-problem.problem in
     goes_on (posed_plan asked) (behind_upgraded_problem asked) _ _ _ _ _ c.in_ok-problem.ensures.goes
-    (goes_on (refutation_file_plan asked) (λ (bytes : List ℕ). let end : Plan Task = done (upgrade P bytes) in end) _ _ _ _ _ c.in_ok-refutation.ensures.goes goes_done)
+    (goes_on (refutation_file_plan asked) (λ (bytes : List ℕ). let end : Plan UpgradeTask = done (upgrade P bytes) in end) _ _ _ _ _ c.in_ok-refutation.ensures.goes goes_done)

@@ -1,6 +1,6 @@
 use Rattle.std.proofs.Common.{◌∙◌, Ok}
-use Rattle.wfc_task.specs.Task as task
-use Rattle.wfc_words.specs.declared.kinds.CommandKind.TheVariants as commands
+use Rattle.wfc_task.specs.DemoTask as task
+use Rattle.wfc_cli.specs.DemoCommand.{DemoAnswers}
 use Rattle.wfc_cli.proofs.EndLemmas.{ends_short, ends_with}
 use Rattle.wfc_cli.proofs.commands.demo.demo.Goals as goal
 
@@ -11,12 +11,12 @@ pub returns-in-Ok-answer : goal.returns-in-Ok-answer
 returns-in-Ok-answer g c =
     let kinds = c.deref-2.ensures.value ∙ (rw c.deref.ensures.value at c.in-Ok.ensures.value) in
     record {
-      ends = ends_with _ c.args.request.now commands.Demo _ _ _ (Ok (task.demo c.in_ok-task.task.patterns c.in_ok-task.task.problem)) _ c.requires.demo kinds c.in_ok-task.ensures.goes c.in-Ok-answer.ensures.answers;
+      ends = ends_with _ _ (λ kinds. task.demo_plan kinds c.args.request.now) (λ rules. DemoAnswers rules c.args.request.now) _ _ (Ok (task.demo c.in_ok-task.task.patterns c.in_ok-task.task.problem)) _ kinds c.in_ok-task.ensures.goes c.in-Ok-answer.ensures.answers;
     }
 
 pub returns : goal.returns
 returns g c =
     let kinds = c.deref-2.ensures.value ∙ (rw c.deref.ensures.value at c.in-Ok.ensures.value) in
     record {
-      ends = ends_with _ c.args.request.now commands.Demo _ _ _ (Ok (task.demo c.in_ok-task.task.patterns c.in_ok-task.task.problem)) _ c.requires.demo kinds c.in_ok-task.ensures.goes c.exhausted-in-Err-answer.ensures.short;
+      ends = ends_with _ _ (λ kinds. task.demo_plan kinds c.args.request.now) (λ rules. DemoAnswers rules c.args.request.now) _ _ (Ok (task.demo c.in_ok-task.task.patterns c.in_ok-task.task.problem)) _ kinds c.in_ok-task.ensures.goes c.exhausted-in-Err-answer.ensures.short;
     }

@@ -1,9 +1,9 @@
-use Rattle.std.proofs.Common.{◌∙◌, ap, refl, Some}
+use Rattle.std.proofs.Common.{◌∙◌, ap, refl, true, Some}
 use Rattle.std.proofs.lemmas.Result.{err_from_is_err_and}
 use Rattle.wfc_outside.specs.Sink.{after_finish}
 use Rattle.wfc_outside.proofs.CallerLemmas.{fault_behind}
-use Rattle.wfc_task.specs.Task as task
-use Rattle.wfc_words.specs.declared.kinds.CommandKind.TheVariants as commands
+use Rattle.wfc_task.specs.DomainsTask as task
+use Rattle.wfc_cli.specs.DomainsCommand.{DomainsAnswers}
 use Rattle.wfc_cli.specs.Answers.{root_verdict, steps_text}
 use Rattle.wfc_cli.proofs.EndLemmas.{put_cut, put_none, put_short, put_whole}
 use Rattle.wfc_cli.proofs.WalkLemmas.{steps_answer, walk_begun}
@@ -12,11 +12,11 @@ use Rattle.wfc_cli.proofs.commands.domains.domains.Goals as goal
 pub returns-in_err-stepping : goal.returns-in_err-stepping
 returns-in_err-stepping g c =
     let p = err_from_is_err_and c.from_residual.result c.from_residual.ensures.1 in
-    record { ends = λ rules. rw (p.1, p.2) (put_none rules c.args.request.now commands.Domains _ _ _ c.in_err-stepping.field-0.0 c.requires.domains c.in_err-stepping.ensures.goes) }
+    record { ends = rw (p.1, p.2) (put_none (task.domains_plan c.args.request.now) DomainsAnswers _ _ _ c.in_err-stepping.field-0.0 c.in_err-stepping.ensures.goes) }
 
 pub returns-in-Err : goal.returns-in-Err
 returns-in-Err g c = record {
-  ends = λ rules. put_short rules c.args.request.now commands.Domains _ _ _ (task.domains c.in_ok-stepping.stepping.problem c.in_ok-stepping.stepping.steps.items) c.exhausted.result c.requires.domains
+  ends = put_short (task.domains_plan c.args.request.now) DomainsAnswers _ _ _ (task.domains c.in_ok-stepping.stepping.problem c.in_ok-stepping.stepping.steps.items) c.exhausted.result
       c.in_ok-stepping.ensures.goes c.exhausted.ensures.short;
 }
 
@@ -26,7 +26,7 @@ returns-in_err-put_blocks g c =
     let P = c.in_ok-stepping.stepping.problem in
     let lines = c.in_ok-stepping.stepping.steps.items in
     record {
-      ends = λ rules. rw (p.1, p.2) (put_cut rules c.args.request.now commands.Domains _ _ _ _ (task.domains P lines) (root_verdict P) (Some (steps_text P lines)) c.requires.domains
+      ends = rw (p.1, p.2) (put_cut (task.domains_plan c.args.request.now) DomainsAnswers _ _ _ _ (task.domains P lines) (root_verdict P) (Some (steps_text P lines)) true
           c.in_ok-stepping.ensures.goes refl (rw c.deref.ensures.value at c.in_err-put_blocks.ensures.put));
     }
 
@@ -36,7 +36,7 @@ returns-in_err-finish g c =
     let P = c.in_ok-stepping.stepping.problem in
     let lines = c.in_ok-stepping.stepping.steps.items in
     record {
-      ends = λ rules. rw (p.1, p.2) (put_cut rules c.args.request.now commands.Domains _ _ _ _ (task.domains P lines) (root_verdict P) (Some (steps_text P lines)) c.requires.domains
+      ends = rw (p.1, p.2) (put_cut (task.domains_plan c.args.request.now) DomainsAnswers _ _ _ _ (task.domains P lines) (root_verdict P) (Some (steps_text P lines)) true
           c.in_ok-stepping.ensures.goes refl (fault_behind _ _ _ (steps_text P lines) (rw c.deref.ensures.value at c.in_ok-put_blocks.ensures.put) c.in_err-finish.ensures.finished));
     }
 
@@ -45,7 +45,7 @@ returns g c =
     let P = c.in_ok-stepping.stepping.problem in
     let lines = c.in_ok-stepping.stepping.steps.items in
     record {
-      ends = λ rules. put_whole rules c.args.request.now commands.Domains _ _ _ _ (task.domains P lines) c.verdict-verdict.result (Some (steps_text P lines)) c.requires.domains
+      ends = put_whole (task.domains_plan c.args.request.now) DomainsAnswers _ _ _ _ (task.domains P lines) c.verdict-verdict.result (Some (steps_text P lines))
           c.in_ok-stepping.ensures.goes
           (steps_answer P c.in-Ok.walk.engine.problem lines c.verdict-verdict.result c.in-Ok.ensures.opened.problem (c.verdict-verdict.ensures.value (walk_begun _ _ _ _ c.in-Ok.ensures.opened c.in-Ok.ensures.none)))
           (c.in_ok-finish.ensures.finished ∙ ap after_finish (rw c.deref.ensures.value at c.in_ok-put_blocks.ensures.put));

@@ -1,10 +1,11 @@
 use Rattle.std.proofs.Common.{Ok}
-use Rattle.wfc_task.specs.Made.{filled_by}
-use Rattle.wfc_words.specs.declared.kinds.CommandKind.TheVariants as commands
+use Rattle.wfc_task.specs.FillTask.{fill_plan, filled_by}
+use Rattle.wfc_cli.specs.FillCommand.{FillAnswers}
 use Rattle.wfc_cli.proofs.EndLemmas.{ends_with}
 use Rattle.wfc_cli.proofs.commands.fill.filled_with.Goals as goal
 
 pub returns : goal.returns
 returns g c = record {
-  ends = ends_with _ c.args.request.now commands.Fill _ _ _ (Ok (filled_by c.args.request.now c.in_ok-filled.filled)) _ c.requires.fill c.requires.kinds c.in_ok-filled.ensures.goes c.replied.ensures.replies;
+  ends = ends_with _ _ (λ kinds. fill_plan kinds c.args.request.now) (λ rules. FillAnswers rules c.args.request.now) _ _ (Ok (filled_by c.args.request.now c.in_ok-filled.filled)) _ c.requires.kinds
+      c.in_ok-filled.ensures.goes c.replied.ensures.replies;
 }

@@ -1,17 +1,16 @@
 use Rattle.std.proofs.Common.{refl, Ok, Err}
 use Rattle.std.proofs.lemmas.Result.{err_from_is_err_and}
-use Rattle.wfc_task.specs.Made.{learned_by}
-use Rattle.wfc_words.specs.declared.kinds.CommandKind.TheVariants.{Learn}
+use Rattle.wfc_task.specs.LearnTask.{learn_plan, learned_by}
+use Rattle.wfc_cli.specs.LearnCommand.{LearnAnswers}
 use Rattle.wfc_cli.proofs.EndLemmas.{ends_by}
 use Rattle.wfc_cli.proofs.commands.learn.learn.Goals as goal
 
 pub returns-in_err-learned : goal.returns-in_err-learned
 returns-in_err-learned g c =
     let p = err_from_is_err_and c.from_residual.result c.from_residual.ensures.1 in
-    record { ends = λ rules. rw (p.1, p.2) (ends_by rules c.args.request.now Learn _ _ (Err c.in_err-learned.field-0.0) _ c.requires.learn c.in_err-learned.ensures.goes refl) }
+    record { ends = rw (p.1, p.2) (ends_by (learn_plan c.args.request.now) LearnAnswers _ _ (Err c.in_err-learned.field-0.0) _ c.in_err-learned.ensures.goes refl) }
 
 pub returns : goal.returns
 returns g c = record {
-  ends = λ rules. ends_by rules c.args.request.now Learn _ _ (Ok (learned_by c.in_ok-learned.learned)) _ c.requires.learn
-      c.in_ok-learned.ensures.goes (c.replied.ensures.replies rules c.args.request.now);
+  ends = ends_by (learn_plan c.args.request.now) LearnAnswers _ _ (Ok (learned_by c.in_ok-learned.learned)) _ c.in_ok-learned.ensures.goes c.replied.ensures.replies;
 }

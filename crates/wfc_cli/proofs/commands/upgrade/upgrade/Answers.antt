@@ -1,5 +1,6 @@
 use Rattle.std.proofs.lemmas.Result.{err_from_is_err_and}
-use Rattle.wfc_words.specs.declared.kinds.CommandKind.TheVariants as commands
+use Rattle.wfc_task.specs.UpgradeTask.{upgrade_plan}
+use Rattle.wfc_cli.specs.UpgradeCommand.{UpgradeAnswers}
 use Rattle.wfc_cli.proofs.EndLemmas.{put_none}
 use Rattle.wfc_cli.proofs.UpgradeLemmas.{upgrade_ended}
 use Rattle.wfc_cli.proofs.commands.upgrade.upgrade.Goals as goal
@@ -7,10 +8,10 @@ use Rattle.wfc_cli.proofs.commands.upgrade.upgrade.Goals as goal
 pub returns-in_err-upgrading : goal.returns-in_err-upgrading
 returns-in_err-upgrading g c =
     let p = err_from_is_err_and c.from_residual.result c.from_residual.ensures.1 in
-    record { ends = λ rules. rw (p.1, p.2) (put_none rules c.args.request.now commands.Upgrade _ _ _ c.in_err-upgrading.field-0.0 c.requires.upgrade c.in_err-upgrading.ensures.goes) }
+    record { ends = rw (p.1, p.2) (put_none (upgrade_plan c.args.request.now) (UpgradeAnswers c.args.request.now) _ _ _ c.in_err-upgrading.field-0.0 c.in_err-upgrading.ensures.goes) }
 
 pub returns : goal.returns
 returns g c = record {
-  ends = λ rules. upgrade_ended rules c.args.request.now _ _ _ _ c.in_ok-upgrading.upgrading.problem c.in_ok-upgrading.upgrading.refutation.items c.upgraded.result c.requires.upgrade
+  ends = upgrade_ended c.args.request.now _ _ _ _ c.in_ok-upgrading.upgrading.problem c.in_ok-upgrading.upgrading.refutation.items c.upgraded.result
       c.in_ok-upgrading.ensures.goes c.upgraded.ensures.upgrades;
 }

@@ -1,0 +1,45 @@
+-- The commands.
+use Rattle.std.specs.Prelude.{List, Result}
+use Rattle.wfc_outside.specs.Folder.{File}
+use Rattle.wfc_choose.specs.Pick.{Rule}
+use Rattle.wfc_words.specs.RequestView.{RequestView}
+use Rattle.wfc_words.specs.declared.kinds.CommandKind.{CommandKind}
+use Rattle.wfc_words.specs.declared.kinds.CommandKind.TheVariants as commands
+use Rattle.wfc_task.specs.Plan.{Plan, outcome}
+use Rattle.wfc_task.specs.declared.fault.Fault.{Fault}
+use Rattle.wfc_cli.specs.Choosers.{kinds_of}
+use Rattle.wfc_cli.specs.Command.{Command}
+use Rattle.wfc_cli.specs.Reply.{Answered}
+use Rattle.wfc_cli.specs.LearnCommand.{learn_command}
+use Rattle.wfc_cli.specs.FillCommand.{fill_command}
+use Rattle.wfc_cli.specs.DomainsCommand.{domains_command}
+use Rattle.wfc_cli.specs.DemoCommand.{demo_command}
+use Rattle.wfc_cli.specs.RefuteCommand.{refute_command}
+use Rattle.wfc_cli.specs.CheckCommand.{check_command}
+use Rattle.wfc_cli.specs.UpgradeCommand.{upgrade_command}
+
+-- the command of each kind
+abbrev pub command_of : CommandKind → Command
+command_of commands.Learn = learn_command
+command_of commands.Fill = fill_command
+command_of commands.Domains = domains_command
+command_of commands.Demo = demo_command
+command_of commands.Refute = refute_command
+command_of commands.Check = check_command
+command_of commands.Upgrade = upgrade_command
+
+-- the command of a request
+abbrev pub asked_command : RequestView → Command
+asked_command asked = command_of asked.command
+
+-- its plan, where these are the rules of the choosers
+abbrev pub plan_of : List Rule → (asked : RequestView) → Plan (asked_command asked).Task
+plan_of rules asked = (asked_command asked).plan (kinds_of rules) asked
+
+-- what it may answer to its task
+abbrev pub Answers : List Rule → (asked : RequestView) → (asked_command asked).Task → Answered → Type 0
+Answers rules asked = (asked_command asked).Answers rules asked
+
+-- its task over these files
+abbrev pub task_of : List Rule → (asked : RequestView) → List File → Result (asked_command asked).Task Fault
+task_of rules asked files = outcome (plan_of rules asked) files

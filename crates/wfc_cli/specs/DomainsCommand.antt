@@ -1,0 +1,21 @@
+-- The command `domains`.
+use Rattle.std.specs.Prelude.{◌≡◌}
+use Rattle.wfc_lines.specs.Outcome.{no_domains_text}
+use Rattle.wfc_task.specs.DomainsTask.{DomainsTask, domains, domains_plan}
+use Rattle.wfc_cli.specs.Answers.{domains_answer}
+use Rattle.wfc_cli.specs.Command.{Command}
+use Rattle.wfc_cli.specs.Reply.{Answered}
+
+-- the answer of `domains`
+abbrev pub DomainsAnswers : DomainsTask → Answered → Type 0
+DomainsAnswers (domains P steps) answered = domains_answer P steps ≡ answered
+
+-- it is no where no cell has its domains
+abbrev pub domains_command : Command
+domains_command = record {
+  Task = DomainsTask;
+  plan = λ kinds asked. domains_plan asked;
+  Answers = λ rules asked task answered. DomainsAnswers task answered;
+  IsNo = λ asked files text. text ≡ no_domains_text;
+  budget = λ asked. asked.budget;
+}

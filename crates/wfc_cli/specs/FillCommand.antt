@@ -1,0 +1,26 @@
+-- The command `fill`.
+use Rattle.std.specs.Prelude.{◌≡◌, List, Some}
+use Rattle.wfc_choose.specs.Pick.{Rule}
+use Rattle.wfc_lines.specs.Outcome.{no_map_text}
+use Rattle.wfc_words.specs.RequestView.{RequestView}
+use Rattle.wfc_task.specs.FillTask.{FillTask, fill, fill_tiles, fill_plan}
+use Rattle.wfc_cli.specs.Answers.{fill_by, picture_text, tiles_text}
+use Rattle.wfc_cli.specs.Command.{Command}
+use Rattle.wfc_cli.specs.Reply.{Answered}
+
+-- an answer of `fill`, by the rules of the choosers
+abbrev pub FillAnswers : List Rule → RequestView → FillTask → Answered → Type 0
+FillAnswers rules asked (fill patterns palette layout P) answered =
+    fill_by rules asked (picture_text asked patterns palette layout) P ≡ Some answered
+FillAnswers rules asked (fill_tiles set mask layout P) answered =
+    fill_by rules asked (tiles_text set mask layout) P ≡ Some answered
+
+-- the answer is no where there is no map
+abbrev pub fill_command : Command
+fill_command = record {
+  Task = FillTask;
+  plan = fill_plan;
+  Answers = FillAnswers;
+  IsNo = λ asked files text. text ≡ no_map_text;
+  budget = λ asked. asked.budget;
+}

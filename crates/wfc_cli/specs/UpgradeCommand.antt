@@ -1,0 +1,30 @@
+-- The command `upgrade`.
+use Rattle.std.specs.Prelude.{◌≡◌, ℕ, List, Some}
+use Rattle.wfc_outside.specs.Folder.{File}
+use Rattle.wfc_check.specs.declared.fault.CheckFault.{CheckFault}
+use Rattle.wfc_lines.specs.Check.{text_of_check}
+use Rattle.wfc_words.specs.RequestView.{RequestView}
+use Rattle.wfc_task.specs.Checking.{refutation_name}
+use Rattle.wfc_task.specs.UpgradeTask.{UpgradeTask, upgrade, upgrade_plan}
+use Rattle.wfc_cli.specs.Command.{Command}
+use Rattle.wfc_cli.specs.Reply.{Answered}
+use Rattle.wfc_cli.specs.Upgrading.{UpgradeWork, first_fault, upgrade_answer}
+
+-- the answer of `upgrade`
+abbrev pub UpgradeAnswers : RequestView → UpgradeTask → Answered → Type 0
+UpgradeAnswers asked (upgrade P bytes) answered = upgrade_answer asked P bytes (first_fault asked P bytes) ≡ answered
+
+-- why it is no: the first fault of the file as a refutation
+abbrev pub IsNotUpgraded : RequestView → List File → List ℕ → Type 0
+IsNotUpgraded asked files text =
+    (work : UpgradeWork asked files) × (fault : CheckFault) × (first_fault asked work.P work.bytes ≡ Some fault)
+    × (text ≡ text_of_check fault (refutation_name asked))
+
+abbrev pub upgrade_command : Command
+upgrade_command = record {
+  Task = UpgradeTask;
+  plan = λ kinds asked. upgrade_plan asked;
+  Answers = λ rules asked task answered. UpgradeAnswers asked task answered;
+  IsNo = IsNotUpgraded;
+  budget = λ asked. asked.budget;
+}
