@@ -16,10 +16,10 @@ use Rattle.wfc_cli.specs.Answer.{IsAnswer}
 use Rattle.wfc_cli.specs.Answers.{check_answer}
 use Rattle.wfc_cli.specs.CheckClaims.{Accepts, ChecksRefutation, IsRefuted, Refuses}
 use Rattle.wfc_cli.specs.Reply.{Answered, Takes, TakesWhole, verdict_status}
-use Rattle.wfc_cli.proofs.CommandLemmas.{CameTo, whole, cut, none, came_to}
+use Rattle.wfc_cli.proofs.CameLemmas.{CameTo, whole, cut, none}
 use Rattle.wfc_cli.proofs.MapLemmas.{TakesSides, IsBridged, command_bridged, command_shape, no_legal}
 use Rattle.wfc_cli.specs.Call.{Call}
-use Rattle.wfc_cli.specs.Theorem.{IsCommand}
+use Rattle.wfc_cli.specs.Asking.{IsCommand}
 use Rattle.wfc_cli.proofs.TheoremLemmas.{five_apart}
 use Rattle.wfc_cli.specs.CheckCommand.{CheckAnswers, check_command}
 
@@ -53,8 +53,8 @@ is_accepted call asked files is task =
     let sure = known call asked files is work in
     accepted_refutation work.P sure.bridge.problem (shape_of asked) work.bytes (accepted (checked work.P (shape_of asked) work.bytes) task.answer)
 
-pub checks_refutation : (call : Call) → IsAnswer call → (asked : RequestView) (files : List File) → IsCommand commands.Check call asked files → ChecksRefutation call asked files
-checks_refutation call answer asked files is low = by_end (came_to commands.Check call answer asked files is)
+pub checks_refutation : (call : Call) (asked : RequestView) (files : List File) → IsCommand commands.Check call asked files → CameTo check_command call asked files → ChecksRefutation call asked files
+checks_refutation call asked files is came low = by_end came
   where
     by_found : (found : Option CheckFault) → IsCheckTask asked files found → call.status ≡ verdict_status (check_answer found).verdict → Takes (check_answer found).text call.before.out call.after.out
         → (work : IsCheckWork asked files) × (((call.status ≡ 0) × Accepts asked work call) ⊎ ((call.status ≡ 1) × Refuses asked work call))

@@ -42,7 +42,7 @@ use Rattle.wfc_cli.specs.Choosers.{chosen, kinds_of}
 use Rattle.wfc_cli.specs.Maps.{IsLaidBy, map_by, map_of, map_text_by}
 use Rattle.wfc_cli.specs.Reply.{HasAnswer, Answered, CutsOff, Delivers, Reply, Takes, TakesWhole, done_with, said_of, verdict_status}
 use Rattle.wfc_cli.specs.Runs.{end_by, end_of, seeded}
-use Rattle.wfc_cli.specs.Theorem.{IsCommand}
+use Rattle.wfc_cli.specs.Asking.{IsCommand}
 use Rattle.wfc_cli.specs.declared.reply.Verdict.TheVariants as verdict
 use Rattle.wfc_cli.proofs.MapLemmas.{TakesSides, IsBridged, command_bridged, no_legal}
 use Rattle.wfc_cli.proofs.TheoremLemmas.{IsToldCall, ToldReply, answer_apart, fault_apart, five_apart, told, short, told_call, verdict_apart}
@@ -60,43 +60,7 @@ use Rattle.wfc_cli.specs.DomainsCommand.{DomainsAnswers, domains_command}
 use Rattle.wfc_cli.specs.DemoCommand.{DemoAnswers, demo_command}
 use Rattle.wfc_cli.specs.Command.{Command}
 use Rattle.wfc_cli.specs.Commands.{Answers, asked_command, command_of, task_of}
-
--- ---- what a call came to
-
--- an answer of a command that was given, with its task
-pub record HasAnswered (command : Command) (rules : List Rule) (asked : RequestView) (files : List File) (answered : Answered) : Type 0 where
-  pub task : command.Task
-  pub is : outcome (command.plan (kinds_of rules) asked) files ≡ Ok task
-  pub answers : command.Answers rules asked task answered
-
-pub answered_task : (call : Call) (asked : RequestView) (files : List File) (answered : Answered) → ToldReply call asked files (Ok answered) → HasAnswered (asked_command asked) call.rules asked files answered
-answered_task call asked files answered (inl replied) = by_task (task_of call.rules asked files) refl replied
-  where
-    by_task : (task : Result (asked_command asked).Task Fault) → task_of call.rules asked files ≡ task → Replied (Answers call.rules asked) task (Ok answered) → HasAnswered (asked_command asked) call.rules asked files answered
-    by_task (Ok task) is replied = record { task = task; is = is; answers = replied }
-    by_task (Err fault) is replied = absurd (cc (replied))
-answered_task call asked files answered (inr (inl want)) = absurd (cc (want.2))
-answered_task call asked files answered (inr (inr hindered)) = absurd (cc (hindered.is))
-
--- a call that came to an answer of a command, and what it did to the sink
-pub data CameTo (command : Command) (call : Call) (asked : RequestView) (files : List File) : Type 0 where
-  whole : (answered : Answered) → HasAnswered command call.rules asked files answered → call.status ≡ verdict_status answered.verdict → TakesWhole answered.whole answered.text call.before.out call.after.out → CameTo command call asked files
-  cut : (answered : Answered) → HasAnswered command call.rules asked files answered → call.status ≡ 5 → CutsOff answered.text call.before.out call.after.out → CameTo command call asked files
-  none : (HasAnswer call.status → ⊥) → call.after.out ≡ call.before.out → CameTo command call asked files
-
-pub came_to : (kind : CommandKind) (call : Call) → IsAnswer call → (asked : RequestView) (files : List File) → IsCommand kind call asked files → CameTo (command_of kind) call asked files
-came_to kind call answer asked files given =
-    subst (λ (k : CommandKind). CameTo (command_of k) call asked files) given.command_is (by_call (told_call call answer asked files given.given))
-  where
-    by_reply : (reply : Reply) → ToldReply call asked files reply → Delivers (said_of asked reply) call → CameTo (asked_command asked) call asked files
-    by_reply (Ok answered) replied (inl delivered) = whole answered (answered_task call asked files answered replied) delivered.same_status delivered.taken
-    by_reply (Ok answered) replied (inr cut_off) = cut answered (answered_task call asked files answered replied) cut_off.five cut_off.front
-    by_reply (Err fault) replied (inl delivered) = none (λ has. fault_apart fault (subst HasAnswer delivered.same_status has)) delivered.taken
-    by_reply (Err fault) replied (inr cut_off) = absurd cut_off.front
-
-    by_call : IsToldCall call asked files → CameTo (asked_command asked) call asked files
-    by_call (short six same) = none (λ has. answer_apart call.status has (omega (arith, six)) (omega (arith, six))) same
-    by_call (told reply replied delivers) = by_reply reply replied delivers
+use Rattle.wfc_cli.proofs.CameLemmas.{CameTo, HasAnswered, cut, none, whole}
 
 -- ---- `learn`
 
@@ -117,8 +81,8 @@ has_learned Tiles rules asked files task answered is comes answers =
     let said : done_with (learned_tiles_text given.0) ≡ answered = subst (λ task. LearnAnswers task answered) (sym given.1) answers in
     record { text = learned_tiles_text given.0; rules = (given.0, given.2, refl); is = cc (said) }
 
-pub writes_learned : (call : Call) → IsAnswer call → (asked : RequestView) (files : List File) → IsCommand commands.Learn call asked files → WritesLearned call asked files
-writes_learned call answer asked files is low = by_end (came_to commands.Learn call answer asked files is)
+pub writes_learned : (call : Call) (asked : RequestView) (files : List File) → IsCommand commands.Learn call asked files → CameTo learn_command call asked files → WritesLearned call asked files
+writes_learned call asked files is came low = by_end came
   where
     by_end : CameTo learn_command call asked files → (call.status ≡ 0) × (text : List ℕ) × IsRules asked files text × (call.after.out ≡ after_finish (after_bytes call.before.out text))
     by_end (whole answered has same takes) =
@@ -219,8 +183,8 @@ verdict_outcome budget outcome.Map = refl
 verdict_outcome budget outcome.NoMap = refl
 verdict_outcome budget outcome.Spent = refl
 
-pub is_as_run : (call : Call) → IsAnswer call → (asked : RequestView) (files : List File) → IsCommand commands.Fill call asked files → IsAsRun call asked files
-is_as_run call answer asked files is low = by_end (came_to commands.Fill call answer asked files is)
+pub is_as_run : (call : Call) (asked : RequestView) (files : List File) → IsCommand commands.Fill call asked files → CameTo fill_command call asked files → IsAsRun call asked files
+is_as_run call asked files is came low = by_end came
   where
     by_end : CameTo fill_command call asked files
         → (work : FillWork call.rules asked files) × (end : Outcome × State) × (end_of call.rules asked.rule work.P asked.budget asked.seed ≡ Some end)
@@ -256,9 +220,9 @@ found_once rules asked files work m other first second =
     let same : first.state ≡ second.state = ap (λ (end : Outcome × State). end.1) pairs in
     first.made ∙ ap (λ (s : State). found_map rules asked files work s) same ∙ sym second.made
 
-pub writes_legal : (call : Call) → IsAnswer call → (asked : RequestView) (files : List File) → IsCommand commands.Fill call asked files → WritesLegalMap call asked files
-writes_legal call answer asked files is nought =
-    let run = is_as_run call answer asked files is (inl (omega (arith, nought))) in by_outcome run.0 run.1.0 run.1.1 run.2 run.3 run.4
+pub writes_legal : (call : Call) (asked : RequestView) (files : List File) → IsCommand commands.Fill call asked files → CameTo fill_command call asked files → WritesLegalMap call asked files
+writes_legal call asked files is came nought =
+    let run = is_as_run call asked files is came (inl (omega (arith, nought))) in by_outcome run.0 run.1.0 run.1.1 run.2 run.3 run.4
   where
     by_outcome : (work : FillWork call.rules asked files) (o : Outcome) (s : State) → end_of call.rules asked.rule work.P asked.budget asked.seed ≡ Some (o, s) → call.status ≡ outcome_status o
         → Takes (fill_text (assignment_text asked work) work.P (o, s)) call.before.out call.after.out
@@ -267,9 +231,9 @@ writes_legal call answer asked files is nought =
     by_outcome work outcome.NoMap s ends same takes = absurd (omega (arith, same, nought))
     by_outcome work outcome.Spent s ends same takes = absurd (omega (arith, same, nought))
 
-pub has_no_map : (call : Call) → IsAnswer call → (asked : RequestView) (files : List File) → IsCommand commands.Fill call asked files → HasNoMap call asked files
-has_no_map call answer asked files is one =
-    let run = is_as_run call answer asked files is (inl (omega (arith, one))) in by_outcome run.0 run.1.0 run.1.1 run.2 run.3 run.4
+pub has_no_map : (call : Call) (asked : RequestView) (files : List File) → IsCommand commands.Fill call asked files → CameTo fill_command call asked files → HasNoMap call asked files
+has_no_map call asked files is came one =
+    let run = is_as_run call asked files is came (inl (omega (arith, one))) in by_outcome run.0 run.1.0 run.1.1 run.2 run.3 run.4
   where
     by_outcome : (work : FillWork call.rules asked files) (o : Outcome) (s : State) → end_of call.rules asked.rule work.P asked.budget asked.seed ≡ Some (o, s) → call.status ≡ outcome_status o
         → Takes (fill_text (assignment_text asked work) work.P (o, s)) call.before.out call.after.out
@@ -281,9 +245,9 @@ has_no_map call answer asked files is one =
     by_outcome work outcome.Map s ends same takes = absurd (omega (arith, same, one))
     by_outcome work outcome.Spent s ends same takes = absurd (omega (arith, same, one))
 
-pub is_never_spent : (call : Call) → IsAnswer call → (asked : RequestView) (files : List File) → IsCommand commands.Fill call asked files → IsNeverSpent call asked files
-is_never_spent call answer asked files is two =
-    let run = is_as_run call answer asked files is (inl (omega (arith, two))) in by_outcome run.0 run.1.0 run.1.1 run.2 run.3
+pub is_never_spent : (call : Call) (asked : RequestView) (files : List File) → IsCommand commands.Fill call asked files → CameTo fill_command call asked files → IsNeverSpent call asked files
+is_never_spent call asked files is came two =
+    let run = is_as_run call asked files is came (inl (omega (arith, two))) in by_outcome run.0 run.1.0 run.1.1 run.2 run.3
   where
     by_outcome : (work : FillWork call.rules asked files) (o : Outcome) (s : State) → end_of call.rules asked.rule work.P asked.budget asked.seed ≡ Some (o, s) → call.status ≡ outcome_status o
         → (work : FillWork call.rules asked files) × (asked.budget + 1 ≤ volume_of work.P)
@@ -295,8 +259,8 @@ is_never_spent call answer asked files is two =
     by_outcome work outcome.Map s ends same = absurd (omega (arith, same, two))
     by_outcome work outcome.NoMap s ends same = absurd (omega (arith, same, two))
 
-pub writes_front : (call : Call) → IsAnswer call → (asked : RequestView) (files : List File) → IsCommand commands.Fill call asked files → WritesFront call asked files
-writes_front call answer asked files is five = by_end (came_to commands.Fill call answer asked files is)
+pub writes_front : (call : Call) (asked : RequestView) (files : List File) → IsCommand commands.Fill call asked files → CameTo fill_command call asked files → WritesFront call asked files
+writes_front call asked files is came five = by_end came
   where
     by_outcome : (work : FillWork call.rules asked files) (o : Outcome) (s : State) → end_of call.rules asked.rule work.P asked.budget asked.seed ≡ Some (o, s)
         → CutsOff (fill_text (assignment_text asked work) work.P (o, s)) call.before.out call.after.out
@@ -323,8 +287,8 @@ root_verdict_status P status is = by_dead (is_dead P (greatest P [])) refl is
     by_dead true dead is = inr (is, dead)
     by_dead false alive is = inl (is, alive)
 
-pub writes_domains : (call : Call) → IsAnswer call → (asked : RequestView) (files : List File) → IsCommand commands.Domains call asked files → WritesDomains call asked files
-writes_domains call answer asked files is low = by_end (came_to commands.Domains call answer asked files is)
+pub writes_domains : (call : Call) (asked : RequestView) (files : List File) → IsCommand commands.Domains call asked files → CameTo domains_command call asked files → WritesDomains call asked files
+writes_domains call asked files is came low = by_end came
   where
     by_end : CameTo domains_command call asked files
         → (P : Network) × (steps : List StepLine) × IsDomainsTask asked files P steps × (call.after.out ≡ after_finish (after_bytes call.before.out (steps_text P steps)))
@@ -353,8 +317,8 @@ demo_given kinds asked files task is = by_chosen (choosing kinds Fewest) is
     by_chosen (Ok given) is = cc (is)
     by_chosen (Err refusal) is = absurd (cc (is))
 
-pub writes_demo : (call : Call) → IsAnswer call → (asked : RequestView) (files : List File) → IsCommand commands.Demo call asked files → WritesDemo call asked files
-writes_demo call answer asked files is low = by_end (came_to commands.Demo call answer asked files is)
+pub writes_demo : (call : Call) (asked : RequestView) (files : List File) → IsCommand commands.Demo call asked files → CameTo demo_command call asked files → WritesDemo call asked files
+writes_demo call asked files is came low = by_end came
   where
     patterns : PatternsView
     patterns = demo_patterns asked.number

@@ -27,7 +27,9 @@ use Rattle.wfc_cli.specs.DemoClaims.{EndsDemo, IsLegalDemo, demo_rules}
 use Rattle.wfc_outside.specs.Folder.{File}
 use Rattle.wfc_words.specs.RequestView.{RequestView}
 use Rattle.wfc_words.specs.declared.kinds.CommandKind.TheVariants as commands
-use Rattle.wfc_cli.specs.Theorem.{IsCommand}
+use Rattle.wfc_cli.specs.Asking.{IsCommand}
+use Rattle.wfc_cli.specs.DemoCommand.{demo_command}
+use Rattle.wfc_cli.proofs.CameLemmas.{CameTo}
 
 -- the map of a demonstration
 abbrev square : Output
@@ -61,10 +63,10 @@ room n =
 is_problem : (n : ℕ) → IsProblem (demo_problem n)
 is_problem n = subst IsProblem (sym (demo_problem_is n)) (sample_problem (demo_patterns n) square [] (demo_are_patterns n) (room n))
 
-pub ends_demo : (call : Call) → IsAnswer call → (asked : RequestView) (files : List File) → IsCommand commands.Demo call asked files → EndsDemo call asked files
-ends_demo call answer asked files is = (
-  (λ one. let run = writes_demo call answer asked files is (inl (omega (arith, one))) in no_map run.0.0 run.0.1 run.1 run.2 one),
-  (λ two. let run = writes_demo call answer asked files is (inl (omega (arith, two))) in spent run.0.0 run.0.1 run.1 run.2 two),
+pub ends_demo : (call : Call) (asked : RequestView) (files : List File) → IsCommand commands.Demo call asked files → CameTo demo_command call asked files → EndsDemo call asked files
+ends_demo call asked files is came = (
+  (λ one. let run = writes_demo call asked files is came (inl (omega (arith, one))) in no_map run.0.0 run.0.1 run.1 run.2 one),
+  (λ two. let run = writes_demo call asked files is came (inl (omega (arith, two))) in spent run.0.0 run.0.1 run.1 run.2 two),
 )
   where
     Ended : Outcome → State → Type 0

@@ -7,6 +7,8 @@ pub mod EndLemmas
 pub mod MapLemmas
 pub mod ReachLemmas
 pub mod TheoremLemmas
+pub mod CameLemmas
+pub mod AnswerLemmas
 pub mod CommandLemmas
 pub mod DemoLemmas
 pub mod CheckLemmas

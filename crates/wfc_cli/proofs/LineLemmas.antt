@@ -67,11 +67,13 @@ use Rattle.wfc_cli.specs.LineClaims.{IsApartFromErr, TellsReason, TellsStatus, T
 use Rattle.wfc_cli.specs.Refuting.{RefutesFront, RefutesWhole, refute_verdict}
 use Rattle.wfc_cli.specs.Reply.{Answered, Delivers, IsTold, Reply, TakesWhole, Tells, said_of, verdict_status, verdict_text}
 use Rattle.wfc_cli.specs.Runs.{end_of}
-use Rattle.wfc_cli.specs.Theorem.{IsCommand, IsGiven}
+use Rattle.wfc_cli.specs.Asking.{IsCommand, IsGiven}
 use Rattle.wfc_cli.specs.Upgrading.{first_fault, upgrade_answer, UpgradeWork}
 use Rattle.wfc_cli.specs.declared.reply.Verdict.{Verdict}
 use Rattle.wfc_cli.specs.declared.reply.Verdict.TheVariants as verdict
-use Rattle.wfc_cli.proofs.CommandLemmas.{HasAnswered, answered_task, demo_given, fill_answered, has_learned}
+use Rattle.wfc_cli.proofs.AnswerLemmas.{answered_task}
+use Rattle.wfc_cli.proofs.CameLemmas.{HasAnswered}
+use Rattle.wfc_cli.proofs.CommandLemmas.{demo_given, fill_answered, has_learned}
 use Rattle.wfc_cli.proofs.ReachLemmas.{goes_stopped}
 use Rattle.wfc_cli.proofs.RefuteLemmas.{has_refuted}
 use Rattle.wfc_cli.proofs.TheoremLemmas.{FaultOf, command_between, cut_counted, fault_between, fault_from, file_fault, of_plan, of_task, refused_status, told_reply}
@@ -86,6 +88,7 @@ use Rattle.wfc_cli.specs.CheckCommand.{CheckAnswers, check_command}
 use Rattle.wfc_cli.specs.UpgradeCommand.{upgrade_command}
 use Rattle.wfc_cli.specs.Command.{Command}
 use Rattle.wfc_cli.specs.Commands.{Answers, asked_command, command_of, plan_of}
+use Rattle.wfc_cli.specs.LearnCommand.{learn_command}
 
 -- ---- want of memory has one line
 
@@ -216,17 +219,17 @@ front_taken true text old new is takes = absurd (cc (is))
 front_taken false text old new is takes = takes
 
 -- what a call of this command may end with
-abbrev EndsSo : CommandKind → Type 0
-EndsSo command =
-    (call : Call) (asked : RequestView) (files : List File) (answered : Answered) → IsCommand command call asked files → HasAnswered (command_of command) call.rules asked files answered
-    → TakesWhole answered.whole answered.text call.before.out call.after.out → IsEnding (command_of command) asked files answered.verdict
+abbrev EndsSo : CommandKind → Command → Type 0
+EndsSo kind command =
+    (call : Call) (asked : RequestView) (files : List File) (answered : Answered) → IsCommand kind call asked files → HasAnswered command call.rules asked files answered
+    → TakesWhole answered.whole answered.text call.before.out call.after.out → IsEnding command asked files answered.verdict
 
-learn_ends : EndsSo commands.Learn
+learn_ends : EndsSo commands.Learn learn_command
 learn_ends call asked files answered is has takes =
     let learned = has_learned asked.source call.rules asked files has.task answered refl has.is has.answers in
     done (sym (ap (λ (a : Answered). a.verdict) learned.is))
 
-fill_ends : EndsSo commands.Fill
+fill_ends : EndsSo commands.Fill fill_command
 fill_ends call asked files answered is has takes =
     let filled = fill_answered call asked files answered is has in
     subst (λ (a : Answered). IsEnding fill_command asked files a.verdict) (sym filled.is) (by_outcome filled.end.0)
@@ -236,7 +239,7 @@ fill_ends call asked files answered is has takes =
     by_outcome outcome.NoMap = negative no_map_text refl refl refl
     by_outcome outcome.Spent = spent refl
 
-domains_ends : EndsSo commands.Domains
+domains_ends : EndsSo commands.Domains domains_command
 domains_ends call asked files answered is has takes =
     let given = domains_given asked files has.task has.is in
     let answers : domains_answer given.0 given.1 ≡ answered = subst (λ task. DomainsAnswers task answered) (sym given.2) has.answers in
@@ -247,7 +250,7 @@ domains_ends call asked files answered is has takes =
     by_dead true = negative no_domains_text refl refl refl
     by_dead false = done refl
 
-demo_ends : EndsSo commands.Demo
+demo_ends : EndsSo commands.Demo demo_command
 demo_ends call asked files answered is has takes =
     let given = demo_given (kinds_of call.rules) asked files has.task has.is in
     by_end (end_of call.rules Fewest (demo_problem asked.number) demo_budget asked.number) (subst (λ task. DemoAnswers call.rules asked task answered) (sym given) has.answers)
@@ -264,7 +267,7 @@ demo_ends call asked files answered is has takes =
         let is_answer : made ≡ answered = cc (answers) in
         subst (λ (a : Answered). IsEnding demo_command asked files a.verdict) is_answer (by_outcome end.0)
 
-refute_ends : EndsSo commands.Refute
+refute_ends : EndsSo commands.Refute refute_command
 refute_ends call asked files answered is has takes =
     let given = refute_given (kinds_of call.rules) asked files has.task has.is in
     let refuted = has_refuted call asked files has.task answered is given.0 given.1 given.2 has.answers in
@@ -279,7 +282,7 @@ refute_ends call asked files answered is has takes =
     by_answer rule P (inl refuted) = subst (λ (a : Answered). IsEnding refute_command asked files a.verdict) (sym refuted.is) (by_outcome refuted.outcome)
     by_answer rule P (inr front) = absurd (front_taken answered.whole answered.text call.before.out call.after.out front.front takes)
 
-check_ends : EndsSo commands.Check
+check_ends : EndsSo commands.Check check_command
 check_ends call asked files answered is has takes =
     let given = check_given asked files has.task has.is in
     let answers : check_answer given.0 ≡ answered = subst (λ task. CheckAnswers task answered) (sym given.1) has.answers in
@@ -290,7 +293,7 @@ check_ends call asked files answered is has takes =
     by_found None task = done refl
     by_found (Some fault) task = negative (text_of_check fault (refutation_name asked)) refl refl (fault, task, refl)
 
-upgrade_ends : EndsSo commands.Upgrade
+upgrade_ends : EndsSo commands.Upgrade upgrade_command
 upgrade_ends call asked files answered is has takes =
     let given = upgrade_given asked files has.task has.is in
     let said = has_upgraded call.rules asked files has.task answered given.0 given.1 given.2 given.3 has.answers in
@@ -300,7 +303,7 @@ upgrade_ends call asked files answered is has takes =
     by_found work None found = done refl
     by_found work (Some fault) found = negative (text_of_check fault (refutation_name asked)) refl refl (work, fault, found, refl)
 
-ends_so : (command : CommandKind) → EndsSo command
+ends_so : (kind : CommandKind) → EndsSo kind (command_of kind)
 ends_so commands.Learn = learn_ends
 ends_so commands.Fill = fill_ends
 ends_so commands.Domains = domains_ends

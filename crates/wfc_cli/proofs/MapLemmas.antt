@@ -42,7 +42,7 @@ use Rattle.wfc_task.proofs.CallerLemmas.{held_mask, learned_is, pins_placed, sam
 use Rattle.wfc_cli.specs.Maps.{IsLegal, IsLegalBy, map_by, output_of, rules_of}
 use Rattle.wfc_cli.proofs.EndLemmas.{output_asked, source_asked}
 use Rattle.wfc_cli.specs.Call.{Call}
-use Rattle.wfc_cli.specs.Theorem.{IsCommand}
+use Rattle.wfc_cli.specs.Asking.{IsCommand}
 
 -- ---- the pins of a sample's map
 

@@ -14,46 +14,55 @@ use Rattle.wfc_cli.proofs.CutLemmas.{check_cut, demo_cut, domains_cut, learn_cut
 use Rattle.wfc_cli.proofs.DemoLemmas.{ends_demo}
 use Rattle.wfc_cli.proofs.RefuteLemmas.{writes_refutation, writes_run_front}
 use Rattle.wfc_cli.proofs.UpgradeLemmas.{upgrades_front, upgrades_refutation}
+use Rattle.wfc_words.specs.declared.kinds.CommandKind.TheVariants as commands
+use Rattle.wfc_cli.proofs.AnswerLemmas.{came_to}
 
 -- `fill`
 pub fill_promises : (call : Call) → IsAnswer call → FillPromises call
-fill_promises call answer asked files is = record {
-  legal = writes_legal call answer asked files is;
-  front = writes_front call answer asked files is;
-  no_map = has_no_map call answer asked files is;
-  as_run = is_as_run call answer asked files is;
-  never_spent = is_never_spent call answer asked files is;
-}
+fill_promises call answer asked files is =
+    let came = came_to commands.Fill call answer asked files is in record {
+      legal = writes_legal call asked files is came;
+      front = writes_front call asked files is came;
+      no_map = has_no_map call asked files is came;
+      as_run = is_as_run call asked files is came;
+      never_spent = is_never_spent call asked files is came;
+    }
 
 -- `learn`
 pub learn_promises : (call : Call) → IsAnswer call → LearnPromises call
 learn_promises call answer asked files is =
-    record { written = writes_learned call answer asked files is; cut = learn_cut call answer asked files is }
+    let came = came_to commands.Learn call answer asked files is in
+    record { written = writes_learned call asked files is came; cut = learn_cut call asked files is came }
 
 -- `domains`
 pub domains_promises : (call : Call) → IsAnswer call → DomainsPromises call
 domains_promises call answer asked files is =
-    record { written = writes_domains call answer asked files is; cut = domains_cut call answer asked files is }
+    let came = came_to commands.Domains call answer asked files is in
+    record { written = writes_domains call asked files is came; cut = domains_cut call asked files is came }
 
 -- `demo`
 pub demo_promises : (call : Call) → IsAnswer call → DemoPromises call
-demo_promises call answer asked files is = record {
-  written = writes_demo call answer asked files is;
-  ends = ends_demo call answer asked files is;
-  cut = demo_cut call answer asked files is;
-}
+demo_promises call answer asked files is =
+    let came = came_to commands.Demo call answer asked files is in record {
+      written = writes_demo call asked files is came;
+      ends = ends_demo call asked files is came;
+      cut = demo_cut call asked files is came;
+    }
 
 -- `refute`
 pub refute_promises : (call : Call) → IsAnswer call → RefutePromises call
 refute_promises call answer asked files is =
-    record { written = writes_refutation call answer asked files is; front = writes_run_front call answer asked files is }
+    let came = came_to commands.Refute call answer asked files is in
+    record { written = writes_refutation call asked files is came; front = writes_run_front call asked files is came }
 
 -- `check`
 pub check_promises : (call : Call) → IsAnswer call → CheckPromises call
 check_promises call answer asked files is =
-    record { checked = checks_refutation call answer asked files is; cut = check_cut call answer asked files is }
+    let came = came_to commands.Check call answer asked files is in
+    record { checked = checks_refutation call asked files is came; cut = check_cut call asked files is came }
 
 -- `upgrade`
 pub upgrade_promises : (call : Call) → IsAnswer call → UpgradePromises call
 upgrade_promises call answer asked files is =
-    record { written = upgrades_refutation call answer asked files is; front = upgrades_front call answer asked files is }
+    let came = came_to commands.Upgrade call answer asked files is in
+    record { written = upgrades_refutation call asked files is came; front = upgrades_front call asked files is came }

@@ -54,13 +54,13 @@ use Rattle.wfc_cli.specs.declared.reply.Stop.{Stop}
 use Rattle.wfc_cli.specs.declared.reply.Stop.TheVariants.{Cut, Unanswered}
 use Rattle.wfc_cli.specs.declared.reply.Verdict.{Verdict}
 use Rattle.wfc_cli.specs.declared.reply.Verdict.TheVariants as verdict
-use Rattle.wfc_cli.proofs.CommandLemmas.{CameTo, whole, cut, none, came_to}
+use Rattle.wfc_cli.proofs.CameLemmas.{CameTo, whole, cut, none}
 use Rattle.wfc_cli.proofs.MapLemmas.{IsBridged, command_bridged, no_legal}
 use Rattle.wfc_cli.proofs.RunTextLemmas.{join_more, none_growing, none_joined, run_single, run_text}
 use Rattle.wfc_cli.proofs.EndLemmas.{put_cut, put_none, put_short, put_whole}
 use Rattle.wfc_cli.proofs.TheoremLemmas.{five_apart, verdict_apart}
 use Rattle.wfc_cli.specs.Call.{Call}
-use Rattle.wfc_cli.specs.Theorem.{IsCommand}
+use Rattle.wfc_cli.specs.Asking.{IsCommand}
 
 -- ---- behind the line of an end no span is kept
 
@@ -372,8 +372,8 @@ known : (call : Call) (asked : RequestView) (files : List File) → IsCommand co
     → IsBridged asked.source asked files work.P work.task.posed
 known call asked files is work = command_bridged commands.Refute call asked files work.P work.task.posed (record { model = refl; width = refl; height = refl }) is
 
-pub writes_refutation : (call : Call) → IsAnswer call → (asked : RequestView) (files : List File) → IsCommand commands.Refute call asked files → WritesRefutation call asked files
-writes_refutation call answer asked files is low = by_end (came_to commands.Refute call answer asked files is)
+pub writes_refutation : (call : Call) (asked : RequestView) (files : List File) → IsCommand commands.Refute call asked files → CameTo refute_command call asked files → WritesRefutation call asked files
+writes_refutation call asked files is came low = by_end came
   where
     by_whole : (answered : Answered) (work : RefuteWork call.rules asked files) → call.status ≡ verdict_status answered.verdict → TakesWhole answered.whole answered.text call.before.out call.after.out → RefutesWhole work.rule asked work.P answered
         → (work : RefuteWork call.rules asked files) × WritesRun asked work call
@@ -416,8 +416,8 @@ writes_refutation call answer asked files is low = by_end (came_to commands.Refu
     by_end (cut answered has five front) = absurd (five_apart call.status five low)
     by_end (none high same) = absurd (high low)
 
-pub writes_run_front : (call : Call) → IsAnswer call → (asked : RequestView) (files : List File) → IsCommand commands.Refute call asked files → WritesRunFront call asked files
-writes_run_front call answer asked files is five = by_end (came_to commands.Refute call answer asked files is)
+pub writes_run_front : (call : Call) (asked : RequestView) (files : List File) → IsCommand commands.Refute call asked files → CameTo refute_command call asked files → WritesRunFront call asked files
+writes_run_front call asked files is came five = by_end came
   where
     by_answer : (answered : Answered) (work : RefuteWork call.rules asked files) → CutsOff answered.text call.before.out call.after.out → RefutesWhole work.rule asked work.P answered ⊎ RefutesFront work.rule asked work.P answered
         → IsRunFront asked work call

@@ -23,7 +23,8 @@ use Rattle.wfc_cli.specs.declared.reply.Verdict.{Verdict}
 use Rattle.wfc_cli.specs.declared.reply.Verdict.TheVariants.{Done, NoMap, Spent, Dead, MapExists, Unaccepted}
 use Rattle.wfc_cli.specs.Answer.{AnswersAsked, Ends, IsAnswer, IsAnswerTo, IsRefusedCall, Replied, Replies}
 use Rattle.wfc_cli.proofs.ReachLemmas.{IsStopped, first_missing, goes_reading, goes_stopped}
-use Rattle.wfc_cli.specs.Theorem.{CountsFaults, HasDeviceFault, HasFirstFault, HasRefusedWords, IsAnswered, IsComplete, IsFileFault, IsGiven, IsNoCommand, IsQuiet, IsRefusedFirst, IsRefusedWith, KeepsOut, NoneCounted, RefusesWords}
+use Rattle.wfc_cli.specs.Asking.{IsGiven}
+use Rattle.wfc_cli.specs.Theorem.{CountsFaults, HasDeviceFault, HasFirstFault, HasRefusedWords, IsAnswered, IsComplete, IsFileFault, IsNoCommand, IsQuiet, IsRefusedFirst, IsRefusedWith, KeepsOut, NoneCounted, RefusesWords}
 use Rattle.wfc_cli.specs.Call.{Call}
 use Rattle.wfc_cli.specs.Commands.{Answers, asked_command, plan_of, task_of}
 

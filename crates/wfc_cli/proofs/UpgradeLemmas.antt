@@ -37,12 +37,12 @@ use Rattle.wfc_cli.specs.declared.reply.Stop.{Stop}
 use Rattle.wfc_cli.specs.declared.reply.Stop.TheVariants.{Cut, Unanswered}
 use Rattle.wfc_cli.specs.declared.reply.Verdict.{Verdict}
 use Rattle.wfc_cli.specs.declared.reply.Verdict.TheVariants as verdict
-use Rattle.wfc_cli.proofs.CommandLemmas.{CameTo, whole, cut, none, came_to}
+use Rattle.wfc_cli.proofs.CameLemmas.{CameTo, whole, cut, none}
 use Rattle.wfc_cli.proofs.EndLemmas.{put_cut, put_short, put_whole}
 use Rattle.wfc_cli.proofs.MapLemmas.{TakesSides, IsBridged, command_bridged, command_shape, no_legal}
 use Rattle.wfc_cli.proofs.TheoremLemmas.{five_apart, verdict_apart}
 use Rattle.wfc_cli.specs.Call.{Call}
-use Rattle.wfc_cli.specs.Theorem.{IsCommand}
+use Rattle.wfc_cli.specs.Asking.{IsCommand}
 
 -- ---- the fault of a text
 
@@ -130,8 +130,8 @@ has_upgraded rules asked files task answered P bytes same given answers =
     let said : upgrade_answer asked P bytes (first_fault asked P bytes) ≡ answered = subst (λ (t : UpgradeTask). UpgradeAnswers asked t answered) (sym same) answers in
     record { work = record { P = P; bytes = bytes; task = given }; is = cc (said) }
 
-pub upgrades_refutation : (call : Call) → IsAnswer call → (asked : RequestView) (files : List File) → IsCommand commands.Upgrade call asked files → UpgradesRefutation call asked files
-upgrades_refutation call answer asked files is low = by_end (came_to commands.Upgrade call answer asked files is)
+pub upgrades_refutation : (call : Call) (asked : RequestView) (files : List File) → IsCommand commands.Upgrade call asked files → CameTo upgrade_command call asked files → UpgradesRefutation call asked files
+upgrades_refutation call asked files is came low = by_end came
   where
     by_found : (work : UpgradeWork asked files) (found : Option CheckFault) → first_fault asked work.P work.bytes ≡ found → call.status ≡ verdict_status (upgrade_answer asked work.P work.bytes found).verdict
         → Takes (upgrade_answer asked work.P work.bytes found).text call.before.out call.after.out → (work : UpgradeWork asked files) × (((call.status ≡ 0) × WritesUpgraded asked work call) ⊎ ((call.status ≡ 1) × KeepsOld asked work call))
@@ -178,8 +178,8 @@ upgrades_refutation call answer asked files is low = by_end (came_to commands.Up
     by_end (cut answered has five front) = absurd (five_apart call.status five low)
     by_end (none high same) = absurd (high low)
 
-pub upgrades_front : (call : Call) → IsAnswer call → (asked : RequestView) (files : List File) → IsCommand commands.Upgrade call asked files → UpgradesFront call asked files
-upgrades_front call answer asked files is five = by_end (came_to commands.Upgrade call answer asked files is)
+pub upgrades_front : (call : Call) (asked : RequestView) (files : List File) → IsCommand commands.Upgrade call asked files → CameTo upgrade_command call asked files → UpgradesFront call asked files
+upgrades_front call asked files is came five = by_end came
   where
     by_found : (work : UpgradeWork asked files) (found : Option CheckFault) → first_fault asked work.P work.bytes ≡ found → CutsOff (upgrade_answer asked work.P work.bytes found).text call.before.out call.after.out
         → WritesUpgradedFront asked work call

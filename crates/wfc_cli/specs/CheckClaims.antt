@@ -13,7 +13,7 @@ use Rattle.wfc_cli.specs.Answers.{accepted_text}
 use Rattle.wfc_cli.specs.Maps.{IsLegal}
 use Rattle.wfc_cli.specs.CutClaims.{CutsText}
 use Rattle.wfc_cli.specs.Reply.{HasAnswer}
-use Rattle.wfc_cli.specs.Theorem.{Promises}
+use Rattle.wfc_cli.specs.Asking.{Promises}
 
 -- the file's bytes are a refutation of the problem and of the shape asked for
 abbrev pub IsRefuted : {files : List File} (asked : RequestView) → IsCheckWork asked files → Type 0

@@ -17,7 +17,7 @@ use Rattle.wfc_model.specs.Legal.{IsLegalPicture, Rules}
 use Rattle.wfc_task.specs.Demo.{demo_output, demo_patterns, demo_picture, demo_problem, demo_side}
 use Rattle.wfc_cli.specs.CutClaims.{CutsText}
 use Rattle.wfc_cli.specs.Reply.{HasAnswer}
-use Rattle.wfc_cli.specs.Theorem.{Promises}
+use Rattle.wfc_cli.specs.Asking.{Promises}
 
 -- statuses 0, 1 and 2 of `demo`: its four numbers were written, and the status is that of its run
 abbrev pub WritesDemo : Call → RequestView → List File → Type 0

@@ -13,7 +13,7 @@ use Rattle.wfc_cli.specs.Call.{Call}
 use Rattle.wfc_cli.specs.Answers.{steps_text}
 use Rattle.wfc_cli.specs.CutClaims.{CutsText}
 use Rattle.wfc_cli.specs.Reply.{HasAnswer}
-use Rattle.wfc_cli.specs.Theorem.{Promises}
+use Rattle.wfc_cli.specs.Asking.{Promises}
 
 -- the text is the blocks before the first step and after each
 abbrev pub IsBlocks : RequestView → List File → List ℕ → Type 0

@@ -20,7 +20,7 @@ use Rattle.wfc_cli.specs.Choosers.{kinds_of}
 use Rattle.wfc_cli.specs.Maps.{IsLaid, IsLegal, map_of, text_of_map}
 use Rattle.wfc_cli.specs.Reply.{HasAnswer, Takes}
 use Rattle.wfc_cli.specs.Runs.{end_of}
-use Rattle.wfc_cli.specs.Theorem.{Promises}
+use Rattle.wfc_cli.specs.Asking.{Promises}
 
 -- what `fill` works on over these files: a chooser goes by the rule, and the problem and the layout
 -- are those of the request

@@ -16,7 +16,7 @@ use Rattle.wfc_tileset.specs.Tiles.{TileSetView}
 use Rattle.wfc_cli.specs.Call.{Call}
 use Rattle.wfc_cli.specs.CutClaims.{CutsText}
 use Rattle.wfc_cli.specs.Reply.{HasAnswer}
-use Rattle.wfc_cli.specs.Theorem.{Promises}
+use Rattle.wfc_cli.specs.Asking.{Promises}
 
 -- the text of the rules of a request: what the sample teaches, or what the tile set allows
 abbrev pub IsRulesBy : SourceModel → RequestView → List File → List ℕ → Type 0

@@ -1,4 +1,5 @@
 pub mod Call
+pub mod Asking
 pub mod ErrorLine
 pub mod Choosers
 pub mod Maps

@@ -16,7 +16,8 @@ use Rattle.wfc_cli.specs.Call.{Call, beside}
 use Rattle.wfc_cli.specs.Commands.{asked_command, task_of}
 use Rattle.wfc_cli.specs.ErrorLine.{command_status, fault_text}
 use Rattle.wfc_cli.specs.Reply.{IsTold, Tells}
-use Rattle.wfc_cli.specs.Theorem.{IsFileFault, IsGiven}
+use Rattle.wfc_cli.specs.Asking.{IsGiven}
+use Rattle.wfc_cli.specs.Theorem.{IsFileFault}
 
 -- why a call ends with its status, and the text of the line that says so: the answer is no, the
 -- budget is spent, the request has a first fault, a file can't be read, the sink of the answer

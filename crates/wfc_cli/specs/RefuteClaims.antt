@@ -25,7 +25,7 @@ use Rattle.wfc_cli.specs.Maps.{IsLegal}
 use Rattle.wfc_cli.specs.Refuting.{IsBegunBy, IsToldBy, refutation_text}
 use Rattle.wfc_cli.specs.Runs.{seeded}
 use Rattle.wfc_cli.specs.Reply.{HasAnswer}
-use Rattle.wfc_cli.specs.Theorem.{Promises}
+use Rattle.wfc_cli.specs.Asking.{Promises}
 
 -- what `refute` works on over these files
 pub record RefuteWork (rules : List Rule) (asked : RequestView) (files : List File) : Type 0 where

@@ -6,31 +6,16 @@ use Rattle.wfc_outside.specs.declared.whole.ReadFault.{ReadFault}
 use Rattle.wfc_outside.specs.declared.whole.ReadFault.TheVariants as reading
 use Rattle.wfc_words.specs.Request.{request_of}
 use Rattle.wfc_words.specs.RequestView.{RequestView}
-use Rattle.wfc_words.specs.declared.kinds.CommandKind.{CommandKind}
 use Rattle.wfc_task.specs.Fault.{status_of}
 use Rattle.wfc_task.specs.declared.fault.Fault.{Fault}
 use Rattle.wfc_task.specs.declared.fault.Fault.TheVariants.{Unread}
 use Rattle.wfc_task.specs.declared.fault.Source.{Source}
 use Rattle.wfc_cli.specs.Answer.{Replies}
+use Rattle.wfc_cli.specs.Asking.{IsGiven}
 use Rattle.wfc_cli.specs.Call.{Call}
 use Rattle.wfc_cli.specs.Commands.{Answers, asked_command, plan_of, task_of}
 use Rattle.wfc_cli.specs.Reaching.{IsDeviceCause, Reaches}
 use Rattle.wfc_cli.specs.Reply.{Answered, IsDelivered, said_of}
-
--- the words ask for this, and the folder tells these files
-pub record IsGiven (call : Call) (asked : RequestView) (files : List File) : Type 0 where
-  pub spelled : request_of call.words ≡ Ok asked
-  pub told : call.before.folder.contents ≡ Some files
-
--- the words ask for this command, and the folder tells these files
-pub record IsCommand (command : CommandKind) (call : Call) (asked : RequestView) (files : List File) : Type 0 where
-  pub given : IsGiven call asked files
-  pub command_is : asked.command ≡ command
-
--- what a call promises of each request for a command, over the files that its folder tells
-abbrev pub Promises : CommandKind → (Call → RequestView → List File → Type 0) → Call → Type 0
-Promises command Promise call =
-    (asked : RequestView) (files : List File) → IsCommand command call asked files → Promise call asked files
 
 -- the words are no request
 abbrev pub IsNoCommand : Call → Type 0

@@ -15,7 +15,7 @@ use Rattle.wfc_cli.specs.Call.{Call}
 use Rattle.wfc_cli.specs.Maps.{IsLegal}
 use Rattle.wfc_cli.specs.Upgrading.{UpgradeWork, same_proof_text}
 use Rattle.wfc_cli.specs.Reply.{HasAnswer}
-use Rattle.wfc_cli.specs.Theorem.{Promises}
+use Rattle.wfc_cli.specs.Asking.{Promises}
 
 -- the file's bytes are a refutation of the problem and of the shape asked for
 abbrev pub IsUpgradable : {files : List File} (asked : RequestView) → UpgradeWork asked files → Type 0
