@@ -10,7 +10,8 @@ use Rattle.wfc_cli.specs.Call.{Call}
 use Rattle.wfc_cli.specs.Commands.{Answers, asked_command, command_of, task_of}
 use Rattle.wfc_cli.specs.Reply.{Answered, Delivers, HasAnswer, Reply, said_of}
 use Rattle.wfc_cli.proofs.CameLemmas.{CameTo, HasAnswered, cut, none, whole}
-use Rattle.wfc_cli.proofs.TheoremLemmas.{IsToldCall, ToldReply, answer_apart, fault_apart, short, told, told_call}
+use Rattle.wfc_cli.proofs.TheoremLemmas.{IsToldCall, ToldReply, short, told, told_call}
+use Rattle.wfc_cli.proofs.VerdictLemmas.{answer_apart, fault_apart}
 
 -- the answer of a call whose files are told
 pub answered_task : (call : Call) (asked : RequestView) (files : List File) (answered : Answered) → ToldReply call asked files (Ok answered) → HasAnswered (asked_command asked) call.rules asked files answered

@@ -4,24 +4,27 @@ use Rattle.wfc_outside.specs.Folder.{File}
 use Rattle.wfc_proof.specs.Heads.{IsShape}
 use Rattle.wfc_check.specs.Text.{checked}
 use Rattle.wfc_check.specs.declared.fault.CheckFault.{CheckFault}
-use Rattle.wfc_check.specs.declared.fault.CheckFault.TheVariants as faults
 use Rattle.wfc_check.proofs.ExactLemmas.{accepted_refutation, refutation_accepted, refutation_none}
 use Rattle.wfc_words.specs.RequestView.{RequestView}
-use Rattle.wfc_words.specs.declared.kinds.CommandKind.TheVariants as commands
 use Rattle.wfc_task.specs.CheckGiven.{IsCheckTask, IsCheckWork}
-use Rattle.wfc_task.specs.Checking.{shape_of, verdict_in}
+use Rattle.wfc_task.specs.Checking.{shape_of, verdict_in, refutation_name}
 use Rattle.wfc_task.specs.declared.fault.Refusal.{Refusal}
 use Rattle.wfc_task.proofs.CallerLemmas.{check_given}
-use Rattle.wfc_cli.specs.Answer.{IsAnswer}
 use Rattle.wfc_cli.specs.Answers.{check_answer}
-use Rattle.wfc_cli.specs.CheckClaims.{Accepts, ChecksRefutation, IsRefuted, Refuses}
+use Rattle.wfc_cli.specs.CheckClaims.{Accepts, ChecksRefutation, IsRefuted, Refuses, IsAcceptance}
 use Rattle.wfc_cli.specs.Reply.{Answered, Takes, TakesWhole, verdict_status}
 use Rattle.wfc_cli.proofs.CameLemmas.{CameTo, whole, cut, none}
 use Rattle.wfc_cli.proofs.MapLemmas.{TakesSides, IsBridged, command_bridged, command_shape, no_legal}
 use Rattle.wfc_cli.specs.Call.{Call}
 use Rattle.wfc_cli.specs.Asking.{IsCommand}
-use Rattle.wfc_cli.proofs.TheoremLemmas.{five_apart}
 use Rattle.wfc_cli.specs.CheckCommand.{CheckAnswers, check_command}
+use Rattle.wfc_cli.specs.CutClaims.{CutsText}
+use Rattle.wfc_lines.specs.Check.{text_of_check}
+use Rattle.wfc_cli.proofs.VerdictLemmas.{five_apart}
+use Rattle.wfc_cli.proofs.EndingLemmas.{EndsSo, IsEnding, as_asked, as_no}
+use Rattle.wfc_cli.proofs.CutLemmas.{AnswersOnly, cuts_text, text_of}
+use Rattle.wfc_check.specs.declared.fault.CheckFault.TheVariants as faults
+use Rattle.wfc_words.specs.declared.kinds.CommandKind.TheVariants as commands
 
 -- what is known of the problem of a `check`
 record IsKnown (asked : RequestView) (files : List File) (work : IsCheckWork asked files) : Type 0 where
@@ -91,3 +94,28 @@ checks_refutation call asked files is came low = by_end came
         by_found given.0 given.2 (same ∙ sym (ap (λ (a : Answered). verdict_status a.verdict) is_answer)) (taken given.0 (subst (λ (a : Answered). TakesWhole a.whole a.text call.before.out call.after.out) (sym is_answer) takes))
     by_end (cut answered has five front) = absurd (five_apart call.status five low)
     by_end (none high same) = absurd (high low)
+
+accepts_refutations : (call : Call) → AnswersOnly commands.Check check_command IsAcceptance call
+accepts_refutations call asked files is answered has text same =
+    let given = check_given asked files has.task has.is in
+    let answers : check_answer given.0 ≡ answered = subst (λ task. CheckAnswers task answered) (sym given.1) has.answers in
+    by_found given.0 given.2 (cc (answers))
+  where
+    by_found : (found : Option CheckFault) → IsCheckTask asked files found → check_answer found ≡ answered → IsAcceptance asked files text
+    by_found None task is_answer = (task.work, is_accepted call asked files is task, text_of answered _ text _ is_answer refl same)
+    by_found (Some fault) task is_answer =
+        let both : None ≡ Some text = ap (λ (a : Answered). a.text) is_answer ∙ same in absurd (cc (both))
+
+pub check_cut : (call : Call) (asked : RequestView) (files : List File) → IsCommand commands.Check call asked files → CameTo check_command call asked files → CutsText IsAcceptance call asked files
+check_cut call = cuts_text commands.Check check_command IsAcceptance call (accepts_refutations call)
+
+pub check_ends : EndsSo commands.Check check_command
+check_ends call asked files answered is has takes =
+    let given = check_given asked files has.task has.is in
+    let answers : check_answer given.0 ≡ answered = subst (λ task. CheckAnswers task answered) (sym given.1) has.answers in
+    let is_answer : check_answer given.0 ≡ answered = cc (answers) in
+    subst (λ (a : Answered). IsEnding check_command asked files a.verdict) is_answer (by_found given.0 given.2)
+  where
+    by_found : (found : Option CheckFault) → IsCheckTask asked files found → IsEnding check_command asked files (check_answer found).verdict
+    by_found None task = as_asked refl
+    by_found (Some fault) task = as_no (text_of_check fault (refutation_name asked)) refl refl (fault, task, refl)

@@ -13,23 +13,23 @@ use Rattle.wfc_choose.specs.declared.RuleKind.TheVariants.{Fewest}
 use Rattle.wfc_search.specs.Run.{State}
 use Rattle.wfc_search.specs.Volume.{volume_of}
 use Rattle.wfc_search.specs.declared.Outcome.{Outcome}
-use Rattle.wfc_search.specs.declared.Outcome.TheVariants as outcome
 use Rattle.wfc_search.proofs.CallerLemmas.{outcome_none, outcome_spent}
 use Rattle.wfc_task.specs.Demo.{demo_output, demo_patterns, demo_picture, demo_problem, demo_side}
 use Rattle.wfc_task.proofs.CallerLemmas.{demo_are_patterns, demo_problem_is}
 use Rattle.wfc_task.proofs.DemoLemmas.{demo_few}
-use Rattle.wfc_cli.specs.Answer.{IsAnswer}
 use Rattle.wfc_cli.specs.Answers.{demo_budget, outcome_status}
 use Rattle.wfc_cli.specs.Runs.{end_of, seeded}
-use Rattle.wfc_cli.proofs.CommandLemmas.{ran_by, writes_demo}
 use Rattle.wfc_cli.specs.Call.{Call}
 use Rattle.wfc_cli.specs.DemoClaims.{EndsDemo, IsLegalDemo, demo_rules}
 use Rattle.wfc_outside.specs.Folder.{File}
 use Rattle.wfc_words.specs.RequestView.{RequestView}
-use Rattle.wfc_words.specs.declared.kinds.CommandKind.TheVariants as commands
 use Rattle.wfc_cli.specs.Asking.{IsCommand}
 use Rattle.wfc_cli.specs.DemoCommand.{demo_command}
 use Rattle.wfc_cli.proofs.CameLemmas.{CameTo}
+use Rattle.wfc_cli.proofs.OutcomeLemmas.{ran_by}
+use Rattle.wfc_cli.proofs.DemoPromiseLemmas.{writes_demo}
+use Rattle.wfc_search.specs.declared.Outcome.TheVariants as outcome
+use Rattle.wfc_words.specs.declared.kinds.CommandKind.TheVariants as commands
 
 -- the map of a demonstration
 abbrev square : Output

@@ -7,9 +7,15 @@ pub mod EndLemmas
 pub mod MapLemmas
 pub mod ReachLemmas
 pub mod TheoremLemmas
+pub mod VerdictLemmas
+pub mod EndingLemmas
+pub mod OutcomeLemmas
 pub mod CameLemmas
 pub mod AnswerLemmas
-pub mod CommandLemmas
+pub mod LearnPromiseLemmas
+pub mod FillPromiseLemmas
+pub mod DomainsPromiseLemmas
+pub mod DemoPromiseLemmas
 pub mod DemoLemmas
 pub mod CheckLemmas
 pub mod RefuteLemmas

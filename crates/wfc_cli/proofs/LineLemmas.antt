@@ -1,35 +1,16 @@
 -- What the error stream is told with each status.
-use Rattle.std.proofs.Common.{◌≡◌, ◌≢◌, ℕ, ◌⊎◌, inl, inr, true, false, Bool, List, [], Option, None, Some, Result, Ok, Err, ap, sym, ◌∙◌, subst, refl, arith, if◌then◌else◌}
+use Rattle.std.proofs.Common.{◌≡◌, ◌≢◌, ℕ, inl, inr, List, Option, Some, Result, Ok, Err, ap, sym, ◌∙◌, subst, refl, arith}
 use Rattle.wfc_outside.specs.Folder.{File}
 use Rattle.wfc_outside.specs.Sink.{SinkView}
-use Rattle.wfc_outside.specs.declared.whole.ReadFault.TheVariants as reads
 use Rattle.wfc_grid.specs.declared.reading.GridFault.{GridFault}
-use Rattle.wfc_grid.specs.declared.reading.GridFault.TheVariants as grids
 use Rattle.wfc_ppm.specs.declared.reading.PpmFault.{PpmFault}
-use Rattle.wfc_ppm.specs.declared.reading.PpmFault.TheVariants as ppms
 use Rattle.wfc_picture.specs.declared.palette.PaletteFault.{PaletteFault}
-use Rattle.wfc_picture.specs.declared.palette.PaletteFault.TheVariants as palettes
 use Rattle.wfc_pattern.specs.declared.learning.LearnFault.{LearnFault}
-use Rattle.wfc_pattern.specs.declared.learning.LearnFault.TheVariants as learning
 use Rattle.wfc_pins.specs.declared.pins.PinFault.{PinFault}
-use Rattle.wfc_pins.specs.declared.pins.PinFault.TheVariants as pins
 use Rattle.wfc_pins.specs.declared.fault.BuildFault.{BuildFault}
-use Rattle.wfc_pins.specs.declared.fault.BuildFault.TheVariants as builds
 use Rattle.wfc_pins.specs.declared.steps.StepFault.{StepFault}
-use Rattle.wfc_pins.specs.declared.steps.StepFault.TheVariants as steps
 use Rattle.wfc_tiled.specs.declared.reading.MaskFault.{MaskFault}
-use Rattle.wfc_tiled.specs.declared.reading.MaskFault.TheVariants as masks
 use Rattle.wfc_tileset.specs.declared.fault.TileFault.{TileFault}
-use Rattle.wfc_tileset.specs.declared.fault.TileFault.TheVariants as tiles
-use Rattle.wfc_check.specs.declared.fault.CheckFault.{CheckFault}
-use Rattle.wfc_problem.specs.Network.{Network}
-use Rattle.wfc_problem.specs.Rounds.{greatest}
-use Rattle.wfc_problem.specs.Sizes.{is_dead}
-use Rattle.wfc_choose.specs.Pick.{Rule}
-use Rattle.wfc_choose.specs.declared.RuleKind.TheVariants.{Fewest}
-use Rattle.wfc_search.specs.Run.{State}
-use Rattle.wfc_search.specs.declared.Outcome.{Outcome}
-use Rattle.wfc_search.specs.declared.Outcome.TheVariants as outcome
 use Rattle.wfc_lines.specs.Build.{text_of_build}
 use Rattle.wfc_lines.specs.Check.{text_of_check}
 use Rattle.wfc_lines.specs.Command.{text_of_command}
@@ -45,50 +26,47 @@ use Rattle.wfc_lines.specs.Tiles.{text_of_tiles}
 use Rattle.wfc_words.specs.Request.{request_of}
 use Rattle.wfc_words.specs.RequestView.{RequestView}
 use Rattle.wfc_words.specs.declared.fault.CommandFault.{CommandFault}
-use Rattle.wfc_words.specs.declared.fault.CommandFault.TheVariants as words_fault
 use Rattle.wfc_words.specs.declared.kinds.CommandKind.{CommandKind}
-use Rattle.wfc_words.specs.declared.kinds.CommandKind.TheVariants as commands
-use Rattle.wfc_task.specs.CheckGiven.{IsCheckTask}
-use Rattle.wfc_task.specs.Checking.{refutation_name}
-use Rattle.wfc_task.specs.Demo.{demo_patterns, demo_problem}
 use Rattle.wfc_task.specs.Fault.{build_class, class_status, colours_class, grid_class, learn_class, mask_class, pins_class, ppm_class, status_of, steps_class, tiles_class}
 use Rattle.wfc_task.specs.Plan.{Goes}
 use Rattle.wfc_task.specs.declared.fault.Fault.{Fault}
 use Rattle.wfc_task.specs.declared.fault.Fault.TheVariants.{Unread, Refused}
-use Rattle.wfc_task.specs.declared.fault.Refusal.TheVariants as refused
 use Rattle.wfc_task.specs.declared.fault.Source.{Source}
-use Rattle.wfc_task.specs.declared.fault.Source.TheVariants as source
-use Rattle.wfc_task.proofs.CallerLemmas.{check_given, domains_given, refute_given, upgrade_given}
 use Rattle.wfc_cli.specs.Answer.{AnswersAsked, Ends, IsAnswer, IsAnswerTo, IsRefusedCall}
-use Rattle.wfc_cli.specs.Answers.{check_answer, demo_answer, demo_budget, domains_answer, verdict_of}
-use Rattle.wfc_cli.specs.Choosers.{kinds_of}
 use Rattle.wfc_cli.specs.ErrorLine.{fault_text, grid_text, name_of, unread_text}
 use Rattle.wfc_cli.specs.LineClaims.{IsApartFromErr, TellsReason, TellsStatus, TellsWords, says_fault, says_file, says_no, says_out, says_short, says_spent}
-use Rattle.wfc_cli.specs.Refuting.{RefutesFront, RefutesWhole, refute_verdict}
-use Rattle.wfc_cli.specs.Reply.{Answered, Delivers, IsTold, Reply, TakesWhole, Tells, said_of, verdict_status, verdict_text}
-use Rattle.wfc_cli.specs.Runs.{end_of}
-use Rattle.wfc_cli.specs.Asking.{IsCommand, IsGiven}
-use Rattle.wfc_cli.specs.Upgrading.{first_fault, upgrade_answer, UpgradeWork}
+use Rattle.wfc_cli.specs.Reply.{Delivers, IsTold, Reply, Tells, said_of, verdict_status, verdict_text}
+use Rattle.wfc_cli.specs.Asking.{IsGiven}
 use Rattle.wfc_cli.specs.declared.reply.Verdict.{Verdict}
-use Rattle.wfc_cli.specs.declared.reply.Verdict.TheVariants as verdict
 use Rattle.wfc_cli.proofs.AnswerLemmas.{answered_task}
-use Rattle.wfc_cli.proofs.CameLemmas.{HasAnswered}
-use Rattle.wfc_cli.proofs.CommandLemmas.{demo_given, fill_answered, has_learned}
 use Rattle.wfc_cli.proofs.ReachLemmas.{goes_stopped}
-use Rattle.wfc_cli.proofs.RefuteLemmas.{has_refuted}
-use Rattle.wfc_cli.proofs.TheoremLemmas.{FaultOf, command_between, cut_counted, fault_between, fault_from, file_fault, of_plan, of_task, refused_status, told_reply}
-use Rattle.wfc_cli.proofs.UpgradeLemmas.{has_upgraded}
+use Rattle.wfc_cli.proofs.TheoremLemmas.{FaultOf, command_between, cut_counted, fault_from, file_fault, of_plan, of_task, refused_status, told_reply}
 use Rattle.wfc_cli.specs.Call.{Call, beside}
-use Rattle.wfc_cli.specs.DemoClaims.{demonstration}
-use Rattle.wfc_cli.specs.FillCommand.{fill_command}
-use Rattle.wfc_cli.specs.DomainsCommand.{DomainsAnswers, domains_command}
-use Rattle.wfc_cli.specs.DemoCommand.{DemoAnswers, demo_command}
-use Rattle.wfc_cli.specs.RefuteCommand.{refute_command}
-use Rattle.wfc_cli.specs.CheckCommand.{CheckAnswers, check_command}
-use Rattle.wfc_cli.specs.UpgradeCommand.{upgrade_command}
-use Rattle.wfc_cli.specs.Command.{Command}
 use Rattle.wfc_cli.specs.Commands.{Answers, asked_command, command_of, plan_of}
-use Rattle.wfc_cli.specs.LearnCommand.{learn_command}
+use Rattle.wfc_cli.proofs.VerdictLemmas.{fault_between}
+use Rattle.wfc_cli.proofs.EndingLemmas.{EndsSo, IsEnding, as_asked, as_no, as_spent}
+use Rattle.wfc_cli.proofs.LearnPromiseLemmas.{learn_ends}
+use Rattle.wfc_cli.proofs.FillPromiseLemmas.{fill_ends}
+use Rattle.wfc_cli.proofs.DomainsPromiseLemmas.{domains_ends}
+use Rattle.wfc_cli.proofs.DemoPromiseLemmas.{demo_ends}
+use Rattle.wfc_cli.proofs.RefuteLemmas.{refute_ends}
+use Rattle.wfc_cli.proofs.CheckLemmas.{check_ends}
+use Rattle.wfc_cli.proofs.UpgradeLemmas.{upgrade_ends}
+use Rattle.wfc_outside.specs.declared.whole.ReadFault.TheVariants as reads
+use Rattle.wfc_grid.specs.declared.reading.GridFault.TheVariants as grids
+use Rattle.wfc_ppm.specs.declared.reading.PpmFault.TheVariants as ppms
+use Rattle.wfc_picture.specs.declared.palette.PaletteFault.TheVariants as palettes
+use Rattle.wfc_pattern.specs.declared.learning.LearnFault.TheVariants as learning
+use Rattle.wfc_pins.specs.declared.pins.PinFault.TheVariants as pins
+use Rattle.wfc_pins.specs.declared.fault.BuildFault.TheVariants as builds
+use Rattle.wfc_pins.specs.declared.steps.StepFault.TheVariants as steps
+use Rattle.wfc_tiled.specs.declared.reading.MaskFault.TheVariants as masks
+use Rattle.wfc_tileset.specs.declared.fault.TileFault.TheVariants as tiles
+use Rattle.wfc_words.specs.declared.fault.CommandFault.TheVariants as words_fault
+use Rattle.wfc_words.specs.declared.kinds.CommandKind.TheVariants as commands
+use Rattle.wfc_task.specs.declared.fault.Refusal.TheVariants as refused
+use Rattle.wfc_task.specs.declared.fault.Source.TheVariants as source
+use Rattle.wfc_cli.specs.declared.reply.Verdict.TheVariants as verdict
 
 -- ---- want of memory has one line
 
@@ -207,102 +185,6 @@ memory_text asked (Refused (refused.Mask fault)) six = mask_memory fault (name_o
 
 -- ---- how each command ends
 
--- a verdict of this command: it is done, its answer is no, or its budget is spent
-data IsEnding (command : Command) (asked : RequestView) (files : List File) (said : Verdict) : Type 0 where
-  done : said ≡ verdict.Done → IsEnding command asked files said
-  negative : (text : List ℕ) → verdict_text asked said ≡ Some text → verdict_status said ≡ 1 → command.IsNo asked files text → IsEnding command asked files said
-  spent : said ≡ verdict.Spent (command.budget asked) → IsEnding command asked files said
-
--- what is taken whole is whole
-front_taken : (whole : Bool) (text : Option (List ℕ)) (old new : SinkView) → whole ≡ false → TakesWhole whole text old new → ⊥
-front_taken true text old new is takes = absurd (cc (is))
-front_taken false text old new is takes = takes
-
--- what a call of this command may end with
-abbrev EndsSo : CommandKind → Command → Type 0
-EndsSo kind command =
-    (call : Call) (asked : RequestView) (files : List File) (answered : Answered) → IsCommand kind call asked files → HasAnswered command call.rules asked files answered
-    → TakesWhole answered.whole answered.text call.before.out call.after.out → IsEnding command asked files answered.verdict
-
-learn_ends : EndsSo commands.Learn learn_command
-learn_ends call asked files answered is has takes =
-    let learned = has_learned asked.source call.rules asked files has.task answered refl has.is has.answers in
-    done (sym (ap (λ (a : Answered). a.verdict) learned.is))
-
-fill_ends : EndsSo commands.Fill fill_command
-fill_ends call asked files answered is has takes =
-    let filled = fill_answered call asked files answered is has in
-    subst (λ (a : Answered). IsEnding fill_command asked files a.verdict) (sym filled.is) (by_outcome filled.end.0)
-  where
-    by_outcome : (o : Outcome) → IsEnding fill_command asked files (verdict_of asked.budget o)
-    by_outcome outcome.Map = done refl
-    by_outcome outcome.NoMap = negative no_map_text refl refl refl
-    by_outcome outcome.Spent = spent refl
-
-domains_ends : EndsSo commands.Domains domains_command
-domains_ends call asked files answered is has takes =
-    let given = domains_given asked files has.task has.is in
-    let answers : domains_answer given.0 given.1 ≡ answered = subst (λ task. DomainsAnswers task answered) (sym given.2) has.answers in
-    let is_answer : domains_answer given.0 given.1 ≡ answered = cc (answers) in
-    subst (λ (a : Answered). IsEnding domains_command asked files a.verdict) is_answer (by_dead (is_dead given.0 (greatest given.0 [])))
-  where
-    by_dead : (dead : Bool) → IsEnding domains_command asked files (if dead then verdict.Dead else verdict.Done)
-    by_dead true = negative no_domains_text refl refl refl
-    by_dead false = done refl
-
-demo_ends : EndsSo commands.Demo demo_command
-demo_ends call asked files answered is has takes =
-    let given = demo_given (kinds_of call.rules) asked files has.task has.is in
-    by_end (end_of call.rules Fewest (demo_problem asked.number) demo_budget asked.number) (subst (λ task. DemoAnswers call.rules asked task answered) (sym given) has.answers)
-  where
-    by_outcome : (o : Outcome) → IsEnding demo_command asked files (verdict_of demo_budget o)
-    by_outcome outcome.Map = done refl
-    by_outcome outcome.NoMap = negative no_map_text refl refl refl
-    by_outcome outcome.Spent = spent refl
-
-    by_end : (end : Option (Outcome × State)) → demo_answer (demo_patterns asked.number) (demo_problem asked.number) end ≡ Some answered → IsEnding demo_command asked files answered.verdict
-    by_end None answers = absurd (cc (answers))
-    by_end (Some end) answers =
-        let made : Answered = record { verdict = verdict_of demo_budget end.0; text = Some (demonstration asked.number end); whole = true } in
-        let is_answer : made ≡ answered = cc (answers) in
-        subst (λ (a : Answered). IsEnding demo_command asked files a.verdict) is_answer (by_outcome end.0)
-
-refute_ends : EndsSo commands.Refute refute_command
-refute_ends call asked files answered is has takes =
-    let given = refute_given (kinds_of call.rules) asked files has.task has.is in
-    let refuted = has_refuted call asked files has.task answered is given.0 given.1 given.2 has.answers in
-    by_answer refuted.work.rule refuted.work.P refuted.is
-  where
-    by_outcome : (o : Outcome) → IsEnding refute_command asked files (refute_verdict asked.budget o)
-    by_outcome outcome.Map = negative map_exists_text refl refl refl
-    by_outcome outcome.NoMap = done refl
-    by_outcome outcome.Spent = spent refl
-
-    by_answer : (rule : Rule) (P : Network) → RefutesWhole rule asked P answered ⊎ RefutesFront rule asked P answered → IsEnding refute_command asked files answered.verdict
-    by_answer rule P (inl refuted) = subst (λ (a : Answered). IsEnding refute_command asked files a.verdict) (sym refuted.is) (by_outcome refuted.outcome)
-    by_answer rule P (inr front) = absurd (front_taken answered.whole answered.text call.before.out call.after.out front.front takes)
-
-check_ends : EndsSo commands.Check check_command
-check_ends call asked files answered is has takes =
-    let given = check_given asked files has.task has.is in
-    let answers : check_answer given.0 ≡ answered = subst (λ task. CheckAnswers task answered) (sym given.1) has.answers in
-    let is_answer : check_answer given.0 ≡ answered = cc (answers) in
-    subst (λ (a : Answered). IsEnding check_command asked files a.verdict) is_answer (by_found given.0 given.2)
-  where
-    by_found : (found : Option CheckFault) → IsCheckTask asked files found → IsEnding check_command asked files (check_answer found).verdict
-    by_found None task = done refl
-    by_found (Some fault) task = negative (text_of_check fault (refutation_name asked)) refl refl (fault, task, refl)
-
-upgrade_ends : EndsSo commands.Upgrade upgrade_command
-upgrade_ends call asked files answered is has takes =
-    let given = upgrade_given asked files has.task has.is in
-    let said = has_upgraded call.rules asked files has.task answered given.0 given.1 given.2 given.3 has.answers in
-    subst (λ (a : Answered). IsEnding upgrade_command asked files a.verdict) said.is (by_found said.work (first_fault asked said.work.P said.work.bytes) refl)
-  where
-    by_found : (work : UpgradeWork asked files) (found : Option CheckFault) → first_fault asked work.P work.bytes ≡ found → IsEnding upgrade_command asked files (upgrade_answer asked work.P work.bytes found).verdict
-    by_found work None found = done refl
-    by_found work (Some fault) found = negative (text_of_check fault (refutation_name asked)) refl refl (work, fault, found, refl)
-
 ends_so : (kind : CommandKind) → EndsSo kind (command_of kind)
 ends_so commands.Learn = learn_ends
 ends_so commands.Fill = fill_ends
@@ -390,10 +272,10 @@ tells_status call answer = record {
     -- a verdict
     by_ending : (asked : RequestView) (files : List File) (said : Verdict) → call.status ≢ 0 → call.status ≡ verdict_status said → Tells (verdict_text asked said) call.before.err call.after.err → IsEnding (asked_command asked) asked files said
         → TellsReason call asked files
-    by_ending asked files said some same told (done is) = absurd (some (same ∙ ap verdict_status is))
-    by_ending asked files said some same told (negative text is one denied) =
+    by_ending asked files said some same told (as_asked is) = absurd (some (same ∙ ap verdict_status is))
+    by_ending asked files said some same told (as_no text is one denied) =
         (text, says_no (same ∙ one) denied, subst (λ (t : Option (List ℕ)). Tells t call.before.err call.after.err) is told)
-    by_ending asked files said some same told (spent is) =
+    by_ending asked files said some same told (as_spent is) =
         (text_of_budget ((asked_command asked).budget asked), says_spent (same ∙ ap verdict_status is) refl, subst (λ v. Tells (verdict_text asked v) call.before.err call.after.err) is told)
 
     -- want of memory

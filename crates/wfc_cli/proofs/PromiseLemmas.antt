@@ -8,10 +8,12 @@ use Rattle.wfc_cli.specs.FillClaims.{FillPromises}
 use Rattle.wfc_cli.specs.LearnClaims.{LearnPromises}
 use Rattle.wfc_cli.specs.RefuteClaims.{RefutePromises}
 use Rattle.wfc_cli.specs.UpgradeClaims.{UpgradePromises}
-use Rattle.wfc_cli.proofs.CheckLemmas.{checks_refutation}
-use Rattle.wfc_cli.proofs.CommandLemmas.{has_no_map, is_as_run, is_never_spent, writes_demo, writes_domains, writes_front, writes_learned, writes_legal}
-use Rattle.wfc_cli.proofs.CutLemmas.{check_cut, demo_cut, domains_cut, learn_cut}
+use Rattle.wfc_cli.proofs.CheckLemmas.{check_cut, checks_refutation}
 use Rattle.wfc_cli.proofs.DemoLemmas.{ends_demo}
+use Rattle.wfc_cli.proofs.DemoPromiseLemmas.{demo_cut, writes_demo}
+use Rattle.wfc_cli.proofs.DomainsPromiseLemmas.{domains_cut, writes_domains}
+use Rattle.wfc_cli.proofs.FillPromiseLemmas.{has_no_map, is_as_run, is_never_spent, writes_front, writes_legal}
+use Rattle.wfc_cli.proofs.LearnPromiseLemmas.{learn_cut, writes_learned}
 use Rattle.wfc_cli.proofs.RefuteLemmas.{writes_refutation, writes_run_front}
 use Rattle.wfc_cli.proofs.UpgradeLemmas.{upgrades_front, upgrades_refutation}
 use Rattle.wfc_words.specs.declared.kinds.CommandKind.TheVariants as commands

@@ -1,5 +1,5 @@
 -- What a run that is told in lines leaves in a sink, what `refute` answers by it, and what that says in the subject's words.
-use Rattle.std.proofs.Common.{◌≡◌, ℕ, ◌+◌, ◌≤◌, ◌⊎◌, inl, inr, true, false, Bool, List, [], ◌∷◌, ◌++◌, length, take, Option, None, Some, Result, Ok, Err, ap, sym, ◌∙◌, subst, refl, arith, append_assoc}
+use Rattle.std.proofs.Common.{◌≡◌, ℕ, ◌+◌, ◌≤◌, ◌⊎◌, inl, inr, true, false, Bool, List, [], ◌∷◌, ◌++◌, length, take, Option, None, Some, Result, Ok, Err, ap, sym, ◌∙◌, subst, refl, arith, append_assoc, ◌≢◌}
 use Rattle.std.specs.Borrow.{GName}
 use Rattle.std.specs.Prelude.{IfOk, OnErr}
 use Rattle.std.proofs.lemmas.Bool.{false≢true}
@@ -27,21 +27,16 @@ use Rattle.wfc_search.specs.Run.{IsRunFrom, State, last_of, start, turn_of}
 use Rattle.wfc_search.specs.Search.{IsReady, SearchView, state_at}
 use Rattle.wfc_search.specs.Telling.{IsRunCutOff, IsRunTold, IsStoreAt, RunFails, TellsRun, end_line, opening_lines, turn_lines}
 use Rattle.wfc_search.specs.declared.Outcome.{Outcome}
-use Rattle.wfc_search.specs.declared.Outcome.TheVariants as outcome
 use Rattle.wfc_search.specs.Volume.{volume_of}
 use Rattle.wfc_search.proofs.CallerLemmas.{between_start, from_computed, outcome_spent}
 use Rattle.wfc_search.proofs.Counts.{run_counts}
 use Rattle.wfc_search.proofs.Proved.{run_proved}
 use Rattle.wfc_words.specs.RequestView.{RequestView}
-use Rattle.wfc_words.specs.declared.kinds.CommandKind.TheVariants as commands
 use Rattle.wfc_task.specs.Checking.{shape_of}
-use Rattle.wfc_task.specs.Fault.{status_of}
 use Rattle.wfc_task.specs.Plan.{Goes}
 use Rattle.wfc_task.specs.RefuteGiven.{IsRefuteTask}
-use Rattle.wfc_task.specs.RefuteTask as tasks
 use Rattle.wfc_task.proofs.CallerLemmas.{refute_given}
 use Rattle.wfc_task.specs.declared.fault.Fault.{Fault}
-use Rattle.wfc_cli.specs.Answer.{IsAnswer}
 use Rattle.wfc_task.specs.RefuteTask.{refute_plan, RefuteTask}
 use Rattle.wfc_cli.specs.RefuteCommand.{RefuteAnswers, refute_command}
 use Rattle.wfc_cli.specs.Choosers.{chosen, kinds_of}
@@ -53,14 +48,19 @@ use Rattle.wfc_cli.specs.Runs.{seeded}
 use Rattle.wfc_cli.specs.declared.reply.Stop.{Stop}
 use Rattle.wfc_cli.specs.declared.reply.Stop.TheVariants.{Cut, Unanswered}
 use Rattle.wfc_cli.specs.declared.reply.Verdict.{Verdict}
-use Rattle.wfc_cli.specs.declared.reply.Verdict.TheVariants as verdict
 use Rattle.wfc_cli.proofs.CameLemmas.{CameTo, whole, cut, none}
 use Rattle.wfc_cli.proofs.MapLemmas.{IsBridged, command_bridged, no_legal}
 use Rattle.wfc_cli.proofs.RunTextLemmas.{join_more, none_growing, none_joined, run_single, run_text}
 use Rattle.wfc_cli.proofs.EndLemmas.{put_cut, put_none, put_short, put_whole}
-use Rattle.wfc_cli.proofs.TheoremLemmas.{five_apart, verdict_apart}
 use Rattle.wfc_cli.specs.Call.{Call}
 use Rattle.wfc_cli.specs.Asking.{IsCommand}
+use Rattle.wfc_lines.specs.Outcome.{map_exists_text}
+use Rattle.wfc_cli.proofs.VerdictLemmas.{verdict_apart, five_apart}
+use Rattle.wfc_cli.proofs.EndingLemmas.{EndsSo, IsEnding, as_asked, as_no, as_spent, front_taken}
+use Rattle.wfc_search.specs.declared.Outcome.TheVariants as outcome
+use Rattle.wfc_words.specs.declared.kinds.CommandKind.TheVariants as commands
+use Rattle.wfc_task.specs.RefuteTask as tasks
+use Rattle.wfc_cli.specs.declared.reply.Verdict.TheVariants as verdict
 
 -- ---- behind the line of an end no span is kept
 
@@ -444,3 +444,18 @@ writes_run_front call asked files is came five = by_end came
         let refuted = has_refuted call asked files has.task answered is given.0 given.1 given.2 has.answers in
         inr (refuted.work, by_answer answered refuted.work front refuted.is)
     by_end (none high same) = inl same
+
+pub refute_ends : EndsSo commands.Refute refute_command
+refute_ends call asked files answered is has takes =
+    let given = refute_given (kinds_of call.rules) asked files has.task has.is in
+    let refuted = has_refuted call asked files has.task answered is given.0 given.1 given.2 has.answers in
+    by_answer refuted.work.rule refuted.work.P refuted.is
+  where
+    by_outcome : (o : Outcome) → IsEnding refute_command asked files (refute_verdict asked.budget o)
+    by_outcome outcome.Map = as_no map_exists_text refl refl refl
+    by_outcome outcome.NoMap = as_asked refl
+    by_outcome outcome.Spent = as_spent refl
+
+    by_answer : (rule : Rule) (P : Network) → RefutesWhole rule asked P answered ⊎ RefutesFront rule asked P answered → IsEnding refute_command asked files answered.verdict
+    by_answer rule P (inl refuted) = subst (λ (a : Answered). IsEnding refute_command asked files a.verdict) (sym refuted.is) (by_outcome refuted.outcome)
+    by_answer rule P (inr front) = absurd (front_taken answered.whole answered.text call.before.out call.after.out front.front takes)

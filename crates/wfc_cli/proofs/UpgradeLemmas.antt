@@ -19,16 +19,12 @@ use Rattle.wfc_check.specs.declared.fault.CheckFault.{CheckFault}
 use Rattle.wfc_check.specs.declared.fault.CheckFault.TheVariants.{NoMemory}
 use Rattle.wfc_check.proofs.ExactLemmas.{accepted_refutation, refutation_accepted, refutation_none}
 use Rattle.wfc_words.specs.RequestView.{RequestView}
-use Rattle.wfc_words.specs.declared.kinds.CommandKind.TheVariants as commands
-use Rattle.wfc_task.specs.Checking.{shape_of}
+use Rattle.wfc_task.specs.Checking.{shape_of, refutation_name}
 use Rattle.wfc_task.specs.Plan.{Goes}
-use Rattle.wfc_task.specs.UpgradeTask as tasks
 use Rattle.wfc_task.specs.UpgradeGiven.{IsUpgradeTask}
 use Rattle.wfc_task.proofs.CallerLemmas.{upgrade_given}
-use Rattle.wfc_cli.specs.Answer.{IsAnswer}
 use Rattle.wfc_task.specs.UpgradeTask.{upgrade_plan, UpgradeTask}
 use Rattle.wfc_cli.specs.UpgradeCommand.{UpgradeAnswers, upgrade_command}
-use Rattle.wfc_cli.specs.Choosers.{kinds_of}
 use Rattle.wfc_cli.specs.Ending.{EndsPut}
 use Rattle.wfc_cli.specs.Reply.{Answered, CutsOff, Takes, TakesWhole, done_with, verdict_status}
 use Rattle.wfc_cli.specs.UpgradeClaims.{KeepsOld, UpgradesFront, UpgradesRefutation, WritesUpgraded, WritesUpgradedFront}
@@ -36,13 +32,17 @@ use Rattle.wfc_cli.specs.Upgrading.{UpgradeWork, Answering, Upgrades, fault_in, 
 use Rattle.wfc_cli.specs.declared.reply.Stop.{Stop}
 use Rattle.wfc_cli.specs.declared.reply.Stop.TheVariants.{Cut, Unanswered}
 use Rattle.wfc_cli.specs.declared.reply.Verdict.{Verdict}
-use Rattle.wfc_cli.specs.declared.reply.Verdict.TheVariants as verdict
 use Rattle.wfc_cli.proofs.CameLemmas.{CameTo, whole, cut, none}
 use Rattle.wfc_cli.proofs.EndLemmas.{put_cut, put_short, put_whole}
 use Rattle.wfc_cli.proofs.MapLemmas.{TakesSides, IsBridged, command_bridged, command_shape, no_legal}
-use Rattle.wfc_cli.proofs.TheoremLemmas.{five_apart, verdict_apart}
 use Rattle.wfc_cli.specs.Call.{Call}
 use Rattle.wfc_cli.specs.Asking.{IsCommand}
+use Rattle.wfc_lines.specs.Check.{text_of_check}
+use Rattle.wfc_cli.proofs.VerdictLemmas.{verdict_apart, five_apart}
+use Rattle.wfc_cli.proofs.EndingLemmas.{EndsSo, IsEnding, as_asked, as_no}
+use Rattle.wfc_words.specs.declared.kinds.CommandKind.TheVariants as commands
+use Rattle.wfc_task.specs.UpgradeTask as tasks
+use Rattle.wfc_cli.specs.declared.reply.Verdict.TheVariants as verdict
 
 -- ---- the fault of a text
 
@@ -196,3 +196,13 @@ upgrades_front call asked files is came five = by_end came
         let work = said.work in
         inr (work, by_found work (first_fault asked work.P work.bytes) refl (subst (λ (a : Answered). CutsOff a.text call.before.out call.after.out) (sym said.is) front))
     by_end (none high same) = inl same
+
+pub upgrade_ends : EndsSo commands.Upgrade upgrade_command
+upgrade_ends call asked files answered is has takes =
+    let given = upgrade_given asked files has.task has.is in
+    let said = has_upgraded call.rules asked files has.task answered given.0 given.1 given.2 given.3 has.answers in
+    subst (λ (a : Answered). IsEnding upgrade_command asked files a.verdict) said.is (by_found said.work (first_fault asked said.work.P said.work.bytes) refl)
+  where
+    by_found : (work : UpgradeWork asked files) (found : Option CheckFault) → first_fault asked work.P work.bytes ≡ found → IsEnding upgrade_command asked files (upgrade_answer asked work.P work.bytes found).verdict
+    by_found work None found = as_asked refl
+    by_found work (Some fault) found = as_no (text_of_check fault (refutation_name asked)) refl refl (work, fault, found, refl)
