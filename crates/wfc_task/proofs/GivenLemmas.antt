@@ -121,12 +121,12 @@ given_shown false bytes sampled shown =
     ap (λ read. result_map of_grid (or_refuse (refusals.Grid Sample) read)) (grid_read bytes shown.grid shown.spelled shown.small)
     ∙ ap (λ sampled. let end : Result SampledView Refusal = Ok sampled in end) (sym shown.shows)
 
-sampled_given : (asked : RequestView) (files : List File) (sampled : SampledView) → outcome (sampled_plan asked) files ≡ Ok sampled → IsSampleFile files asked.file sampled
+pub sampled_given : (asked : RequestView) (files : List File) (sampled : SampledView) → outcome (sampled_plan asked) files ≡ Ok sampled → IsSampleFile files asked.file sampled
 sampled_given asked files sampled is =
     let parts = outcome_parts (file_plan Sample asked.file) (λ bytes. step (sampled_in asked bytes)) files sampled is in
     record { bytes = parts.0; file = file_given Sample asked.file files parts.0 parts.1; shows = shown_given (is_picture_name asked.file) parts.0 sampled (step_ok (sampled_in asked parts.0) files sampled parts.2) }
 
-given_sampled : (asked : RequestView) (files : List File) (sampled : SampledView) → IsSampleFile files asked.file sampled → outcome (sampled_plan asked) files ≡ Ok sampled
+pub given_sampled : (asked : RequestView) (files : List File) (sampled : SampledView) → IsSampleFile files asked.file sampled → outcome (sampled_plan asked) files ≡ Ok sampled
 given_sampled asked files sampled file =
     outcome_on (file_plan Sample asked.file) (λ bytes. step (sampled_in asked bytes)) files file.bytes (given_file Sample asked.file files file.bytes file.file)
     ∙ ok_step (sampled_in asked file.bytes) files sampled (given_shown (is_picture_name asked.file) file.bytes sampled file.shows)

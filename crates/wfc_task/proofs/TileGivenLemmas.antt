@@ -37,13 +37,13 @@ ended value = Ok value
 
 -- ---- pictures
 
-picture_given : (files : List File) (name : Option (List ℕ)) (before after : TileSetView) → outcome (picture_plan name before) files ≡ Ok after → HoldsPicture files name before after
+pub picture_given : (files : List File) (name : Option (List ℕ)) (before after : TileSetView) → outcome (picture_plan name before) files ≡ Ok after → HoldsPicture files name before after
 picture_given files None before after is = done_is before after files is
 picture_given files (Some name) before after is =
     let parts = outcome_parts (file_plan (Picture (length before.pictures)) name) (λ bytes. step (pictured before bytes)) files after is in
     (parts.0, file_given (Picture (length before.pictures)) name files parts.0 parts.1, unrefused refusals.Tiles (picture_taken before parts.0) after (step_ok (pictured before parts.0) files after parts.2))
 
-given_picture : (files : List File) (name : Option (List ℕ)) (before after : TileSetView) → HoldsPicture files name before after → outcome (picture_plan name before) files ≡ Ok after
+pub given_picture : (files : List File) (name : Option (List ℕ)) (before after : TileSetView) → HoldsPicture files name before after → outcome (picture_plan name before) files ≡ Ok after
 given_picture files None before after holds = ap ended holds
 given_picture files (Some name) before after holds =
     outcome_on (file_plan (Picture (length before.pictures)) name) (λ bytes. step (pictured before bytes)) files holds.0 (given_file (Picture (length before.pictures)) name files holds.0 holds.1)
@@ -84,7 +84,7 @@ given_tiles asked files set of =
 
 -- ---- masks
 
-mask_given : (asked : RequestView) (files : List File) (name : Option (List ℕ)) (mask : MaskView) → outcome (mask_plan_by name asked) files ≡ Ok mask → HoldsMask asked files name mask
+pub mask_given : (asked : RequestView) (files : List File) (name : Option (List ℕ)) (mask : MaskView) → outcome (mask_plan_by name asked) files ≡ Ok mask → HoldsMask asked files name mask
 mask_given asked files None mask is = done_is (plain_mask asked.width asked.height) mask files is
 mask_given asked files (Some name) mask is =
     let parts = outcome_parts (file_plan Mask name) (behind_mask asked) files mask is in
@@ -99,7 +99,7 @@ mask_given asked files (Some name) mask is =
       is_mask = unrefused refusals.Mask (mask_of reads.0 asked.width asked.height) mask (step_ok (mask_in asked reads.0) files mask reads.2);
     }
 
-given_mask : (asked : RequestView) (files : List File) (name : Option (List ℕ)) (mask : MaskView) → HoldsMask asked files name mask → outcome (mask_plan_by name asked) files ≡ Ok mask
+pub given_mask : (asked : RequestView) (files : List File) (name : Option (List ℕ)) (mask : MaskView) → HoldsMask asked files name mask → outcome (mask_plan_by name asked) files ≡ Ok mask
 given_mask asked files None mask holds = ap ended holds
 given_mask asked files (Some name) mask holds =
     outcome_on (file_plan Mask name) (behind_mask asked) files holds.bytes (given_file Mask name files holds.bytes holds.file)

@@ -12,7 +12,12 @@ pub mod Tiling
 pub mod TileSteps
 pub mod TilePlans
 pub mod TileGiven
+pub mod Stages
+pub mod TileStages
 pub mod Posed
+pub mod PosedStages
+pub mod Order
+pub mod Small
 pub mod DomainsGiven
 pub mod RefuteGiven
 pub mod CheckGiven

@@ -6,6 +6,7 @@ mod demo;
 mod fault;
 mod files;
 pub mod laws;
+pub mod order;
 mod posing;
 mod refuting;
 mod sampled;
