@@ -7,6 +7,7 @@ use Rattle.wfc_words.specs.RequestView.{RequestView}
 use Rattle.wfc_task.specs.CheckGiven.{IsCheckTask}
 use Rattle.wfc_task.specs.Checking.{refutation_name}
 use Rattle.wfc_task.specs.CheckTask.{CheckTask, check, check_plan}
+use Rattle.wfc_task.specs.Order.{check_order}
 use Rattle.wfc_cli.specs.Answers.{check_answer}
 use Rattle.wfc_cli.specs.Command.{Command}
 use Rattle.wfc_cli.specs.Reply.{Answered}
@@ -25,6 +26,7 @@ abbrev pub check_command : Command
 check_command = record {
   Task = CheckTask;
   plan = λ kinds asked. check_plan asked;
+  order = λ kinds asked files. check_order asked files;
   Answers = λ rules asked task answered. CheckAnswers task answered;
   IsNo = IsNoRefutation;
   budget = λ asked. asked.budget;

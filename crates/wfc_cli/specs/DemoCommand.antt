@@ -5,6 +5,7 @@ use Rattle.wfc_choose.specs.declared.RuleKind.TheVariants.{Fewest}
 use Rattle.wfc_lines.specs.Outcome.{no_map_text}
 use Rattle.wfc_words.specs.RequestView.{RequestView}
 use Rattle.wfc_task.specs.DemoTask.{DemoTask, demo, demo_plan}
+use Rattle.wfc_task.specs.Order.{demo_order}
 use Rattle.wfc_cli.specs.Answers.{demo_answer, demo_budget}
 use Rattle.wfc_cli.specs.Command.{Command}
 use Rattle.wfc_cli.specs.Reply.{Answered}
@@ -20,6 +21,7 @@ abbrev pub demo_command : Command
 demo_command = record {
   Task = DemoTask;
   plan = demo_plan;
+  order = λ kinds asked files. demo_order kinds;
   Answers = DemoAnswers;
   IsNo = λ asked files text. text ≡ no_map_text;
   budget = λ asked. demo_budget;

@@ -2,6 +2,7 @@
 use Rattle.std.specs.Prelude.{◌≡◌}
 use Rattle.wfc_lines.specs.Outcome.{no_domains_text}
 use Rattle.wfc_task.specs.DomainsTask.{DomainsTask, domains, domains_plan}
+use Rattle.wfc_task.specs.Order.{domains_order}
 use Rattle.wfc_cli.specs.Answers.{domains_answer}
 use Rattle.wfc_cli.specs.Command.{Command}
 use Rattle.wfc_cli.specs.Reply.{Answered}
@@ -15,6 +16,7 @@ abbrev pub domains_command : Command
 domains_command = record {
   Task = DomainsTask;
   plan = λ kinds asked. domains_plan asked;
+  order = λ kinds asked files. domains_order asked files;
   Answers = λ rules asked task answered. DomainsAnswers task answered;
   IsNo = λ asked files text. text ≡ no_domains_text;
   budget = λ asked. asked.budget;

@@ -4,6 +4,7 @@ use Rattle.wfc_choose.specs.Pick.{Rule}
 use Rattle.wfc_lines.specs.Outcome.{no_map_text}
 use Rattle.wfc_words.specs.RequestView.{RequestView}
 use Rattle.wfc_task.specs.FillTask.{FillTask, fill, fill_tiles, fill_plan}
+use Rattle.wfc_task.specs.Order.{fill_order}
 use Rattle.wfc_cli.specs.Answers.{fill_by, picture_text, tiles_text}
 use Rattle.wfc_cli.specs.Command.{Command}
 use Rattle.wfc_cli.specs.Reply.{Answered}
@@ -20,6 +21,7 @@ abbrev pub fill_command : Command
 fill_command = record {
   Task = FillTask;
   plan = fill_plan;
+  order = fill_order;
   Answers = FillAnswers;
   IsNo = λ asked files text. text ≡ no_map_text;
   budget = λ asked. asked.budget;

@@ -3,6 +3,7 @@ use Rattle.std.specs.Prelude.{◌≡◌}
 use Rattle.wfc_render.specs.Learned.{learned_text}
 use Rattle.wfc_render.specs.LearnedTiles.{learned_tiles_text}
 use Rattle.wfc_task.specs.LearnTask.{LearnTask, learn, learn_tiles, learn_plan}
+use Rattle.wfc_task.specs.Order.{learn_order}
 use Rattle.wfc_cli.specs.Command.{Command}
 use Rattle.wfc_cli.specs.Reply.{Answered, done_with}
 
@@ -16,6 +17,7 @@ abbrev pub learn_command : Command
 learn_command = record {
   Task = LearnTask;
   plan = λ kinds asked. learn_plan asked;
+  order = λ kinds asked files. learn_order asked files;
   Answers = λ rules asked task answered. LearnAnswers task answered;
   IsNo = λ asked files text. ⊥;
   budget = λ asked. asked.budget;

@@ -4,6 +4,7 @@ use Rattle.wfc_choose.specs.Pick.{Rule}
 use Rattle.wfc_lines.specs.Outcome.{map_exists_text}
 use Rattle.wfc_words.specs.RequestView.{RequestView}
 use Rattle.wfc_task.specs.RefuteTask.{RefuteTask, refute, refute_plan}
+use Rattle.wfc_task.specs.Order.{refute_order}
 use Rattle.wfc_cli.specs.Choosers.{chosen}
 use Rattle.wfc_cli.specs.Command.{Command}
 use Rattle.wfc_cli.specs.Refuting.{RefutesBy}
@@ -18,6 +19,7 @@ abbrev pub refute_command : Command
 refute_command = record {
   Task = RefuteTask;
   plan = refute_plan;
+  order = refute_order;
   Answers = RefuteAnswers;
   IsNo = λ asked files text. text ≡ map_exists_text;
   budget = λ asked. asked.budget;

@@ -6,6 +6,7 @@ use Rattle.wfc_lines.specs.Check.{text_of_check}
 use Rattle.wfc_words.specs.RequestView.{RequestView}
 use Rattle.wfc_task.specs.Checking.{refutation_name}
 use Rattle.wfc_task.specs.UpgradeTask.{UpgradeTask, upgrade, upgrade_plan}
+use Rattle.wfc_task.specs.Order.{upgrade_order}
 use Rattle.wfc_cli.specs.Command.{Command}
 use Rattle.wfc_cli.specs.Reply.{Answered}
 use Rattle.wfc_cli.specs.Upgrading.{UpgradeWork, first_fault, upgrade_answer}
@@ -24,6 +25,7 @@ abbrev pub upgrade_command : Command
 upgrade_command = record {
   Task = UpgradeTask;
   plan = λ kinds asked. upgrade_plan asked;
+  order = λ kinds asked files. upgrade_order asked files;
   Answers = λ rules asked task answered. UpgradeAnswers asked task answered;
   IsNo = IsNotUpgraded;
   budget = λ asked. asked.budget;

@@ -1,6 +1,6 @@
 //! Laws of the definitions, each a function with no body whose contract is the law. They run nothing.
 
-ghost use Rattle.std.specs.Prelude.{◌≡◌, ◌∷◌, [], List, None, Some, codes, false, ℕ};
+ghost use Rattle.std.specs.Prelude.{◌≡◌, ◌↔◌, ◌∷◌, [], List, None, Some, Ok, Err, codes, false, ℕ};
 ghost use Rattle.wfc_outside.specs.Folder.{File, FolderView};
 ghost use Rattle.wfc_outside.specs.Sink.{SinkView};
 ghost use Rattle.wfc_model.specs.Raster.{Raster};
@@ -16,7 +16,9 @@ ghost use Rattle.wfc_proof.specs.declared.Line.TheVariants.{Empty, End, Remove, 
 ghost use Rattle.wfc_proof.specs.declared.heads.Format.TheVariants.{One, Two};
 ghost use Rattle.wfc_search.specs.declared.Outcome.TheVariants as outcomes;
 ghost use Rattle.wfc_task.specs.Asked.{IsOutputAsked, IsSourceAsked};
-ghost use Rattle.wfc_task.specs.Plan.{done, most_bytes, read};
+ghost use Rattle.wfc_task.specs.Order.{AreInOrder, IsFirstFault};
+ghost use Rattle.wfc_task.specs.Plan.{done, most_bytes, outcome, read};
+ghost use Rattle.wfc_task.specs.declared.fault.Fault.{Fault};
 ghost use Rattle.wfc_task.specs.Posed.{Posed};
 ghost use Rattle.wfc_task.specs.declared.fault.Source.TheVariants.{Pins, Sample};
 ghost use Rattle.wfc_task.specs.CheckTask.{check_plan};
@@ -27,6 +29,7 @@ ghost use Rattle.wfc_task.specs.LearnTask.{learn_plan};
 ghost use Rattle.wfc_task.specs.RefuteTask.{refute_plan};
 ghost use Rattle.wfc_task.specs.UpgradeTask.{upgrade_plan};
 ghost use Rattle.wfc_words.specs.RequestView.{RequestView};
+ghost use Rattle.wfc_words.specs.declared.kinds.CommandKind.{CommandKind};
 ghost use Rattle.wfc_words.specs.declared.kinds.CommandKind.TheVariants as commands;
 ghost use Rattle.wfc_cli.specs.Answers.{demo_text, outcome_status, standings};
 ghost use Rattle.wfc_cli.specs.Call.{Call, beside, call_of, devices};
@@ -139,6 +142,17 @@ pub fn calls_are_seen_before_and_after()
     ensures after_beside { (call : Call) (old new : SinkView) →
         (beside call old new).after ≡ devices call.after.folder call.after.out new }
     ensures same { (call : Call) (old new : SinkView) → (beside call old new).status ≡ call.status }
+{}
+
+/// Each command is refused for the first of its stages that has a fault, in its order, and comes to a task where none has.
+pub fn commands_refuse_in_order()
+    ensures refused { (kind : CommandKind) (kinds : List RuleKind) (asked : RequestView)
+        (files : List File) (fault : Fault) →
+        (outcome ((command_of kind).plan kinds asked) files ≡ Err fault)
+        ↔ IsFirstFault ((command_of kind).order kinds asked files) fault }
+    ensures made { (kind : CommandKind) (kinds : List RuleKind) (asked : RequestView) (files : List File) →
+        ((task : (command_of kind).Task) × (outcome ((command_of kind).plan kinds asked) files ≡ Ok task))
+        ↔ AreInOrder ((command_of kind).order kinds asked files) }
 {}
 
 /// Which command each kind has, by its plan, its budget and its line.
