@@ -18,4 +18,5 @@ mod supports;
 
 pub use mark::Mark;
 pub use painting::picture_of;
-pub use problem::{build, problem_with};
+pub use pins::{marks, texts};
+pub use problem::{build, problem_of_marks, problem_with};

@@ -15,7 +15,7 @@ use wfc_pins::{BuildFault, PinLine};
 use wfc_text::push_number;
 
 /// What the lines of a pins file mean, or the first line at fault.
-pub(crate) fn marks(
+pub fn marks(
     alloc: Global,
     palette: &Palette,
     width: u32,
@@ -73,7 +73,7 @@ fn place_of(texts: &[Vec<u8>], word: &[u8]) -> Option<usize>
 }
 
 /// The texts of a palette's symbols, in their order.
-fn texts(alloc: Global, palette: &Palette) -> Result<Vec<Vec<u8>>, NoMemory>
+pub fn texts(alloc: Global, palette: &Palette) -> Result<Vec<Vec<u8>>, NoMemory>
     ensures value { IfOk result (λ texts.
         map (λ text. text.items) texts.items ≡ texts_of palette.now) }
     ensures few { IfOk result (λ texts. vec_len texts ≤ 4096) }

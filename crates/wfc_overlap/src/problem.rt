@@ -3,7 +3,7 @@
 ghost use Rattle.std.specs.Prelude.{◌≡◌, ◌<◌, ◌≤◌, IfOk};
 ghost use Rattle.wfc_outside.specs.Gives.{Gives};
 ghost use Rattle.wfc_problem.specs.Network.{IsProblem};
-ghost use Rattle.wfc_overlap.specs.Bridge.{AreInside};
+ghost use Rattle.wfc_overlap.specs.Bridge.{AreInside, IsRoom};
 ghost use Rattle.wfc_overlap.specs.Built.{built};
 ghost use Rattle.wfc_overlap.specs.Layout.{output_of};
 ghost use Rattle.wfc_overlap.specs.Sample.{output_with, problem_of_sample};
@@ -55,6 +55,28 @@ pub fn build(
     }
     let marks = marks(alloc, palette, width, height, pins)?;
     let parts = parts(alloc, patterns, layout, &marks)?;
+    Ok(problem_with(parts))
+}
+
+/// The problem of learned patterns for an output of `width` by `height` pixels that has room for a
+/// window, with these pins and bans.
+pub fn problem_of_marks(
+    alloc: Global,
+    patterns: &Patterns,
+    width: u32,
+    height: u32,
+    wrap: bool,
+    marks: &[Mark],
+) -> Result<Problem, NoMemory>
+    requires room { IsRoom patterns.now (output_with width height wrap) }
+    requires width_limit { width ≤ 4096 }
+    requires height_limit { height ≤ 4096 }
+    requires inside { AreInside (output_with width height wrap) marks.now }
+    ensures value { IfOk result (λ problem. problem
+        ≡ problem_of_sample patterns.now (output_with width height wrap) marks.now) }
+{
+    let layout = Layout::new(patterns.n(), width, height, wrap);
+    let parts = parts(alloc, patterns, layout, marks)?;
     Ok(problem_with(parts))
 }
 
