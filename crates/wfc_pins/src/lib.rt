@@ -11,5 +11,6 @@ mod steps;
 mod words;
 
 pub use fault::BuildFault;
-pub use pins::{PinFault, PinLine, read_pins};
+pub use pins::{PinFault, PinLine, keep_of, read_pins};
 pub use steps::{RangeFault, Step, StepFault, StepLine, read_steps, steps_fit};
+pub use words::{Words, is_skipped, number32};

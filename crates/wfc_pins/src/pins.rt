@@ -121,7 +121,7 @@ fn pin_words(line: &[u8]) -> Option<PinWords<'_>>
 }
 
 /// Whether a line keeps its symbol, by its first word.
-fn keep_of(word: &[u8]) -> Option<bool>
+pub fn keep_of(word: &[u8]) -> Option<bool>
     ensures value { result ≡ keep_of word.now }
 {
     if is_word(word, "pin") {

@@ -10,7 +10,7 @@ use wfc_text::number;
 
 /// The words of a line that are still to come.
 #[derive(Drop)]
-pub(crate) struct Words<'a> {
+pub struct Words<'a> {
     rest: &'a [u8],
 }
 
@@ -25,7 +25,7 @@ impl<'a> Model for Words<'a> {
 
 impl<'a> Words<'a> {
     /// All words of the line.
-    pub(crate) fn new(line: &'a [u8]) -> Words<'a>
+    pub fn new(line: &'a [u8]) -> Words<'a>
         ensures all { result ≡ words_of line.now }
     {
         Words { rest: line }
@@ -89,7 +89,7 @@ fn is_blank(byte: u8) -> bool
 }
 
 /// Whether a line is passed over: it has no word, or its first byte is `#`.
-pub(crate) fn is_skipped(line: &[u8]) -> bool
+pub fn is_skipped(line: &[u8]) -> bool
     ensures value { result ≡ is_skipped line.now }
 {
     is_comment(line) || first_other(line).is_none()
@@ -113,7 +113,7 @@ pub(crate) fn is_word(word: &[u8], text: &str) -> bool
 }
 
 /// The number that a word writes in decimal digits, if it is at most 4,294,967,295.
-pub(crate) fn number32(word: &[u8]) -> Option<u32>
+pub fn number32(word: &[u8]) -> Option<u32>
     ensures exact { result ≡ number32 word.now }
 {
     let n = number(word, 0, u64::from(u32::MAX)).ok()?;

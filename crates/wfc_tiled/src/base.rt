@@ -42,7 +42,7 @@ fn cut_all(flags: &mut [bool], tiles: &TileSet, mask: &Mask, marks: &[Mark])
 }
 
 /// So many flags, all set.
-fn all_set(alloc: Global, count: usize) -> Result<Vec<bool>, NoMemory>
+pub fn all_set(alloc: Global, count: usize) -> Result<Vec<bool>, NoMemory>
     ensures value { IfOk result (λ flags. flags.items ≡ replicate count true) }
 {
     Ok(vec![in alloc; true; count]?)
@@ -63,7 +63,7 @@ fn cut(flags: &mut [bool], tiles: &TileSet, mask: &Mask, mark: &Mark)
 }
 
 /// Takes away in a row the variants that don't suit a pin or a ban.
-fn cut_row(flags: &mut [bool], count: u16, mark: &Mark, cell: usize)
+pub fn cut_row(flags: &mut [bool], count: u16, mark: &Mark, cell: usize)
     requires row { cell * count + count ≤ length flags.old }
     ensures cut { IsRowCut count flags.old flags.new cell mark.now }
 {

@@ -55,7 +55,7 @@ fn beside(mask: &Mask, wrap: bool, x: u32, y: u32, dir: u8) -> u32
 
 /// The column or row that a step leads to, if there is one.
 #[inline]
-fn along(at: u32, forth: u32, back: u32, count: u32, wrap: bool) -> Option<u32>
+pub fn along(at: u32, forth: u32, back: u32, count: u32, wrap: bool) -> Option<u32>
     requires at_in { at < count }
     requires one { forth + back ≤ 1 }
     requires limit { count ≤ 4096 }
@@ -71,7 +71,7 @@ fn along(at: u32, forth: u32, back: u32, count: u32, wrap: bool) -> Option<u32>
 
 /// How far a direction leads to the left.
 #[inline]
-fn left_by(dir: u8) -> u32
+pub fn left_by(dir: u8) -> u32
     ensures value { result ≡ left_by dir }
 {
     if dir == 0 { 1 } else { 0 }
@@ -79,7 +79,7 @@ fn left_by(dir: u8) -> u32
 
 /// How far it leads down.
 #[inline]
-fn down_by(dir: u8) -> u32
+pub fn down_by(dir: u8) -> u32
     ensures value { result ≡ down_by dir }
 {
     if dir == 1 { 1 } else { 0 }
@@ -87,7 +87,7 @@ fn down_by(dir: u8) -> u32
 
 /// How far it leads to the right.
 #[inline]
-fn right_by(dir: u8) -> u32
+pub fn right_by(dir: u8) -> u32
     ensures value { result ≡ right_by dir }
 {
     if dir == 2 { 1 } else { 0 }
@@ -95,7 +95,7 @@ fn right_by(dir: u8) -> u32
 
 /// How far it leads up.
 #[inline]
-fn up_by(dir: u8) -> u32
+pub fn up_by(dir: u8) -> u32
     ensures value { result ≡ up_by dir }
 {
     if dir == 3 { 1 } else { 0 }

@@ -52,7 +52,7 @@ fn fitting(alloc: Global, tiles: &TileSet, v: u16, dir: u8) -> Result<Vec<u16>, 
 }
 
 /// Puts a variant behind the others, if it fits.
-fn push_if(list: &mut Vec<u16>, variant: u16, fit: bool) -> Result<(), NoMemory>
+pub fn push_if(list: &mut Vec<u16>, variant: u16, fit: bool) -> Result<(), NoMemory>
     ensures pushed { OnOk result (list.new.items
         ≡ list.old.items ++ (if fit then variant ∷ [] else [])) }
 {
@@ -64,7 +64,7 @@ fn push_if(list: &mut Vec<u16>, variant: u16, fit: bool) -> Result<(), NoMemory>
 
 /// Whether `w` may stand beside `v` in a direction.
 #[inline]
-fn fits(tiles: &TileSet, dir: u8, v: u16, w: u16) -> bool
+pub fn fits(tiles: &TileSet, dir: u8, v: u16, w: u16) -> bool
     requires v_in { v < variant_total tiles.now.tiles }
     requires w_in { w < variant_total tiles.now.tiles }
     ensures value { result ≡ fits tiles.now dir v w }
@@ -78,7 +78,7 @@ fn fits(tiles: &TileSet, dir: u8, v: u16, w: u16) -> bool
 }
 
 /// How much each variant weighs.
-pub(crate) fn weights(alloc: Global, tiles: &TileSet) -> Result<Vec<u32>, NoMemory>
+pub fn weights(alloc: Global, tiles: &TileSet) -> Result<Vec<u32>, NoMemory>
     ensures value { IfOk result (λ weights. weights.items ≡ weights_of tiles.now.tiles) }
 {
     let mut weights = Vec::with_capacity(alloc, tiles.variants() as usize)?;

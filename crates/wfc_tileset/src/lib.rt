@@ -6,8 +6,10 @@ ghost use Rattle.std.specs.Prelude.{◌≡◌, ℕ, ◌<◌, ◌≤◌, ◌↔�
 ghost use Rattle.std.specs.Option.{option_map};
 ghost use Rattle.wfc_outside.specs.Gives.{Gives};
 ghost use Rattle.wfc_picture.specs.declared.symbol.Kind.TheVariants as kinds;
-ghost use Rattle.wfc_tileset.specs.Tiles.{variant_total, variant_at, variant_of, tile_at, Spells};
-ghost use Rattle.wfc_tileset.specs.Allowed.{IsAcross, IsDown, may_be_above, may_be_left};
+ghost use Rattle.wfc_tileset.specs.Tiles.{moved, variant_total, variant_at, variant_of, tile_at, Spells};
+ghost use Rattle.wfc_tileset.specs.Allowed.{IsAcross, IsDown, IsEnd, may_be_above, may_be_left, named_variant};
+ghost use Rattle.wfc_tileset.specs.Names.{AreNames};
+ghost use Rattle.wfc_tileset.specs.Numbers.{number_of};
 ghost use Rattle.wfc_tileset.specs.Pictures.{IsPicture, IsPictured, kind_of, next_name, picture_for, picture_name, picture_taken, pixel_at, side_of};
 ghost use Rattle.wfc_tileset.specs.Shown.{is_of_kind};
 ghost use Rattle.wfc_tileset.specs.TileSets.{IsTileSet};
@@ -29,12 +31,16 @@ mod variants;
 mod word;
 
 pub use fault::{Key, Place, TileFault};
+pub use document::member;
 use marks::{across_table, down_table, is_marked};
+pub use names::Names;
+use names::names_of;
 pub use picture::MAX_TILE_SIDE;
 use picture::{TilePicture, fitting, kind_of, side_of};
 pub use reading::{MAX_DOCUMENT_BYTES, read};
 use std::alloc::Global;
 use std::marker::Model;
+pub use terms::{name_length, turn_of};
 pub use tile::{End, Pair, Tile};
 pub use variants::MAX_VARIANTS;
 use variants::Variants;
@@ -120,6 +126,25 @@ impl TileSet {
         let tiles = self.variants.tiles();
         let named = &tiles[tile as usize];
         named.name.as_str()
+    }
+
+    /// The names of the tiles, each with the number of the first tile that has it.
+    pub fn names(&self, alloc: Global) -> Result<Names, NoMemory>
+        ensures names { IfOk result (λ names. AreNames names self.now.tiles) }
+    {
+        names_of(alloc, self.variants.tiles())
+    }
+
+    /// The number of the variant that an action makes of the one that an end names.
+    pub fn turned(&self, end: End, k: u8) -> u16
+        requires end_in { IsEnd self.now.tiles end }
+        requires action_in { k < 8 }
+        ensures value { result ≡ number_of self.now.tiles
+            (moved self.now.tiles (named_variant self.now.tiles end) k) }
+        ensures number_in { result < variant_total self.now.tiles }
+    {
+        self.variants
+            .number(self.variants.moved(self.variants.named(end), k))
     }
 
     /// The variant that a word spells: the first, where several tiles have one name.
