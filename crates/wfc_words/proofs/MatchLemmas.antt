@@ -1,5 +1,5 @@
 -- What `clap` answers is what the definition says.
-use Rattle.std.proofs.Common.{◌≡◌, ◌∙◌, ◌⊎◌, inl, inr, ap, ap₂, sym, refl, true, List, [], ◌∷◌, Result, Ok, Err, Some}
+use Rattle.std.proofs.Common.{◌≡◌, ◌∙◌, ◌⊎◌, inl, inr, ap, sym, refl, true, List, [], ◌∷◌, Result, Ok, Err, Some}
 use Rattle.clap.specs.Kinds.{HasKind, IsAmong, Kinds}
 use Rattle.clap.specs.Faults.{fault_of, is_simple_and_free}
 use Rattle.clap.specs.Matches.{found_of}
@@ -10,13 +10,12 @@ use Rattle.clap.specs.declared.error.Error.{Error}
 use Rattle.clap.specs.declared.error.kind.ErrorKind.{ErrorKind}
 use Rattle.clap.specs.declared.error.kind.ErrorKind.TheVariants.{OutOfMemory}
 use Rattle.clap.specs.declared.parser.matches.ArgMatches.{ArgMatches}
-use Rattle.wfc_outside.specs.Gives.{Gives}
 use Rattle.wfc_words.specs.Commands.{app_of_command, command_named, command_row}
 use Rattle.wfc_words.specs.Request.{fault_by, matches_by, unless_refused}
 use Rattle.wfc_words.specs.declared.fault.CommandFault.{CommandFault}
 use Rattle.wfc_words.specs.declared.fault.CommandFault.TheVariants.{NoMemory, Refused}
 use Rattle.wfc_words.specs.declared.kinds.CommandKind.{CommandKind}
-use Rattle.wfc_words.specs.declared.kinds.CommandKind.TheVariants.{Learn, Fill, Domains, Refute, Check, Upgrade, Demo}
+use Rattle.wfc_words.specs.declared.kinds.CommandKind.TheVariants.{Learn, Fill, Domains, Refute, Check, Upgrade, Demo, Race}
 
 -- every command of the table is simple
 pub commands_are_simple : (kind : CommandKind) → is_simple (app_of_command (command_row kind)) ≡ true
@@ -27,6 +26,7 @@ commands_are_simple Refute = refl
 commands_are_simple Check = refl
 commands_are_simple Upgrade = refl
 commands_are_simple Demo = refl
+commands_are_simple Race = refl
 
 -- and no word of it has a rule on another
 pub commands_are_free : (kind : CommandKind) → is_simple_and_free (app_of_command (command_row kind)) ≡ true
@@ -37,6 +37,7 @@ commands_are_free Refute = refl
 commands_are_free Check = refl
 commands_are_free Upgrade = refl
 commands_are_free Demo = refl
+commands_are_free Race = refl
 
 -- the name of a command names it
 pub commands_are_named : (kind : CommandKind) → command_named (command_row kind).name ≡ Some kind
@@ -47,6 +48,7 @@ commands_are_named Refute = refl
 commands_are_named Check = refl
 commands_are_named Upgrade = refl
 commands_are_named Demo = refl
+commands_are_named Race = refl
 
 -- a fault in place of what was found
 abbrev pub err : {X : Type 0} → CommandFault → Result X CommandFault

@@ -1,13 +1,16 @@
 -- What is asked for is in its ranges.
-use Rattle.std.proofs.Common.{◌≡◌, ◌≢◌, ◌≤◌, ◌&&◌, ◌⊎◌, ℕ, Bool, true, false, cond, ap, subst, sym, refl, inl, inr, arith, List, [], ◌∷◌, Option, None, Some, Result, Ok, Err, codes, nat_le, IfOk}
+use Rattle.std.proofs.Common.{◌≡◌, ◌≤◌, ◌+◌, ◌-◌, ◌&&◌, ℕ, Bool, true, false, cond, ap, subst, sym, refl, inl, inr, arith, List, [], ◌∷◌, Option, None, Some, Result, Ok, Err, codes, nat_le, IfOk}
 use Rattle.std.specs.Prelude.{is_some, position, unwrap_or}
 use Rattle.std.specs.Option.{option_map, option_map_or}
 use Rattle.std.specs.Result.{result_ok}
 use Rattle.std.specs.Str.{bytes_eq}
 use Rattle.std.specs.Str.Parse.{digits_value}
+use Rattle.std.proofs.Math.Nat.{min-le_left, min-le_right}
 use Rattle.std.proofs.lemmas.Bool.{leb-true}
 use Rattle.clap.specs.Walk.{Row, Text, first_of}
+use Rattle.wfc_choose.specs.declared.RuleKind.{RuleKind}
 use Rattle.wfc_choose.specs.declared.RuleKind.TheVariants as rules
+use Rattle.wfc_render.specs.declared.form.Form.{Form}
 use Rattle.wfc_outside.specs.Gives.{Gives}
 use Rattle.wfc_text.specs.Number.{is_other, number_of, unless_at, within}
 use Rattle.wfc_text.specs.declared.numeral.NumberFault.{NumberFault}
@@ -16,7 +19,7 @@ use Rattle.wfc_words.specs.Commands.{command_named, takes_word}
 use Rattle.wfc_words.specs.InRange.{IsInRange, IsModel}
 use Rattle.wfc_words.specs.Request.{matches_by, request_by, request_found, request_of, request_with}
 use Rattle.wfc_words.specs.RequestView.{RequestView}
-use Rattle.wfc_words.specs.Values.{form_named, in_range, is_sample, needed_text, number_in, rule_named, source_of, value_in, values_of, with_mask, with_value}
+use Rattle.wfc_words.specs.Values.{form_named, in_range, is_sample, needed_text, number_in, rule_asked, seeds_from, source_of, value_in, values_of, with_mask, with_race, with_value}
 use Rattle.wfc_words.specs.declared.fault.CommandFault.{CommandFault}
 use Rattle.wfc_words.specs.declared.fault.CommandFault.TheVariants.{NoMemory, Refused, Value}
 use Rattle.wfc_words.specs.declared.fault.ValueName.{ValueName}
@@ -115,6 +118,82 @@ with_mask-same mask values given is = go (is_sample values.source && is_some mas
     go true e = let bad : ⊥ = cc in absurd bad
     go false e = cc
 
+none-least : (n : ℕ) → 0 ≤ n
+none-least n = omega arith
+
+-- so many seeds are at most eight, and the last fits 64 bits
+seeds_from-limits : (seed seeds : ℕ) → seed ≤ 18446744073709551615 → seeds ≤ seeds_from seed
+    → (seeds ≤ 8) × (seed + seeds ≤ 18446744073709551616)
+seeds_from-limits seed seeds limit most =
+    let seven = min-le_left 7 (18446744073709551615 - seed) in
+    let left = min-le_right 7 (18446744073709551615 - seed) in
+    (omega arith, omega arith)
+
+seeds-limits : (seed seeds : ℕ) (seed_text seeds_text : Option Text)
+    → value_in names.Seed (number_in 0 18446744073709551615) 0 seed_text ≡ Ok seed
+    → value_in names.Seeds (number_in 1 (seeds_from seed)) 0 seeds_text ≡ Ok seeds
+    → (seeds ≤ 8) × (seed + seeds ≤ 18446744073709551616)
+seeds-limits seed seeds seed_text seeds_text is are =
+    seeds_from-limits seed seeds (number-most names.Seed 0 18446744073709551615 0 seed seed_text (none-least _) is)
+    (number-most names.Seeds 1 (seeds_from seed) 0 seeds seeds_text (none-least _) are)
+
+-- the values as they are read, before those of a race
+abbrev values-read : SourceModel → ℕ → ℕ → ℕ → ℕ → ℕ → RuleKind → Option Form → ℕ → ℕ → Values
+values-read source width height symmetry seed budget rule form number format = record {
+  source = source;
+  width = width;
+  height = height;
+  symmetry = symmetry;
+  seed = seed;
+  budget = budget;
+  rule = rule;
+  form = form;
+  number = number;
+  format = format;
+  seeds = 0;
+  quantum = 1;
+}
+
+-- each value but those of a race is in its range
+record IsRead (kind : CommandKind) (rows : List Row) (values : Values) : Type 0 where
+  model : takes_word kind (codes "MODEL") ≡ true → IsModel values.source
+  some_width : takes_word kind (codes "WIDTH") ≡ true → 1 ≤ values.width
+  width_limit : values.width ≤ 4096
+  some_height : takes_word kind (codes "HEIGHT") ≡ true → 1 ≤ values.height
+  height_limit : values.height ≤ 4096
+  some_image : 1 ≤ values.symmetry
+  eight_images : values.symmetry ≤ 8
+  budget_limit : values.budget ≤ 1000000000
+  number_limit : values.number ≤ 1000000
+  some_format : 1 ≤ values.format
+  two_formats : values.format ≤ 2
+  seed : value_in names.Seed (number_in 0 18446744073709551615) 0 (first_of (codes "seed") rows) ≡ Ok values.seed
+
+raced-in_range : (kind : CommandKind) (rows : List Row) (values given : Values) → IsRead kind rows values
+    → with_race kind rows values ≡ Ok given → IsInRange (request_with kind rows given)
+raced-in_range kind rows values given read is =
+    let seeds = before (value_in names.Seeds (number_in 1 (seeds_from values.seed)) 0 (needed_text kind (codes "seeds") rows)) _ given is in
+    let quantum = before (value_in names.Quantum (number_in 1 1000000) 1 (first_of (codes "quantum") rows)) _ given (seeds.1.1) in
+    let limits = seeds-limits values.seed seeds.0 (first_of (codes "seed") rows) (needed_text kind (codes "seeds") rows) read.seed seeds.1.0 in
+    subst (λ (r : Result Values CommandFault). IfOk r (λ v. IsInRange (request_with kind rows v))) (quantum.1.1) (record {
+      model = read.model;
+      some_width = read.some_width;
+      width_limit = read.width_limit;
+      some_height = read.some_height;
+      height_limit = read.height_limit;
+      some_image = read.some_image;
+      eight_images = read.eight_images;
+      budget_limit = read.budget_limit;
+      number_limit = read.number_limit;
+      some_format = read.some_format;
+      two_formats = read.two_formats;
+      some_seeds = number-needed kind (codes "seeds") rows names.Seeds 1 (seeds_from values.seed) 0 seeds.0 seeds.1.0;
+      eight_seeds = limits.0;
+      seeds_fit = limits.1;
+      some_quantum = number-least names.Quantum 1 1000000 1 quantum.0 (first_of (codes "quantum") rows) (omega arith) quantum.1.0;
+      quantum_limit = number-most names.Quantum 1 1000000 1 quantum.0 (first_of (codes "quantum") rows) (omega arith) quantum.1.0;
+    })
+
 values-in_range : (kind : CommandKind) (rows : List Row) (values : Values) → values_of kind rows ≡ Ok values → IsInRange (request_with kind rows values)
 values-in_range kind rows values is =
     let source = before (value_in names.Model source_of (Overlap 0) (needed_text kind (codes "MODEL") rows)) _ values is in
@@ -123,23 +202,25 @@ values-in_range kind rows values is =
     let symmetry = before (value_in names.Symmetry (number_in 1 8) 1 (first_of (codes "symmetry") rows)) _ values (height.1.1) in
     let seed = before (value_in names.Seed (number_in 0 18446744073709551615) 0 (first_of (codes "seed") rows)) _ values (symmetry.1.1) in
     let budget = before (value_in names.Budget (number_in 0 1000000000) 1000000 (first_of (codes "budget") rows)) _ values (seed.1.1) in
-    let rule = before (value_in names.Rule rule_named rules.Fewest (first_of (codes "rule") rows)) _ values (budget.1.1) in
+    let rule = before (value_in names.Rule (rule_asked kind) rules.Fewest (first_of (codes "rule") rows)) _ values (budget.1.1) in
     let form = before (value_in names.Form form_named None (first_of (codes "form") rows)) _ values (rule.1.1) in
     let number = before (value_in names.Number (number_in 0 1000000) 0 (needed_text kind (codes "NUMBER") rows)) _ values (form.1.1) in
     let format = before (value_in names.Format (number_in 1 2) 2 (first_of (codes "format") rows)) _ values (number.1.1) in
-    subst (λ (v : Values). IsInRange (request_with kind rows v)) (with_mask-same (first_of (codes "mask") rows) _ values (format.1.1)) (record {
+    let masked = before (with_mask (first_of (codes "mask") rows) (values-read source.0 width.0 height.0 symmetry.0 seed.0 budget.0 rule.0 form.0 number.0 format.0)) _ values (format.1.1) in
+    raced-in_range kind rows masked.0 values (subst (λ (v : Values). IsRead kind rows v) (with_mask-same (first_of (codes "mask") rows) _ masked.0 masked.1.0) (record {
       model = model-needed kind rows source.0 source.1.0;
       some_width = number-needed kind (codes "WIDTH") rows names.Width 1 4096 0 width.0 width.1.0;
-      width_limit = number-most names.Width 1 4096 0 width.0 (needed_text kind (codes "WIDTH") rows) (omega arith) width.1.0;
+      width_limit = number-most names.Width 1 4096 0 width.0 (needed_text kind (codes "WIDTH") rows) (leb-true 0 4096 refl) width.1.0;
       some_height = number-needed kind (codes "HEIGHT") rows names.Height 1 4096 0 height.0 height.1.0;
-      height_limit = number-most names.Height 1 4096 0 height.0 (needed_text kind (codes "HEIGHT") rows) (omega arith) height.1.0;
-      some_image = number-least names.Symmetry 1 8 1 symmetry.0 (first_of (codes "symmetry") rows) (omega arith) symmetry.1.0;
-      eight_images = number-most names.Symmetry 1 8 1 symmetry.0 (first_of (codes "symmetry") rows) (omega arith) symmetry.1.0;
-      budget_limit = number-most names.Budget 0 1000000000 1000000 budget.0 (first_of (codes "budget") rows) (omega arith) budget.1.0;
-      number_limit = number-most names.Number 0 1000000 0 number.0 (needed_text kind (codes "NUMBER") rows) (omega arith) number.1.0;
-      some_format = number-least names.Format 1 2 2 format.0 (first_of (codes "format") rows) (omega arith) format.1.0;
-      two_formats = number-most names.Format 1 2 2 format.0 (first_of (codes "format") rows) (omega arith) format.1.0;
-    })
+      height_limit = number-most names.Height 1 4096 0 height.0 (needed_text kind (codes "HEIGHT") rows) (leb-true 0 4096 refl) height.1.0;
+      some_image = number-least names.Symmetry 1 8 1 symmetry.0 (first_of (codes "symmetry") rows) (leb-true 1 1 refl) symmetry.1.0;
+      eight_images = number-most names.Symmetry 1 8 1 symmetry.0 (first_of (codes "symmetry") rows) (leb-true 1 8 refl) symmetry.1.0;
+      budget_limit = number-most names.Budget 0 1000000000 1000000 budget.0 (first_of (codes "budget") rows) (leb-true 1000000 1000000000 refl) budget.1.0;
+      number_limit = number-most names.Number 0 1000000 0 number.0 (needed_text kind (codes "NUMBER") rows) (leb-true 0 1000000 refl) number.1.0;
+      some_format = number-least names.Format 1 2 2 format.0 (first_of (codes "format") rows) (leb-true 1 2 refl) format.1.0;
+      two_formats = number-most names.Format 1 2 2 format.0 (first_of (codes "format") rows) (leb-true 2 2 refl) format.1.0;
+      seed = seed.1.0;
+    })) masked.1.1
 
 -- ---- the request
 

@@ -1,5 +1,5 @@
 -- The simple command of a row, argument by argument.
-use Rattle.std.proofs.Common.{◌≡◌, ◌∙◌, ℕ, ◌<◌, ◌≤◌, ◌+◌, true, ap, sym, refl, suc, length, List, [], ◌∷◌, ◌++◌, map, take, append_assoc, add-one, slice_index_or}
+use Rattle.std.proofs.Common.{◌≡◌, ◌∙◌, ℕ, ◌<◌, ◌≤◌, ◌+◌, true, ap, sym, length, List, [], ◌∷◌, ◌++◌, map, take, append_assoc, add-one, slice_index_or}
 use Rattle.std.proofs.lemmas.List.{map-append, take_all}
 use Rattle.std.proofs.lemmas.Simd.{map-map}
 use Rattle.std.proofs.Math.Seq.{take-suc}

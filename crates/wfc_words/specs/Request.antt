@@ -1,5 +1,5 @@
 -- The request of the words.
-use Rattle.std.specs.Prelude.{ℕ, Bool, true, false, List, [], ◌∷◌, map, codes, Option, None, Some, Result, Ok, Err, unwrap_or, if◌then◌else◌}
+use Rattle.std.specs.Prelude.{Bool, false, List, [], ◌∷◌, map, codes, Result, Ok, Err, unwrap_or}
 use Rattle.std.specs.Option.{option_map_or}
 use Rattle.std.specs.String.{string_bytes}
 use Rattle.std.specs.Str.{bytes_eq}
@@ -64,6 +64,8 @@ request_with kind rows values = record {
   number = values.number;
   format = values.format;
   mask = first_of (codes "mask") rows;
+  seeds = values.seeds;
+  quantum = values.quantum;
 }
 
 -- the request of what was found, or the first value that isn't in its range

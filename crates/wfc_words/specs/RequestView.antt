@@ -25,3 +25,5 @@ pub record RequestView : Type 0 where
   pub number : ℕ
   pub format : ℕ
   pub mask : Option (List ℕ)
+  pub seeds : ℕ
+  pub quantum : ℕ

@@ -1,5 +1,5 @@
 -- The values among the words, each in its range.
-use Rattle.std.specs.Prelude.{ℕ, Bool, true, false, ◌&&◌, List, [], Option, None, Some, Result, Ok, Err, is_some, unwrap_or, codes, if◌then◌else◌}
+use Rattle.std.specs.Prelude.{ℕ, ◌+◌, ◌-◌, min, Bool, true, false, ◌&&◌, List, [], Option, None, Some, Result, Ok, Err, is_some, unwrap_or, codes, if◌then◌else◌}
 use Rattle.std.specs.Option.{option_map}
 use Rattle.std.specs.Result.{result_ok}
 use Rattle.std.specs.Str.{bytes_eq}
@@ -13,6 +13,7 @@ use Rattle.wfc_words.specs.declared.fault.CommandFault.TheVariants.{Value}
 use Rattle.wfc_words.specs.declared.fault.ValueName.{ValueName}
 use Rattle.wfc_words.specs.declared.fault.ValueName.TheVariants as names
 use Rattle.wfc_words.specs.declared.kinds.CommandKind.{CommandKind}
+use Rattle.wfc_words.specs.declared.kinds.CommandKind.TheVariants.{Race}
 use Rattle.wfc_render.specs.declared.form.Form.{Form}
 use Rattle.wfc_render.specs.declared.form.Form.TheVariants as forms
 use Rattle.wfc_words.specs.declared.kinds.SourceModel.{SourceModel}
@@ -36,6 +37,21 @@ rule_named text =
     else if bytes_eq text (codes "fewest") then Some rules.Fewest
     else if bytes_eq text (codes "ranked") then Some rules.Ranked
     else None
+
+-- whether the command's runs may have the rule that goes by ranks; two choosers of it may differ in their ranks, so those
+-- of a race are of another rule
+abbrev pub is_rankable : CommandKind → Bool
+is_rankable Race = false
+is_rankable _ = true
+
+-- the rule, if it doesn't go by ranks
+abbrev pub unranked : Option RuleKind → Option RuleKind
+unranked (Some rules.Ranked) = None
+unranked rule = rule
+
+-- the rule that a text names, of those that the command's runs may have
+abbrev pub rule_asked : CommandKind → Text → Option RuleKind
+rule_asked kind text = if is_rankable kind then rule_named text else unranked (rule_named text)
 
 -- the form that a text names, as a form that is asked for
 abbrev pub form_named : Text → Option (Option Form)
@@ -76,6 +92,17 @@ is_sample Tiles = false
 abbrev pub with_mask : Option Text → Values → Result Values CommandFault
 with_mask mask values = if is_sample values.source && is_some mask then Err (Value names.Mask) else Ok values
 
+-- as many seeds as there are from this one on, at most eight
+abbrev pub seeds_from : ℕ → ℕ
+seeds_from seed = min 7 (18446744073709551615 - seed) + 1
+
+-- the same values with those of a race, or the first of these that isn't in its range
+abbrev pub with_race : CommandKind → List Row → Values → Result Values CommandFault
+with_race kind rows values =
+    with_value (value_in names.Seeds (number_in 1 (seeds_from values.seed)) 0 (needed_text kind (codes "seeds") rows)) (λ seeds.
+    with_value (value_in names.Quantum (number_in 1 1000000) 1 (first_of (codes "quantum") rows)) (λ quantum.
+    Ok (record values { seeds = seeds; quantum = quantum })))
+
 -- all values, or the first that isn't in its range
 abbrev pub values_of : CommandKind → List Row → Result Values CommandFault
 values_of kind rows =
@@ -85,11 +112,11 @@ values_of kind rows =
     with_value (value_in names.Symmetry (number_in 1 8) 1 (first_of (codes "symmetry") rows)) (λ symmetry.
     with_value (value_in names.Seed (number_in 0 18446744073709551615) 0 (first_of (codes "seed") rows)) (λ seed.
     with_value (value_in names.Budget (number_in 0 1000000000) 1000000 (first_of (codes "budget") rows)) (λ budget.
-    with_value (value_in names.Rule rule_named rules.Fewest (first_of (codes "rule") rows)) (λ rule.
+    with_value (value_in names.Rule (rule_asked kind) rules.Fewest (first_of (codes "rule") rows)) (λ rule.
     with_value (value_in names.Form form_named None (first_of (codes "form") rows)) (λ form.
     with_value (value_in names.Number (number_in 0 1000000) 0 (needed_text kind (codes "NUMBER") rows)) (λ number.
     with_value (value_in names.Format (number_in 1 2) 2 (first_of (codes "format") rows)) (λ format.
-    with_mask (first_of (codes "mask") rows) (record {
+    with_value (with_mask (first_of (codes "mask") rows) (record {
       source = source;
       width = width;
       height = height;
@@ -100,4 +127,6 @@ values_of kind rows =
       form = form;
       number = number;
       format = format;
-    })))))))))))
+      seeds = 0;
+      quantum = 1;
+    })) (λ values. with_race kind rows values)))))))))))

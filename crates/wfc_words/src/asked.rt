@@ -41,6 +41,10 @@ pub struct Request {
     pub format: u8,
     /// The name of the file of a tile map's holes.
     pub mask: Option<String>,
+    /// How many seeds race, from `seed` on.
+    pub seeds: u32,
+    /// How many turns a runner makes in a round.
+    pub quantum: u32,
 }
 
 impl Model for Request {
@@ -69,6 +73,8 @@ impl Model for Request {
       number = r.number;
       format = r.format;
       mask = option_map string_bytes r.mask;
+      seeds = r.seeds;
+      quantum = r.quantum;
     } };
 }
 

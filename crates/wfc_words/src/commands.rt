@@ -15,6 +15,8 @@ pub(crate) enum Argument<'a> {
     Required(&'a str),
     /// `--name TEXT` or `--name=TEXT`, once or not at all.
     Choice(&'a str),
+    /// `--name TEXT` or `--name=TEXT`, once.
+    Demand(&'a str),
     /// `--name`, once or not at all.
     Flag(&'a str),
 }
@@ -27,6 +29,7 @@ impl<'a> Argument<'a> {
         match self {
             Argument::Required(name) => name,
             Argument::Choice(name) => name,
+            Argument::Demand(name) => name,
             Argument::Flag(name) => name,
         }
     }
@@ -51,6 +54,7 @@ pub(crate) fn row(kind: CommandKind) -> CommandRow<'static>
         CommandKind::Check => CHECK,
         CommandKind::Upgrade => UPGRADE,
         CommandKind::Demo => DEMO,
+        CommandKind::Race => RACE,
     }
 }
 
@@ -147,8 +151,28 @@ const DEMO: CommandRow<'static> = CommandRow {
     arguments: &[Argument::Required("NUMBER")],
 };
 
+const RACE: CommandRow<'static> = CommandRow {
+    name: "race",
+    arguments: &[
+        Argument::Required("FILE"),
+        Argument::Required("MODEL"),
+        Argument::Required("WIDTH"),
+        Argument::Required("HEIGHT"),
+        Argument::Choice("symmetry"),
+        Argument::Flag("wrap-in"),
+        Argument::Flag("wrap-out"),
+        Argument::Choice("pins"),
+        Argument::Choice("mask"),
+        Argument::Choice("seed"),
+        Argument::Choice("budget"),
+        Argument::Choice("rule"),
+        Argument::Demand("seeds"),
+        Argument::Choice("quantum"),
+    ],
+};
+
 /// All commands.
-const COMMANDS: [CommandKind; 7] = [
+const COMMANDS: [CommandKind; 8] = [
     CommandKind::Learn,
     CommandKind::Fill,
     CommandKind::Domains,
@@ -156,6 +180,7 @@ const COMMANDS: [CommandKind; 7] = [
     CommandKind::Check,
     CommandKind::Upgrade,
     CommandKind::Demo,
+    CommandKind::Race,
 ];
 
 /// The command that a word names.

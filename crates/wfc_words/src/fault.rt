@@ -18,6 +18,8 @@ pub enum ValueName {
     Number,
     Format,
     Mask,
+    Seeds,
+    Quantum,
 }
 
 /// Why the words are no request.

@@ -10,6 +10,7 @@ pub enum CommandKind {
     Check,
     Upgrade,
     Demo,
+    Race,
 }
 
 /// What a map is made of.

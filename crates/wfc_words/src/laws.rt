@@ -50,6 +50,8 @@ pub fn requests_by_example()
           number = 0;
           format = 2;
           mask = None;
+          seeds = 0;
+          quantum = 1;
         }) }
     ensures check { request_of (codes "check" ∷ codes "a" ∷ codes "tiles" ∷ codes "5" ∷ codes "6" ∷ codes "r.txt"
         ∷ codes "--symmetry" ∷ codes "8" ∷ codes "--wrap-in" ∷ codes "--mask" ∷ codes "m" ∷ [])
@@ -72,6 +74,8 @@ pub fn requests_by_example()
           number = 0;
           format = 2;
           mask = Some (codes "m");
+          seeds = 0;
+          quantum = 1;
         }) }
     ensures demo { request_of (codes "demo" ∷ codes "17" ∷ [])
         ≡ Ok (record {
@@ -93,6 +97,32 @@ pub fn requests_by_example()
           number = 17;
           format = 2;
           mask = None;
+          seeds = 0;
+          quantum = 1;
+        }) }
+    ensures race { request_of (codes "race" ∷ codes "a" ∷ codes "2" ∷ codes "9" ∷ codes "8" ∷ codes "--quantum=30"
+        ∷ codes "--seeds" ∷ codes "8" ∷ codes "--seed=18446744073709551608" ∷ codes "--rule=scanline" ∷ [])
+        ≡ Ok (record {
+          command = kinds.Race;
+          file = codes "a";
+          source = models.Overlap 2;
+          width = 9;
+          height = 8;
+          symmetry = 1;
+          wrap_in = false;
+          wrap_out = false;
+          pins = None;
+          steps = None;
+          refutation = None;
+          seed = 18446744073709551608;
+          budget = 1000000;
+          rule = rules.Scanline;
+          form = None;
+          number = 0;
+          format = 2;
+          mask = None;
+          seeds = 8;
+          quantum = 30;
         }) }
 {}
 
@@ -113,6 +143,16 @@ pub fn refusals_by_example()
     ensures mask { request_of
         (codes "domains" ∷ codes "a" ∷ codes "2" ∷ codes "3" ∷ codes "4" ∷ codes "--mask=m" ∷ [])
         ≡ Err (Value names.Mask) }
+    ensures demanded { request_of (codes "race" ∷ codes "a" ∷ codes "2" ∷ codes "3" ∷ codes "4" ∷ [])
+        ≡ Err Refused }
+    ensures seeds { request_of (codes "race" ∷ codes "a" ∷ codes "2" ∷ codes "3" ∷ codes "4"
+        ∷ codes "--seeds=9" ∷ codes "--quantum=0" ∷ []) ≡ Err (Value names.Seeds) }
+    ensures seeds_fit { request_of (codes "race" ∷ codes "a" ∷ codes "2" ∷ codes "3" ∷ codes "4"
+        ∷ codes "--seeds=8" ∷ codes "--seed=18446744073709551609" ∷ []) ≡ Err (Value names.Seeds) }
+    ensures quantum { request_of (codes "race" ∷ codes "a" ∷ codes "2" ∷ codes "3" ∷ codes "4"
+        ∷ codes "--seeds=1" ∷ codes "--quantum=1000001" ∷ []) ≡ Err (Value names.Quantum) }
+    ensures ranked { request_of (codes "race" ∷ codes "a" ∷ codes "2" ∷ codes "3" ∷ codes "4"
+        ∷ codes "--seeds=1" ∷ codes "--rule=ranked" ∷ []) ≡ Err (Value names.Rule) }
 {}
 
 /// What stands for a model, a rule and a form.

@@ -90,6 +90,8 @@ fn with_texts(
         number: values.number,
         format: values.format,
         mask,
+        seeds: values.seeds,
+        quantum: values.quantum,
     })
 }
 

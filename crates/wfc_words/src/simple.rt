@@ -26,6 +26,10 @@ fn arg<'a>(alloc: Global, argument: Argument<'a>) -> Arg<'a>
     match argument {
         Argument::Required(name) => Arg::new(alloc, name).required(true).action(ArgAction::Set),
         Argument::Choice(name) => Arg::new(alloc, name).long(name).action(ArgAction::Set),
+        Argument::Demand(name) => Arg::new(alloc, name)
+            .long(name)
+            .required(true)
+            .action(ArgAction::Set),
         Argument::Flag(name) => Arg::new(alloc, name).long(name).action(ArgAction::SetTrue),
     }
 }

@@ -4,7 +4,7 @@ ghost use Rattle.std.specs.Prelude.{◌≡◌, ◌≤◌, None, IfOk};
 ghost use Rattle.std.specs.Option.{option_map};
 ghost use Rattle.clap.specs.Matches.{found_of};
 ghost use Rattle.clap.specs.Walk.{rows_of};
-ghost use Rattle.wfc_words.specs.Values.{form_named, in_range, needed_text, number_in, rule_named, source_of, value_in, values_of, with_mask};
+ghost use Rattle.wfc_words.specs.Values.{form_named, in_range, needed_text, is_rankable, number_in, rule_asked, rule_named, source_of, unranked, value_in, values_of, with_mask, with_race};
 ghost use Rattle.wfc_words.specs.declared.fault.ValueName.TheVariants as names;
 ghost use Rattle.wfc_words.specs.declared.kinds.SourceModel.TheVariants as models;
 ghost use Rattle.wfc_choose.specs.declared.RuleKind.TheVariants as rules;
@@ -31,6 +31,8 @@ pub(crate) struct Values {
     pub(crate) form: Option<Form>,
     pub(crate) number: u32,
     pub(crate) format: u8,
+    pub(crate) seeds: u32,
+    pub(crate) quantum: u32,
 }
 
 /// All values, or the first that isn't in its range.
@@ -58,7 +60,7 @@ pub(crate) fn values_among(
         1_000_000_000,
         1_000_000,
     )?;
-    let rule = rule(text(matches, "rule"))?;
+    let rule = rule(kind, text(matches, "rule"))?;
     let form = form(text(matches, "form"))?;
     let number = number_of(
         needed(kind, matches, "NUMBER"),
@@ -79,8 +81,39 @@ pub(crate) fn values_among(
         form,
         number: number as u32,
         format: format as u8,
+        seeds: 0,
+        quantum: 1,
     };
-    masked(text(matches, "mask"), values)
+    let values = masked(text(matches, "mask"), values)?;
+    raced(kind, matches, values)
+}
+
+/// The same values with those of a race, or the first of these that isn't in its range.
+fn raced(
+    kind: CommandKind,
+    matches: &ArgMatches<'_>,
+    values: Values,
+) -> Result<Values, CommandFault>
+    ensures exact { result ≡ with_race kind (rows_of (found_of matches.now)) values }
+{
+    let mut raced = values;
+    let seeds = number_of(
+        needed(kind, matches, "seeds"),
+        ValueName::Seeds,
+        1,
+        (u64::MAX - values.seed).min(7) + 1,
+        0,
+    )?;
+    let quantum = number_of(
+        text(matches, "quantum"),
+        ValueName::Quantum,
+        1,
+        1_000_000,
+        1,
+    )?;
+    raced.seeds = seeds as u32;
+    raced.quantum = quantum as u32;
+    Ok(raced)
 }
 
 /// The text of a word that must be there, and none where the command doesn't have that word.
@@ -138,14 +171,42 @@ fn model(text: &str) -> Result<SourceModel, CommandFault>
     }
 }
 
-fn rule(text: Option<&str>) -> Result<RuleKind, CommandFault>
-    ensures exact { result ≡ value_in names.Rule rule_named rules.Fewest (option_map (λ text. text.now) text.entry) }
+fn rule(kind: CommandKind, text: Option<&str>) -> Result<RuleKind, CommandFault>
+    ensures exact { result ≡ value_in names.Rule (rule_asked kind) rules.Fewest
+        (option_map (λ text. text.now) text.entry) }
 {
     match text {
         None => Ok(RuleKind::Fewest),
-        Some(text) => rule_by_name(text).ok_or(CommandFault::Value {
+        Some(text) => rule_for(kind, text).ok_or(CommandFault::Value {
             name: ValueName::Rule,
         }),
+    }
+}
+
+/// The rule that a text names, of those that the command's runs may have.
+fn rule_for(kind: CommandKind, text: &str) -> Option<RuleKind>
+    ensures value { result ≡ rule_asked kind text.now }
+{
+    if rankable(kind) {
+        return rule_by_name(text);
+    }
+    unranked(rule_by_name(text))
+}
+
+/// Whether the command's runs may have the rule that goes by ranks.
+fn rankable(kind: CommandKind) -> bool
+    ensures value { result ≡ is_rankable kind }
+{
+    !matches!(kind, CommandKind::Race)
+}
+
+/// The rule, if it doesn't go by ranks.
+fn unranked(rule: Option<RuleKind>) -> Option<RuleKind>
+    ensures value { result ≡ unranked rule }
+{
+    match rule {
+        Some(RuleKind::Ranked) => None,
+        _ => rule,
     }
 }
 

@@ -1,8 +1,8 @@
-use Rattle.std.proofs.Common.{◌≡◌, ◌∙◌, ap, refl, map}
+use Rattle.std.proofs.Common.{◌∙◌, ap}
 use Rattle.std.specs.List.{list_any}
 use Rattle.std.specs.Str.{bytes_eq}
 use Rattle.clap.proofs.WalkLemmas.{list_any-map}
-use Rattle.wfc_words.specs.Commands.{Command, Word, takes_word, word_name}
+use Rattle.wfc_words.specs.Commands.{Command, Word, word_name}
 use Rattle.wfc_words.specs.Rows.{word_view}
 use Rattle.wfc_words.proofs.commands.takes.Goals as goal
 

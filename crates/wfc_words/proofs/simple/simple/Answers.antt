@@ -1,4 +1,4 @@
-use Rattle.std.proofs.Common.{rules, arith, ◌≡◌}
+use Rattle.std.proofs.Common.{arith}
 use Rattle.clap.specs.Simple.{app_of}
 use Rattle.clap.specs.Walk.{rule_of}
 use Rattle.wfc_words.proofs.SimpleLemmas.{switched-fields, with_rules-next, with_rules-row}
