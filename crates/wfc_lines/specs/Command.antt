@@ -21,6 +21,8 @@ text_of_value names.Form = codes "command value form"
 text_of_value names.Number = codes "command value NUMBER"
 text_of_value names.Format = codes "command value format"
 text_of_value names.Mask = codes "command value mask"
+text_of_value names.Seeds = codes "command value seeds"
+text_of_value names.Quantum = codes "command value quantum"
 
 abbrev pub text_of_command : CommandFault → List ℕ
 text_of_command faults.Refused = codes "command refused"

@@ -13,3 +13,4 @@ pub mod Reading
 pub mod Render
 pub mod Steps
 pub mod Tiles
+pub mod Race

@@ -38,6 +38,8 @@ fn value_text(name: ValueName) -> &'static str
         ValueName::Number => "command value NUMBER",
         ValueName::Format => "command value format",
         ValueName::Mask => "command value mask",
+        ValueName::Seeds => "command value seeds",
+        ValueName::Quantum => "command value quantum",
     }
 }
 

@@ -16,6 +16,7 @@ ghost use Rattle.wfc_lines.specs.Outcome.{map_exists_text, no_domains_text, no_m
 ghost use Rattle.wfc_lines.specs.Palette.{text_of_palette};
 ghost use Rattle.wfc_lines.specs.Pins.{text_of_pins};
 ghost use Rattle.wfc_lines.specs.Ppm.{text_of_ppm};
+ghost use Rattle.wfc_lines.specs.Race.{text_of_race};
 ghost use Rattle.wfc_lines.specs.Reading.{text_of_reading};
 ghost use Rattle.wfc_lines.specs.Render.{text_of_render};
 ghost use Rattle.wfc_lines.specs.Steps.{text_of_range, text_of_steps};
@@ -51,6 +52,9 @@ pub fn texts_of_commands_by_example()
     ensures refused { text_of_command commands.Refused ≡ codes "command refused" }
     ensures value { text_of_command (commands.Value names.Model) ≡ codes "command value MODEL" }
     ensures mask { text_of_command (commands.Value names.Mask) ≡ codes "command value mask" }
+    ensures seeds { text_of_command (commands.Value names.Seeds) ≡ codes "command value seeds" }
+    ensures quantum { text_of_command (commands.Value names.Quantum) ≡ codes "command value quantum" }
+    ensures race { text_of_race 2500 ≡ codes "race TooLarge product=2500" }
     ensures memory { text_of_command commands.NoMemory ≡ no_memory_text }
     ensures chooser { text_of_chooser rules.Ranked ≡ codes "chooser missing rule=ranked" }
     ensures missing { text_of_reading reads.Missing (codes "a") ≡ codes "device Missing file=a" }

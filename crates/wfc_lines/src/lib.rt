@@ -17,6 +17,7 @@ mod outcome;
 mod palettes;
 mod pin_files;
 mod ppms;
+mod races;
 mod reads;
 mod step_files;
 mod tile_sets;
@@ -33,6 +34,7 @@ pub use outcome::{budget_spent, map_exists, no_domains, no_map, no_memory, out_f
 pub use palettes::palette;
 pub use pin_files::pins;
 pub use ppms::ppm;
+pub use races::race;
 pub use reads::reading;
 pub use step_files::{range, steps};
 pub use tile_sets::tiles;

@@ -55,6 +55,8 @@ const CHECKERS: Row = Row {
     wrap_out: false,
     pins: None,
     mask: None,
+    seeds: 0,
+    quantum: 1,
     steps: None,
     rule: RuleKind::Fewest,
     form: None,

@@ -5,3 +5,7 @@ use Rattle.wfc_lines.proofs.laws.texts_of_commands_by_example.Goals as goal
 pub returns-clause-budget : goal.returns-clause-budget
 unfolding digits
 returns-clause-budget c = refl
+
+pub returns-clause-race : goal.returns-clause-race
+unfolding digits
+returns-clause-race c = refl
