@@ -12,5 +12,6 @@ pub use Rattle.wfc_task.proofs.PosedLemmas.{posed_given, given_posed}
 pub use Rattle.wfc_task.proofs.TilingLemmas.{held_mask, pins_placed}
 pub use Rattle.wfc_task.proofs.DemoLemmas.{demo_are_patterns, demo_problem_is}
 pub use Rattle.wfc_task.proofs.RefutingLemmas.{refute_given, given_refute}
+pub use Rattle.wfc_task.proofs.RacingLemmas.{race_given, given_race}
 pub use Rattle.wfc_task.proofs.UpgradingLemmas.{upgrade_given, given_upgrade}
 pub use Rattle.wfc_task.proofs.CheckingLemmas.{check_given}

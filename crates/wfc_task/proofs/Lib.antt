@@ -16,6 +16,7 @@ pub mod FillOrderLemmas
 pub mod PosedLemmas
 pub mod TaskGivenLemmas
 pub mod RefutingLemmas
+pub mod RacingLemmas
 pub mod UpgradingLemmas
 pub mod PosedOrderLemmas
 pub mod CheckingLemmas

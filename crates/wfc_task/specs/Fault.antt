@@ -21,7 +21,7 @@ use Rattle.wfc_tiled.specs.declared.reading.MaskFault.TheVariants as masks
 use Rattle.wfc_tileset.specs.declared.fault.TileFault.{TileFault}
 use Rattle.wfc_tileset.specs.declared.fault.TileFault.TheVariants as tiles
 use Rattle.wfc_task.specs.declared.fault.Refusal.{Refusal}
-use Rattle.wfc_task.specs.declared.fault.Refusal.TheVariants.{Chooser, Grid, Ppm, Colours, Learn, Render, Pins, Build, Steps, Range, TooLong, NoMemory, Tiles, Mask}
+use Rattle.wfc_task.specs.declared.fault.Refusal.TheVariants.{Chooser, Grid, Ppm, Colours, Learn, Render, Pins, Build, Steps, Range, TooLong, NoMemory, Tiles, Mask, RaceTooLarge}
 use Rattle.wfc_task.specs.declared.fault.Fault.{Fault}
 use Rattle.wfc_task.specs.declared.fault.Fault.TheVariants.{Unread, Refused}
 use Rattle.wfc_task.specs.declared.fault.Class.{Class}
@@ -80,6 +80,7 @@ class_of (TooLong source) = Input
 class_of NoMemory = Memory
 class_of (Tiles fault) = tiles_class fault
 class_of (Mask fault) = mask_class fault
+class_of (RaceTooLarge product) = Input
 
 -- the exit status of a class
 abbrev pub class_status : Class → ℕ

@@ -27,6 +27,8 @@ pub mod FillTask
 pub mod DomainsTask
 pub mod DemoTask
 pub mod RefuteTask
+pub mod RaceTask
+pub mod RaceGiven
 pub mod CheckTask
 pub mod UpgradeTask
 pub mod Filling

@@ -58,6 +58,8 @@ pub enum Refusal {
     Tiles { fault: TileFault },
     /// A grid is no mask.
     Mask { fault: MaskFault },
+    /// The cells, the values and the runners of a race, multiplied, are above the limit.
+    RaceTooLarge { product: u64 },
 }
 
 /// Why a command has no answer.
@@ -96,8 +98,10 @@ impl Refusal {
             Refusal::Pins { fault } => pins_class(*fault),
             Refusal::Build { fault } => build_class(*fault),
             Refusal::Steps { fault } => steps_class(*fault),
-            Refusal::Render { .. } | Refusal::Range { .. } | Refusal::TooLong { .. } =>
-                Class::Input,
+            Refusal::Render { .. }
+            | Refusal::Range { .. }
+            | Refusal::TooLong { .. }
+            | Refusal::RaceTooLarge { .. } => Class::Input,
             Refusal::NoMemory => Class::Memory,
             Refusal::Tiles { fault } => tiles_class(*fault),
             Refusal::Mask { fault } => mask_class(*fault),

@@ -1,6 +1,6 @@
 //! Laws of the definitions, each a function with no body whose contract is the law. They run nothing.
 
-ghost use Rattle.std.specs.Prelude.{◌≡◌, ◌↔◌, ℕ, List, Option, [], ◌∷◌, Ok, Err, true, false, codes, Contains};
+ghost use Rattle.std.specs.Prelude.{◌≡◌, ◌↔◌, ℕ, ◌≤◌, List, Option, [], ◌∷◌, Ok, Err, true, false, codes, Contains};
 ghost use Rattle.wfc_outside.specs.Folder.{File};
 ghost use Rattle.wfc_picture.specs.declared.symbol.Symbol.{Symbol};
 ghost use Rattle.wfc_picture.specs.declared.symbol.Symbol.TheVariants.{Char};
@@ -15,6 +15,7 @@ ghost use Rattle.wfc_task.specs.Sources.{is_of_windows, is_picture_name};
 ghost use Rattle.wfc_task.specs.Demo.{demo_patterns, demo_problem, demo_symbol};
 ghost use Rattle.wfc_check.specs.declared.fault.CheckFault.{CheckFault};
 ghost use Rattle.wfc_task.specs.CheckGiven.{IsCheckTask};
+ghost use Rattle.wfc_task.specs.RaceGiven.{IsRaceTask};
 ghost use Rattle.wfc_task.specs.RefuteGiven.{IsRefuteTask};
 ghost use Rattle.wfc_task.specs.UpgradeGiven.{IsUpgradeTask};
 ghost use Rattle.wfc_task.specs.DomainsGiven.{IsDomainsTask};
@@ -34,7 +35,9 @@ ghost use Rattle.wfc_task.specs.DemoTask.{demo, demo_plan};
 ghost use Rattle.wfc_task.specs.DomainsTask.{domains, domains_plan};
 ghost use Rattle.wfc_task.specs.FillTask.{fill, fill_plan, fill_tiles};
 ghost use Rattle.wfc_task.specs.LearnTask.{learn, learn_plan, learn_tiles};
+ghost use Rattle.wfc_task.specs.RaceTask.{chosen_many, race, race_plan};
 ghost use Rattle.wfc_task.specs.RefuteTask.{refute, refute_plan};
+ghost use Rattle.wfc_task.specs.declared.racing.TheConstants.{MAX_RACE};
 ghost use Rattle.wfc_task.specs.UpgradeTask.{upgrade, upgrade_plan};
 
 /// `learn` of a sample comes to these patterns and this palette exactly where the file spells a sample that teaches them.
@@ -90,6 +93,17 @@ pub fn refute_tasks_are_given()
         ↔ IsRefuteTask kinds asked files P }
 {}
 
+/// `race` comes to this task exactly where for each seed a chooser is there, the problem is that of the request, and the
+/// race isn't too large.
+pub fn race_tasks_are_given()
+    ensures task { (kinds : List RuleKind) (asked : RequestView) (files : List File) (P : Network) →
+        (outcome (race_plan kinds asked) files ≡ Ok (race P))
+        ↔ IsRaceTask kinds asked files P }
+    ensures limit { MAX_RACE ≡ 8388608 }
+    ensures many { chosen_many (Fewest ∷ Scanline ∷ Fewest ∷ []) Fewest 2 ≡ Ok tt }
+    ensures few { chosen_many (Fewest ∷ Scanline ∷ Fewest ∷ []) Fewest 3 ≡ Err (Chooser Fewest) }
+{}
+
 /// `upgrade` comes to this task exactly where the problem is that of the request, and the file of the refutation has these bytes.
 pub fn upgrade_tasks_are_given()
     ensures task { (asked : RequestView) (files : List File) (P : Network) (bytes : List ℕ) →
@@ -131,6 +145,8 @@ pub fn first_faults()
         outcome (fill_plan [] asked) files ≡ Err (Refused (Chooser asked.rule)) }
     ensures refute { (asked : RequestView) (files : List File) →
         outcome (refute_plan [] asked) files ≡ Err (Refused (Chooser asked.rule)) }
+    ensures race { (asked : RequestView) (files : List File) → 1 ≤ asked.seeds →
+        outcome (race_plan [] asked) files ≡ Err (Refused (Chooser asked.rule)) }
     ensures demo { (asked : RequestView) (files : List File) →
         outcome (demo_plan [] asked) files ≡ Err (Refused (Chooser Fewest)) }
     ensures sample { (asked : RequestView) →

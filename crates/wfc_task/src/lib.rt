@@ -8,6 +8,7 @@ mod files;
 pub mod laws;
 pub mod order;
 mod posing;
+mod racing;
 mod refuting;
 mod sampled;
 mod sources;
@@ -19,6 +20,7 @@ mod upgrading;
 
 pub use checking::{check_task, shape};
 pub use fault::{Class, Fault, Refusal, Source};
+pub use racing::{MAX_RACE, race_task};
 pub use refuting::refute_task;
 pub use task::{
     Demo, Filled, Filling, Learned, Stepping, Taught, TileFilling, demo_task, domains_task,
