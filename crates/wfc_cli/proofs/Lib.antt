@@ -22,5 +22,8 @@ pub mod RefuteLemmas
 pub mod RunTextLemmas
 pub mod UpgradeLemmas
 pub mod CutLemmas
+pub mod MakingLemmas
+pub mod RacerLemmas
+pub mod RacePromiseLemmas
 pub mod LineLemmas
 pub mod PromiseLemmas

@@ -51,6 +51,7 @@ use Rattle.wfc_cli.proofs.DomainsPromiseLemmas.{domains_ends}
 use Rattle.wfc_cli.proofs.DemoPromiseLemmas.{demo_ends}
 use Rattle.wfc_cli.proofs.RefuteLemmas.{refute_ends}
 use Rattle.wfc_cli.proofs.CheckLemmas.{check_ends}
+use Rattle.wfc_cli.proofs.RacePromiseLemmas.{race_ends}
 use Rattle.wfc_cli.proofs.UpgradeLemmas.{upgrade_ends}
 use Rattle.wfc_outside.specs.declared.whole.ReadFault.TheVariants as reads
 use Rattle.wfc_grid.specs.declared.reading.GridFault.TheVariants as grids
@@ -182,6 +183,7 @@ memory_text asked (Refused (refused.TooLong which)) six = absurd (omega (arith, 
 memory_text asked (Refused refused.NoMemory) six = refl
 memory_text asked (Refused (refused.Tiles fault)) six = tiles_memory fault asked.file six
 memory_text asked (Refused (refused.Mask fault)) six = mask_memory fault (name_of asked source.Mask) six
+memory_text asked (Refused (refused.RaceTooLarge product)) six = absurd (omega (arith, six))
 
 -- ---- how each command ends
 
@@ -193,6 +195,7 @@ ends_so commands.Demo = demo_ends
 ends_so commands.Refute = refute_ends
 ends_so commands.Check = check_ends
 ends_so commands.Upgrade = upgrade_ends
+ends_so commands.Race = race_ends
 
 -- ---- the line of each status
 

@@ -6,6 +6,7 @@ use Rattle.wfc_cli.specs.DemoClaims.{DemoPromises}
 use Rattle.wfc_cli.specs.DomainsClaims.{DomainsPromises}
 use Rattle.wfc_cli.specs.FillClaims.{FillPromises}
 use Rattle.wfc_cli.specs.LearnClaims.{LearnPromises}
+use Rattle.wfc_cli.specs.RaceClaims.{RacePromises}
 use Rattle.wfc_cli.specs.RefuteClaims.{RefutePromises}
 use Rattle.wfc_cli.specs.UpgradeClaims.{UpgradePromises}
 use Rattle.wfc_cli.proofs.CheckLemmas.{check_cut, checks_refutation}
@@ -14,6 +15,7 @@ use Rattle.wfc_cli.proofs.DemoPromiseLemmas.{demo_cut, writes_demo}
 use Rattle.wfc_cli.proofs.DomainsPromiseLemmas.{domains_cut, writes_domains}
 use Rattle.wfc_cli.proofs.FillPromiseLemmas.{has_no_map, is_as_run, is_never_spent, writes_front, writes_legal}
 use Rattle.wfc_cli.proofs.LearnPromiseLemmas.{learn_cut, writes_learned}
+use Rattle.wfc_cli.proofs.RacePromiseLemmas.{has_no_raced_map, has_raced_map, is_as_race, is_as_runner, is_never_all_spent, race_cut}
 use Rattle.wfc_cli.proofs.RefuteLemmas.{writes_refutation, writes_run_front}
 use Rattle.wfc_cli.proofs.UpgradeLemmas.{upgrades_front, upgrades_refutation}
 use Rattle.wfc_words.specs.declared.kinds.CommandKind.TheVariants as commands
@@ -68,3 +70,15 @@ pub upgrade_promises : (call : Call) → IsAnswer call → UpgradePromises call
 upgrade_promises call answer asked files is =
     let came = came_to commands.Upgrade call answer asked files is in
     record { written = upgrades_refutation call asked files is came; front = upgrades_front call asked files is came }
+
+-- `race`
+pub race_promises : (call : Call) → IsAnswer call → RacePromises call
+race_promises call answer asked files is =
+    let came = came_to commands.Race call answer asked files is in record {
+      as_race = is_as_race call asked files came;
+      as_runner = is_as_runner call asked files is;
+      legal = has_raced_map call asked files is came;
+      no_map = has_no_raced_map call asked files is came;
+      never_spent = is_never_all_spent call asked files is came;
+      cut = race_cut call asked files is came;
+    }

@@ -17,6 +17,7 @@ use Rattle.wfc_cli.specs.DemoCommand.{demo_command}
 use Rattle.wfc_cli.specs.RefuteCommand.{refute_command}
 use Rattle.wfc_cli.specs.CheckCommand.{check_command}
 use Rattle.wfc_cli.specs.UpgradeCommand.{upgrade_command}
+use Rattle.wfc_cli.specs.RaceCommand.{race_command}
 
 -- the command of each kind
 abbrev pub command_of : CommandKind → Command
@@ -27,6 +28,7 @@ command_of commands.Demo = demo_command
 command_of commands.Refute = refute_command
 command_of commands.Check = check_command
 command_of commands.Upgrade = upgrade_command
+command_of commands.Race = race_command
 
 -- the command of a request
 abbrev pub asked_command : RequestView → Command

@@ -12,6 +12,7 @@ use Rattle.wfc_lines.specs.Outcome.{no_memory_text}
 use Rattle.wfc_lines.specs.Palette.{text_of_palette}
 use Rattle.wfc_lines.specs.Pins.{text_of_pins}
 use Rattle.wfc_lines.specs.Ppm.{text_of_ppm}
+use Rattle.wfc_lines.specs.Race.{text_of_race}
 use Rattle.wfc_lines.specs.Reading.{text_of_reading}
 use Rattle.wfc_lines.specs.Render.{text_of_render}
 use Rattle.wfc_lines.specs.Steps.{text_of_range, text_of_steps}
@@ -74,6 +75,7 @@ refusal_text asked (refused.TooLong which) = text_of_reading reads.TooLong (name
 refusal_text asked refused.NoMemory = no_memory_text
 refusal_text asked (refused.Tiles fault) = text_of_tiles fault (name_of asked source.Sample)
 refusal_text asked (refused.Mask fault) = text_of_mask fault (name_of asked source.Mask)
+refusal_text asked (refused.RaceTooLarge product) = text_of_race product
 
 -- the text of a fault; a file is named as the words do
 abbrev pub fault_text : RequestView → Fault → List ℕ

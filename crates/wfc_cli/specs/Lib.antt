@@ -4,11 +4,13 @@ pub mod ErrorLine
 pub mod Choosers
 pub mod Maps
 pub mod Runs
+pub mod Races
 pub mod Reply
 pub mod ReplyView
 pub mod Refuting
 pub mod Upgrading
 pub mod Answers
+pub mod Racing
 pub mod Held
 pub mod Walk
 pub mod Command
@@ -18,6 +20,7 @@ pub mod DomainsCommand
 pub mod DemoCommand
 pub mod RefuteCommand
 pub mod CheckCommand
+pub mod RaceCommand
 pub mod UpgradeCommand
 pub mod Commands
 pub mod Answer
@@ -29,6 +32,7 @@ pub mod FillClaims
 pub mod LearnClaims
 pub mod DomainsClaims
 pub mod DemoClaims
+pub mod RaceClaims
 pub mod CheckClaims
 pub mod RefuteClaims
 pub mod UpgradeClaims

@@ -1,7 +1,9 @@
 //! The choosers that the caller hands in.
 
-ghost use Rattle.std.specs.Prelude.{◌≡◌, ◌<◌, map, length, slice_get, Contains, IfOk, Some};
+ghost use Rattle.std.specs.Prelude.{◌≡◌, ◌<◌, ◌&&◌, nat_lt, take, map, length, slice_get, Contains, IfOk, Some};
+ghost use Rattle.wfc_task.specs.Steps.{same_rule};
 ghost use Rattle.wfc_cli.specs.Choosers.{chosen, is_kind, kinds_of};
+ghost use Rattle.wfc_cli.specs.Racing.{of_kind};
 
 use std::alloc::Global;
 use wfc_choose::{Chooser, RuleKind};
@@ -45,6 +47,35 @@ pub(crate) fn first_of(choosers: Vec<Box<dyn Chooser>>, kind: RuleKind) -> Box<d
     let mut choosers = choosers;
     let at = place_of(&choosers, kind);
     choosers.swap_remove(at)
+}
+
+/// The first so many choosers of a kind, in their order, or all of it where there are fewer. The others are dropped.
+pub(crate) fn first_many(
+    alloc: Global,
+    choosers: Vec<Box<dyn Chooser>>,
+    kind: RuleKind,
+    many: u32,
+) -> Result<Vec<Box<dyn Chooser>>, NoMemory>
+    ensures first { IfOk result (λ taken. map (λ chooser. (told chooser).rule) taken.items
+        ≡ take many (of_kind kind (map (λ chooser. (told chooser).rule) choosers.items))) }
+{
+    let mut choosers = choosers;
+    let count = choosers.len();
+    let mut taken = Vec::with_capacity(alloc, many as usize)?;
+    for made in 0..count {
+        let chooser = choosers.remove(0);
+        if is_wanted(&chooser, kind, taken.len(), many) {
+            taken.push(chooser)?;
+        }
+    }
+    Ok(taken)
+}
+
+/// Whether a chooser is of the kind, where so many of the wanted ones are taken.
+fn is_wanted(chooser: &Box<dyn Chooser>, kind: RuleKind, taken: usize, many: u32) -> bool
+    ensures value { result ≡ (nat_lt taken many && same_rule kind (told chooser.now).rule.kind) }
+{
+    taken < many as usize && kind == kind_of(chooser)
 }
 
 /// Where the first chooser of a kind stands.

@@ -10,6 +10,7 @@ mod demo;
 mod domains;
 mod fill;
 mod learn;
+mod race;
 mod refute;
 mod upgrade;
 
@@ -20,6 +21,7 @@ use demo::demo;
 use domains::domains;
 use fill::fill;
 use learn::learn;
+use race::race;
 use refute::refute;
 use std::alloc::Global;
 use upgrade::upgrade;
@@ -47,5 +49,6 @@ pub(crate) fn run<F: Folder, O: Sink>(
         CommandKind::Refute => refute(alloc, request, choosers, folder, out),
         CommandKind::Check => put(out, check(alloc, request, folder)),
         CommandKind::Upgrade => upgrade(alloc, request, folder, out),
+        CommandKind::Race => put(out, race(alloc, request, choosers, folder)),
     }
 }

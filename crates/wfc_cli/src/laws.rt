@@ -26,6 +26,7 @@ ghost use Rattle.wfc_task.specs.DemoTask.{demo_plan};
 ghost use Rattle.wfc_task.specs.DomainsTask.{domains_plan};
 ghost use Rattle.wfc_task.specs.FillTask.{fill_plan};
 ghost use Rattle.wfc_task.specs.LearnTask.{learn_plan};
+ghost use Rattle.wfc_task.specs.RaceTask.{race_plan};
 ghost use Rattle.wfc_task.specs.RefuteTask.{refute_plan};
 ghost use Rattle.wfc_task.specs.UpgradeTask.{upgrade_plan};
 ghost use Rattle.wfc_words.specs.RequestView.{RequestView};
@@ -164,6 +165,7 @@ pub fn commands_are_of_their_kinds()
     ensures learn { (kinds : List RuleKind) (asked : RequestView) → (command_of commands.Learn).plan kinds asked ≡ learn_plan asked }
     ensures domains { (kinds : List RuleKind) (asked : RequestView) → (command_of commands.Domains).plan kinds asked ≡ domains_plan asked }
     ensures demo { (kinds : List RuleKind) (asked : RequestView) → (command_of commands.Demo).plan kinds asked ≡ demo_plan kinds asked }
+    ensures race { (kinds : List RuleKind) (asked : RequestView) → (command_of commands.Race).plan kinds asked ≡ race_plan kinds asked }
     ensures own_budget { (asked : RequestView) → (command_of commands.Demo).budget asked ≡ 1000 }
     ensures budget { (asked : RequestView) → (command_of commands.Refute).budget asked ≡ asked.budget }
     ensures line { (asked : RequestView) (files : List File) → (command_of commands.Refute).IsNo asked files (codes "map exists") }

@@ -10,6 +10,7 @@ ghost use Rattle.wfc_cli.specs.DomainsClaims.{DomainsPromises};
 ghost use Rattle.wfc_cli.specs.FillClaims.{FillPromises};
 ghost use Rattle.wfc_cli.specs.LearnClaims.{LearnPromises};
 ghost use Rattle.wfc_cli.specs.LineClaims.{IsApartFromErr, TellsStatus};
+ghost use Rattle.wfc_cli.specs.RaceClaims.{RacePromises};
 ghost use Rattle.wfc_cli.specs.RefuteClaims.{RefutePromises};
 ghost use Rattle.wfc_cli.specs.Reply.{Tells, said_of_words};
 ghost use Rattle.wfc_cli.specs.Theorem.{CountsFaults, HasDeviceFault, HasFirstFault, HasRefusedWords};
@@ -21,6 +22,7 @@ mod commands;
 mod deliver;
 pub mod laws;
 mod lines;
+mod races;
 mod reply;
 mod runs;
 
@@ -85,6 +87,8 @@ pub fn run<F: Folder, O: Sink, E: Sink>(
     ensures check { CheckPromises (call_of (λ chooser. (told chooser).rule) choosers.items words.now
         F.seen folder.old folder.new O.seen out.old out.new E.seen err.old err.new result) }
     ensures upgrade { UpgradePromises (call_of (λ chooser. (told chooser).rule) choosers.items words.now
+        F.seen folder.old folder.new O.seen out.old out.new E.seen err.old err.new result) }
+    ensures race { RacePromises (call_of (λ chooser. (told chooser).rule) choosers.items words.now
         F.seen folder.old folder.new O.seen out.old out.new E.seen err.old err.new result) }
 {
     answer(alloc, words, folder, out, err, choosers)

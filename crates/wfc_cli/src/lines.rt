@@ -7,8 +7,8 @@ ghost use Rattle.wfc_cli.specs.ErrorLine.{fault_text, grid_text, name_of, pictur
 
 use wfc_grid::GridFault;
 use wfc_lines::{
-    build, chooser, command, grid, learn, mask, mask_grid, no_memory, palette, pins, ppm, range,
-    reading, render, steps, tiles,
+    build, chooser, command, grid, learn, mask, mask_grid, no_memory, palette, pins, ppm, race,
+    range, reading, render, steps, tiles,
 };
 use wfc_outside::{ReadFault, Sink, SinkFault};
 use wfc_task::{Fault, Refusal, Source};
@@ -106,5 +106,6 @@ fn tell_refusal<E: Sink>(err: &mut E, request: &Request, refusal: Refusal) -> Re
         Refusal::NoMemory => no_memory(err),
         Refusal::Tiles { fault } => tiles(err, fault, name(request, Source::Sample)),
         Refusal::Mask { fault } => mask(err, fault, name(request, Source::Mask)),
+        Refusal::RaceTooLarge { product } => race(err, product),
     }
 }

@@ -1,5 +1,5 @@
 use Rattle.wfc_cli.proofs.LineLemmas.{is_apart_from_err, tells_status}
-use Rattle.wfc_cli.proofs.PromiseLemmas.{check_promises, demo_promises, domains_promises, fill_promises, learn_promises, refute_promises, upgrade_promises}
+use Rattle.wfc_cli.proofs.PromiseLemmas.{check_promises, demo_promises, domains_promises, fill_promises, learn_promises, race_promises, refute_promises, upgrade_promises}
 use Rattle.wfc_cli.proofs.TheoremLemmas.{first_fault_decides, has_first_fault, is_device_fault, is_no_command, keeps_counts, keeps_out, no_command_is_3, task_is_answered}
 use Rattle.wfc_cli.proofs.run.Goals as goal
 
@@ -53,3 +53,6 @@ returns-clause-check g c = check_promises _ c.answer.ensures.answer
 
 pub returns-clause-upgrade : goal.returns-clause-upgrade
 returns-clause-upgrade g c = upgrade_promises _ c.answer.ensures.answer
+
+pub returns-clause-race : goal.returns-clause-race
+returns-clause-race g c = race_promises _ c.answer.ensures.answer

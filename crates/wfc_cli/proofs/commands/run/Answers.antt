@@ -1,7 +1,8 @@
 use Rattle.std.proofs.Common.{sym, ap, ◌∙◌, refl}
 use Rattle.wfc_words.specs.RequestView.{RequestView}
-use Rattle.wfc_words.specs.declared.kinds.CommandKind.TheVariants.{Learn, Fill, Domains, Demo, Check, Refute, Upgrade}
+use Rattle.wfc_words.specs.declared.kinds.CommandKind.TheVariants.{Learn, Fill, Domains, Demo, Check, Refute, Upgrade, Race}
 use Rattle.wfc_cli.proofs.EndLemmas.{ends_of, output_asked, put_reply, source_asked}
+use Rattle.wfc_cli.proofs.RacerLemmas.{runners_asked}
 use Rattle.wfc_cli.proofs.commands.run.Goals as goal
 
 pub learn-requires : goal.learn-requires
@@ -57,3 +58,15 @@ upgrade-requires-clause-output g c = output_asked c.args.request.now Upgrade c.r
 
 pub returns-in-Upgrade : goal.returns-in-Upgrade
 returns-in-Upgrade g c = record { ends = ends_of _ c.args.request.now Upgrade _ _ _ _ _ (sym (ap (λ (r : RequestView). r.command) c.request.view_is) ∙ c.in-Upgrade.is) c.upgrade.ensures.ends }
+
+pub race-requires-clause-source : goal.race-requires-clause-source
+race-requires-clause-source g c = source_asked c.args.request.now Race c.requires.in_range (sym (ap (λ (r : RequestView). r.command) c.request.view_is) ∙ c.in-Race.is) refl
+
+pub race-requires-clause-output : goal.race-requires-clause-output
+race-requires-clause-output g c = output_asked c.args.request.now Race c.requires.in_range (sym (ap (λ (r : RequestView). r.command) c.request.view_is) ∙ c.in-Race.is) refl refl
+
+pub race-requires-clause-runners : goal.race-requires-clause-runners
+race-requires-clause-runners g c = runners_asked c.args.request.now c.requires.in_range (sym (ap (λ (r : RequestView). r.command) c.request.view_is) ∙ c.in-Race.is)
+
+pub returns-in-Race : goal.returns-in-Race
+returns-in-Race g c = record { ends = ends_of _ c.args.request.now Race _ _ _ _ _ (sym (ap (λ (r : RequestView). r.command) c.request.view_is) ∙ c.in-Race.is) (put_reply _ _ _ _ _ _ _ _ c.race.ensures.ends c.put-in-Race.ensures.leaves) }
