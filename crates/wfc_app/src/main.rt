@@ -18,7 +18,7 @@ use std::rt::Env;
 use std::{env, io};
 use wfc_choose::{Buckets, Chooser, Scanning};
 use wfc_cli::{refuse, run};
-use wfc_outside::{DiskFolder, Folder, Sink, StderrSink, StdoutSink};
+use wfc_outside::{DiskFolder, Folder, NoMemory, Sink, StderrSink, StdoutSink};
 use wfc_words::CommandFault;
 
 /// The words behind the program's name.
@@ -58,22 +58,27 @@ fn program<F: Folder, O: Sink, E: Sink>(
     ExitCode::from(status)
 }
 
+/// How many choosers of each kind there are: one for each runner of a race, and more.
+const CHOOSERS: u32 = 65;
+
+/// The choosers that the program hands in, of either kind as many.
+fn choosers(alloc: Global) -> Result<Vec<Box<dyn Chooser>>, NoMemory> {
+    let mut choosers: Vec<Box<dyn Chooser>> = Vec::new(alloc);
+    for _made in 0..CHOOSERS {
+        let scanline = Box::new(alloc, Scanning::scanline(alloc))?;
+        choosers.push(scanline)?;
+        let fewest = Box::new(alloc, Buckets::new(alloc))?;
+        choosers.push(fewest)?;
+    }
+    Ok(choosers)
+}
+
 fn main(rt: HostRuntime) -> ExitCode {
     let alloc = rt.alloc();
     let mut folder = DiskFolder::new(&rt);
     let mut out = StdoutSink::new(rt.stdout());
     let mut err = StderrSink::new(rt.stderr());
-    let Ok(scanline) = Box::new(alloc, Scanning::scanline(alloc)) else {
-        return ExitCode::from(refuse(&mut err, CommandFault::NoMemory));
-    };
-    let Ok(fewest) = Box::new(alloc, Buckets::new(alloc)) else {
-        return ExitCode::from(refuse(&mut err, CommandFault::NoMemory));
-    };
-    let mut choosers: Vec<Box<dyn Chooser>> = Vec::new(alloc);
-    let Ok(()) = choosers.push(scanline) else {
-        return ExitCode::from(refuse(&mut err, CommandFault::NoMemory));
-    };
-    let Ok(()) = choosers.push(fewest) else {
+    let Ok(choosers) = choosers(alloc) else {
         return ExitCode::from(refuse(&mut err, CommandFault::NoMemory));
     };
     program(alloc, words(&rt), choosers, &mut folder, &mut out, &mut err)
