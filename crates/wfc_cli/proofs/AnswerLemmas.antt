@@ -1,5 +1,5 @@
 -- What a call came to, by the command of its request.
-use Rattle.std.proofs.Common.{◌≡◌, ℕ, inl, inr, List, Result, Ok, Err, subst, refl, arith}
+use Rattle.std.proofs.Common.{◌≡◌, inl, inr, List, Result, Ok, Err, subst, refl, arith}
 use Rattle.wfc_outside.specs.Folder.{File}
 use Rattle.wfc_words.specs.RequestView.{RequestView}
 use Rattle.wfc_words.specs.declared.kinds.CommandKind.{CommandKind}

@@ -5,7 +5,6 @@ use Rattle.wfc_choose.specs.Pick.{Rule}
 use Rattle.wfc_choose.specs.declared.RuleKind.{RuleKind}
 use Rattle.wfc_search.specs.Run.{State, outcome_of}
 use Rattle.wfc_search.specs.declared.Outcome.{Outcome}
-use Rattle.wfc_task.specs.Plan.{outcome}
 use Rattle.wfc_cli.specs.Answers.{outcome_status, verdict_of}
 use Rattle.wfc_cli.specs.Choosers.{chosen}
 use Rattle.wfc_cli.specs.Reply.{verdict_status}

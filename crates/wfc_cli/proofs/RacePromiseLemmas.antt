@@ -1,5 +1,5 @@
 -- What a call promises of `race`.
-use Rattle.std.proofs.Common.{◌≡◌, ℕ, zero, suc, ◌+◌, ◌<◌, ◌≤◌, ◌⊎◌, inl, inr, true, List, [], ◌∷◌, length, Option, None, Some, ap, sym, ◌∙◌, subst, refl, arith}
+use Rattle.std.proofs.Common.{◌≡◌, ℕ, ◌+◌, ◌≤◌, inl, inr, true, List, Option, None, Some, ap, sym, ◌∙◌, subst, refl, arith}
 use Rattle.std.specs.List.{slice_get}
 use Rattle.std.proofs.lemmas.Bool.{cases_lt}
 use Rattle.wfc_outside.specs.Folder.{File}
@@ -7,7 +7,7 @@ use Rattle.wfc_model.specs.Raster.{Raster}
 use Rattle.wfc_problem.specs.Network.{Network}
 use Rattle.wfc_choose.specs.Pick.{Rule}
 use Rattle.wfc_race.specs.Race.{EndsWithin, IsTrueRaceEnd}
-use Rattle.wfc_race.specs.Racers.{Racer, after}
+use Rattle.wfc_race.specs.Racers.{Racer}
 use Rattle.wfc_race.specs.Rounds.{rounds_of}
 use Rattle.wfc_race.specs.declared.RaceEnd.{RaceEnd}
 use Rattle.wfc_race.specs.declared.RaceEnd.TheVariants as end

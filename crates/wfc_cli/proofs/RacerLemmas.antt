@@ -1,7 +1,7 @@
 -- The runners of `race`, and what its code says of their race.
-use Rattle.std.proofs.Common.{◌≡◌, ℕ, zero, suc, ◌+◌, ◌-◌, ◌<◌, ◌≤◌, ◌&&◌, nat_lt, Bool, true, false, List, [], ◌∷◌, ◌++◌, length, map, take, drop, filter, codes, Option, Some, None, All, ap, sym, ◌∙◌, subst, refl, arith, if◌then◌else◌}
+use Rattle.std.proofs.Common.{◌≡◌, ℕ, zero, suc, ◌+◌, ◌-◌, ◌<◌, ◌≤◌, ◌&&◌, nat_lt, Bool, true, false, List, [], ◌∷◌, ◌++◌, length, map, take, drop, codes, Some, All, ap, sym, ◌∙◌, subst, refl, arith, if◌then◌else◌}
 use Rattle.std.specs.Prelude.{IfOk, Result, Ok, Err}
-use Rattle.std.specs.List.{count_by, slice_get}
+use Rattle.std.specs.List.{slice_get}
 use Rattle.std.proofs.lemmas.Bool.Decides.{nat_tests}
 use Rattle.std.proofs.Math.ListN.{get_or}
 use Rattle.std.proofs.lemmas.List.{map-append, length-append, length-map, append_assoc, append-nil}
@@ -13,7 +13,7 @@ use Rattle.wfc_choose.specs.declared.RuleKind.{RuleKind}
 use Rattle.wfc_problem.specs.Network.{Network}
 use Rattle.wfc_race.specs.Handed.{IsHandedIn}
 use Rattle.wfc_race.specs.Race.{race_of}
-use Rattle.wfc_race.specs.Racers.{Racer, after, after_from, entered}
+use Rattle.wfc_race.specs.Racers.{Racer, after_from, entered}
 use Rattle.wfc_race.specs.Rounds.{rounds_of}
 use Rattle.wfc_race.specs.declared.RaceEnd.{RaceEnd}
 use Rattle.wfc_race.specs.declared.RaceEnd.TheVariants as end
@@ -34,7 +34,7 @@ use Rattle.wfc_outside.specs.declared.NoMemory.{NoMemory}
 use Rattle.wfc_cli.specs.declared.reply.Answer.{Answer}
 use Rattle.wfc_cli.specs.declared.races.Raced.{Raced}
 use Rattle.wfc_cli.specs.declared.races.Raced.TheVariants as raced
-use Rattle.wfc_cli.specs.declared.reply.Verdict.TheVariants.{Done, NoMap, Spent}
+use Rattle.wfc_cli.specs.declared.reply.Verdict.TheVariants.{Done, NoMap}
 use Rattle.wfc_cli.proofs.MakingLemmas.{length-entrants}
 
 -- a request in its ranges asks for a race

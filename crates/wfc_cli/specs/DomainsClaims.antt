@@ -1,5 +1,5 @@
 -- What `domains` promises, in the words of its subject.
-use Rattle.std.specs.Prelude.{◌≡◌, ℕ, ◌≤◌, ◌⊎◌, true, false, List, []}
+use Rattle.std.specs.Prelude.{◌≡◌, ℕ, ◌⊎◌, true, false, List, []}
 use Rattle.wfc_outside.specs.Folder.{File}
 use Rattle.wfc_outside.specs.Sink.{after_bytes, after_finish}
 use Rattle.wfc_pins.specs.declared.steps.StepLine.{StepLine}

@@ -1,5 +1,5 @@
 -- What `learn` promises, in the words of its subject.
-use Rattle.std.specs.Prelude.{◌≡◌, ℕ, ◌≤◌, List}
+use Rattle.std.specs.Prelude.{◌≡◌, ℕ, List}
 use Rattle.wfc_outside.specs.Folder.{File}
 use Rattle.wfc_outside.specs.Sink.{after_bytes, after_finish}
 use Rattle.wfc_picture.specs.declared.symbol.Symbol.{Symbol}

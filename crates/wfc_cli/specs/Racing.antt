@@ -1,5 +1,5 @@
 -- Which runners `race` has, how their race ends, and what is answered of it.
-use Rattle.std.specs.Prelude.{◌≡◌, ℕ, ◌+◌, ◌≤◌, true, List, ◌++◌, codes, decimal, filter, take, Option, None, Some, ⊤}
+use Rattle.std.specs.Prelude.{ℕ, ◌+◌, ◌≤◌, true, List, ◌++◌, codes, decimal, filter, take, Option, None, Some, ⊤}
 use Rattle.std.specs.List.{slice_get}
 use Rattle.wfc_choose.specs.Pick.{Rule}
 use Rattle.wfc_choose.specs.declared.RuleKind.{RuleKind}

@@ -1,6 +1,6 @@
-use Rattle.std.proofs.Common.{◌≡◌, ◌++◌, ◌∷◌, [], ◌&&◌, ◌<◌, nat_lt, length, true, false, sym, ◌∙◌, arith}
+use Rattle.std.proofs.Common.{◌≡◌, ◌++◌, ◌∷◌, [], ◌&&◌, ◌<◌, nat_lt, length, true, false, sym, arith}
 use Rattle.wfc_task.specs.Steps.{same_rule}
-use Rattle.wfc_cli.proofs.RacerLemmas.{IsTaken, one_left, one_taken}
+use Rattle.wfc_cli.proofs.RacerLemmas.{one_left, one_taken}
 use Rattle.wfc_cli.proofs.choosers.first_many.Goals as goal
 use Rattle.wfc_cli.proofs.choosers.first_many.Goals.{then-is_wanted+in_ok-push, else-is_wanted}
 

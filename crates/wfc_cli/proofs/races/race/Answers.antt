@@ -1,4 +1,4 @@
-use Rattle.std.proofs.Common.{ap, arith, ◌∙◌, List, length, map}
+use Rattle.std.proofs.Common.{ap, arith, ◌∙◌, map}
 use Rattle.std.proofs.lemmas.List.{length-map}
 use Rattle.wfc_race.specs.Seen.{seen, seens, problem_of, racers_of}
 use Rattle.wfc_cli.specs.Races.{entrants, given_by}

@@ -1,8 +1,6 @@
-use Rattle.std.proofs.Common.{refl, arith, ◌∙◌, map}
-use Rattle.std.proofs.lemmas.List.{take_all}
-use Rattle.std.proofs.lemmas.List.Elements.{All-nil}
-use Rattle.wfc_race.specs.Seen.{seen, IsRunner}
-use Rattle.wfc_cli.specs.Races.{given_by, entrants}
+use Rattle.std.proofs.Common.{arith}
+use Rattle.wfc_race.specs.Seen.{seen}
+use Rattle.wfc_cli.specs.Races.{given_by}
 use Rattle.wfc_cli.proofs.MakingLemmas.{all_made, none_made, one_more}
 use Rattle.wfc_cli.proofs.races.runners.Goals as goal
 
