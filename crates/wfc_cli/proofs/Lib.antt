@@ -24,6 +24,7 @@ pub mod UpgradeLemmas
 pub mod CutLemmas
 pub mod MakingLemmas
 pub mod RacerLemmas
+pub mod PlainLemmas
 pub mod RacePromiseLemmas
 pub mod LineLemmas
 pub mod PromiseLemmas

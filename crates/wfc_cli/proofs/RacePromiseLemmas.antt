@@ -28,12 +28,13 @@ use Rattle.wfc_cli.specs.RaceCommand.{RaceAnswers, race_command}
 use Rattle.wfc_cli.specs.Races.{entrants}
 use Rattle.wfc_cli.specs.Racing.{race_answer, race_end, race_status, race_text, race_verdict, retractions_in, runners_of}
 use Rattle.wfc_cli.specs.Reply.{Answered, Takes, TakesWhole, verdict_status}
-use Rattle.wfc_cli.specs.Runs.{seeded}
+use Rattle.wfc_cli.specs.Runs.{end_by, seeded}
 use Rattle.wfc_cli.proofs.CameLemmas.{CameTo, HasAnswered, cut, none, whole}
 use Rattle.wfc_cli.proofs.CutLemmas.{AnswersOnly, cuts_text}
 use Rattle.wfc_cli.proofs.EndingLemmas.{EndsSo, IsEnding, as_asked, as_no, as_spent}
 use Rattle.wfc_cli.proofs.MakingLemmas.{length-entrants}
 use Rattle.wfc_cli.proofs.MapLemmas.{IsBridged, TakesSides, command_bridged, no_legal}
+use Rattle.wfc_cli.proofs.PlainLemmas.{runner_is, same_run}
 use Rattle.wfc_cli.proofs.RacerLemmas.{as_many, entrant_at, handed, inside, many_runners, runners_asked}
 use Rattle.wfc_cli.proofs.VerdictLemmas.{five_apart}
 use Rattle.wfc_words.proofs.RangeLemmas.{asked-in_range}
@@ -158,7 +159,16 @@ is_as_runner call asked files is work ended ends = by_end ended.0 ended.1 ends
         let many = as_many work.P (entered_by call.rules asked) now rounds sort ends ∙ length-entrants (runners_of call.rules asked) asked.budget asked.seed in
         let at = entrant_at (runners_of call.rules asked) asked.budget asked.seed who (omega (arith, inside now who r here, many)) in
         let alone = named_end work.P (known call asked files is work).problem (entered_by call.rules asked) now rounds sort who at.0 asked.budget (seeded (asked.seed + who)) r o ends at.1.1 here out in
-        record { rule = at.0; there = at.1.0; state = _; ends = alone.1; same = sym (ap retractions_in here) }
+        let words = seeded (asked.seed + who) in
+        let found = runner_is asked.rule call.rules asked.seeds who at.0 at.1.0 in
+        record {
+          rule = at.0;
+          there = at.1.0;
+          state = _;
+          ends = alone.1;
+          same = sym (ap retractions_in here);
+          as_fill = λ plain. ap (λ (r : Option Rule). end_by r work.P asked.budget (asked.seed + who)) found.chosen_is ∙ same_run work.P found.first at.0 asked.rule asked.budget words found.first_is found.is plain ∙ alone.1;
+        }
 
     by_end : (sort : RaceEnd) (now : List Racer) → race_end call.rules asked work.P ≡ Some (sort, now) → NamesRun call.rules asked work.P (sort, now)
     by_end (end.Map who) now ends = let legal = says call asked files is work (end.Map who) now ends in own (end.Map who) now who legal.0 outcome.Map ends legal.1 legal.2

@@ -20,9 +20,9 @@ use Rattle.wfc_cli.specs.Call.{Call}
 use Rattle.wfc_cli.specs.Choosers.{kinds_of}
 use Rattle.wfc_cli.specs.CutClaims.{CutsText}
 use Rattle.wfc_cli.specs.Maps.{IsLegal}
-use Rattle.wfc_cli.specs.Racing.{race_end, race_status, race_text, retractions_in, runners_of}
+use Rattle.wfc_cli.specs.Racing.{IsPlain, race_end, race_status, race_text, retractions_in, runners_of}
 use Rattle.wfc_cli.specs.Reply.{HasAnswer, Takes}
-use Rattle.wfc_cli.specs.Runs.{seeded}
+use Rattle.wfc_cli.specs.Runs.{end_of, seeded}
 
 -- what `race` works on over these files: for each seed a chooser goes by the rule, the problem is that of the request, and
 -- the race isn't too large
@@ -44,13 +44,15 @@ IsAsRace call asked files =
     × (race_end call.rules asked work.P ≡ Some ended)
     × (call.status ≡ race_status ended.0) × Takes (race_text asked ended) call.before.out call.after.out
 
--- the run of the runner in this place, with its own seed, ends so, after so many retractions
+-- the run of the runner in this place, with its own seed, ends so, after so many retractions; by a rule that doesn't go by
+-- ranks it is the run of `fill` with that seed
 pub record IsOwnRun (rules : List Rule) (asked : RequestView) (P : Network) (who : ℕ) (o : Outcome) (retractions : ℕ) : Type 0 where
   pub rule : Rule
   pub there : slice_get (runners_of rules asked) who ≡ Some rule
   pub state : State
   pub ends : outcome_of P rule asked.budget (seeded (asked.seed + who)) ≡ Some (o, state)
   pub same : state.retractions ≡ retractions
+  pub as_fill : IsPlain asked.rule → end_of rules asked.rule P asked.budget (asked.seed + who) ≡ Some (o, state)
 
 -- the run of the runner that an end names ends as the race does
 abbrev pub NamesRun : List Rule → RequestView → Network → RaceEnd × List Racer → Type 0

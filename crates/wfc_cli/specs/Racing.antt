@@ -3,6 +3,7 @@ use Rattle.std.specs.Prelude.{ℕ, ◌+◌, ◌≤◌, true, List, ◌++◌, cod
 use Rattle.std.specs.List.{slice_get}
 use Rattle.wfc_choose.specs.Pick.{Rule}
 use Rattle.wfc_choose.specs.declared.RuleKind.{RuleKind}
+use Rattle.wfc_choose.specs.declared.RuleKind.TheVariants.{Scanline, Fewest, Ranked}
 use Rattle.wfc_problem.specs.Network.{Network}
 use Rattle.wfc_race.specs.Racers.{Racer}
 use Rattle.wfc_race.specs.Rounds.{round_end_of}
@@ -16,6 +17,12 @@ use Rattle.wfc_cli.specs.declared.races.Raced.{Raced}
 use Rattle.wfc_cli.specs.declared.races.Raced.TheVariants as raced
 use Rattle.wfc_cli.specs.declared.reply.Verdict.{Verdict}
 use Rattle.wfc_cli.specs.declared.reply.Verdict.TheVariants.{Done, NoMap, Spent}
+
+-- a kind of rule that doesn't go by ranks
+abbrev pub IsPlain : RuleKind → Type 0
+IsPlain Scanline = ⊤
+IsPlain Fewest = ⊤
+IsPlain Ranked = ⊥
 
 -- the rules of a kind, in their order
 abbrev pub of_kind : RuleKind → List Rule → List Rule
