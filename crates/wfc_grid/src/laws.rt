@@ -9,9 +9,11 @@ ghost use Rattle.wfc_grid.specs.Spelling.{SpellsGrid, grid_text};
 ghost use Rattle.wfc_grid.specs.declared.reading.GridFault.TheVariants.{Empty, Ragged, BadByte, TooLarge};
 
 use crate::MAX_CELLS;
+use wfc_outside::MAX_FILE_BYTES;
 
-/// The limit is this number.
+/// The limits are these numbers: the bytes of a file, and the cells of a grid.
 pub fn limits_are()
+    ensures bytes { MAX_FILE_BYTES ≡ 16777216 }
     ensures cells { MAX_CELLS ≡ 1048576 }
     ensures most { size_fault 1048576 ≡ None }
     ensures more { size_fault 1048577 ≡ Some TooLarge }

@@ -1,6 +1,6 @@
 //! Laws of what is learned, each a function with no body whose contract is the law. They run nothing.
 
-ghost use Rattle.std.specs.Prelude.{◌≡◌, ◌↔◌, ℕ, ◌*◌, ◌<◌, ◌≤◌, Bool, true, false, List, [], ◌∷◌, length, map, sum, IsTrue};
+ghost use Rattle.std.specs.Prelude.{◌≡◌, ◌↔◌, ℕ, ◌*◌, ◌<◌, ◌≤◌, Bool, true, false, List, [], ◌∷◌, length, map, replicate, sum, IsTrue};
 ghost use Rattle.std.specs.List.{range_with_len};
 ghost use Rattle.wfc_model.specs.Direction.{IsStepModulo, opposite};
 ghost use Rattle.wfc_model.specs.Raster.{Raster, IsRaster, height_of, raster_of};
@@ -70,6 +70,10 @@ pub fn taught_patterns()
     ensures weightless { IsPatterns (record { n = 1; windows = (5 ∷ []) ∷ (6 ∷ []) ∷ []; weights = 3 ∷ 0 ∷ [] }) → ⊥ }
     ensures misshapen { IsPatterns (record { n = 2; windows = (5 ∷ 6 ∷ []) ∷ []; weights = 3 ∷ [] }) → ⊥ }
     ensures none { IsPatterns (record { n = 1; windows = []; weights = [] }) → ⊥ }
+    ensures widest { IsPatterns (record { n = 6; windows = replicate 36 5 ∷ []; weights = 3 ∷ [] }) }
+    ensures wider { IsPatterns (record { n = 7; windows = replicate 49 5 ∷ []; weights = 3 ∷ [] }) → ⊥ }
+    ensures narrower { IsPatterns (record { n = 0; windows = [] ∷ []; weights = 3 ∷ [] }) → ⊥ }
+    ensures heaviest { IsPatterns (record { n = 1; windows = (5 ∷ []) ∷ []; weights = 8388609 ∷ [] }) → ⊥ }
 {}
 
 /// The weights of the patterns together are the number of images that arise.

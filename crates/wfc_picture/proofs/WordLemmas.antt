@@ -1,18 +1,29 @@
--- The word that spells a symbol is read as that symbol, and a word that is read as a symbol spells it.
-use Rattle.std.proofs.Common.{◌≡◌, ℕ, ◌^◌, ◌<◌, ◌≤◌, Bool, true, false, ◌&&◌, cond, nat_eq, List, [], ◌∷◌, ◌++◌, length, get_or, decimal, Option, None, Some, refl, sym, subst, ap, ◌∙◌, arith, length-append}
+-- A word spells at most one symbol: the one that its length and its commas allow.
+use Rattle.std.proofs.Common.{◌≡◌, ℕ, ◌^◌, ◌<◌, ◌≤◌, Bool, true, false, cond, nat_eq, List, [], ◌∷◌, ◌++◌, length, get_or, decimal, Option, None, Some, refl, sym, subst, ap, ◌∙◌, arith, length-append}
 use Rattle.std.specs.Int.{IsInRange}
 use Rattle.std.specs.List.{All, slice_split}
-use Rattle.std.specs.Str.{bytes_eq}
-use Rattle.std.specs.Str.Parse.{AllDigits}
-use Rattle.std.proofs.lemmas.Bool.{and_parts, and_from, eqb-true, ne_eqb, ltb-true}
+use Rattle.std.specs.Prelude.{slice_index, ◌==◌, if◌then◌else◌}
+use Rattle.std.specs.Str.Parse.{AllDigits, digits_value}
+use Rattle.std.proofs.lemmas.Bool.{and_parts, eqb-true, ne_eqb, ltb-true}
 use Rattle.std.proofs.lemmas.Fmt.{decimal_is_IsNumeral}
 use Rattle.std.proofs.lemmas.List.{get_or_default}
 use Rattle.std.proofs.lemmas.List.Splits.{slice_split_at, slice_split_none}
-use Rattle.std.proofs.lemmas.Slice.Eq.{bytes_eq-Decides}
 use Rattle.std.proofs.lemmas.Str.Parse.{digit_at}
 use Rattle.wfc_picture.specs.declared.symbol.Symbol.{Symbol}
 use Rattle.wfc_picture.specs.declared.symbol.Symbol.TheVariants.{Char, Rgb}
-use Rattle.wfc_picture.specs.Symbol.{Spells, colour_of, if_spelled, is_shown, likely_symbol, symbol_of_word, symbol_text}
+use Rattle.wfc_picture.specs.Symbol.{Spells, is_shown, symbol_text}
+
+-- the colour whose samples three parts write
+abbrev pub colour_of : List (List ℕ) → Option Symbol
+colour_of (red ∷ green ∷ blue ∷ []) = Some (Rgb (record { r = digits_value 10 red; g = digits_value 10 green; b = digits_value 10 blue }))
+colour_of _ = None
+
+-- the only symbol that the word may spell: by its length a byte, a blank, or a colour of the parts between commas
+abbrev pub likely_symbol : List ℕ → Option Symbol
+likely_symbol word =
+    if length word == 1 then Some (Char (slice_index word 0))
+    else if length word == 2 then Some (Char 0x20)
+    else colour_of (slice_split (λ byte. byte == 0x2C) word)
 
 -- whether a byte is the comma
 abbrev is_comma : ℕ → Bool
@@ -74,26 +85,23 @@ likely-text (Rgb colour) shown =
     made : (r g b : ℕ) → r ≡ colour.r → g ≡ colour.g → b ≡ colour.b → (let o : Option Symbol = Some (Rgb (record { r = r; g = g; b = b })) in o) ≡ Some (Rgb colour)
     made r g b red green blue = λ i. Some (Rgb (record { r = red i; g = green i; b = blue i }))
 
--- a word that spells a symbol is read as it
-pub symbol_of_word-spells : (word : List ℕ) (symbol : Symbol) → Spells word symbol → symbol_of_word word ≡ Some symbol
-symbol_of_word-spells word symbol spells =
-    let shown : is_shown symbol ≡ true = spells.shown in
-    let likely : likely_symbol word ≡ Some symbol = ap likely_symbol spells.text ∙ likely-text symbol shown in
-    let same : bytes_eq word (symbol_text symbol) ≡ true = (bytes_eq-Decides word (symbol_text symbol)).1 spells.text in
-    ap (if_spelled word) likely
-    ∙ ap (λ t. cond t (Some symbol) None) (and_from (is_shown symbol) (bytes_eq word (symbol_text symbol)) shown same)
+-- the symbol that a word spells is the only one that it may spell
+pub spelled-likely : (word : List ℕ) (symbol : Symbol) → Spells word symbol → likely_symbol word ≡ Some symbol
+spelled-likely word symbol spells = ap likely_symbol spells.text ∙ likely-text symbol spells.shown
 
--- and a word that is read as a symbol spells it
-pub spells-symbol_of_word : (word : List ℕ) (symbol : Symbol) → symbol_of_word word ≡ Some symbol → Spells word symbol
-spells-symbol_of_word word symbol read = of (likely_symbol word) read
-  where
-    of : (o : Option Symbol) → if_spelled word o ≡ Some symbol → Spells word symbol
-    of None none = cc
-    of (Some other) kept = by (is_shown other && bytes_eq word (symbol_text other)) refl kept
-      where
-        by : (t : Bool) → (is_shown other && bytes_eq word (symbol_text other)) ≡ t → cond t (Some other) None ≡ Some symbol → Spells word symbol
-        by false e none = cc
-        by true e is =
-            let same : other ≡ symbol = cc in
-            let parts = and_parts (is_shown other) (bytes_eq word (symbol_text other)) e in
-            subst (Spells word) same (record { shown = parts.0; text = (bytes_eq-Decides word (symbol_text other)).0 parts.1 })
+-- so it spells at most one
+pub one_symbol : (word : List ℕ) (a b : Symbol) → Spells word a → Spells word b → a ≡ b
+one_symbol word a b first second =
+    let same : Some a ≡ Some b = sym (spelled-likely word a first) ∙ spelled-likely word b second in cc
+
+-- a word that may spell no symbol spells none
+pub spells-none : (word : List ℕ) → likely_symbol word ≡ None → (symbol : Symbol) → Spells word symbol → ⊥
+spells-none word none symbol spells =
+    let same : None ≡ Some symbol = sym none ∙ spelled-likely word symbol spells in cc
+
+-- nor does one that may spell a single symbol, and does not
+pub spells-no_other : (word : List ℕ) (only : Symbol) → likely_symbol word ≡ Some only → (Spells word only → ⊥) → (symbol : Symbol) → Spells word symbol → ⊥
+spells-no_other word only likely unspelled symbol spells =
+    let found : Some symbol ≡ Some only = sym (spelled-likely word symbol spells) ∙ likely in
+    let same : symbol ≡ only = cc in
+    unspelled (subst (Spells word) same spells)

@@ -1,8 +1,5 @@
 -- Symbols: which are the same, and the words that spell them.
-use Rattle.std.specs.Prelude.{◌≡◌, ℕ, ◌^◌, Bool, false, ◌==◌, ◌&&◌, nat_le, nat_lt, List, [], ◌∷◌, ◌++◌, length, slice_index, decimal, Option, None, Some, IsTrue, if◌then◌else◌}
-use Rattle.std.specs.List.{slice_split}
-use Rattle.std.specs.Str.{bytes_eq}
-use Rattle.std.specs.Str.Parse.{digits_value}
+use Rattle.std.specs.Prelude.{◌≡◌, ℕ, ◌^◌, Bool, false, ◌==◌, ◌&&◌, nat_le, nat_lt, List, [], ◌∷◌, ◌++◌, decimal, IsTrue, if◌then◌else◌}
 use Rattle.wfc_picture.specs.declared.symbol.Symbol.{Symbol}
 use Rattle.wfc_picture.specs.declared.symbol.Symbol.TheVariants.{Char, Rgb}
 
@@ -26,24 +23,3 @@ symbol_text (Rgb colour) = decimal colour.r ++ 0x2C ∷ (decimal colour.g ++ 0x2
 pub record Spells (word : List ℕ) (symbol : Symbol) : Type 0 where
   pub shown : IsTrue (is_shown symbol)
   pub text : word ≡ symbol_text symbol
-
--- the colour whose samples three parts write
-abbrev pub colour_of : List (List ℕ) → Option Symbol
-colour_of (red ∷ green ∷ blue ∷ []) = Some (Rgb (record { r = digits_value 10 red; g = digits_value 10 green; b = digits_value 10 blue }))
-colour_of _ = None
-
--- the only symbol that the word may spell: by its length a byte, a blank, or a colour of the parts between commas
-abbrev pub likely_symbol : List ℕ → Option Symbol
-likely_symbol word =
-    if length word == 1 then Some (Char (slice_index word 0))
-    else if length word == 2 then Some (Char 0x20)
-    else colour_of (slice_split (λ byte. byte == 0x2C) word)
-
--- the symbol, if it is there, can stand in a sample and has this text
-abbrev pub if_spelled : List ℕ → Option Symbol → Option Symbol
-if_spelled word None = None
-if_spelled word (Some symbol) = if is_shown symbol && bytes_eq word (symbol_text symbol) then Some symbol else None
-
--- the symbol that the word spells, if it spells one
-abbrev pub symbol_of_word : List ℕ → Option Symbol
-symbol_of_word word = if_spelled word (likely_symbol word)

@@ -1,11 +1,11 @@
 //! Laws of symbols and palettes, each a function with no body whose contract is the law. They run nothing.
 
-ghost use Rattle.std.specs.Prelude.{◌≡◌, ◌↔◌, ℕ, ◌<◌, List, [], ◌∷◌, length, map, slice_get, All, Contains, Option, None, Some, Ok, Err, IsTrue, true, false};
+ghost use Rattle.std.specs.Prelude.{◌≡◌, ◌↔◌, ℕ, ◌<◌, List, [], ◌∷◌, length, map, slice_get, All, Contains, Option, None, Some, Ok, Err, IsTrue, true, false, codes};
 ghost use Rattle.std.specs.List.{IsDistinct};
 ghost use Rattle.wfc_model.specs.Raster.{raster_of};
 ghost use Rattle.wfc_picture.specs.Palette.{palette_of, symbol_number, numbered, first_past, unless_past, indexed};
 ghost use Rattle.wfc_picture.specs.Small.{rgb, six_pixels};
-ghost use Rattle.wfc_picture.specs.Symbol.{Spells, same_symbol, is_shown, symbol_text, symbol_of_word};
+ghost use Rattle.wfc_picture.specs.Symbol.{Spells, same_symbol, is_shown, symbol_text};
 ghost use Rattle.wfc_picture.specs.declared.palette.PaletteFault.TheVariants.{TooManyColours};
 ghost use Rattle.wfc_picture.specs.declared.palette.TheConstants.{MAX_COLOURS, MAX_PIXELS};
 ghost use Rattle.wfc_picture.specs.declared.symbol.Symbol.{Symbol};
@@ -35,27 +35,33 @@ pub fn texts_of_symbols()
         false ∷ false ∷ false ∷ [] }
 {}
 
-/// A word is read as the symbol that it spells, and as none where it spells none; so it spells at most one.
+/// A word spells at most one symbol, and each symbol that can stand in a sample is spelled by its text.
 pub fn words_spell_symbols()
-    ensures exactly { (word : List ℕ) (symbol : Symbol)
-        → (symbol_of_word word ≡ Some symbol) ↔ Spells word symbol }
     ensures one { (word : List ℕ) (a b : Symbol) → Spells word a → Spells word b → a ≡ b }
+    ensures spelled { (symbol : Symbol) → IsTrue (is_shown symbol)
+        → Spells (symbol_text symbol) symbol }
 {}
 
-/// Words that spell: `b`, `,`, `\s` and `10,0,255`. A blank alone, a tabulator, `\t`, `01,0,0`, `1,2`, `1,2,3,4`, `1,,3` and
-/// `0,65536,0` spell nothing.
+/// Words that spell: `b`, `,`, `\s` and `10,0,255`.
 pub fn small_words()
-    ensures bytes { map symbol_of_word ((98 ∷ []) ∷ (44 ∷ []) ∷ (92 ∷ 115 ∷ []) ∷ []) ≡
-        Some (Char 98) ∷ Some (Char 44) ∷ Some (Char 32) ∷ [] }
-    ensures colour { symbol_of_word (49 ∷ 48 ∷ 44 ∷ 48 ∷ 44 ∷ 50 ∷ 53 ∷ 53 ∷ []) ≡
-        Some (rgb 10 0 255) }
-    ensures none { map symbol_of_word ([] ∷ (32 ∷ []) ∷ (9 ∷ []) ∷ (92 ∷ 116 ∷ []) ∷ []) ≡
-        None ∷ None ∷ None ∷ None ∷ [] }
-    ensures zero_first { symbol_of_word (48 ∷ 49 ∷ 44 ∷ 48 ∷ 44 ∷ 48 ∷ []) ≡ None }
-    ensures two_parts { symbol_of_word (49 ∷ 44 ∷ 50 ∷ []) ≡ None }
-    ensures four_parts { symbol_of_word (49 ∷ 44 ∷ 50 ∷ 44 ∷ 51 ∷ 44 ∷ 52 ∷ []) ≡ None }
-    ensures empty_part { symbol_of_word (49 ∷ 44 ∷ 44 ∷ 51 ∷ 51 ∷ []) ≡ None }
-    ensures too_large { symbol_of_word (48 ∷ 44 ∷ 54 ∷ 53 ∷ 53 ∷ 51 ∷ 54 ∷ 44 ∷ 48 ∷ []) ≡ None }
+    ensures byte { Spells (codes "b") (Char 98) }
+    ensures comma { Spells (codes ",") (Char 44) }
+    ensures blank { Spells (codes "\\s") (Char 32) }
+    ensures colour { Spells (codes "10,0,255") (rgb 10 0 255) }
+    ensures exchanged { Spells (codes "10,0,255") (rgb 255 0 10) → ⊥ }
+{}
+
+/// No word, a blank alone, a tabulator, `\t`, `01,0,0`, `1,2`, `1,2,3,4`, `1,,33` and `0,65536,0` spell nothing.
+pub fn words_that_spell_nothing()
+    ensures none { (symbol : Symbol) → Spells [] symbol → ⊥ }
+    ensures blank { (symbol : Symbol) → Spells (codes " ") symbol → ⊥ }
+    ensures tabulator { (symbol : Symbol) → Spells (9 ∷ []) symbol → ⊥ }
+    ensures other_escape { (symbol : Symbol) → Spells (codes "\\t") symbol → ⊥ }
+    ensures zero_first { (symbol : Symbol) → Spells (codes "01,0,0") symbol → ⊥ }
+    ensures two_parts { (symbol : Symbol) → Spells (codes "1,2") symbol → ⊥ }
+    ensures four_parts { (symbol : Symbol) → Spells (codes "1,2,3,4") symbol → ⊥ }
+    ensures empty_part { (symbol : Symbol) → Spells (codes "1,,33") symbol → ⊥ }
+    ensures too_large { (symbol : Symbol) → Spells (codes "0,65536,0") symbol → ⊥ }
 {}
 
 // ---- palettes

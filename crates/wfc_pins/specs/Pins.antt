@@ -26,9 +26,13 @@ abbrev pub pin_of_words : ℕ → List (List ℕ) → Option PinView
 pin_of_words line (keep ∷ x ∷ y ∷ symbol ∷ []) = pin_with line symbol (keep_of keep) (number32 x) (number32 y)
 pin_of_words line _ = None
 
--- what a line says, or that it says nothing that may stand in a pins file
+-- the pin or the ban that a line says, if it says one
+abbrev pub pin_said : LineView → Option PinView
+pin_said line = pin_of_words line.number (words_of line.bytes)
+
+-- the same, or that the line says nothing that may stand in a pins file
 abbrev pub pin_of : LineView → Result PinView PinFault
-pin_of line = ok_or (pin_of_words line.number (words_of line.bytes)) (BadLine line.number)
+pin_of line = ok_or (pin_said line) (BadLine line.number)
 
 -- the pins and bans of a text, or the first line at fault
 abbrev pub pins_of : List ℕ → Result (List PinView) PinFault

@@ -1,15 +1,20 @@
 //! Laws of the definitions, each a function with no body whose contract is the law. They run nothing.
 
-ghost use Rattle.std.specs.Prelude.{◌≡◌, ◌↔◌, ℕ, true, false, List, [], ◌∷◌, ◌++◌, codes, Ok, Err, Some, None};
+ghost use Rattle.std.specs.Prelude.{◌≡◌, ◌↔◌, ℕ, All, IsTrue, map, true, false, List, [], ◌∷◌, ◌++◌, codes, Ok, Err, Some, None};
 ghost use Rattle.wfc_text.specs.Line.{LineView};
+ghost use Rattle.wfc_pins.specs.Small.{three_by_two};
 ghost use Rattle.wfc_pins.specs.Words.{is_skipped, read_lines, words_of};
-ghost use Rattle.wfc_pins.specs.Pins.{pins_of};
-ghost use Rattle.wfc_pins.specs.Steps.{assumptions, fits, range_fault, said, steps_behind, steps_of, undos};
+ghost use Rattle.wfc_pins.specs.InOrder.{IsFirstWith};
+ghost use Rattle.wfc_pins.specs.PinView.{PinView};
+ghost use Rattle.wfc_pins.specs.Pins.{pin_said, pins_of};
+ghost use Rattle.wfc_pins.specs.Steps.{IsStepIn, assumptions, fits, range_fault, said, steps_behind, steps_of, undos};
 ghost use Rattle.wfc_pins.specs.declared.pins.PinFault.TheVariants as pin_faults;
+ghost use Rattle.wfc_pins.specs.declared.steps.Step.{Step};
 ghost use Rattle.wfc_pins.specs.declared.steps.Step.TheVariants.{Assume, Undo};
 ghost use Rattle.wfc_pins.specs.declared.steps.StepLine.{StepLine};
 ghost use Rattle.wfc_pins.specs.declared.steps.StepFault.TheVariants as step_faults;
 ghost use Rattle.wfc_pins.specs.declared.steps.RangeFault.TheVariants.{OutOfRange};
+ghost use Rattle.wfc_problem.specs.Network.{Network};
 ghost use Rattle.wfc_problem.specs.declared.Literal.TheVariants.{Is, Not};
 
 /// Blanks and TABs part words, also at a line's ends. A line is passed over where its first byte is `#` or it has no word.
@@ -48,4 +53,34 @@ pub fn faults_of_steps()
         (steps : List StepLine) → steps_behind [] before ≡ Ok steps → said line ≡ Some Undo
         → undos before ≡ assumptions before
         → steps_behind [] (before ++ line ∷ after) ≡ Err (step_faults.NothingToUndo line.number) }
+{}
+
+/// A text is read as pins exactly where each of its lines says one, and else the first line that says none is at fault.
+pub fn faults_of_pins()
+    ensures each { (text : List ℕ) (pins : List PinView)
+        → (pins_of text ≡ Ok pins) ↔ (map pin_said (read_lines text) ≡ map Some pins) }
+    ensures first { (text : List ℕ) (n : ℕ) → (pins_of text ≡ Err (pin_faults.BadLine n)) ↔ ((line : LineView)
+        × (line.number ≡ n) × IsFirstWith (λ l. pin_said l ≡ None) (read_lines text) line) }
+{}
+
+/// Steps fit a problem exactly where each speaks of its cells and values, and else the first line that doesn't is at fault.
+pub fn steps_in_range()
+    ensures test { (P : Network) (step : Step) → IsTrue (fits P step) ↔ IsStepIn P step }
+    ensures all { (P : Network) (steps : List StepLine) →
+        (range_fault P steps ≡ None) ↔ All (λ (l : StepLine). IsStepIn P l.step) steps }
+    ensures first { (P : Network) (steps : List StepLine) (n : ℕ) →
+        (range_fault P steps ≡ Some (OutOfRange n)) ↔ ((line : StepLine) × (line.line ≡ n)
+        × IsFirstWith (λ (l : StepLine). IsStepIn P l.step → ⊥) steps line) }
+{}
+
+/// In a problem of three cells and two values: the last cell and the last value, and what is past them.
+pub fn small_steps()
+    ensures both { map (fits three_by_two) (Assume (Is 1 2) ∷ Assume (Not 1 2) ∷ Undo ∷ [])
+        ≡ true ∷ true ∷ true ∷ [] }
+    ensures past { map (fits three_by_two)
+        (Assume (Is 2 1) ∷ Assume (Not 2 1) ∷ Assume (Is 1 3) ∷ Assume (Not 1 3) ∷ [])
+        ≡ false ∷ false ∷ false ∷ false ∷ [] }
+    ensures first { range_fault three_by_two (record { line = 3; step = Assume (Is 0 0) } ∷
+        record { line = 5; step = Assume (Not 2 0) } ∷ record { line = 8; step = Assume (Is 0 9) } ∷ [])
+        ≡ Some (OutOfRange 5) }
 {}

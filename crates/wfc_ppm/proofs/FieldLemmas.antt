@@ -97,7 +97,7 @@ pub record ReadsField (text digits rest : List ℕ) (n : ℕ) : Type 0 where
   pub longer : length (digits ++ rest) < length text
   pub some : 0 < length digits
 
-longer_gaps : (gaps : List (List ℕ)) → AllByRecursion IsGap gaps → 0 < length gaps → 0 < length (concat gaps)
+pub longer_gaps : (gaps : List (List ℕ)) → AllByRecursion IsGap gaps → 0 < length gaps → 0 < length (concat gaps)
 longer_gaps [] each some = absurd (omega arith)
 longer_gaps (gap ∷ gaps) each some = by each.0
   where

@@ -1,6 +1,7 @@
 pub mod CallerLemmas
 pub mod FaultLemmas
 pub mod FieldLemmas
+pub mod FrontLemmas
 pub mod GapLemmas
 pub mod HeadLemmas
 pub mod HeaderLemmas

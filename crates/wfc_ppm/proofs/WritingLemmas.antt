@@ -1,7 +1,8 @@
 -- The texts that are written for pictures spell them.
-use Rattle.std.proofs.Common.{◌≡◌, ℕ, ◌+◌, ◌*◌, ◌^◌, ◌<◌, ◌≤◌, List, [], ◌∷◌, ◌++◌, length, drop, get_or, inl, inr, refl, sym, ap, ◌∙◌, append_assoc, append-nil, arith, true, codes, decimal, flat_map, Ok}
+use Rattle.std.proofs.Common.{◌≡◌, ℕ, ◌+◌, ◌*◌, ◌^◌, ◌<◌, ◌≤◌, List, [], ◌∷◌, ◌++◌, length, drop, get_or, inl, inr, refl, sym, ap, ◌∙◌, append_assoc, append-nil, arith, true, codes, decimal, flat_map, Ok, length-append}
 use Rattle.std.proofs.lemmas.Bool.Decides.{nat_tests}
-use Rattle.std.proofs.lemmas.Fmt.{decimal_is_IsNumeral}
+use Rattle.std.proofs.lemmas.Bool.{and_parts, leb-true}
+use Rattle.std.proofs.lemmas.Fmt.{decimal_is_IsNumeral, length-decimal-le}
 use Rattle.std.proofs.lemmas.List.{get_or_default, drop_more, drop_all}
 use Rattle.std.proofs.lemmas.List.Elements.{recursion_from_All}
 use Rattle.std.proofs.lemmas.Str.Parse.{digit_at}
@@ -165,3 +166,26 @@ p6-again text ppm spelled within = spelled-read text ppm (inl spelled) within
 
 pub p3-again : (text : List ℕ) (ppm : PpmView) → SpellsP3 text ppm → ppm.width * ppm.height ≤ 1048576 → ppm_of text ≡ Ok ppm
 p3-again text ppm spelled within = spelled-read text ppm (inr spelled) within
+
+-- ---- how long a pixel's line is
+
+-- a line of three numbers of so many digits
+pub line_length : (k maxval : ℕ) (colour : Colour) → 0 < k → maxval < 10 ^ k → maxval ≤ 65535 → is_within maxval colour ≡ true → length (pixel_line colour) ≤ 3 * k + 3
+line_length k maxval colour some digits small within =
+    let parts = and_parts _ _ within in
+    let front = and_parts _ _ parts.0 in
+    let red : colour.r ≤ maxval = leb-true colour.r maxval front.0 in
+    let green : colour.g ≤ maxval = leb-true colour.g maxval front.1 in
+    let blue : colour.b ≤ maxval = leb-true colour.b maxval parts.1 in
+    let r = length-decimal-le k colour.r some (omega arith) (omega arith) in
+    let g = length-decimal-le k colour.g some (omega arith) (omega arith) in
+    let b = length-decimal-le k colour.b some (omega arith) (omega arith) in
+    omega (
+      arith,
+      r,
+      g,
+      b,
+      length-append (decimal colour.r) (32 ∷ (decimal colour.g ++ 32 ∷ (decimal colour.b ++ 10 ∷ []))),
+      length-append (decimal colour.g) (32 ∷ (decimal colour.b ++ 10 ∷ [])),
+      length-append (decimal colour.b) (10 ∷ []),
+    )

@@ -1,5 +1,6 @@
 pub mod Fault
 pub mod Field
+pub mod Front
 pub mod Ppm
 pub mod Reading
 pub mod Small

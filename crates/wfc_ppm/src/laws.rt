@@ -1,8 +1,11 @@
 //! Laws of the definitions, each a function with no body whose contract is the law. They run nothing.
 
-ghost use Rattle.std.specs.Prelude.{◌≡◌, ◌↔◌, ℕ, ◌*◌, ◌<◌, ◌≤◌, List, [], ◌∷◌, ◌++◌, All, codes, Ok, Err};
+ghost use Rattle.std.specs.Prelude.{◌≡◌, ◌↔◌, ℕ, ◌*◌, ◌<◌, ◌≤◌, List, [], ◌∷◌, ◌++◌, All, None, Some, codes, drop, length, take, Ok, Err};
 ghost use Rattle.wfc_picture.specs.declared.palette.TheConstants.{MAX_PIXELS};
-ghost use Rattle.wfc_ppm.specs.Fault.{pairs_of};
+ghost use Rattle.wfc_ppm.specs.Fault.{form_of, header_fault, pairs_of};
+ghost use Rattle.wfc_ppm.specs.Front.{IsHeadEnd, IsWholeHead, StartsHead};
+ghost use Rattle.wfc_ppm.specs.declared.reading.Form.{Form};
+ghost use Rattle.wfc_ppm.specs.declared.reading.Form.TheVariants.{Raw, Plain};
 ghost use Rattle.wfc_ppm.specs.Ppm.{PpmView, p6_text, p3_text, raw_bytes};
 ghost use Rattle.wfc_ppm.specs.Reading.{ppm_of};
 ghost use Rattle.wfc_ppm.specs.Spelling.{SpellsPpm};
@@ -57,6 +60,28 @@ pub fn headers_by_example()
     ensures great_maxval { ppm_of (codes "P6\n1 1\n99999999999\n") ≡ Err (Maxval 4294967295) }
     ensures maxval_first { ppm_of (codes "P6\n1025 1024\n65536\n") ≡ Err (Maxval 65536) }
     ensures large { ppm_of (codes "P6\n1025 1024\n255\n") ≡ Err TooLarge }
+{}
+
+/// A fault of the header stands where the text can no longer become a header: the bytes before it can be continued to one,
+/// with sides of at least 1 and any maxval. A text whose header has no fault begins with a whole one.
+pub fn heads_go_on_before_a_fault()
+    ensures before { (form : Form) (text : List ℕ) (at : ℕ) → form_of text ≡ Some form
+        → header_fault form (length text) (drop 2 text) ≡ Some (Header at) → StartsHead form (take at text) }
+    ensures whole { (form : Form) (text : List ℕ) → form_of text ≡ Some form
+        → header_fault form (length text) (drop 2 text) ≡ None
+        → (front : List ℕ) × (rest : List ℕ) × (text ≡ front ++ rest) × IsWholeHead form front }
+{}
+
+/// A head is whole with any maxval; a raw one ends with a byte of whitespace, and one in decimal with whitespace or comments.
+pub fn heads_by_example()
+    ensures blank { IsHeadEnd Raw (codes "\t") }
+    ensures comment { IsHeadEnd Raw (codes "#c\n") → ⊥ }
+    ensures two { IsHeadEnd Raw (codes "  ") → ⊥ }
+    ensures separator { IsHeadEnd Plain (codes " #c\n") }
+    ensures none { IsHeadEnd Plain [] → ⊥ }
+    ensures magic { StartsHead Raw (codes "P6") }
+    ensures other_magic { StartsHead Raw (codes "P3") → ⊥ }
+    ensures taken { IsWholeHead Plain (codes "P3 3 2 0#\n") }
 {}
 
 /// The first fault of samples, at its place.

@@ -1,9 +1,10 @@
 //! Writing a picture.
 
-ghost use Rattle.std.specs.Prelude.{◌≡◌, ◌*◌, ◌/◌, ◌%◌, ◌≤◌, ◌++◌, true, codes, flat_map, Ok, IfOk, OnOk};
+ghost use Rattle.std.specs.Prelude.{◌≡◌, ◌*◌, ◌/◌, ◌%◌, ◌≤◌, ◌++◌, IsTrue, true, codes, flat_map, length, Ok, IfOk, OnOk};
 ghost use Rattle.std.specs.List.{AllPass};
 ghost use Rattle.wfc_picture.specs.declared.palette.TheConstants.{MAX_PIXELS};
 ghost use Rattle.wfc_ppm.specs.Ppm.{head_lines, is_within, p3_text, p6_text, pixel_bytes, pixel_line, raw_bytes};
+ghost use Rattle.wfc_picture.specs.declared.symbol.Colour.{Colour};
 ghost use Rattle.wfc_ppm.specs.Reading.{ppm_of};
 ghost use Rattle.wfc_ppm.specs.Spelling.{SpellsP3, SpellsP6};
 
@@ -52,8 +53,10 @@ pub fn write_p3(alloc: Global, ppm: &Ppm) -> Result<Vec<u8>, NoMemory>
     Ok(text)
 }
 
-/// The most bytes of a pixel's line.
-pub fn line_room(maxval: u16) -> usize {
+/// The most bytes of a pixel's line, where no sample is above maxval.
+pub fn line_room(maxval: u16) -> usize
+    ensures enough { (pixel : Colour) → IsTrue (is_within maxval pixel) → length (pixel_line pixel) ≤ result }
+{
     if maxval < 10 {
         6
     } else if maxval < 100 {

@@ -1,14 +1,17 @@
 //! Laws of documents, each a function with no body whose contract is the law. They run nothing.
 
-ghost use Rattle.std.specs.Prelude.{◌≡◌, List, [], ◌∷◌, map, codes, pos, true, Some, None, Ok, Err};
+ghost use Rattle.std.specs.Prelude.{◌≡◌, List, [], ◌∷◌, map, replicate, codes, pos, negsuc, true, false, Some, None, Ok, Err};
 ghost use Rattle.toml.specs.Data.{string, integer, boolean, array, table, no_members, member};
 ghost use Rattle.wfc_symmetry.specs.declared.class.Class.TheVariants.{X, I, L, T, F, Slash};
 ghost use Rattle.wfc_tileset.specs.declared.fault.Place.TheVariants as place;
 ghost use Rattle.wfc_tileset.specs.declared.fault.Key.TheVariants as key;
 ghost use Rattle.wfc_tileset.specs.declared.fault.TileFault.TheVariants as fault;
-ghost use Rattle.wfc_tileset.specs.Tiles.{TileView, TileSetView};
-ghost use Rattle.wfc_tileset.specs.Document.{set_from, class_of, weight_of, is_name, same_kind, few_variants, tile_with, set_with, pair_with, end_with};
+ghost use Rattle.wfc_tileset.specs.Tiles.{TileView, TileSetView, IsWeighed, variant_total};
+ghost use Rattle.wfc_tileset.specs.Document.{set_from, class_of, weight_of, is_name, is_name_byte, same_kind, few_variants, tile_with, set_with, pair_with, end_with};
 ghost use Rattle.wfc_tileset.specs.Documents.{tile_data, drawn_data, pair_data, document_of, items_of, tiles_f_t, with_pair};
+
+use crate::document::MAX_ELEMENTS;
+use crate::{HOLE, MAX_DOCUMENT_BYTES, MAX_VARIANTS};
 
 /// What a document says of two tiles and a pair: an action stands behind a blank, and none is
 /// action 0.
@@ -72,7 +75,38 @@ pub fn faults_of_tiles()
         ∷ Err (fault.BadWeight 0) ∷ Err (fault.MixedKinds 2) ∷ Err (fault.MixedKinds 1) ∷ [] }
 {}
 
-/// Classes by their letters, and the bounds of names and weights.
+/// The limits are these numbers: the bytes of a document, the elements of an array, and the variants
+/// of a tile set.
+pub fn limits_are()
+    ensures bytes { MAX_DOCUMENT_BYTES ≡ 16777216 }
+    ensures elements { MAX_ELEMENTS ≡ 16777216 }
+    ensures variants { MAX_VARIANTS ≡ 4096 }
+    ensures hole { HOLE ≡ 65535 }
+    ensures most { (tiles : List TileView) → variant_total tiles ≡ 4096
+        → few_variants tiles ≡ Ok tiles }
+    ensures more { (tiles : List TileView) → variant_total tiles ≡ 4097
+        → few_variants tiles ≡ Err (fault.TooManyVariants 4097) }
+{}
+
+/// The bounds of weights: 1 to 1,000,000, both in a document and in a tile set.
+pub fn weights_of_tiles()
+    ensures read { map weight_of (pos 0 ∷ pos 1 ∷ pos 1000000 ∷ pos 1000001 ∷ negsuc 0 ∷ [])
+        ≡ None ∷ Some 1 ∷ Some 1000000 ∷ None ∷ None ∷ [] }
+    ensures least { IsWeighed (tile_with (codes "a") X 1 None) }
+    ensures most { IsWeighed (tile_with (codes "a") X 1000000 None) }
+    ensures zero { IsWeighed (tile_with (codes "a") X 0 None) → ⊥ }
+    ensures more { IsWeighed (tile_with (codes "a") X 1000001 None) → ⊥ }
+{}
+
+/// The bounds of names: 1 to 64 bytes, each a letter, a digit, `_` or `-`.
+pub fn names_of_tiles()
+    ensures lengths { map (λ n. is_name (replicate n 97)) (0 ∷ 1 ∷ 64 ∷ 65 ∷ [])
+        ≡ false ∷ true ∷ true ∷ false ∷ [] }
+    ensures ends { is_name (codes "AZaz09_-") ≡ true }
+    ensures others { map is_name_byte (codes "@[`{/: .") ≡ replicate 8 false }
+{}
+
+/// Classes by their letters.
 pub fn words_of_tiles()
     ensures classes { map class_of (codes "X" ∷ codes "I" ∷ codes "L" ∷ codes "T" ∷ codes "F"
         ∷ (92 ∷ []) ∷ codes "x" ∷ codes "XX" ∷ [] ∷ [])

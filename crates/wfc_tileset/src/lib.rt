@@ -30,8 +30,8 @@ mod tiles;
 mod variants;
 mod word;
 
-pub use fault::{Key, Place, TileFault};
 pub use document::member;
+pub use fault::{Key, Place, TileFault};
 use marks::{across_table, down_table, is_marked};
 pub use names::Names;
 use names::names_of;

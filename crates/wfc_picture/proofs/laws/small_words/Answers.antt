@@ -1,15 +1,12 @@
-use Rattle.std.proofs.Common.{refl}
+use Rattle.std.proofs.Common.{refl, ap, arith}
 use Rattle.std.specs.Fmt.{digits}
+use Rattle.std.specs.List.{slice_index_or}
 use Rattle.wfc_picture.proofs.laws.small_words.Goals as goal
 
 pub returns-clause-colour : goal.returns-clause-colour
 unfolding digits
-returns-clause-colour c = refl
+returns-clause-colour c = record { shown = refl; text = refl }
 
-pub returns-clause-zero_first : goal.returns-clause-zero_first
+pub returns-clause-exchanged : goal.returns-clause-exchanged
 unfolding digits
-returns-clause-zero_first c = refl
-
-pub returns-clause-empty_part : goal.returns-clause-empty_part
-unfolding digits
-returns-clause-empty_part c = refl
+returns-clause-exchanged c spells = omega (arith, ap (λ t. slice_index_or t 0 0) spells.text)

@@ -1,0 +1,36 @@
+-- The front of a picture's text: what stands before the samples, and what can still become it.
+use Rattle.std.specs.Prelude.{◌≡◌, ℕ, ◌<◌, List, [], ◌∷◌, ◌++◌, codes}
+use Rattle.wfc_ppm.specs.Spelling.{IsField, IsSeparator, IsSpace}
+use Rattle.wfc_ppm.specs.declared.reading.Form.{Form}
+use Rattle.wfc_ppm.specs.declared.reading.Form.TheVariants.{Raw, Plain}
+
+-- the two bytes of a form
+abbrev pub form_magic : Form → List ℕ
+form_magic Raw = codes "P6"
+form_magic Plain = codes "P3"
+
+-- what parts maxval from the samples: a byte of whitespace from raw ones, whitespace or comments from those in decimal
+abbrev pub IsHeadEnd : Form → List ℕ → Type 0
+IsHeadEnd Raw bytes = (byte : ℕ) × IsSpace byte × (bytes ≡ byte ∷ [])
+IsHeadEnd Plain bytes = IsSeparator bytes
+
+-- all that stands before the samples: the magic, two sides of at least 1, any maxval, and what parts it from the samples
+pub record IsWholeHead (form : Form) (bytes : List ℕ) : Type 0 where
+  pub wide : List ℕ
+  pub high : List ℕ
+  pub most : List ℕ
+  pub behind : List ℕ
+  pub width : ℕ
+  pub height : ℕ
+  pub maxval : ℕ
+  pub is : bytes ≡ form_magic form ++ (wide ++ (high ++ (most ++ behind)))
+  pub wide_is : IsField wide width
+  pub some_width : 0 < width
+  pub high_is : IsField high height
+  pub some_height : 0 < height
+  pub most_is : IsField most maxval
+  pub behind_is : IsHeadEnd form behind
+
+-- the bytes can be continued to all that stands before samples
+abbrev pub StartsHead : Form → List ℕ → Type 0
+StartsHead form bytes = (rest : List ℕ) × IsWholeHead form (bytes ++ rest)
