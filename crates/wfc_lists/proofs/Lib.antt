@@ -1,8 +1,10 @@
 pub mod Counts
+pub mod Growing
 pub mod Lists
 pub mod Options
 pub mod Positions
 pub mod Ranges
 pub mod Rising
+pub mod Rows
 pub mod Tables
 pub mod Unrepeated

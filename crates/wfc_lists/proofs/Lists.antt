@@ -1,9 +1,9 @@
--- Members of a list, what a filter keeps, and what holds of all or of one.
-use Rattle.std.proofs.Common.{◌≡◌, ℕ, zero, suc, Bool, true, false, cond, List, [], ◌∷◌, ◌++◌, filter, refl, sym, ◌∙◌, ap, subst, arith, inl, inr, ◌⊎◌}
+-- Members of a list, what a filter keeps, what holds of all or of one, and lists that are joined.
+use Rattle.std.proofs.Common.{◌≡◌, ℕ, zero, suc, ◌<◌, Bool, true, false, cond, List, [], ◌∷◌, ◌++◌, length, get_or, map, filter, refl, sym, ◌∙◌, ap, subst, arith, inl, inr, ◌⊎◌, if◌then◌else◌}
 use Rattle.std.specs.Prelude.{Contains, ◌||◌, not, ◌==◌}
 use Rattle.std.specs.List.{list_all, list_any, flat_map, AllByRecursion}
-use Rattle.std.proofs.lemmas.Bool.{and_cases, and_parts, and_from, eqb-true, eq-eqb}
-use Rattle.std.proofs.lemmas.List.{get_or_default}
+use Rattle.std.proofs.lemmas.Bool.{and_cases, and_parts, and_from, eqb-true, eq-eqb, false≢true}
+use Rattle.std.proofs.lemmas.List.{get_or_default, map-append}
 use Rattle.std.proofs.lemmas.List.Folds.{Any-from_list_any, list_any_at}
 
 -- ---- members
@@ -134,3 +134,35 @@ each_kept P p (x ∷ xs) all = by (p x) refl (each_kept P p xs all.1)
     by : (b : Bool) → p x ≡ b → AllByRecursion P (filter p xs) → AllByRecursion P (filter p (x ∷ xs))
     by true keeps rest = subst (λ b. AllByRecursion P (cond b (x ∷ filter p xs) (filter p xs))) (sym keeps) (all.0, rest)
     by false drops rest = subst (λ b. AllByRecursion P (cond b (x ∷ filter p xs) (filter p xs))) (sym drops) rest
+
+-- ---- lists that are sieved and mapped
+
+-- what holds of what each that passes is mapped to holds of all
+pub sieved_all : {X Y : Type 0} (P : Y → Type 0) (f : X → Y) (p : X → Bool) (xs : List X) → ((k : ℕ) (d : X) → k < length xs → p (get_or xs k d) ≡ true → P (f (get_or xs k d))) → AllByRecursion P (map f (filter p xs))
+sieved_all P f p [] holds = tt
+sieved_all {X = X} P f p (x ∷ xs) holds = by (p x) refl (sieved_all P f p xs (λ k d inside passes. holds (suc k) d (omega arith) passes))
+  where
+    by : (b : Bool) → p x ≡ b → AllByRecursion P (map f (filter p xs)) → AllByRecursion P (map f (if b then x ∷ filter p xs else filter p xs))
+    by true is later = (holds 0 x (omega arith) is, later)
+    by false is later = later
+
+-- it holds of the first, if that passes, and of those behind it
+sieved_parts : {X Y : Type 0} (P : Y → Type 0) (f : X → Y) (p : X → Bool) (x : X) (xs : List X) → AllByRecursion P (map f (filter p (x ∷ xs))) → (p x ≡ true → P (f x)) × AllByRecursion P (map f (filter p xs))
+sieved_parts P f p x xs all = by (p x) refl all
+  where
+    by : (b : Bool) → p x ≡ b → AllByRecursion P (map f (if b then x ∷ filter p xs else filter p xs)) → (p x ≡ true → P (f x)) × AllByRecursion P (map f (filter p xs))
+    by true is all = (λ _. all.0, all.1)
+    by false is all = (λ yes. absurd (false≢true (sym is ∙ yes)), all)
+
+-- and the other way
+pub sieved_each : {X Y : Type 0} (P : Y → Type 0) (f : X → Y) (p : X → Bool) (xs : List X) → AllByRecursion P (map f (filter p xs)) → (k : ℕ) (d : X) → k < length xs → p (get_or xs k d) ≡ true → P (f (get_or xs k d))
+sieved_each P f p [] all k d inside passes = absurd (omega arith)
+sieved_each {X = X} P f p (x ∷ xs) all zero d inside passes = (sieved_parts P f p x xs all).0 passes
+sieved_each {X = X} P f p (x ∷ xs) all (suc k) d inside passes = sieved_each P f p xs (sieved_parts P f p x xs all).1 k d (omega arith) passes
+
+-- ---- lists that are joined
+
+-- what each element of joined lists is mapped to
+pub map_lists : {X Y Z : Type 0} (g : Y → Z) (F : X → List Y) (xs : List X) → map g (flat_map F xs) ≡ flat_map (λ x. map g (F x)) xs
+map_lists g F [] = refl
+map_lists g F (x ∷ xs) = map-append g (F x) (flat_map F xs) ∙ ap (λ ys. map g (F x) ++ ys) (map_lists g F xs)

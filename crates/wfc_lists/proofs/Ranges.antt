@@ -1,7 +1,8 @@
--- Ranges of numbers: their members, and what holds of what they are mapped to.
-use Rattle.std.proofs.Common.{◌≡◌, ℕ, zero, suc, ◌+◌, ◌<◌, ◌≤◌, List, [], ◌∷◌, ◌++◌, get_or, map, sym, ◌∙◌, ap, subst, arith, inl, inr, ◌⊎◌}
+-- Ranges of numbers: their members, what holds of what they are mapped to, and one number more.
+use Rattle.std.proofs.Common.{◌≡◌, ℕ, zero, suc, ◌+◌, ◌<◌, ◌≤◌, List, [], ◌∷◌, ◌++◌, get_or, map, sym, ◌∙◌, ap, subst, arith, inl, inr, ◌⊎◌, add-one, append-nil, append_assoc, zero-add}
 use Rattle.std.specs.Prelude.{Contains}
 use Rattle.std.specs.List.{flat_map, range_with_len, AllByRecursion}
+use Rattle.std.proofs.lemmas.Grind.{flat_map-append}
 use Rattle.std.proofs.lemmas.List.FromFn.{get_or-range_with_len, length-range_with_len}
 use Rattle.wfc_lists.proofs.Lists.{each-append, each_front, each_back}
 
@@ -57,3 +58,14 @@ range_more a zero = let e : a ≡ a + 0 = omega arith in ap (λ x. x ∷ []) e
 range_more a (suc n) =
     let e : a + 1 + n ≡ a + suc n = omega arith in
     ap (λ xs. a ∷ xs) (range_more (a + 1) n ∙ ap (λ x. range_with_len (a + 1) n ++ x ∷ []) e)
+
+-- the lists of its numbers have that of the end behind them
+pub lists_more : {X : Type 0} (F : ℕ → List X) (n : ℕ) → flat_map F (range_with_len 0 (n + 1)) ≡ flat_map F (range_with_len 0 n) ++ F n
+lists_more F n =
+    ap (λ k. flat_map F (range_with_len 0 k)) (add-one n) ∙ ap (flat_map F) (range_more 0 n) ∙ flat_map-append F (range_with_len 0 n) ((0 + n) ∷ [])
+    ∙ ap (λ k. flat_map F (range_with_len 0 n) ++ flat_map F (k ∷ [])) (zero-add n) ∙ ap (λ ys. flat_map F (range_with_len 0 n) ++ ys) (append-nil (F n))
+
+-- so they have, behind other lists
+pub lists_behind : {X : Type 0} (F : ℕ → List X) (n : ℕ) (old now next : List X) → now ≡ old ++ flat_map F (range_with_len 0 n) → next ≡ now ++ F n → next ≡ old ++ flat_map F (range_with_len 0 (n + 1))
+lists_behind F n old now next so_far pushed =
+    pushed ∙ ap (λ ys. ys ++ F n) so_far ∙ append_assoc old (flat_map F (range_with_len 0 n)) (F n) ∙ ap (λ ys. old ++ ys) (sym (lists_more F n))

@@ -41,6 +41,22 @@ IsSized-raster_of w h numbers filled = record {
         let room : suc y * w ≤ h * w = mul-le-mul_right w (omega arith) in
         omega (arith, room, length-take w (drop (y * w) numbers), length-drop (y * w) numbers)
 
+-- so does what is made column by column in rows
+pub made_sized : (f : ℕ → ℕ → ℕ) (w h : ℕ) → 0 < w → 0 < h → IsSized (record { width = w; rows = map (λ y. map (λ x. f x y) (range_with_len 0 w)) (range_with_len 0 h) }) w h
+made_sized f w h some_column some_row =
+    let high : length (map (λ y. map (λ x. f x y) (range_with_len 0 w)) (range_with_len 0 h)) ≡ h = length-map-range_with_len (λ y. map (λ x. f x y) (range_with_len 0 w)) 0 h in
+    record {
+      raster = record {
+        some_column = some_column;
+        some_row = omega (arith, high, some_row);
+        rows_fit = All-from_recursion (λ (row : List ℕ). length row ≡ w) (map (λ y. map (λ x. f x y) (range_with_len 0 w)) (range_with_len 0 h))
+            (each_in_row (λ (row : List ℕ). length row ≡ w) (λ y. map (λ x. f x y) (range_with_len 0 w)) 0 h
+            (λ y _ _. length-map-range_with_len (λ x. f x y) 0 w));
+      };
+      same_width = refl;
+      same_height = high;
+    }
+
 -- the rows from row a on are the numbers from a * w on
 rows_joined : (w a n : ℕ) (numbers : List ℕ) → concat (map (λ y. take w (drop (y * w) numbers)) (range_with_len a n)) ≡ take (n * w) (drop (a * w) numbers)
 rows_joined w a zero numbers = let none : 0 * w ≡ 0 = omega arith in ap (λ k. take k (drop (a * w) numbers)) (sym none)

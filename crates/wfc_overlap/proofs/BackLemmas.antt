@@ -22,18 +22,12 @@ use Rattle.wfc_problem.specs.Network.{Network, supports_of}
 use Rattle.wfc_problem.specs.Assignment.{IsLegalAssignment}
 use Rattle.wfc_lists.proofs.Lists.{has_Contains}
 use Rattle.wfc_problem.proofs.CallerLemmas.{base_inside}
-use Rattle.wfc_overlap.specs.Sample.{Output, stepped, is_there, cell_of, meets, problem_of_sample}
+use Rattle.wfc_places.specs.Steps.{stepped, is_there, cell_of}
+use Rattle.wfc_overlap.specs.Sample.{Output, meets, problem_of_sample}
 use Rattle.wfc_overlap.specs.Bridge.{IsRoom, AreInside, nearest, pixel_of, picture_of}
-use Rattle.wfc_overlap.proofs.StepLemmas.{stepped-is, mod_low, forth_there, stay_there}
+use Rattle.wfc_places.proofs.CallerLemmas.{mod_low, forth_there, stay_there, stayed, held-from_suits}
 use Rattle.wfc_overlap.proofs.SampleLemmas.{cell_inside, place-neighbour, support-agrees, base-at, sample_problem}
-use Rattle.wfc_overlap.proofs.PinLemmas.{held-from_suits, from-meets}
-
--- no step leads nowhere else
-pub stayed : (count at : ℕ) → at < count → stepped count 0 0 at ≡ at
-stayed count at inside =
-    let step = stepped-is count 0 0 at inside (omega arith) in
-    let low = step.below in
-    elim step.apart [ inl e ↦ omega arith | inr more ↦ elim more [ inl e ↦ omega arith | inr e ↦ omega arith ] ]
+use Rattle.wfc_overlap.proofs.PinLemmas.{from-meets}
 
 -- one step after t steps
 stepped_on : (count at t : ℕ) → stepped count 1 0 ((at + t) % count) ≡ (at + suc t) % count

@@ -1,29 +1,26 @@
 -- Tables of flags from which patterns are taken away.
-use Rattle.std.proofs.Common.{◌≡◌, ◌≢◌, ℕ, ◌+◌, ◌*◌, ◌/◌, ◌%◌, ◌<◌, ◌≤◌, Bool, true, false, ◌&&◌, not, ◌⊎◌, inl, inr, List, [], ◌∷◌, length, get_or, set, map, Option, Some, refl, sym, subst, ap, ◌∙◌, arith, get_or-set_same, get_or-set_other, length-set, below_more}
+use Rattle.std.proofs.Common.{◌≡◌, ◌≢◌, ℕ, ◌+◌, ◌*◌, ◌/◌, ◌%◌, ◌<◌, ◌≤◌, Bool, true, false, ◌&&◌, not, ◌⊎◌, inl, inr, List, [], ◌∷◌, length, get_or, map, Option, Some, refl, sym, subst, ap, ◌∙◌, arith}
 use Rattle.std.specs.Prelude.{◌||◌, ◌==◌, slice_index}
 use Rattle.std.specs.List.{list_all, flat_map, range_with_len}
 use Rattle.std.proofs.lemmas.Bool.{cases_lt, eqb-true, eq-eqb}
 use Rattle.std.proofs.lemmas.List.{ext_get_or, get_or-map, length-map}
 use Rattle.std.proofs.lemmas.List.Folds.{list_all-append}
-use Rattle.std.proofs.lemmas.Nat.{mul-add-lt}
+use Rattle.std.proofs.lemmas.Nat.{mul-add-lt, div-mul-add, mod-mul-add}
+use Rattle.std.proofs.Math.Bool.{and-true, and_assoc}
 use Rattle.std.proofs.Math.Nat.{mul-le-mul_right}
+use Rattle.wfc_lists.proofs.Rows.{apart_rows}
 use Rattle.wfc_lists.proofs.Tables.{length-table, table-at}
 use Rattle.wfc_model.specs.Legal.{Pin}
 use Rattle.wfc_model.specs.Window.{starts, places}
 use Rattle.wfc_model.proofs.CallerLemmas.{length-places, places-at, cell_is}
 use Rattle.wfc_pattern.specs.Patterns.{PatternsView, window_at}
-use Rattle.wfc_overlap.specs.Flags.{AreCut, IsTable, flag}
-use Rattle.wfc_overlap.specs.Sample.{Output, cell_of, suits, suits_at}
-use Rattle.wfc_overlap.proofs.PushLemmas.{range_more}
-use Rattle.wfc_overlap.proofs.StepLemmas.{mod_low, mod_once}
-
-and_true : (b : Bool) → (b && true) ≡ b
-and_true true = refl
-and_true false = refl
-
-and_assoc : (a b c : Bool) → ((a && b) && c) ≡ (a && (b && c))
-and_assoc true b c = refl
-and_assoc false b c = refl
+use Rattle.wfc_places.specs.Flags.{flag}
+use Rattle.wfc_overlap.specs.Flags.{AreCut, IsTable}
+use Rattle.wfc_places.specs.Marks.{suits}
+use Rattle.wfc_places.specs.Steps.{cell_of}
+use Rattle.wfc_overlap.specs.Sample.{Output, suits_at}
+use Rattle.wfc_lists.proofs.Growing.{one_more}
+use Rattle.wfc_places.proofs.CallerLemmas.{mod_low, mod_once}
 
 -- ---- where a window starts that has a pixel
 
@@ -35,32 +32,6 @@ start_only at i n side true i_in fits u inside is =
       | inr high ↦ let e = mod_once (u + i) side high (omega arith) in (inside, inr (omega arith))
     ]
 start_only at i n side false i_in fits u inside is = let e = mod_low (u + i) side (omega arith) in (omega arith, inl (omega arith))
-
--- ---- one place
-
--- the flags of a row from `first` on are cut up to the place v by what stays
-pub record IsCutTo (old flags : List Bool) (first v : ℕ) (stays : ℕ → Bool) : Type 0 where
-  pub as_long : length flags ≡ length old
-  pub here : (w : ℕ) → w < v → get_or flags (first + w) false ≡ (get_or old (first + w) false && stays w)
-  pub before : (k : ℕ) → k < first → get_or flags k false ≡ get_or old k false
-  pub behind : (k : ℕ) → first + v ≤ k → get_or flags k false ≡ get_or old k false
-
--- before the first
-pub cut_begins : (old : List Bool) (first : ℕ) (stays : ℕ → Bool) → IsCutTo old old first 0 stays
-cut_begins old first stays = record { as_long = refl; here = λ w below. absurd (omega arith); before = λ k below. refl; behind = λ k past. refl }
-
--- one more
-pub cut_on : (old flags : List Bool) (first v : ℕ) (stays : ℕ → Bool) (b : Bool) → IsCutTo old flags first v stays → first + v < length flags → b ≡ (get_or flags (first + v) false && stays v) → IsCutTo old (set flags (first + v) b) first (v + 1) stays
-cut_on old flags first v stays b so_far inside is =
-    let other : (k : ℕ) → k ≢ first + v → get_or (set flags (first + v) b) k false ≡ get_or flags k false = λ k apart. get_or-set_other flags (first + v) k b false apart in
-    record {
-      as_long = length-set flags (first + v) b ∙ so_far.as_long;
-      here = below_more (λ w. get_or (set flags (first + v) b) (first + w) false ≡ (get_or old (first + w) false && stays w)) v
-          (λ w below. other (first + w) (λ e. absurd (omega arith)) ∙ so_far.here w below)
-          (get_or-set_same flags (first + v) b false inside ∙ is ∙ ap (λ f. f && stays v) (so_far.behind (first + v) (omega arith)));
-      before = λ k below. other k (λ e. absurd (omega arith)) ∙ so_far.before k below;
-      behind = λ k past. other k (λ e. absurd (omega arith)) ∙ so_far.behind k (omega arith);
-    }
 
 -- ---- all places
 
@@ -76,7 +47,7 @@ module _ (patterns : PatternsView) (output : Output) where
 
   -- nothing is taken away by a test that passes
   pub cut_nothing : (flags : List Bool) (passes : ℕ × ℕ → List ℕ → Bool) → ((place : ℕ × ℕ) (w : List ℕ) → passes place w ≡ true) → AreCut patterns output flags flags passes
-  cut_nothing flags passes all = record { as_long = refl; left = λ x y v column row inside. sym (ap (λ b. flag count flags (cell_of columns x y) v && b) (all (x, y) (window_at patterns v)) ∙ and_true (flag count flags (cell_of columns x y) v)) }
+  cut_nothing flags passes all = record { as_long = refl; left = λ x y v column row inside. sym (ap (λ b. flag count flags (cell_of columns x y) v && b) (all (x, y) (window_at patterns v)) ∙ and-true (flag count flags (cell_of columns x y) v)) }
 
   -- one test behind another
   pub cut_more : (old flags new : List Bool) (first second both : ℕ × ℕ → List ℕ → Bool) → AreCut patterns output old flags first → AreCut patterns output flags new second
@@ -142,26 +113,14 @@ module _ (patterns : PatternsView) (output : Output) where
   cut_nowhere flags mark i j apart = record {
     as_long = refl;
     left = λ x y v column row inside.
-        sym (ap (λ b. flag count flags (cell_of columns x y) v && b) (suits_nowhere mark i j (x, y) (window_at patterns v) (apart x y column row)) ∙ and_true (flag count flags (cell_of columns x y) v));
+        sym (ap (λ b. flag count flags (cell_of columns x y) v && b) (suits_nowhere mark i j (x, y) (window_at patterns v) (apart x y column row)) ∙ and-true (flag count flags (cell_of columns x y) v));
   }
 
   -- cells in other columns or rows are others
-  apart_cells : (x y u v : ℕ) → x < columns → u < columns → (x ≡ u → y ≡ v → ⊥) → (cell_of columns x y < cell_of columns u v) ⊎ (cell_of columns u v < cell_of columns x y)
-  apart_cells x y u v column other apart = elim (cases_lt y v) [
-    | inl l ↦ let more : (y + 1) * columns ≤ v * columns = mul-le-mul_right columns (omega arith) in let next : (y + 1) * columns ≡ y * columns + columns = omega arith in inl (omega arith)
-    | inr ge ↦ elim (cases_lt v y) [
-      | inl l ↦ let more : (v + 1) * columns ≤ y * columns = mul-le-mul_right columns (omega arith) in let next : (v + 1) * columns ≡ v * columns + columns = omega arith in inr (omega arith)
-      | inr le ↦ let row : y ≡ v = omega arith in elim (cases_lt x u) [
-        | inl l ↦ inl (omega (arith, ap (λ k. k * columns) row))
-        | inr past ↦ elim (cases_lt u x) [ inl l ↦ inr (omega (arith, ap (λ k. k * columns) row)) | inr same ↦ absurd (apart (omega arith) row) ]
-      ]
-    ]
-  ]
-
-  -- and their rows of flags lie apart
-  apart_rows : (c e w : ℕ) → w < count → (c < e) ⊎ (e < c) → (c * count + w < e * count) ⊎ (e * count + count ≤ c * count + w)
-  apart_rows c e w inside (inl l) = let more : (c + 1) * count ≤ e * count = mul-le-mul_right count (omega arith) in let next : (c + 1) * count ≡ c * count + count = omega arith in inl (omega arith)
-  apart_rows c e w inside (inr l) = let more : (e + 1) * count ≤ c * count = mul-le-mul_right count (omega arith) in let next : (e + 1) * count ≡ e * count + count = omega arith in inr (omega arith)
+  apart_cells : (x y u v : ℕ) → x < columns → u < columns → (x ≡ u → y ≡ v → ⊥) → cell_of columns x y ≢ cell_of columns u v
+  apart_cells x y u v column other apart e =
+      apart (sym (mod-mul-add y columns x column) ∙ ap (λ k. k % columns) e ∙ mod-mul-add v columns u other)
+      (sym (div-mul-add y columns x column) ∙ ap (λ k. k / columns) e ∙ div-mul-add v columns u other)
 
   -- at the one place whose window has the pixel as its entry, what doesn't suit is taken away
   pub cut_at : (old new : List Bool) (mark : Pin) (i j u v : ℕ) → u < columns → (u + i) % output.width ≡ mark.column → (v + j) % output.height ≡ mark.row
@@ -178,8 +137,8 @@ module _ (patterns : PatternsView) (output : Output) where
       away : (x y w : ℕ) → x < columns → y < rows → w < count → (x ≡ u → y ≡ v → ⊥)
           → flag count new (cell_of columns x y) w ≡ (flag count old (cell_of columns x y) w && suits_at patterns.n output (x, y) (window_at patterns w) mark i j)
       away x y w x_in y_in inside apart =
-          others (cell_of columns x y * count + w) (apart_rows (cell_of columns x y) (cell_of columns u v) w inside (apart_cells x y u v x_in u_in apart))
-          ∙ sym (ap (λ b. flag count old (cell_of columns x y) w && b) (suits_nowhere mark i j (x, y) (window_at patterns w) (λ on_x on_y. apart (only_x x x_in on_x) (only_y y y_in on_y))) ∙ and_true (flag count old (cell_of columns x y) w))
+          others (cell_of columns x y * count + w) (apart_rows count (cell_of columns x y) (cell_of columns u v) w inside (apart_cells x y u v x_in u_in apart))
+          ∙ sym (ap (λ b. flag count old (cell_of columns x y) w && b) (suits_nowhere mark i j (x, y) (window_at patterns w) (λ on_x on_y. apart (only_x x x_in on_x) (only_y y y_in on_y))) ∙ and-true (flag count old (cell_of columns x y) w))
 
       by : (x y w : ℕ) → x < columns → y < rows → w < count → (x ≡ u) ⊎ (x ≢ u) → (y ≡ v) ⊎ (y ≢ v)
           → flag count new (cell_of columns x y) w ≡ (flag count old (cell_of columns x y) w && suits_at patterns.n output (x, y) (window_at patterns w) mark i j)
@@ -228,4 +187,4 @@ module _ (patterns : PatternsView) (output : Output) where
 
 -- one number more of a range that passes a test
 pub all_more : (p : ℕ → Bool) (n : ℕ) → list_all p (range_with_len 0 (n + 1)) ≡ (list_all p (range_with_len 0 n) && p n)
-all_more p n = ap (list_all p) (range_more n) ∙ list_all-append p (range_with_len 0 n) (n ∷ []) ∙ ap (λ b. list_all p (range_with_len 0 n) && b) (and_true (p n))
+all_more p n = ap (list_all p) (one_more n) ∙ list_all-append p (range_with_len 0 n) (n ∷ []) ∙ ap (λ b. list_all p (range_with_len 0 n) && b) (and-true (p n))

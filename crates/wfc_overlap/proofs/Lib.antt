@@ -1,6 +1,6 @@
-pub mod StepLemmas
 pub mod SampleLemmas
 pub mod PinLemmas
+pub mod LineLemmas
 pub mod ThereLemmas
 pub mod BackLemmas
 pub mod RuleLemmas
@@ -13,3 +13,5 @@ pub mod GroupLemmas
 pub mod FlagLemmas
 pub mod PaintLemmas
 pub mod PartLemmas
+pub mod SubjectLemmas
+pub mod WordLemmas

@@ -1,14 +1,14 @@
 -- What lies beside a place, step by step.
-use Rattle.std.proofs.Common.{◌≡◌, ℕ, ◌-◌, ◌<◌, Bool, true, false, ◌&&◌, inl, inr, [], ◌∷◌, map, Option, None, Some, refl, sym, ap, ◌∙◌, arith}
+use Rattle.std.proofs.Common.{◌≡◌, ℕ, ◌<◌, Bool, true, false, ◌&&◌, [], ◌∷◌, map, Option, None, Some, refl, sym, ap, ◌∙◌}
 use Rattle.std.specs.Prelude.{if◌then◌else◌}
 use Rattle.std.specs.List.{range_with_len}
 use Rattle.wfc_model.specs.Direction.{left_by, down_by, right_by, up_by}
 use Rattle.wfc_model.specs.Window.{starts}
 use Rattle.wfc_problem.specs.declared.TheConstants.{NO_CELL}
-use Rattle.wfc_overlap.specs.Layout.{along, cell_in}
-use Rattle.wfc_overlap.specs.Sample.{Output, stepped, is_there, cell_of, beside}
-use Rattle.wfc_overlap.proofs.StepLemmas.{stepped-is, stay_there}
-use Rattle.wfc_overlap.proofs.BackLemmas.{stayed}
+use Rattle.wfc_places.specs.Steps.{along, stepped, is_there, cell_of}
+use Rattle.wfc_overlap.specs.Layout.{cell_in}
+use Rattle.wfc_overlap.specs.Sample.{Output, beside}
+use Rattle.wfc_places.proofs.CallerLemmas.{stay_there, stayed}
 
 -- ---- one step along a side
 
@@ -19,13 +19,6 @@ along_there count wrap forth back at s there is = ap (λ b. if b then Some (step
 -- no step
 pub along_stays : (count : ℕ) (wrap : Bool) (at : ℕ) → at < count → along count wrap 0 0 at ≡ Some at
 along_stays count wrap at inside = along_there count wrap 0 0 at at (stay_there count wrap at inside) (stayed count at inside)
-
--- back from the first place, where the side wraps
-pub back_wraps : (count at : ℕ) → at ≡ 0 → at < count → along count true 0 1 at ≡ Some (count - 1)
-back_wraps count at first inside =
-    let step = stepped-is count 0 1 at inside (omega arith) in
-    let below = step.below in
-    along_there count true 0 1 at (count - 1) refl (elim step.apart [ inl e ↦ omega arith | inr more ↦ elim more [ inl e ↦ omega arith | inr e ↦ omega arith ] ])
 
 -- ---- the four cells beside a place
 

@@ -1,6 +1,9 @@
 -- The number of a pixel, as the code finds it.
-use Rattle.std.proofs.Common.{◌≡◌, ℕ, ◌+◌, ◌-◌, ◌*◌, ◌<◌, ◌≤◌, min, Bool, List, [], ◌∷◌, ◌++◌, length, get_or, map, refl, sym, ap, ◌∙◌, arith}
+use Rattle.std.proofs.Common.{◌≡◌, ℕ, ◌+◌, ◌-◌, ◌*◌, ◌<◌, ◌≤◌, min, Bool, List, [], ◌∷◌, ◌++◌, length, get_or, map, refl, sym, subst, ap, ◌∙◌, arith, inl, inr}
+use Rattle.std.specs.Prelude.{All, slice_index}
 use Rattle.std.specs.List.{concat, flat_map, range_with_len}
+use Rattle.std.proofs.lemmas.Bool.{cases_lt}
+use Rattle.std.proofs.lemmas.List.{get_or_past}
 use Rattle.std.proofs.lemmas.List.Elements.{All-from_recursion}
 use Rattle.std.proofs.lemmas.List.FromFn.{length-map-range_with_len, length-range_with_len}
 use Rattle.std.proofs.lemmas.Nat.{mul-add-lt}
@@ -78,3 +81,23 @@ module _ (w h : ℕ) (R : ℕ → List ℕ) (each : (y : ℕ) → length (R y) �
   -- the numbers, row by row, are the picture
   pub painted_is : (numbers : List ℕ) → 0 < w → 0 < h → numbers ≡ flat_map R (range_with_len 0 h) → raster_of w h numbers ≡ painted
   painted_is numbers wide high is = ap (raster_of w h) (is ∙ flat_is R (range_with_len 0 h)) ∙ raster_of-numbers_of painted w h (painted_sized wide high)
+
+-- ---- numbers below a limit
+
+-- an entry of a list of small numbers is small, and so is 0 where there is none
+small_entry : (limit : ℕ) (w : List ℕ) (i : ℕ) → 0 < limit → All (λ n. n < limit) w → slice_index w i < limit
+small_entry limit w i some small = elim (cases_lt i (length w)) [
+  | inl inside ↦ small i 0 inside
+  | inr past ↦ subst (λ n. n < limit) (sym (get_or_past w i 0 past)) some
+]
+
+-- so is a window of patterns with small numbers
+small_window : (limit : ℕ) (patterns : PatternsView) (p : ℕ) → All (λ window. All (λ n. n < limit) window) patterns.windows → All (λ n. n < limit) (window_at patterns p)
+small_window limit patterns p small = elim (cases_lt p (length patterns.windows)) [
+  | inl inside ↦ small p [] inside
+  | inr past ↦ subst (λ (w : List ℕ). All (λ n. n < limit) w) (sym (get_or_past patterns.windows p [] past)) (λ k d inside. absurd (omega arith))
+]
+
+-- and the number of a pixel that they paint
+pub pixel_small : (limit : ℕ) (patterns : PatternsView) (output : Output) (a : List ℕ) (x y : ℕ) → 0 < limit → All (λ window. All (λ n. n < limit) window) patterns.windows → pixel_of patterns output a x y < limit
+pixel_small limit patterns output a x y some small = small_entry limit (window_at patterns _) _ some (small_window limit patterns _ small)

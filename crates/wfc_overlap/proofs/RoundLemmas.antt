@@ -15,9 +15,10 @@ use Rattle.wfc_model.proofs.CallerLemmas.{same_window-Decides}
 use Rattle.wfc_model.proofs.CallerLemmas.{square-at}
 use Rattle.wfc_pattern.specs.Patterns.{PatternsView, AreDifferent, IsPatterns, window_at}
 use Rattle.wfc_problem.specs.Assignment.{IsLegalAssignment}
-use Rattle.wfc_overlap.specs.Sample.{Output, cell_of, problem_of_sample}
+use Rattle.wfc_places.specs.Steps.{cell_of}
+use Rattle.wfc_overlap.specs.Sample.{Output, problem_of_sample}
 use Rattle.wfc_overlap.specs.Bridge.{IsRoom, IsTaughtBy, nearest, pattern_number, numbers_of_windows, pixel_of, picture_of}
-use Rattle.wfc_overlap.proofs.StepLemmas.{mod_low}
+use Rattle.wfc_places.proofs.CallerLemmas.{mod_low}
 use Rattle.wfc_overlap.proofs.SampleLemmas.{cell_place}
 use Rattle.wfc_overlap.proofs.ThereLemmas.{number-at, number-is}
 use Rattle.wfc_overlap.proofs.BackLemmas.{near, value_in, window-is}

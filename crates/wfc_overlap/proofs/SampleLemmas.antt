@@ -1,20 +1,15 @@
 -- The problem of a sample, entry by entry; and that it is a problem.
-use Rattle.std.proofs.Common.{◌≡◌, ℕ, zero, suc, ◌+◌, ◌*◌, ◌/◌, ◌%◌, ◌<◌, ◌≤◌, Bool, true, false, ◌&&◌, inl, inr, List, [], length, get_or, map, refl, sym, subst, ap, ◌∙◌, arith, zero-add, Some}
-use Rattle.std.specs.Prelude.{Contains, All}
+use Rattle.std.proofs.Common.{◌≡◌, ℕ, zero, suc, ◌+◌, ◌*◌, ◌/◌, ◌%◌, ◌<◌, ◌≤◌, Bool, true, false, ◌&&◌, inl, List, [], length, get_or, map, refl, sym, subst, ap, ◌∙◌, arith, zero-add, Some}
+use Rattle.std.specs.Prelude.{Contains}
 use Rattle.std.specs.List.{range_with_len}
-use Rattle.std.specs.List.Sorted.{IsStrictlyIncreasing}
-use Rattle.std.proofs.lemmas.Bool.{cases_lt, and_parts, and_from, cond-true, cond-false}
-use Rattle.std.proofs.lemmas.Bool.Decides.{nat_tests}
-use Rattle.std.proofs.lemmas.List.{get_or_past, get_or-map, length-map}
-use Rattle.std.proofs.lemmas.List.Kept.{IsStrictlyIncreasing-filter}
-use Rattle.std.proofs.lemmas.List.Elements.{All-filter, All-contains, filter_passes}
-use Rattle.std.proofs.lemmas.List.FromFn.{length-map-range_with_len, get_or-map-range_with_len, length-range_with_len, get_or-range_with_len}
+use Rattle.std.proofs.lemmas.Bool.{and_parts, and_from, cond-true, cond-false}
+use Rattle.std.proofs.lemmas.List.{get_or-map, length-map}
+use Rattle.std.proofs.lemmas.List.FromFn.{length-map-range_with_len, get_or-map-range_with_len}
 use Rattle.std.proofs.lemmas.Nat.{mul-add-lt}
 use Rattle.std.proofs.Math.Nat.{mul-le-mul_right, mul_comm}
 use Rattle.wfc_model.specs.Direction.{opposite, left_by, down_by, right_by, up_by}
 use Rattle.wfc_model.specs.Window.{places, starts}
 use Rattle.wfc_model.specs.Legal.{Pin}
-use Rattle.wfc_lists.proofs.Lists.{Contains-filter}
 use Rattle.wfc_pattern.specs.Agreement.{agrees}
 use Rattle.wfc_pattern.specs.Patterns.{PatternsView, IsPatterns, window_at}
 use Rattle.wfc_pattern.proofs.CallerLemmas.{opposite_agrees}
@@ -22,30 +17,13 @@ use Rattle.wfc_problem.specs.Network.{Network, IsProblem, neighbour, supports_of
 use Rattle.wfc_problem.specs.declared.TheConstants.{NO_CELL, MAX_PAIRS}
 use Rattle.wfc_lists.proofs.Tables.{length-table, table-at, row_below}
 use Rattle.wfc_model.proofs.CallerLemmas.{opposite_below}
-use Rattle.wfc_problem.proofs.CallerLemmas.{neighbour_read, neighbour_not_none, neighbour_is, supports_at, supports_past, supports_inside, flag_at}
-use Rattle.wfc_overlap.specs.Sample.{Output, stepped, is_there, cell_of, beside, agreeing, meets, problem_of_sample}
+use Rattle.wfc_problem.proofs.CallerLemmas.{neighbour_read, neighbour_not_none, neighbour_is, supports_inside, flag_at}
+use Rattle.wfc_places.specs.Steps.{stepped, is_there, cell_of}
+use Rattle.wfc_overlap.specs.Sample.{Output, beside, agreeing, meets, problem_of_sample}
 use Rattle.wfc_overlap.specs.Bridge.{IsRoom}
-use Rattle.wfc_overlap.proofs.StepLemmas.{stepped-is, stepped-stepped, there_again}
+use Rattle.wfc_places.proofs.CallerLemmas as shared
+use Rattle.wfc_places.proofs.CallerLemmas.{one_across, one_down, length-supports, support-fits, fits-support, supports_rise, stepped-is, stepped-stepped, there_again}
 use Rattle.wfc_model.proofs.CallerLemmas.{length-places, places-at, IsCell, cell_is}
-
--- a step goes one column or one row at most
-pub one_across : (d : ℕ) → right_by d + left_by d ≤ 1
-one_across d = grind (arith, nat_tests)
-
-pub one_down : (d : ℕ) → down_by d + up_by d ≤ 1
-one_down d = grind (arith, nat_tests)
-
--- the numbers below n, rising
-below : (n : ℕ) → All (λ k. k < n) (range_with_len 0 n)
-below n k d inside = omega (arith, get_or-range_with_len 0 n k d (omega (arith, length-range_with_len 0 n)), length-range_with_len 0 n)
-
-within : (n k : ℕ) → k < n → Contains (range_with_len 0 n) k
-within n k inside = (k, omega (arith, length-range_with_len 0 n), get_or-range_with_len 0 n k k inside ∙ zero-add k)
-
-range_rises : (n : ℕ) → IsStrictlyIncreasing (range_with_len 0 n)
-range_rises n k inside =
-    let long = length-range_with_len 0 n in
-    omega (arith, get_or-range_with_len 0 n k 0 (omega arith), get_or-range_with_len 0 n (k + 1) 0 (omega arith))
 
 module _ (patterns : PatternsView) (output : Output) (pins : List Pin) where
   abbrev P : Network
@@ -178,18 +156,11 @@ module _ (patterns : PatternsView) (output : Output) (pins : List Pin) where
 
   -- ---- which patterns may stand side by side
 
-  pub length-supports : length P.supports ≡ count * 4
-  length-supports =
-      length-table (λ p. map (λ d. agreeing patterns p d) (range_with_len 0 4)) 4 (λ p. length-map-range_with_len (λ d. agreeing patterns p d) 0 4) (range_with_len 0 count)
-      ∙ ap (λ k. k * 4) (length-range_with_len 0 count)
+  abbrev agree_in : ℕ → ℕ → ℕ → Bool
+  agree_in d p q = agrees patterns.n (window_at patterns p) (window_at patterns q) d
 
   pub supports-at : (p d : ℕ) → p < count → d < 4 → supports_of P p d ≡ agreeing patterns p d
-  supports-at p d inside dir =
-      supports_at P p d dir
-      ∙ table-at (λ p. map (λ d. agreeing patterns p d) (range_with_len 0 4)) 4 (λ p. length-map-range_with_len (λ d. agreeing patterns p d) 0 4) (range_with_len 0 count) p d 0 []
-      (omega (arith, length-range_with_len 0 count)) dir
-      ∙ ap (λ k. get_or (map (λ d. agreeing patterns k d) (range_with_len 0 4)) d []) (get_or-range_with_len 0 count p 0 inside ∙ zero-add p)
-      ∙ get_or-map-range_with_len (λ d. agreeing patterns p d) 0 4 d d [] dir (zero-add d)
+  supports-at p d inside dir = shared.supports-at P count agree_in refl p d inside dir
 
   pub record IsBesideIn (p q d : ℕ) : Type 0 where
     pub first : p < count
@@ -197,31 +168,10 @@ module _ (patterns : PatternsView) (output : Output) (pins : List Pin) where
     pub agree : agrees patterns.n (window_at patterns p) (window_at patterns q) d ≡ true
 
   pub support-agrees : (p q d : ℕ) → d < 4 → Contains (supports_of P p d) q → IsBesideIn p q d
-  support-agrees p q d dir has =
-      let first : p < count = row_below p d 4 count (omega (arith, (supports_inside P p d q has).1, length-supports)) in
-      let kept : Contains (agreeing patterns p d) q = subst (λ qs. Contains qs q) (supports-at p d first dir) has in
-      record {
-        first = first;
-        second = All-contains (λ k. k < count) (agreeing patterns p d) q (All-filter (λ q. agrees patterns.n (window_at patterns p) (window_at patterns q) d) (λ k. k < count) (range_with_len 0 count) (below count)) kept;
-        agree = All-contains (λ k. agrees patterns.n (window_at patterns p) (window_at patterns k) d ≡ true) (agreeing patterns p d) q (filter_passes (λ q. agrees patterns.n (window_at patterns p) (window_at patterns q) d) (range_with_len 0 count)) kept;
-      }
+  support-agrees p q d dir has = let fit = support-fits P count agree_in refl p q d has in record { first = fit.first; second = fit.second; agree = fit.fit }
 
   pub agrees-support : (p q d : ℕ) → d < 4 → IsBesideIn p q d → Contains (supports_of P p d) q
-  agrees-support p q d dir fit =
-      subst (λ qs. Contains qs q) (sym (supports-at p d fit.first dir))
-      (Contains-filter (λ q. agrees patterns.n (window_at patterns p) (window_at patterns q) d) (range_with_len 0 count) q (within count q fit.second) fit.agree)
-
-  rising_in : (v d : ℕ) → d < 4 → IsStrictlyIncreasing (supports_of P v d)
-  rising_in v d dir = elim (cases_lt v count) [
-    | inl l ↦ subst IsStrictlyIncreasing (sym (supports-at v d l dir)) (IsStrictlyIncreasing-filter (λ q. agrees patterns.n (window_at patterns v) (window_at patterns q) d) (range_with_len 0 count) (range_rises count))
-    | inr ge ↦ subst IsStrictlyIncreasing (sym (supports_at P v d dir ∙ get_or_past P.supports (v * 4 + d) [] (omega (arith, length-supports)))) (λ k l. absurd (omega arith))
-  ]
-
-  rising : (v d : ℕ) → IsStrictlyIncreasing (supports_of P v d)
-  rising v d = elim (cases_lt d 4) [
-    | inl dir ↦ rising_in v d dir
-    | inr past ↦ subst IsStrictlyIncreasing (sym (supports_past P v d past)) (λ k l. absurd (omega arith))
-  ]
+  agrees-support p q d dir fit = fits-support P count agree_in refl p q d dir (record { first = fit.first; second = fit.second; fit = fit.agree })
 
   symmetric : (v w d : ℕ) → Contains (supports_of P v d) w → Contains (supports_of P w (opposite d)) v
   symmetric v w d has =
@@ -266,12 +216,12 @@ module _ (patterns : PatternsView) (output : Output) (pins : List Pin) where
       few_values = omega (arith, taught.few, taught.weighed);
       few_pairs = subst (λ k. P.cells * k ≤ MAX_PAIRS) (sym taught.weighed) room.few_pairs;
       neighbours_table = length-table (λ place. map (λ d. beside patterns.n output place d) (range_with_len 0 4)) 4 (λ place. length-map-range_with_len (λ d. beside patterns.n output place d) 0 4) all;
-      supports_table = length-supports ∙ ap (λ k. k * 4) (sym taught.weighed);
+      supports_table = length-supports P count agree_in refl ∙ ap (λ k. k * 4) (sym taught.weighed);
       base_table = length-base taught;
     };
     indexed = record {
       in_cells = in_cells;
-      rising = rising;
+      rising = supports_rise P count agree_in refl;
       in_values = λ v w d has. let fit = support-agrees v w d (supports_inside P v d w has).0 has in omega (arith, taught.weighed, fit.second);
     };
     weighed = record {

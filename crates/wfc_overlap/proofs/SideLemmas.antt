@@ -15,8 +15,8 @@ use Rattle.wfc_pattern.specs.Patterns.{PatternsView, window_at}
 use Rattle.wfc_pattern.proofs.AgreementLemmas.{same_test}
 use Rattle.wfc_overlap.specs.Sample.{agreeing}
 use Rattle.wfc_overlap.specs.Sides.{IsGrouped, members, part, side}
-use Rattle.wfc_overlap.proofs.PushLemmas.{kept_same}
-use Rattle.wfc_overlap.proofs.SampleLemmas.{one_across, one_down}
+use Rattle.wfc_lists.proofs.Growing.{kept_same}
+use Rattle.wfc_places.proofs.CallerLemmas.{one_across, one_down}
 
 -- how many numbers a part has
 length-part : (n : ℕ) (w : List ℕ) (left top columns rows : ℕ) → length (part n w left top columns rows) ≡ rows * columns

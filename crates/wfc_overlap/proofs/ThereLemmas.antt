@@ -19,12 +19,13 @@ use Rattle.wfc_pattern.proofs.CallerLemmas.{tested}
 use Rattle.wfc_problem.specs.Network.{Network, neighbour, ok, supports_of, in_base}
 use Rattle.wfc_problem.specs.Assignment.{IsLegalAssignment}
 use Rattle.wfc_lists.proofs.Lists.{Contains_has}
-use Rattle.wfc_overlap.specs.Sample.{Output, stepped, is_there, cell_of, meets, problem_of_sample}
+use Rattle.wfc_places.specs.Steps.{stepped, is_there, cell_of}
+use Rattle.wfc_overlap.specs.Sample.{Output, meets, problem_of_sample}
 use Rattle.wfc_overlap.specs.Bridge.{pattern_number, numbers_of_windows}
-use Rattle.wfc_overlap.proofs.StepLemmas.{stepped-is, exact, stepped_modulo}
+use Rattle.wfc_places.proofs.CallerLemmas.{stepped-is, exact, stepped_modulo, one_across, one_down, suits-from}
 use Rattle.wfc_model.proofs.CallerLemmas.{places-at}
-use Rattle.wfc_overlap.proofs.SampleLemmas.{one_across, one_down, cell_inside, cell_place, neighbour-place, neighbour-cell, agrees-support, base-at}
-use Rattle.wfc_overlap.proofs.PinLemmas.{suits-from, meets-from}
+use Rattle.wfc_overlap.proofs.SampleLemmas.{cell_inside, cell_place, neighbour-place, neighbour-cell, agrees-support, base-at}
+use Rattle.wfc_overlap.proofs.PinLemmas.{meets-from}
 
 -- the number of a window that is among the patterns
 pub record IsNumbered (patterns : PatternsView) (w : List ℕ) : Type 0 where

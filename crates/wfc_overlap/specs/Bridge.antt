@@ -10,7 +10,8 @@ use Rattle.wfc_model.specs.Legal.{IsLegalPicture, Rules, Pin}
 use Rattle.wfc_pattern.specs.Patterns.{PatternsView, window_at}
 use Rattle.wfc_problem.specs.declared.TheConstants.{MAX_PAIRS}
 use Rattle.wfc_problem.specs.Assignment.{IsLegalAssignment}
-use Rattle.wfc_overlap.specs.Sample.{Output, cell_of, problem_of_sample}
+use Rattle.wfc_places.specs.Steps.{cell_of}
+use Rattle.wfc_overlap.specs.Sample.{Output, problem_of_sample}
 
 -- how many pairs of a place and a pattern there are
 abbrev pub pairs : PatternsView → Output → ℕ

@@ -12,6 +12,7 @@ use Rattle.wfc_pins.specs.InOrder.{all_in_order}
 use Rattle.wfc_pins.specs.PinView.{PinView}
 use Rattle.wfc_pins.specs.declared.fault.BuildFault.{BuildFault}
 use Rattle.wfc_pins.specs.declared.fault.BuildFault.TheVariants.{SizeBelowN, PinOutside, UnknownSymbol, TooLarge}
+pub use Rattle.wfc_places.specs.Marks.{pin_with}
 use Rattle.wfc_problem.specs.Network.{Network}
 use Rattle.wfc_problem.specs.declared.TheConstants.{MAX_PAIRS}
 use Rattle.wfc_overlap.specs.Bridge.{pairs}
@@ -20,10 +21,6 @@ use Rattle.wfc_overlap.specs.Sample.{Output, problem_of_sample}
 -- the texts of a palette's symbols, in their order
 abbrev pub texts_of : List Symbol → List (List ℕ)
 texts_of palette = map symbol_text palette
-
--- the pin that a line means, where its symbol has this number
-abbrev pub pin_with : PinView → ℕ → Pin
-pin_with line number = record { keep = line.keep; column = line.x; row = line.y; number = number }
 
 -- the pin that a line means: its place has to be inside, and its symbol one of these texts, whose
 -- position is its number
@@ -37,6 +34,13 @@ pin_in texts width height line =
 -- the pins that the lines mean, or the fault of the first line that has one
 abbrev pub pins_in : List (List ℕ) → ℕ → ℕ → List PinView → Result (List Pin) BuildFault
 pins_in texts width height lines = all_in_order (map (pin_in texts width height) lines)
+
+-- the pins that the lines mean, but for a side below that of a window, and for too many pairs
+abbrev pub built_pins : PatternsView → List Symbol → Output → List PinView → Result (List Pin) BuildFault
+built_pins patterns palette output lines =
+    if nat_lt output.width patterns.n || nat_lt output.height patterns.n then Err SizeBelowN
+    else (if nat_lt MAX_PAIRS (pairs patterns output) then Err (TooLarge (pairs patterns output))
+    else pins_in (texts_of palette) output.width output.height lines)
 
 -- the problem, but for a side below that of a window, for too many pairs, and for a line at fault
 abbrev pub built : PatternsView → List Symbol → Output → List PinView → Result Network BuildFault

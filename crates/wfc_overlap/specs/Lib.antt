@@ -5,3 +5,4 @@ pub mod Flags
 pub mod Layout
 pub mod Built
 pub mod Small
+pub mod Subject

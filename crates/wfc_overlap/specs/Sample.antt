@@ -1,12 +1,14 @@
 -- The constraint problem of a sample: a cell for each place of the output, and the learned patterns
 -- as values.
-use Rattle.std.specs.Prelude.{ℕ, ◌+◌, ◌-◌, ◌*◌, ◌%◌, ◌==◌, Bool, not, ◌&&◌, ◌||◌, nat_le, nat_lt, List, length, map, filter, slice_index, if◌then◌else◌}
+use Rattle.std.specs.Prelude.{ℕ, ◌+◌, ◌*◌, ◌%◌, ◌==◌, Bool, not, ◌&&◌, ◌||◌, List, length, map, filter, slice_index, if◌then◌else◌}
 use Rattle.std.specs.List.{flat_map, list_all, range_with_len}
 use Rattle.wfc_model.specs.Direction.{left_by, down_by, right_by, up_by}
 use Rattle.wfc_model.specs.Window.{places, starts}
 use Rattle.wfc_model.specs.Legal.{Pin}
 use Rattle.wfc_pattern.specs.Agreement.{agrees}
 use Rattle.wfc_pattern.specs.Patterns.{PatternsView, window_at}
+pub use Rattle.wfc_places.specs.Marks.{suits}
+pub use Rattle.wfc_places.specs.Steps.{cell_of, is_there, stepped}
 use Rattle.wfc_problem.specs.Network.{Network}
 use Rattle.wfc_problem.specs.declared.TheConstants.{NO_CELL}
 
@@ -19,20 +21,6 @@ pub record Output : Type 0 where
 -- the output with these sides
 abbrev pub output_with : ℕ → ℕ → Bool → Output
 output_with width height wrap = record { width = width; height = height; wrap = wrap }
-
--- a column or a row of places, a step forth or back along so many, modulo them
-abbrev pub stepped : ℕ → ℕ → ℕ → ℕ → ℕ
-stepped count forth back at = (at + forth + count - back) % count
-
--- whether the step leads to another that there is: modulo their number always, else not past either
--- end
-abbrev pub is_there : ℕ → Bool → ℕ → ℕ → ℕ → Bool
-is_there count wrap forth back at =
-    wrap || (nat_le back (at + forth) && nat_lt (at + forth) (count + back))
-
--- the number of the place in a column and a row, counted row by row
-abbrev pub cell_of : ℕ → ℕ → ℕ → ℕ
-cell_of columns x y = y * columns + x
 
 -- the cell beside a place in a direction, where there is one
 abbrev pub beside : ℕ → Output → ℕ × ℕ → ℕ → ℕ
@@ -69,10 +57,6 @@ all_agreeing patterns p = map (λ d. agreeing patterns p d) (range_with_len 0 4)
 abbrev pub support_table : PatternsView → List (List ℕ)
 support_table patterns =
     flat_map (λ p. all_agreeing patterns p) (range_with_len 0 (length patterns.windows))
-
--- whether a number suits a pin: a kept one is the pin's, and a banned one isn't
-abbrev pub suits : Pin → ℕ → Bool
-suits pin number = if pin.keep then number == pin.number else not (number == pin.number)
 
 -- whether the number in column i and row j of a window at a place suits a pin, where it stands on
 -- the pin's pixel

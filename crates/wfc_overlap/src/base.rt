@@ -1,17 +1,20 @@
 //! Which patterns each place may have: those that meet every pin and ban.
 
-ghost use Rattle.std.specs.Prelude.{◌≡◌, ℕ, ◌+◌, ◌*◌, ◌%◌, ◌<◌, ◌≤◌, ◌&&◌, length, replicate, slice_index, true, Some, IfOk, IfSome};
+ghost use Rattle.std.specs.Prelude.{◌≡◌, ℕ, ◌+◌, ◌*◌, ◌%◌, ◌<◌, ◌≤◌, length, slice_index, Some, IfOk, IfSome};
 ghost use Rattle.wfc_model.specs.Window.{starts};
 ghost use Rattle.wfc_overlap.specs.Bridge.{AreInside};
-ghost use Rattle.wfc_overlap.specs.Flags.{AreCut, AreOutsideRow, IsRowCut, IsTable};
+ghost use Rattle.wfc_overlap.specs.Flags.{AreCut, IsTable};
 ghost use Rattle.wfc_overlap.specs.Layout.{output_of};
-ghost use Rattle.wfc_overlap.specs.Sample.{base_table, is_met, suits, suits_at, suits_in_column};
+ghost use Rattle.wfc_overlap.specs.Sample.{base_table, is_met, suits_at, suits_in_column};
+ghost use Rattle.wfc_pattern.specs.Patterns.{window_at};
+ghost use Rattle.wfc_places.specs.Flags.{IsRowCut};
+ghost use Rattle.wfc_places.specs.Marks.{suits};
 
 use crate::layout::Layout;
-use crate::mark::Mark;
 use std::alloc::Global;
 use wfc_outside::NoMemory;
 use wfc_pattern::Patterns;
+use wfc_places::{Mark, all_set};
 
 /// For each place and pattern whether the pattern meets all pins and bans there.
 pub(crate) fn base(
@@ -31,13 +34,6 @@ pub(crate) fn base(
         cut(&mut flags, patterns, layout, mark);
     }
     Ok(flags)
-}
-
-/// So many flags, all set.
-fn all_set(alloc: Global, count: usize) -> Result<Vec<bool>, NoMemory>
-    ensures value { IfOk result (λ flags. flags.items ≡ replicate count true) }
-{
-    Ok(vec![in alloc; true; count]?)
 }
 
 /// Takes away what doesn't meet a pin or a ban, at each place whose window has its pixel.
@@ -97,10 +93,8 @@ fn cut_place(flags: &mut [bool], patterns: &Patterns, mark: &Mark, cell: usize, 
     requires row { cell * length patterns.now.windows + length patterns.now.windows
         ≤ length flags.old }
     requires entry { entry < patterns.now.n * patterns.now.n }
-    ensures as_long { length flags.new ≡ length flags.old }
-    ensures here { IsRowCut patterns.now flags.old flags.new cell
-        (λ w. suits mark.now (slice_index w entry)) }
-    ensures others { AreOutsideRow flags.old flags.new cell (length patterns.now.windows) }
+    ensures cut { IsRowCut (length patterns.now.windows) flags.old flags.new cell
+        (λ v. suits mark.now (slice_index (window_at patterns.now v) entry)) }
 {
     let first = cell * patterns.count() as usize;
     for v in 0..patterns.count() {

@@ -6,8 +6,10 @@ ghost use Rattle.wfc_model.specs.Legal.{banned_pin, kept_pin};
 ghost use Rattle.wfc_model.specs.Raster.{raster_of};
 ghost use Rattle.wfc_outside.specs.Gives.{result_map};
 ghost use Rattle.wfc_overlap.specs.Bridge.{AreInside, HasWindowsOf, IsRoom, IsTaughtBy, numbers_of_windows, pairs, picture_of};
-ghost use Rattle.wfc_overlap.specs.Built.{built, pin_in, pins_in, texts_of};
+ghost use Rattle.wfc_overlap.specs.Built.{built, built_pins, pin_in, pins_in, texts_of};
 ghost use Rattle.wfc_overlap.specs.Sample.{Output, output_with, problem_of_sample};
+ghost use Rattle.wfc_places.specs.Steps.{IsStepFrom};
+ghost use Rattle.wfc_overlap.specs.Subject.{HoldsPin, IsPlaceOf, place_cell};
 ghost use Rattle.wfc_overlap.specs.Small.{line_of, no_pattern, one_pattern, rules_with, six_numbers, three_by_two, three_symbols, two_patterns};
 ghost use Rattle.wfc_pattern.specs.Patterns.{PatternsView};
 ghost use Rattle.wfc_picture.specs.declared.symbol.Symbol.{Symbol};
@@ -125,6 +127,11 @@ pub fn lines_in_order()
 /// A problem is built of the pins that the lines mean; a side below that of a window comes before
 /// too many pairs, and those come before the lines.
 pub fn small_builds()
+    ensures pins { built_pins two_patterns three_symbols three_by_two
+        (line_of 1 true 1 0 (codes "\\s") ∷ line_of 2 false 2 1 (codes "a") ∷ [])
+        ≡ Ok (kept_pin 1 0 1 ∷ banned_pin 2 1 0 ∷ []) }
+    ensures narrow_pins { built_pins two_patterns three_symbols (output_with 1 2 true)
+        (line_of 5 true 9 9 [] ∷ []) ≡ Err SizeBelowN }
     ensures problem { built two_patterns three_symbols three_by_two
         (line_of 1 true 1 0 (codes "\\s") ∷ [])
         ≡ Ok (problem_of_sample two_patterns three_by_two (kept_pin 1 0 1 ∷ [])) }
@@ -146,4 +153,37 @@ pub fn builds_by_pairs()
         (lines : List PinView) → IsRoom patterns output → built patterns palette output lines
         ≡ result_map (problem_of_sample patterns output)
         (pins_in (texts_of palette) output.width output.height lines) }
+{}
+
+/// Places of an output of three by two: two side by side; and the cells of one of four by three.
+pub fn small_places()
+    ensures last { IsPlaceOf two_patterns three_by_two 1 0 }
+    ensures past { IsPlaceOf two_patterns three_by_two 2 0 → ⊥ }
+    ensures below { IsPlaceOf two_patterns three_by_two 0 1 → ⊥ }
+    ensures wrapped { IsPlaceOf two_patterns (output_with 3 2 true) 2 1 }
+    ensures flat_cell { place_cell two_patterns (output_with 4 3 false) 1 1 ≡ 4 }
+    ensures wrapped_cell { place_cell two_patterns (output_with 4 3 true) 1 2 ≡ 9 }
+{}
+
+/// A step among three columns and two rows, and among one column.
+pub fn small_steps()
+    ensures right { IsStepFrom false 3 2 2 0 1 1 1 }
+    ensures back { IsStepFrom false 3 2 2 1 1 0 1 → ⊥ }
+    ensures down { IsStepFrom false 3 2 1 2 0 2 1 }
+    ensures up { IsStepFrom false 3 2 1 2 1 2 0 → ⊥ }
+    ensures flat { IsStepFrom false 3 2 2 2 1 0 1 → ⊥ }
+    ensures wrapped { IsStepFrom true 3 2 2 2 1 0 1 }
+    ensures wrapped_too_soon { IsStepFrom true 3 2 2 1 1 0 1 → ⊥ }
+    ensures wrapped_down { IsStepFrom true 3 2 1 2 1 2 0 }
+    ensures own { IsStepFrom true 1 2 2 0 1 0 1 }
+{}
+
+/// Which pins a window at the second place of an output of three by two holds: it reaches the pixels
+/// right of the first column.
+pub fn small_holds()
+    ensures kept { HoldsPin 2 three_by_two 1 0 (1 ∷ 2 ∷ 3 ∷ 4 ∷ []) (kept_pin 2 0 2) }
+    ensures other { HoldsPin 2 three_by_two 1 0 (1 ∷ 2 ∷ 3 ∷ 4 ∷ []) (kept_pin 2 0 3) → ⊥ }
+    ensures banned { HoldsPin 2 three_by_two 1 0 (1 ∷ 2 ∷ 3 ∷ 4 ∷ []) (banned_pin 1 1 2) }
+    ensures banned_there { HoldsPin 2 three_by_two 1 0 (1 ∷ 2 ∷ 3 ∷ 4 ∷ []) (banned_pin 1 1 3) → ⊥ }
+    ensures clear { HoldsPin 2 three_by_two 1 0 (1 ∷ 2 ∷ 3 ∷ 4 ∷ []) (kept_pin 0 1 9) }
 {}

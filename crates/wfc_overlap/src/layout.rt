@@ -22,6 +22,8 @@ pub(crate) struct Layout {
     ghost rows_are: { rows ≡ starts height n wrap },
     ghost some_column: { 0 < columns },
     ghost some_row: { 0 < rows },
+    ghost few_columns: { columns ≤ 4096 },
+    ghost few_rows: { rows ≤ 4096 },
 }
 
 impl Layout {

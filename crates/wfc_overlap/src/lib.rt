@@ -9,14 +9,14 @@ pub mod examples;
 mod groups;
 pub mod laws;
 mod layout;
-mod mark;
 mod neighbours;
 mod painting;
 mod pins;
 mod problem;
 mod supports;
 
-pub use mark::Mark;
 pub use painting::picture_of;
 pub use pins::{marks, texts};
-pub use problem::{build, problem_of_marks, problem_with};
+pub use problem::{base_of_marks, build, checked_marks, parts_of_marks, problem_of_marks};
+pub use supports::support_lists;
+pub use wfc_places::{Mark, problem_with};

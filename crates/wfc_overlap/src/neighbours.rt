@@ -3,12 +3,13 @@
 ghost use Rattle.std.specs.Prelude.{◌≡◌, ◌<◌, ◌++◌, OnOk, IfOk};
 ghost use Rattle.std.specs.Option.{ForSome};
 ghost use Rattle.std.specs.List.{flat_map};
-ghost use Rattle.wfc_overlap.specs.Layout.{along, cell_in, output_of, row_places};
+ghost use Rattle.wfc_overlap.specs.Layout.{cell_in, output_of, row_places};
 ghost use Rattle.wfc_overlap.specs.Sample.{all_beside, neighbour_table};
 
 use crate::layout::Layout;
 use std::alloc::Global;
 use wfc_outside::NoMemory;
+use wfc_places::along;
 use wfc_problem::NO_CELL;
 
 /// For each place and direction the place that lies there, or `NO_CELL`.
@@ -42,10 +43,10 @@ fn push_place(table: &mut Vec<u32>, layout: Layout, x: u32, y: u32) -> Result<()
     ensures place { OnOk result (table.new.items
         ≡ table.old.items ++ all_beside layout.n (output_of layout) (x, y)) }
 {
-    let left = before(x, layout.columns, layout.wrap);
-    let right = after(x, layout.columns, layout.wrap);
-    let up = before(y, layout.rows, layout.wrap);
-    let down = after(y, layout.rows, layout.wrap);
+    let left = along(x, 0, 1, layout.columns, layout.wrap);
+    let right = along(x, 1, 0, layout.columns, layout.wrap);
+    let up = along(y, 0, 1, layout.rows, layout.wrap);
+    let down = along(y, 1, 0, layout.rows, layout.wrap);
     table.push(cell_in(layout, left, Some(y)))?;
     table.push(cell_in(layout, Some(x), down))?;
     table.push(cell_in(layout, right, Some(y)))?;
@@ -63,37 +64,5 @@ fn cell_in(layout: Layout, x: Option<u32>, y: Option<u32>) -> u32
     match (x, y) {
         (Some(x), Some(y)) => y * layout.columns + x,
         _ => NO_CELL,
-    }
-}
-
-/// One column or row back, if it is there.
-#[inline]
-fn before(at: u32, count: u32, wrap: bool) -> Option<u32>
-    requires at_in { at < count }
-    ensures value { result ≡ along count wrap 0 1 at }
-    ensures within { ForSome result (λ s. s < count) }
-{
-    if at > 0 {
-        Some(at - 1)
-    } else if wrap {
-        Some(count - 1)
-    } else {
-        None
-    }
-}
-
-/// One column or row forth, if it is there.
-#[inline]
-fn after(at: u32, count: u32, wrap: bool) -> Option<u32>
-    requires at_in { at < count }
-    ensures value { result ≡ along count wrap 1 0 at }
-    ensures within { ForSome result (λ s. s < count) }
-{
-    if at < count - 1 {
-        Some(at + 1)
-    } else if wrap {
-        Some(0)
-    } else {
-        None
     }
 }

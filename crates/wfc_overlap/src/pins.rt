@@ -7,11 +7,11 @@ ghost use Rattle.wfc_outside.specs.Gives.{Gives};
 ghost use Rattle.wfc_picture.specs.Symbol.{symbol_text};
 ghost use Rattle.wfc_overlap.specs.Built.{pin_in, pins_in, texts_of};
 
-use crate::mark::Mark;
 use std::alloc::Global;
 use wfc_outside::NoMemory;
 use wfc_picture::{Palette, Symbol};
 use wfc_pins::{BuildFault, PinLine};
+use wfc_places::Mark;
 use wfc_text::push_number;
 
 /// What the lines of a pins file mean, or the first line at fault.

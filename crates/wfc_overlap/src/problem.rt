@@ -1,24 +1,24 @@
 //! The problem of a sample.
 
-ghost use Rattle.std.specs.Prelude.{◌≡◌, ◌<◌, ◌≤◌, IfOk};
+ghost use Rattle.std.specs.Prelude.{◌≡◌, ◌<◌, ◌≤◌, map, IfOk};
 ghost use Rattle.wfc_outside.specs.Gives.{Gives};
-ghost use Rattle.wfc_problem.specs.Network.{IsProblem};
+ghost use Rattle.wfc_pattern.specs.Patterns.{IsPatterns};
 ghost use Rattle.wfc_overlap.specs.Bridge.{AreInside, IsRoom};
-ghost use Rattle.wfc_overlap.specs.Built.{built};
+ghost use Rattle.wfc_overlap.specs.Built.{built, built_pins};
 ghost use Rattle.wfc_overlap.specs.Layout.{output_of};
-ghost use Rattle.wfc_overlap.specs.Sample.{output_with, problem_of_sample};
+ghost use Rattle.wfc_overlap.specs.Sample.{base_table, output_with, problem_of_sample, support_table};
 
 use crate::base::base;
 use crate::layout::Layout;
-use crate::mark::Mark;
 use crate::neighbours::neighbours;
 use crate::pins::marks;
-use crate::supports::supports;
+use crate::supports::support_lists;
 use std::alloc::Global;
 use wfc_outside::NoMemory;
 use wfc_pattern::Patterns;
 use wfc_picture::Palette;
 use wfc_pins::{BuildFault, PinLine};
+use wfc_places::{Mark, problem_with};
 use wfc_problem::{MAX_PAIRS, Parts, Problem};
 
 /// The problem of learned patterns for an output of `width` by `height` pixels: a cell for each
@@ -44,6 +44,33 @@ pub fn build(
     ensures exact { Gives BuildFault.NoMemory (λ problem. problem) result
         (built patterns.now palette.now (output_with width height wrap) pins.now) }
 {
+    let marks = checked_marks(alloc, patterns, palette, width, height, wrap, pins)?;
+    let supports = support_lists(alloc, patterns)?;
+    let problem = problem_of_marks(alloc, patterns, supports, width, height, wrap, &marks)?;
+    Ok(problem)
+}
+
+/// What the lines of a pins file mean for the problem that `build` builds, or the first of its
+/// faults. Then the output has room for a window.
+pub fn checked_marks(
+    alloc: Global,
+    patterns: &Patterns,
+    palette: &Palette,
+    width: u32,
+    height: u32,
+    wrap: bool,
+    pins: &[PinLine],
+) -> Result<Vec<Mark>, BuildFault>
+    requires some_width { 0 < width }
+    requires some_height { 0 < height }
+    requires width_limit { width ≤ 4096 }
+    requires height_limit { height ≤ 4096 }
+    ensures exact { Gives BuildFault.NoMemory (λ marks. marks.items) result
+        (built_pins patterns.now palette.now (output_with width height wrap) pins.now) }
+    ensures room { IfOk result (λ marks. IsRoom patterns.now (output_with width height wrap)) }
+    ensures inside { IfOk result (λ marks.
+        AreInside (output_with width height wrap) marks.items) }
+{
     let n = patterns.n();
     if width < n || height < n {
         return Err(BuildFault::SizeBelowN);
@@ -53,16 +80,16 @@ pub fn build(
     if product > MAX_PAIRS {
         return Err(BuildFault::TooLarge { product });
     }
-    let marks = marks(alloc, palette, width, height, pins)?;
-    let parts = parts(alloc, patterns, layout, &marks)?;
-    Ok(problem_with(parts))
+    marks(alloc, palette, width, height, pins)
 }
 
-/// The problem of learned patterns for an output of `width` by `height` pixels that has room for a
-/// window, with these pins and bans.
+/// The problem of learned patterns, of which `supports` are the lists, for an output of `width` by
+/// `height` pixels that has room for a window, with these pins and bans. The lists can be taken out
+/// of the problem again, so that they are made once for many outputs.
 pub fn problem_of_marks(
     alloc: Global,
     patterns: &Patterns,
+    supports: Vec<Vec<u16>>,
     width: u32,
     height: u32,
     wrap: bool,
@@ -72,30 +99,68 @@ pub fn problem_of_marks(
     requires width_limit { width ≤ 4096 }
     requires height_limit { height ≤ 4096 }
     requires inside { AreInside (output_with width height wrap) marks.now }
+    requires supports { map (λ list. list.items) supports.items ≡ support_table patterns.now }
     ensures value { IfOk result (λ problem. problem
         ≡ problem_of_sample patterns.now (output_with width height wrap) marks.now) }
 {
-    let layout = Layout::new(patterns.n(), width, height, wrap);
-    let parts = parts(alloc, patterns, layout, marks)?;
+    let parts = parts_of_marks(alloc, patterns, supports, width, height, wrap, marks)?;
     Ok(problem_with(parts))
 }
 
-/// The problem with these parts, which are one.
-pub fn problem_with(parts: Parts) -> Problem
-    requires problem { IsProblem parts }
-    ensures value { result ≡ parts }
+/// What that problem is made of.
+pub fn parts_of_marks(
+    alloc: Global,
+    patterns: &Patterns,
+    supports: Vec<Vec<u16>>,
+    width: u32,
+    height: u32,
+    wrap: bool,
+    marks: &[Mark],
+) -> Result<Parts, NoMemory>
+    requires room { IsRoom patterns.now (output_with width height wrap) }
+    requires width_limit { width ≤ 4096 }
+    requires height_limit { height ≤ 4096 }
+    requires inside { AreInside (output_with width height wrap) marks.now }
+    requires supports { map (λ list. list.items) supports.items ≡ support_table patterns.now }
+    ensures value { IfOk result (λ parts. parts
+        ≡ problem_of_sample patterns.now (output_with width height wrap) marks.now) }
+    ensures patterns { IsPatterns patterns.now }
 {
-    Problem::new(parts).unwrap()
+    let layout = Layout::new(patterns.n(), width, height, wrap);
+    parts(alloc, patterns, supports, layout, marks)
+}
+
+/// The base of that problem: for each place and pattern, place by place, whether the pattern meets
+/// all pins and bans there.
+pub fn base_of_marks(
+    alloc: Global,
+    patterns: &Patterns,
+    width: u32,
+    height: u32,
+    wrap: bool,
+    marks: &[Mark],
+) -> Result<Vec<bool>, NoMemory>
+    requires room { IsRoom patterns.now (output_with width height wrap) }
+    requires width_limit { width ≤ 4096 }
+    requires height_limit { height ≤ 4096 }
+    requires inside { AreInside (output_with width height wrap) marks.now }
+    ensures value { IfOk result (λ flags. flags.items ≡ base_table patterns.now.n
+        (output_with width height wrap) patterns.now.windows marks.now) }
+{
+    let layout = Layout::new(patterns.n(), width, height, wrap);
+    base(alloc, patterns, layout, marks)
 }
 
 /// What the problem is made of.
 fn parts(
     alloc: Global,
     patterns: &Patterns,
+    supports: Vec<Vec<u16>>,
     layout: Layout,
     marks: &[Mark],
 ) -> Result<Parts, NoMemory>
     requires n { layout.n ≡ patterns.now.n }
+    requires supports { map (λ list. list.items) supports.items ≡ support_table patterns.now }
     requires inside { AreInside (output_of layout) marks.now }
     ensures value { IfOk result (λ parts. parts
         ≡ problem_of_sample patterns.now (output_of layout) marks.now) }
@@ -105,7 +170,7 @@ fn parts(
         dirs: 4,
         neighbours: neighbours(alloc, layout)?,
         weights: weights(alloc, patterns)?,
-        supports: supports(alloc, patterns)?,
+        supports,
         base: base(alloc, patterns, layout, marks)?,
     })
 }

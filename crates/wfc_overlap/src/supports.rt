@@ -13,7 +13,7 @@ use wfc_problem::opposite;
 
 /// For each pattern and direction the patterns that agree with it there, in lists that take no more
 /// memory than they need.
-pub(crate) fn supports(alloc: Global, patterns: &Patterns) -> Result<Vec<Vec<u16>>, NoMemory>
+pub fn support_lists(alloc: Global, patterns: &Patterns) -> Result<Vec<Vec<u16>>, NoMemory>
     ensures value { IfOk result (λ lists.
         map (λ list. list.items) lists.items ≡ support_table patterns.now) }
 {

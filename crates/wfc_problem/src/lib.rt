@@ -3,7 +3,7 @@
 //! it: what a literal cuts off, and what the greatest arc-consistent domains of a problem are.
 #![tactic(auto)]
 
-ghost use Rattle.std.specs.Prelude.{◌≡◌, ℕ, ◌+◌, ◌*◌, ◌<◌, ◌≤◌, ◌↔◌, [], false, IsTrue, IsOk, IfOk, Contains, count_by, length, slice_index_or};
+ghost use Rattle.std.specs.Prelude.{◌≡◌, ℕ, ◌+◌, ◌*◌, ◌<◌, ◌≤◌, ◌↔◌, [], false, IsTrue, IsOk, IfOk, Contains, count_by, length, map, slice_index_or};
 ghost use Rattle.std.specs.List.Sorted.{IsStrictlyIncreasing};
 ghost use Rattle.std.specs.Result.{result_err};
 ghost use Rattle.wfc_model.specs.Direction.{opposite};
@@ -368,5 +368,13 @@ impl Problem {
         } else {
             self.parts.depth() as u32
         }
+    }
+
+    /// The lists of values that may stand beside each value, direction by direction, which another
+    /// problem may be made of.
+    pub fn into_supports(self) -> Vec<Vec<u16>>
+        ensures value { map (λ list. list.items) result.items ≡ self.supports }
+    {
+        self.parts.supports
     }
 }

@@ -28,7 +28,7 @@ pub fn learned_overlap(
 }
 
 /// Writes a line of a word and a number behind the text.
-pub(crate) fn push_head(text: &mut Vec<u8>, word: &[u8], n: u64) -> Result<(), NoMemory>
+pub fn push_head(text: &mut Vec<u8>, word: &[u8], n: u64) -> Result<(), NoMemory>
     ensures line { OnOk result (text.new.items ≡ text.old.items ++ head_line word.now n) }
 {
     text.extend_from_slice(word)?;

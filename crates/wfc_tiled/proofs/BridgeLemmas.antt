@@ -1,28 +1,26 @@
 -- Legal tile maps and legal assignments are each other's.
-use Rattle.std.proofs.Common.{◌≡◌, ◌≢◌, ℕ, zero, suc, ◌+◌, ◌*◌, ◌/◌, ◌%◌, ◌<◌, ◌≤◌, Bool, true, false, not, cond, ◌⊎◌, inl, inr, List, [], ◌∷◌, length, get_or, map, Option, None, Some, refl, sym, subst, ap, ◌∙◌, arith, zero-add}
-use Rattle.std.specs.Prelude.{Contains, All, IsTrue, ◌==◌, ◌||◌, nat_eq, position, slice_index, MatchBool}
-use Rattle.std.specs.List.{range_with_len, list_all}
-use Rattle.std.proofs.lemmas.Bool.{cases_lt, cases_Bool, and_parts, and_from, false≢true, eq-eqb, eqb-true, ne_eqb}
+use Rattle.std.proofs.Common.{◌≡◌, ◌≢◌, ℕ, zero, suc, ◌*◌, ◌/◌, ◌%◌, ◌<◌, Bool, true, false, not, inl, inr, List, length, get_or, Option, None, Some, refl, sym, subst, ap, ◌∙◌, arith, zero-add}
+use Rattle.std.specs.Prelude.{Contains, IsTrue, ◌==◌, ◌||◌, MatchBool}
+use Rattle.std.proofs.lemmas.Bool.{and_parts, and_from, eq-eqb, eqb-true}
 use Rattle.std.proofs.lemmas.List.{get_or_default, get_or-map, length-map, ext_get_or}
 use Rattle.std.proofs.lemmas.List.FromFn.{length-map-range_with_len, get_or-map-range_with_len}
 use Rattle.std.proofs.lemmas.Nat.{mul-add-lt, mod-mul-add, div-mul-add}
 use Rattle.wfc_lists.proofs.Lists.{all_pass, pass_all, Contains_has, has_Contains}
-use Rattle.wfc_model.specs.Raster.{Raster, number_at, raster_of, numbers_of, height_of, IsSized, IsFilled}
+use Rattle.wfc_model.specs.Raster.{Raster, number_at, raster_of, numbers_of}
 use Rattle.wfc_model.specs.Legal.{Pin, IsHeld}
 use Rattle.wfc_model.proofs.CallerLemmas.{number_at-raster_of, IsSized-raster_of, height-raster_of, raster_of-numbers_of, number_at-numbers_of, length-numbers_of, IsCell, cell_is}
-use Rattle.wfc_problem.specs.Network.{Network, IsProblem, neighbour, ok, in_base}
+use Rattle.wfc_problem.specs.Network.{Network, IsProblem, in_base}
 use Rattle.wfc_problem.proofs.CallerLemmas.{base_inside}
 use Rattle.wfc_problem.specs.Assignment.{IsLegalAssignment}
-use Rattle.wfc_overlap.specs.Sample.{stepped, is_there, cell_of, suits}
-use Rattle.wfc_overlap.proofs.CallerLemmas.{suits-from, held-from_suits}
-use Rattle.wfc_overlap.proofs.StepLemmas.{IsStepped, stepped-is, exact, forth_there, stay_there}
-use Rattle.wfc_overlap.proofs.BackLemmas.{stayed}
+use Rattle.wfc_places.specs.Marks.{suits}
+use Rattle.wfc_places.specs.Steps.{stepped, is_there, cell_of}
+use Rattle.wfc_places.proofs.CallerLemmas.{suits-from, held-from_suits, stepped-is, exact, forth_there, stay_there, stayed}
 use Rattle.wfc_tileset.specs.Tiles.{TileSetView, variant_total, variant_at}
 use Rattle.wfc_tileset.specs.Allowed.{IsAcross, IsDown, across_pairs, down_pairs, may_be_above, may_be_left}
 use Rattle.wfc_tileset.specs.declared.TheConstants.{HOLE}
 use Rattle.wfc_tileset.proofs.CallerLemmas.{has_the_pair, pair_has}
 use Rattle.wfc_tiled.specs.Mask.{MaskView, IsMask, IsPlace, cell_number}
-use Rattle.wfc_tiled.specs.Tiles.{is_step, step_from, fits, suits_at, meets, problem_of_tiles}
+use Rattle.wfc_tiled.specs.Tiles.{is_step, step_from, fits, suits_at, problem_of_tiles}
 use Rattle.wfc_tiled.specs.Maps.{IsNext, IsLegalTileMap, IsPlaced, ArePlaced, number_of_cell, numbers_of_cells, tile_map, numbers_of_places}
 use Rattle.wfc_tiled.proofs.MaskLemmas.{found, stands, member, there}
 use Rattle.wfc_tiled.proofs.TileLemmas.{place_is, length-weights, neighbour-cell, neighbour-beside, beside-neighbour, support-fits, fits-support, base-at}

@@ -1,5 +1,5 @@
 -- Masks: the cells of places, and that masks are masks.
-use Rattle.std.proofs.Common.{◌≡◌, ◌≢◌, ℕ, zero, suc, ◌+◌, ◌*◌, ◌/◌, ◌%◌, ◌<◌, ◌≤◌, Bool, true, false, cond, inl, inr, List, [], ◌∷◌, length, get_or, filter, position, Option, None, Some, Ok, Err, refl, sym, subst, ap, ◌∙◌, arith, zero-add}
+use Rattle.std.proofs.Common.{◌≡◌, ◌≢◌, ℕ, suc, ◌*◌, ◌<◌, ◌≤◌, Bool, true, false, inl, inr, List, [], ◌∷◌, length, get_or, filter, position, None, Some, Ok, Err, refl, sym, subst, ◌∙◌, arith}
 use Rattle.std.specs.Prelude.{Contains, All, ◌==◌, nat_eq, slice_index}
 use Rattle.std.specs.List.{range_with_len}
 use Rattle.std.specs.List.Sorted.{IsStrictlyIncreasing, IsBinarySearchResult}
@@ -11,10 +11,11 @@ use Rattle.std.proofs.lemmas.List.FromFn.{length-range_with_len, get_or-range_wi
 use Rattle.std.proofs.lemmas.List.Kept.{AllPairs-from_increasing, IsStrictlyIncreasing-filter}
 use Rattle.std.proofs.lemmas.List.Quantifiers.{position-Some}
 use Rattle.std.proofs.lemmas.List.Sorted.{searched}
-use Rattle.std.proofs.Math.Nat.{mul-le-mul_right, mul-le-mul_left, mul-pos}
+use Rattle.std.proofs.Math.Nat.{mul-le-mul_right, mul-pos}
+use Rattle.wfc_lists.proofs.Growing.{range_rises}
 use Rattle.wfc_lists.proofs.Positions.{position_at, position_none}
 use Rattle.wfc_lists.proofs.Rising.{rising_le}
-use Rattle.wfc_tiled.specs.Mask.{MaskView, IsMask, cell_number, plain_mask, places_of}
+use Rattle.wfc_tiled.specs.Mask.{MaskView, IsMask, plain_mask, places_of}
 
 -- ---- where a number stands in a rising list
 
@@ -70,11 +71,6 @@ few mask is = omega (arith, is.few_places, area mask.width mask.height is.width_
 -- the numbers below n, rising
 pub below : (n : ℕ) → All (λ k. k < n) (range_with_len 0 n)
 below n k d inside = omega (arith, get_or-range_with_len 0 n k d (omega (arith, length-range_with_len 0 n)), length-range_with_len 0 n)
-
-pub range_rises : (n : ℕ) → IsStrictlyIncreasing (range_with_len 0 n)
-range_rises n k inside =
-    let long = length-range_with_len 0 n in
-    omega (arith, get_or-range_with_len 0 n k 0 (omega arith), get_or-range_with_len 0 n (k + 1) 0 (omega arith))
 
 -- the mask without holes is one
 pub plain_is : (w h : ℕ) → 0 < w → 0 < h → w ≤ 4096 → h ≤ 4096 → IsMask (plain_mask w h)

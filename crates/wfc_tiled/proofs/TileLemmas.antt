@@ -1,37 +1,30 @@
 -- The problem of a tile set, entry by entry; and that it is a problem.
-use Rattle.std.proofs.Common.{◌≡◌, ◌≢◌, ℕ, zero, suc, ◌+◌, ◌*◌, ◌/◌, ◌%◌, ◌<◌, ◌≤◌, Bool, true, false, ◌&&◌, inl, inr, List, [], length, get_or, map, Option, None, Some, Result, Err, ltb, refl, sym, subst, ap, ◌∙◌, arith, zero-add}
-use Rattle.std.specs.Prelude.{Contains, All, IsTrue, ◌==◌, ◌↔◌, unwrap_or, if◌then◌else◌}
-use Rattle.std.specs.List.{range_with_len, list_any}
-use Rattle.std.specs.List.Sorted.{IsStrictlyIncreasing}
-use Rattle.std.proofs.lemmas.Bool.{cases_lt, and_parts, and_from, cond-true, cond-false, lt-ltb, eqb-true, eq-eqb}
-use Rattle.std.proofs.lemmas.List.{get_or_past}
-use Rattle.std.proofs.lemmas.List.Kept.{IsStrictlyIncreasing-filter}
-use Rattle.std.proofs.lemmas.List.Elements.{All-filter, All-contains, filter_passes}
-use Rattle.std.proofs.lemmas.List.FromFn.{length-map-range_with_len, get_or-map-range_with_len, length-range_with_len, get_or-range_with_len}
-use Rattle.std.proofs.lemmas.Nat.{mul-add-lt, mod-mul-add, div-mul-add}
+use Rattle.std.proofs.Common.{◌≡◌, ℕ, zero, suc, ◌+◌, ◌*◌, ◌/◌, ◌%◌, ◌<◌, ◌≤◌, Bool, true, false, inl, List, length, get_or, Option, None, Some, Ok, Err, cond, ltb, refl, sym, subst, ap, ◌∙◌, arith, zero-add}
+use Rattle.std.specs.Prelude.{Contains, nat_lt, unwrap_or, if◌then◌else◌}
+use Rattle.std.proofs.lemmas.Bool.{and_parts, and_from, cond-true, lt-ltb}
+use Rattle.std.proofs.lemmas.List.FromFn.{length-map-range_with_len, get_or-map-range_with_len, length-range_with_len}
+use Rattle.std.proofs.lemmas.Nat.{mod-mul-add, div-mul-add}
 use Rattle.std.proofs.Math.Nat.{mul-le-mul_right, mul_comm}
-use Rattle.wfc_lists.proofs.Lists.{Contains-filter, Contains_any, any_Contains}
-use Rattle.wfc_lists.proofs.Ranges.{range_Contains}
 use Rattle.wfc_lists.proofs.Tables.{length-table, table-at, row_below}
 use Rattle.wfc_model.specs.Direction.{opposite, left_by, down_by, right_by, up_by}
 use Rattle.wfc_model.specs.Legal.{Pin}
 use Rattle.wfc_model.proofs.CallerLemmas.{opposite_below, IsCell, cell_is}
 use Rattle.wfc_problem.specs.Network.{Network, IsProblem, neighbour, supports_of, in_base, has_flag}
 use Rattle.wfc_problem.specs.declared.TheConstants.{NO_CELL, MAX_PAIRS}
-use Rattle.wfc_problem.proofs.CallerLemmas.{neighbour_read, neighbour_not_none, neighbour_is, supports_at, supports_past, supports_inside, flag_at}
-use Rattle.wfc_overlap.specs.Sample.{stepped, is_there, cell_of}
-use Rattle.wfc_overlap.proofs.StepLemmas.{stepped-is, stepped-stepped, there_again}
-use Rattle.wfc_overlap.proofs.SampleLemmas.{one_across, one_down}
-use Rattle.wfc_tileset.specs.Tiles.{TileView, TileSetView, Variant, IsWeighed, variant_total, variant_at, tile_at}
+use Rattle.wfc_problem.proofs.CallerLemmas.{neighbour_read, neighbour_not_none, neighbour_is, supports_inside, flag_at}
+use Rattle.wfc_places.specs.Steps.{stepped, is_there, cell_of}
+use Rattle.wfc_places.proofs.CallerLemmas as shared
+use Rattle.wfc_places.proofs.CallerLemmas.{IsFitting, length-supports, supports_rise, stepped-is, stepped-stepped, there_again, one_across, one_down}
+use Rattle.wfc_tileset.specs.Tiles.{TileSetView, IsWeighed, variant_total, variant_at, tile_at}
 use Rattle.wfc_tileset.specs.TileSets.{IsTileSet}
-use Rattle.wfc_tileset.proofs.CallerLemmas.{few_tiles, has_the_pair, pair_has, variant_there}
+use Rattle.wfc_tileset.proofs.CallerLemmas.{few_tiles, variant_there}
 use Rattle.wfc_outside.specs.Gives.{result_map}
 use Rattle.wfc_pins.specs.PinView.{PinView}
 use Rattle.wfc_pins.specs.declared.fault.BuildFault.TheVariants.{TooLarge}
-use Rattle.wfc_tiled.specs.Built.{built, pairs, pins_in}
+use Rattle.wfc_tiled.specs.Built.{built, built_pins, pairs, pins_in, roomy_mask}
 use Rattle.wfc_tiled.specs.Mask.{MaskView, IsMask, cell_number, plain_mask}
-use Rattle.wfc_tiled.specs.Tiles.{is_step, step_from, beside, all_beside, fits, fitting, all_fitting, meets, base_row, problem_of_tiles}
-use Rattle.wfc_tiled.proofs.MaskLemmas.{found, stands, below, range_rises, few}
+use Rattle.wfc_tiled.specs.Tiles.{is_step, step_from, beside, all_beside, fits, meets, base_row, problem_of_tiles}
+use Rattle.wfc_tiled.proofs.MaskLemmas.{found, stands, few}
 
 -- what fits in a direction fits the other way round in the opposite one
 pub opposite_fits : (set : TileSetView) (d v w : ℕ) → d < 4 → fits set d v w ≡ true → fits set (opposite d) w v ≡ true
@@ -41,14 +34,28 @@ opposite_fits set (suc (suc zero)) v w dir t = t
 opposite_fits set (suc (suc (suc zero))) v w dir t = t
 opposite_fits set (suc (suc (suc (suc d)))) v w dir t = absurd (omega arith)
 
--- too many pairs of a place and a variant, on a map without holes
-pub too_large : (set : TileSetView) (w h : ℕ) (wrap : Bool) (lines : List PinView) (product : ℕ) → product ≡ w * h * variant_total set.tiles → MAX_PAIRS < product
-    → built set (plain_mask w h) wrap lines ≡ Err (TooLarge product)
-too_large set w h wrap lines product is more =
+-- too many pairs of a place and a variant
+pub crowded_mask : (set : TileSetView) (mask : MaskView) → MAX_PAIRS < pairs set mask → roomy_mask set mask ≡ Err (TooLarge (pairs set mask))
+crowded_mask set mask more = cond-true (ltb MAX_PAIRS (pairs set mask)) (Err (TooLarge (pairs set mask))) (Ok mask) (lt-ltb MAX_PAIRS (pairs set mask) more)
+
+pub crowded_pins : (set : TileSetView) (mask : MaskView) (lines : List PinView) → MAX_PAIRS < pairs set mask → built_pins set mask lines ≡ Err (TooLarge (pairs set mask))
+crowded_pins set mask lines more = cond-true (ltb MAX_PAIRS (pairs set mask)) (Err (TooLarge (pairs set mask))) (pins_in set.tiles mask lines) (lt-ltb MAX_PAIRS (pairs set mask) more)
+
+-- on a map without holes
+pub too_large : (set : TileSetView) (w h product : ℕ) → product ≡ w * h * variant_total set.tiles → MAX_PAIRS < product
+    → roomy_mask set (plain_mask w h) ≡ Err (TooLarge product)
+too_large set w h product is more =
     let same : pairs set (plain_mask w h) ≡ product = ap (λ k. k * variant_total set.tiles) (length-range_with_len 0 (w * h)) ∙ sym is in
-    cond-true (ltb MAX_PAIRS (pairs set (plain_mask w h))) (Err (TooLarge (pairs set (plain_mask w h)))) (result_map (problem_of_tiles set (plain_mask w h) wrap) (pins_in set.tiles (plain_mask w h) lines))
-    (lt-ltb MAX_PAIRS (pairs set (plain_mask w h)) (omega (arith, same)))
-    ∙ ap (λ k. Err (TooLarge k)) same
+    crowded_mask set (plain_mask w h) (omega (arith, same)) ∙ ap (λ k. Err (TooLarge k)) same
+
+-- what is built is the problem of the pins that are found, in a mask with few enough pairs
+pub built_from_pins : (set : TileSetView) (mask : MaskView) (wrap : Bool) (lines : List PinView) → built set mask wrap lines ≡ result_map (problem_of_tiles set mask wrap) (built_pins set mask lines)
+built_from_pins set mask wrap lines = by_case (nat_lt MAX_PAIRS (pairs set mask))
+  where
+    by_case : (large : Bool) → cond large (Err (TooLarge (pairs set mask))) (result_map (problem_of_tiles set mask wrap) (pins_in set.tiles mask lines))
+        ≡ result_map (problem_of_tiles set mask wrap) (cond large (Err (TooLarge (pairs set mask))) (pins_in set.tiles mask lines))
+    by_case true = refl
+    by_case false = refl
 
 module _ (set : TileSetView) (mask : MaskView) (wrap : Bool) (pins : List Pin) where
   abbrev P : Network
@@ -166,49 +173,11 @@ module _ (set : TileSetView) (mask : MaskView) (wrap : Bool) (pins : List Pin) w
 
   -- ---- which variants may stand side by side
 
-  length-supports : length P.supports ≡ count * 4
-  length-supports =
-      length-table (λ v. all_fitting set v) 4 (λ v. length-map-range_with_len (λ d. fitting set v d) 0 4) (range_with_len 0 count)
-      ∙ ap (λ k. k * 4) (length-range_with_len 0 count)
+  pub support-fits : (v w d : ℕ) → d < 4 → Contains (supports_of P v d) w → IsFitting count (fits set) v w d
+  support-fits v w d dir has = shared.support-fits P count (fits set) refl v w d has
 
-  pub supports-at : (v d : ℕ) → v < count → d < 4 → supports_of P v d ≡ fitting set v d
-  supports-at v d inside dir =
-      supports_at P v d dir
-      ∙ table-at (λ v. all_fitting set v) 4 (λ v. length-map-range_with_len (λ d. fitting set v d) 0 4) (range_with_len 0 count) v d 0 []
-      (omega (arith, length-range_with_len 0 count)) dir
-      ∙ ap (λ k. get_or (all_fitting set k) d []) (get_or-range_with_len 0 count v 0 inside ∙ zero-add v)
-      ∙ get_or-map-range_with_len (λ d. fitting set v d) 0 4 d d [] dir (zero-add d)
-
-  pub record IsFitting (v w d : ℕ) : Type 0 where
-    pub first : v < count
-    pub second : w < count
-    pub fit : fits set d v w ≡ true
-
-  pub support-fits : (v w d : ℕ) → d < 4 → Contains (supports_of P v d) w → IsFitting v w d
-  support-fits v w d dir has =
-      let first : v < count = row_below v d 4 count (omega (arith, (supports_inside P v d w has).1, length-supports)) in
-      let kept : Contains (fitting set v d) w = subst (λ ws. Contains ws w) (supports-at v d first dir) has in
-      record {
-        first = first;
-        second = All-contains (λ k. k < count) (fitting set v d) w (All-filter (λ w. fits set d v w) (λ k. k < count) (range_with_len 0 count) (below count)) kept;
-        fit = All-contains (λ k. fits set d v k ≡ true) (fitting set v d) w (filter_passes (λ w. fits set d v w) (range_with_len 0 count)) kept;
-      }
-
-  pub fits-support : (v w d : ℕ) → d < 4 → IsFitting v w d → Contains (supports_of P v d) w
-  fits-support v w d dir is =
-      subst (λ ws. Contains ws w) (sym (supports-at v d is.first dir)) (Contains-filter (λ w. fits set d v w) (range_with_len 0 count) w (range_Contains count w is.second) is.fit)
-
-  rising_in : (v d : ℕ) → d < 4 → IsStrictlyIncreasing (supports_of P v d)
-  rising_in v d dir = elim (cases_lt v count) [
-    | inl l ↦ subst IsStrictlyIncreasing (sym (supports-at v d l dir)) (IsStrictlyIncreasing-filter (λ w. fits set d v w) (range_with_len 0 count) (range_rises count))
-    | inr ge ↦ subst IsStrictlyIncreasing (sym (supports_at P v d dir ∙ get_or_past P.supports (v * 4 + d) [] (omega (arith, length-supports)))) (λ k l. absurd (omega arith))
-  ]
-
-  rising : (v d : ℕ) → IsStrictlyIncreasing (supports_of P v d)
-  rising v d = elim (cases_lt d 4) [
-    | inl dir ↦ rising_in v d dir
-    | inr past ↦ subst IsStrictlyIncreasing (sym (supports_past P v d past)) (λ k l. absurd (omega arith))
-  ]
+  pub fits-support : (v w d : ℕ) → d < 4 → IsFitting count (fits set) v w d → Contains (supports_of P v d) w
+  fits-support v w d dir fit = shared.fits-support P count (fits set) refl v w d dir fit
 
   symmetric : (v w d : ℕ) → Contains (supports_of P v d) w → Contains (supports_of P w (opposite d)) v
   symmetric v w d has =
@@ -254,12 +223,12 @@ module _ (set : TileSetView) (mask : MaskView) (wrap : Bool) (pins : List Pin) w
       few_values = omega (arith, tiles.limit, length-weights);
       few_pairs = subst (λ k. P.cells * k ≤ MAX_PAIRS) (sym length-weights) few_pairs;
       neighbours_table = length-table (λ n. all_beside mask wrap n) 4 (λ n. length-map-range_with_len (λ d. beside mask wrap (n % mask.width) (n / mask.width) d) 0 4) mask.places;
-      supports_table = length-supports ∙ ap (λ k. k * 4) (sym length-weights);
+      supports_table = length-supports P count (fits set) refl ∙ ap (λ k. k * 4) (sym length-weights);
       base_table = length-base;
     };
     indexed = record {
       in_cells = in_cells;
-      rising = rising;
+      rising = supports_rise P count (fits set) refl;
       in_values = λ v w d has. let fit = support-fits v w d (supports_inside P v d w has).0 has in omega (arith, length-weights, fit.second);
     };
     weighed = record {

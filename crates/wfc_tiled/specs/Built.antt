@@ -9,8 +9,8 @@ use Rattle.wfc_pins.specs.declared.fault.BuildFault.{BuildFault}
 use Rattle.wfc_pins.specs.declared.fault.BuildFault.TheVariants.{PinOutside, PinInHole, UnknownSymbol, TooLarge}
 use Rattle.wfc_problem.specs.Network.{Network}
 use Rattle.wfc_problem.specs.declared.TheConstants.{MAX_PAIRS}
-use Rattle.wfc_overlap.specs.Sample.{cell_of}
-use Rattle.wfc_overlap.specs.Built.{pin_with}
+use Rattle.wfc_places.specs.Steps.{cell_of}
+use Rattle.wfc_places.specs.Marks.{pin_with}
 use Rattle.wfc_tileset.specs.Tiles.{TileView, TileSetView, variant_of, variant_total}
 use Rattle.wfc_tiled.specs.Mask.{MaskView, cell_number}
 use Rattle.wfc_tiled.specs.Tiles.{problem_of_tiles}
@@ -31,6 +31,17 @@ pins_in tiles mask lines = all_in_order (map (pin_in tiles mask) lines)
 -- how many pairs of a place and a variant there are
 abbrev pub pairs : TileSetView → MaskView → ℕ
 pairs set mask = length mask.places * variant_total set.tiles
+
+-- the mask, but for too many pairs
+abbrev pub roomy_mask : TileSetView → MaskView → Result MaskView BuildFault
+roomy_mask set mask =
+    if nat_lt MAX_PAIRS (pairs set mask) then Err (TooLarge (pairs set mask)) else Ok mask
+
+-- the pins that the lines mean, but for too many pairs
+abbrev pub built_pins : TileSetView → MaskView → List PinView → Result (List Pin) BuildFault
+built_pins set mask lines =
+    if nat_lt MAX_PAIRS (pairs set mask) then Err (TooLarge (pairs set mask))
+    else pins_in set.tiles mask lines
 
 -- the problem, but for too many pairs, and for a line at fault
 abbrev pub built : TileSetView → MaskView → Bool → List PinView → Result Network BuildFault

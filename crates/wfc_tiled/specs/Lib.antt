@@ -4,3 +4,4 @@ pub mod Maps
 pub mod Built
 pub mod Cut
 pub mod Small
+pub mod Subject

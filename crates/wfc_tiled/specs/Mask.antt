@@ -3,7 +3,7 @@ use Rattle.std.specs.Prelude.{ℕ, ◌+◌, ◌*◌, ◌/◌, ◌%◌, ◌<◌, 
 use Rattle.std.specs.List.{range_with_len}
 use Rattle.std.specs.List.Sorted.{IsStrictlyIncreasing}
 use Rattle.wfc_grid.specs.Grid.{GridView}
-use Rattle.wfc_overlap.specs.Sample.{cell_of}
+use Rattle.wfc_places.specs.Steps.{cell_of}
 use Rattle.wfc_tiled.specs.declared.reading.MaskFault.{MaskFault}
 use Rattle.wfc_tiled.specs.declared.reading.MaskFault.TheVariants.{SizeDiffers, BadSymbol, AllHoles}
 

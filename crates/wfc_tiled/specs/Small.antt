@@ -1,9 +1,11 @@
 -- Small tile sets and masks without symmetry, on which laws try the definitions.
 use Rattle.std.specs.Prelude.{ℕ, Bool, List, [], ◌∷◌, codes, None}
+use Rattle.wfc_model.specs.Raster.{Raster, raster_of}
 use Rattle.wfc_grid.specs.Grid.{GridView}
 use Rattle.wfc_pins.specs.PinView.{PinView}
 use Rattle.wfc_symmetry.specs.declared.class.Class.TheVariants.{I, X}
 use Rattle.wfc_tileset.specs.Tiles.{TileSetView}
+use Rattle.wfc_tileset.specs.declared.TheConstants.{HOLE}
 use Rattle.wfc_tiled.specs.Mask.{MaskView}
 
 -- three by two places, of which the second of the upper row and the third of the lower are holes
@@ -26,3 +28,17 @@ line_and_cross = record {
 -- a line of a pins file
 abbrev pub line_of : ℕ → Bool → ℕ → ℕ → List ℕ → PinView
 line_of number keep x y symbol = record { line = number; keep = keep; x = x; y = y; symbol = symbol }
+
+-- four by two places: the first two and the last of the upper row, and the last of the lower, are no holes
+abbrev pub four_places : MaskView
+four_places = record { width = 4; height = 2; places = 0 ∷ 1 ∷ 3 ∷ 7 ∷ [] }
+
+-- four variants in them, and one number in the holes of the upper row
+abbrev pub four_with : ℕ → ℕ → ℕ → ℕ → ℕ → Raster
+four_with hole first second upper lower =
+    raster_of 4 2 (first ∷ second ∷ hole ∷ upper ∷ HOLE ∷ HOLE ∷ HOLE ∷ lower ∷ [])
+
+-- a tile without symmetry after action 5 to the left of a junction after a quarter turn, and further on a
+-- junction above the tile
+abbrev pub four_tiles : Raster
+four_tiles = four_with HOLE 5 9 10 4

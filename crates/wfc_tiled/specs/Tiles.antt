@@ -3,7 +3,8 @@ use Rattle.std.specs.Prelude.{ℕ, ◌/◌, ◌%◌, ◌==◌, Bool, not, ◌&&�
 use Rattle.std.specs.List.{flat_map, list_all, range_with_len}
 use Rattle.wfc_model.specs.Direction.{left_by, down_by, right_by, up_by}
 use Rattle.wfc_model.specs.Legal.{Pin}
-use Rattle.wfc_overlap.specs.Sample.{cell_of, is_there, stepped, suits}
+use Rattle.wfc_places.specs.Marks.{suits}
+use Rattle.wfc_places.specs.Steps.{cell_of, is_there, stepped}
 use Rattle.wfc_problem.specs.Network.{Network}
 use Rattle.wfc_problem.specs.declared.TheConstants.{NO_CELL}
 use Rattle.wfc_tileset.specs.Tiles.{TileView, TileSetView, variant_total, variant_at, tile_at}

@@ -1,18 +1,22 @@
 //! What the definitions give on small cases without symmetry. Each function does nothing; its
 //! contract is the law.
 
-ghost use Rattle.std.specs.Prelude.{◌≡◌, ℕ, List, [], ◌∷◌, map, true, false, codes, Ok, Err};
+ghost use Rattle.std.specs.Prelude.{◌≡◌, ℕ, ◌<◌, List, [], ◌∷◌, map, true, false, codes, Ok, Err};
 ghost use Rattle.wfc_model.specs.Legal.{banned_pin, kept_pin};
 ghost use Rattle.wfc_model.specs.Raster.{raster_of};
 ghost use Rattle.wfc_tileset.specs.Samples.{crossing, lines};
-ghost use Rattle.wfc_tiled.specs.Built.{pins_in};
-ghost use Rattle.wfc_tiled.specs.Mask.{mask_of, plain_mask};
-ghost use Rattle.wfc_tiled.specs.Maps.{numbers_of_places, tile_map};
+ghost use Rattle.wfc_tileset.specs.Tiles.{TileSetView};
+ghost use Rattle.wfc_tileset.specs.declared.TheConstants.{HOLE};
+ghost use Rattle.wfc_pins.specs.PinView.{PinView};
+ghost use Rattle.wfc_tiled.specs.Built.{built_pins, pairs, pins_in, roomy_mask};
+ghost use Rattle.wfc_tiled.specs.Mask.{MaskView, mask_of, plain_mask};
+ghost use Rattle.wfc_tiled.specs.Maps.{IsLegalTileMap, IsNext, numbers_of_places, tile_map};
+ghost use Rattle.wfc_tiled.specs.Subject.{HoldsPinAt, cell_column, cell_row};
 ghost use Rattle.wfc_tiled.specs.Tiles.{base_table, fitting, neighbour_table, support_table, weights_of};
-ghost use Rattle.wfc_tiled.specs.Small.{grid_of, line_and_cross, line_of, two_holes};
+ghost use Rattle.wfc_tiled.specs.Small.{four_places, four_tiles, four_with, grid_of, line_and_cross, line_of, two_holes};
 ghost use Rattle.wfc_tiled.specs.declared.reading.MaskFault.TheVariants as mask_faults;
 ghost use Rattle.wfc_pins.specs.declared.fault.BuildFault.TheVariants as build_faults;
-ghost use Rattle.wfc_problem.specs.declared.TheConstants.{NO_CELL};
+ghost use Rattle.wfc_problem.specs.declared.TheConstants.{MAX_PAIRS, NO_CELL};
 
 /// What lies to the left, below, to the right and above, on a map that doesn't wrap, on one that
 /// does, and on one that is one place wide.
@@ -52,6 +56,23 @@ pub fn pins_by_example()
         ∷ Err (build_faults.PinInHole 3) ∷ Err (build_faults.UnknownSymbol 4) ∷ [] }
 {}
 
+/// Few enough pairs of a place and a variant leave the mask, and the pins that the lines mean; too
+/// many come before a line at fault.
+pub fn builds_by_pairs()
+    ensures counted { pairs line_and_cross two_holes ≡ 12 }
+    ensures roomy { roomy_mask line_and_cross two_holes ≡ Ok two_holes }
+    ensures pins { built_pins line_and_cross two_holes
+        (line_of 4 true 2 0 (codes "line/1") ∷ line_of 7 false 1 1 (codes "x/0") ∷ [])
+        ≡ Ok (kept_pin 2 0 1 ∷ banned_pin 1 1 2 ∷ []) }
+    ensures line { built_pins line_and_cross two_holes (line_of 3 true 1 0 (codes "x/0") ∷ [])
+        ≡ Err (build_faults.PinInHole 3) }
+    ensures crowded_mask { (set : TileSetView) (mask : MaskView) → MAX_PAIRS < pairs set mask
+        → roomy_mask set mask ≡ Err (build_faults.TooLarge (pairs set mask)) }
+    ensures crowded_pins { (set : TileSetView) (mask : MaskView) (lines : List PinView)
+        → MAX_PAIRS < pairs set mask
+        → built_pins set mask lines ≡ Err (build_faults.TooLarge (pairs set mask)) }
+{}
+
 /// Masks of grids, and their first faults.
 pub fn masks_by_example()
     ensures read { mask_of (grid_of (codes ".#...#")) 3 2 ≡ Ok two_holes }
@@ -66,4 +87,51 @@ pub fn maps_by_example()
         ≡ raster_of 3 2 (7 ∷ 65535 ∷ 8 ∷ 9 ∷ 6 ∷ 65535 ∷ []) }
     ensures read { numbers_of_places two_holes
         (raster_of 3 2 (7 ∷ 65535 ∷ 8 ∷ 9 ∷ 6 ∷ 65535 ∷ [])) ≡ 7 ∷ 8 ∷ 9 ∷ 6 ∷ [] }
+{}
+
+/// The next column or row is one further, and behind the last the first where the map wraps.
+pub fn next_by_example()
+    ensures forth { IsNext 3 false 1 2 }
+    ensures back { IsNext 3 false 2 1 → ⊥ }
+    ensures past { IsNext 3 false 2 3 → ⊥ }
+    ensures flat { IsNext 3 false 2 0 → ⊥ }
+    ensures wrapped { IsNext 3 true 2 0 }
+    ensures wrapped_back { IsNext 3 true 0 2 → ⊥ }
+    ensures too_soon { IsNext 3 true 1 0 → ⊥ }
+    ensures own { IsNext 1 true 0 0 }
+{}
+
+/// A legal map with holes and a pin. It is none with two neighbours exchanged, across or down, where
+/// it wraps, with a variant in a hole or a hole in a place, or with a pin in a hole.
+pub fn legal_maps_by_example()
+    ensures taken { IsLegalTileMap crossing four_places false (kept_pin 1 0 9 ∷ []) four_tiles }
+    ensures across { IsLegalTileMap crossing four_places false [] (four_with HOLE 9 5 10 4) → ⊥ }
+    ensures down { IsLegalTileMap crossing four_places false [] (four_with HOLE 5 9 4 10) → ⊥ }
+    ensures wrapped { IsLegalTileMap crossing four_places true [] four_tiles → ⊥ }
+    ensures in_a_hole { IsLegalTileMap crossing four_places false [] (four_with 5 5 9 10 4) → ⊥ }
+    ensures no_tile { IsLegalTileMap crossing four_places false [] (four_with HOLE 5 9 10 HOLE) → ⊥ }
+    ensures other_pin { IsLegalTileMap crossing four_places false (kept_pin 0 0 9 ∷ []) four_tiles → ⊥ }
+    ensures pin_in_a_hole { IsLegalTileMap crossing four_places false (banned_pin 2 0 9 ∷ [])
+        four_tiles → ⊥ }
+{}
+
+/// A map one wide that wraps is its own neighbour across: a line that stands above itself may not
+/// stand beside itself.
+pub fn narrow_maps_by_example()
+    ensures across { IsLegalTileMap lines (plain_mask 1 2) true []
+        (raster_of 1 2 (1 ∷ 1 ∷ [])) → ⊥ }
+    ensures down { IsLegalTileMap lines (plain_mask 2 1) true []
+        (raster_of 2 1 (0 ∷ 0 ∷ [])) → ⊥ }
+{}
+
+/// Where the cells of a map with holes lie, and which pins a variant holds in the third column of
+/// the second row.
+pub fn cells_by_example()
+    ensures columns { map (cell_column two_holes) (0 ∷ 1 ∷ 2 ∷ 3 ∷ []) ≡ 0 ∷ 2 ∷ 0 ∷ 1 ∷ [] }
+    ensures rows { map (cell_row two_holes) (0 ∷ 1 ∷ 2 ∷ 3 ∷ []) ≡ 0 ∷ 0 ∷ 1 ∷ 1 ∷ [] }
+    ensures kept { HoldsPinAt 2 1 5 (kept_pin 2 1 5) }
+    ensures other { HoldsPinAt 2 1 6 (kept_pin 2 1 5) → ⊥ }
+    ensures banned { HoldsPinAt 2 1 6 (banned_pin 2 1 5) }
+    ensures banned_there { HoldsPinAt 2 1 5 (banned_pin 2 1 5) → ⊥ }
+    ensures elsewhere { HoldsPinAt 2 1 6 (kept_pin 1 2 5) }
 {}

@@ -3,7 +3,7 @@
 ghost use Rattle.std.specs.Prelude.{◌≡◌, ◌*◌, ◌<◌, ◌≤◌, length, IfOk, IfSome, nat_eq, position};
 ghost use Rattle.std.specs.List.Sorted.{IsStrictlyIncreasing};
 ghost use Rattle.std.specs.List.{range_with_len};
-ghost use Rattle.wfc_overlap.specs.Sample.{cell_of};
+ghost use Rattle.wfc_places.specs.Steps.{cell_of};
 ghost use Rattle.wfc_tiled.specs.Mask.{IsMask, cell_number, plain_mask};
 
 use std::alloc::Global;

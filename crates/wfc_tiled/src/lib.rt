@@ -15,10 +15,9 @@ mod problem;
 mod reading;
 mod supports;
 
-pub use base::{all_set, cut_row};
+pub use base::base_of_marks;
 pub use holes::Mask;
-pub use neighbours::{along, down_by, left_by, right_by, up_by};
 pub use painting::{tiles_of, tiles_of_masked};
-pub use problem::{build, build_masked};
+pub use problem::{build, build_masked, checked_marks, checked_plain, parts_of_marks};
 pub use reading::{MAX_MASK_BYTES, MaskFault, mask};
-pub use supports::{fits, push_if, weights};
+pub use supports::{fits, weights};

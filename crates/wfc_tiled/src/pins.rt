@@ -7,8 +7,8 @@ ghost use Rattle.wfc_tiled.specs.Maps.{ArePlaced, IsPlaced};
 
 use crate::holes::Mask;
 use std::alloc::Global;
-use wfc_overlap::Mark;
 use wfc_pins::{BuildFault, PinLine};
+use wfc_places::Mark;
 use wfc_tileset::TileSet;
 
 /// What the lines of a pins file mean, or the first line at fault.

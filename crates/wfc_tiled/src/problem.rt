@@ -2,20 +2,21 @@
 
 ghost use Rattle.std.specs.Prelude.{◌≡◌, ◌<◌, ◌≤◌, IfOk};
 ghost use Rattle.wfc_outside.specs.Gives.{Gives};
-ghost use Rattle.wfc_tiled.specs.Built.{built};
-ghost use Rattle.wfc_tiled.specs.Mask.{plain_mask};
+ghost use Rattle.wfc_tiled.specs.Built.{built, built_pins, pairs, roomy_mask};
+ghost use Rattle.wfc_tiled.specs.Mask.{IsMask, plain_mask};
 ghost use Rattle.wfc_tiled.specs.Maps.{ArePlaced};
 ghost use Rattle.wfc_tiled.specs.Tiles.{problem_of_tiles};
+ghost use Rattle.wfc_tileset.specs.TileSets.{IsTileSet};
 
-use crate::base::base;
+use crate::base::base_of_marks;
 use crate::holes::Mask;
 use crate::neighbours::neighbours;
 use crate::pins::marks;
 use crate::supports::{supports, weights};
 use std::alloc::Global;
 use wfc_outside::NoMemory;
-use wfc_overlap::{Mark, problem_with};
 use wfc_pins::{BuildFault, PinLine};
+use wfc_places::{Mark, problem_with};
 use wfc_problem::{MAX_PAIRS, Parts, Problem};
 use wfc_tileset::TileSet;
 
@@ -40,12 +41,30 @@ pub fn build(
     ensures exact { Gives BuildFault.NoMemory (λ problem. problem) result
         (built tiles.now (plain_mask width height) wrap pins.now) }
 {
+    let mask = checked_plain(alloc, tiles, width, height)?;
+    build_masked(alloc, tiles, &mask, wrap, pins)
+}
+
+/// The mask without holes for a map of `width` by `height` tiles, but for too many pairs of a cell
+/// and a variant, as `build` looks at them: before it takes memory.
+pub fn checked_plain(
+    alloc: Global,
+    tiles: &TileSet,
+    width: u32,
+    height: u32,
+) -> Result<Mask, BuildFault>
+    requires some_width { 0 < width }
+    requires some_height { 0 < height }
+    requires width_limit { width ≤ 4096 }
+    requires height_limit { height ≤ 4096 }
+    ensures exact { Gives BuildFault.NoMemory (λ mask. mask) result
+        (roomy_mask tiles.now (plain_mask width height)) }
+{
     let product = u64::from(width) * u64::from(height) * u64::from(tiles.variants());
     if product > MAX_PAIRS {
         return Err(BuildFault::TooLarge { product });
     }
-    let mask = Mask::plain(alloc, width, height)?;
-    build_masked(alloc, tiles, &mask, wrap, pins)
+    Ok(Mask::plain(alloc, width, height)?)
 }
 
 /// The problem of a tile set for a map with holes: a cell for each place that is no hole, row by
@@ -63,17 +82,35 @@ pub fn build_masked(
     ensures exact { Gives BuildFault.NoMemory (λ problem. problem) result
         (built tiles.now mask.now wrap pins.now) }
 {
+    let marks = checked_marks(alloc, tiles, mask, pins)?;
+    let parts = parts_of_marks(alloc, tiles, mask, wrap, &marks)?;
+    Ok(problem_with(parts))
+}
+
+/// What the lines of a pins file mean for the problem that `build_masked` builds, or the first of
+/// its faults.
+pub fn checked_marks(
+    alloc: Global,
+    tiles: &TileSet,
+    mask: &Mask,
+    pins: &[PinLine],
+) -> Result<Vec<Mark>, BuildFault>
+    ensures exact { Gives BuildFault.NoMemory (λ marks. marks.items) result
+        (built_pins tiles.now mask.now pins.now) }
+    ensures few_pairs { IfOk result (λ marks. pairs tiles.now mask.now ≤ MAX_PAIRS) }
+    ensures placed { IfOk result (λ marks. ArePlaced mask.now marks.items) }
+    ensures tile_set { IsTileSet tiles.now }
+    ensures mask { IsMask mask.now }
+{
     let product = u64::from(mask.cells()) * u64::from(tiles.variants());
     if product > MAX_PAIRS {
         return Err(BuildFault::TooLarge { product });
     }
-    let marks = marks(alloc, tiles, mask, pins)?;
-    let parts = parts(alloc, tiles, mask, wrap, &marks)?;
-    Ok(problem_with(parts))
+    marks(alloc, tiles, mask, pins)
 }
 
-/// What the problem is made of.
-fn parts(
+/// What the problem of a tile set for a map with holes is made of, with these pins and bans.
+pub fn parts_of_marks(
     alloc: Global,
     tiles: &TileSet,
     mask: &Mask,
@@ -90,6 +127,6 @@ fn parts(
         neighbours: neighbours(alloc, mask, wrap)?,
         weights: weights(alloc, tiles)?,
         supports: supports(alloc, tiles)?,
-        base: base(alloc, tiles, mask, marks)?,
+        base: base_of_marks(alloc, tiles, mask, marks)?,
     })
 }

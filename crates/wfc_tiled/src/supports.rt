@@ -6,6 +6,7 @@ ghost use Rattle.wfc_tiled.specs.Tiles.{all_fitting, fits, fitting, support_tabl
 
 use std::alloc::Global;
 use wfc_outside::NoMemory;
+use wfc_places::push_if;
 use wfc_tileset::TileSet;
 
 /// For each variant and direction the variants that may stand there, in lists that take no more
@@ -49,17 +50,6 @@ fn fitting(alloc: Global, tiles: &TileSet, v: u16, dir: u8) -> Result<Vec<u16>, 
         push_if(&mut list, w, fits(tiles, dir, v, w))?;
     }
     Ok(list)
-}
-
-/// Puts a variant behind the others, if it fits.
-pub fn push_if(list: &mut Vec<u16>, variant: u16, fit: bool) -> Result<(), NoMemory>
-    ensures pushed { OnOk result (list.new.items
-        ≡ list.old.items ++ (if fit then variant ∷ [] else [])) }
-{
-    if fit {
-        list.push(variant)?;
-    }
-    Ok(())
 }
 
 /// Whether `w` may stand beside `v` in a direction.

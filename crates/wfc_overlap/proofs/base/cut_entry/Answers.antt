@@ -18,5 +18,5 @@ returns c =
       cut = cut_entry_at c.args.patterns.now (output_of l) c.args.flags.now c.cut_place.new.flags c.args.mark.now c.args.i c.args.j c.in-Some.x c.in-Some-start_of.y l.n l.columns c.requires.n l.columns_are
           c.in-Some.ensures.found.0 (c.in-Some.ensures.found.1 ∙ column) (c.in-Some-start_of.ensures.found.1 ∙ row)
           (λ x x_in on. c.in-Some.ensures.only x x_in (on ∙ sym column)) (λ y y_in on. c.in-Some-start_of.ensures.only y y_in (on ∙ sym row))
-          c.cut_place.ensures.as_long c.cut_place.ensures.here c.cut_place.ensures.others;
+          c.cut_place.ensures.cut.as_long c.cut_place.ensures.cut.here c.cut_place.ensures.cut.others;
     }

@@ -5,7 +5,7 @@ use Rattle.std.specs.List.{range_with_len}
 use Rattle.std.proofs.lemmas.Option.{get_or_from_slice_get}
 use Rattle.wfc_pattern.specs.Patterns.{PatternsView, window_at}
 use Rattle.wfc_overlap.specs.Sides.{side}
-use Rattle.wfc_overlap.proofs.PushLemmas.{kept_more}
+use Rattle.wfc_lists.proofs.Growing.{kept_more}
 use Rattle.wfc_overlap.proofs.groups.group.Goals as goal
 
 -- the patterns before q that share the key

@@ -1,7 +1,7 @@
 use Rattle.std.proofs.Common.{◌+◌, ◌-◌, ◌*◌, ◌≤◌, ◌++◌, length, List, ℕ, map, sym, ap, ◌∙◌, arith, refl}
 use Rattle.std.specs.List.{range_with_len}
 use Rattle.wfc_model.specs.Image.{cell_at}
-use Rattle.wfc_overlap.proofs.PushLemmas.{lists_more}
+use Rattle.wfc_lists.proofs.Ranges.{lists_more}
 use Rattle.wfc_overlap.proofs.SideLemmas.{inside_part, part_row}
 use Rattle.wfc_overlap.proofs.groups.part.Goals as goal
 

@@ -2,7 +2,7 @@ use Rattle.std.proofs.Common.{◌++◌, List, ℕ, map, sym, ap, ◌∙◌}
 use Rattle.std.specs.List.{flat_map, range_with_len}
 use Rattle.wfc_overlap.specs.Layout.{output_of}
 use Rattle.wfc_overlap.specs.Sample.{beside}
-use Rattle.wfc_overlap.proofs.PushLemmas.{rows_more}
+use Rattle.wfc_lists.proofs.Growing.{rows_more}
 use Rattle.wfc_overlap.proofs.neighbours.neighbours.Goals as goal
 
 pub loop-y-preserved : goal.loop-y-preserved

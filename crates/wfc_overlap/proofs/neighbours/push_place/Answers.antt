@@ -9,7 +9,7 @@ returns c =
     let l = c.args.layout in
     let cells = four_are _ _ _ _ _ _ _ _ c.cell_in.ensures.value c.cell_in-2.ensures.value c.cell_in-3.ensures.value c.cell_in-4.ensures.value
     ∙ four_beside l.n (output_of l) l.columns l.rows c.args.x c.args.y l.columns_are l.rows_are c.requires.x_in c.requires.y_in
-    c.before-left.result c.after-right.result c.before-up.result c.after-down.result c.before-left.ensures.value c.after-right.ensures.value c.before-up.ensures.value c.after-down.ensures.value in
+    c.along-left.result c.along-right.result c.along-up.result c.along-down.result c.along-left.ensures.value c.along-right.ensures.value c.along-up.ensures.value c.along-down.ensures.value in
     record {
       place = four_pushed _ _ _ _ _ _ _ _ _ c.in_ok-push.ensures.items c.in_ok-push-2.ensures.items c.in_ok-push-3.ensures.items c.in_ok-push-4.ensures.items
           ∙ ap (λ four. c.args.table.now.items ++ four) cells;

@@ -2,7 +2,7 @@ use Rattle.std.proofs.Common.{◌++◌, List, ℕ, map, sym, ap, ◌∙◌, appe
 use Rattle.std.specs.List.{flat_map, range_with_len}
 use Rattle.wfc_overlap.specs.Layout.{output_of}
 use Rattle.wfc_overlap.specs.Sample.{beside}
-use Rattle.wfc_overlap.proofs.PushLemmas.{row_more}
+use Rattle.wfc_lists.proofs.Growing.{row_more}
 use Rattle.wfc_overlap.proofs.neighbours.push_row.Goals as goal
 
 pub loop-x-preserved : goal.loop-x-preserved

@@ -8,7 +8,7 @@ use Rattle.wfc_overlap.specs.Layout.{output_of}
 use Rattle.wfc_overlap.specs.Sample.{Output, output_with}
 use Rattle.wfc_overlap.proofs.BackLemmas.{window-is}
 use Rattle.wfc_overlap.proofs.PaintLemmas.{as_many, painted_is}
-use Rattle.wfc_overlap.proofs.PushLemmas.{lists_more}
+use Rattle.wfc_lists.proofs.Ranges.{lists_more}
 use Rattle.wfc_overlap.proofs.RuleLemmas.{back}
 use Rattle.wfc_overlap.proofs.painting.picture_of.Goals as goal
 

@@ -2,7 +2,7 @@ use Rattle.std.proofs.Common.{◌<◌, map}
 use Rattle.std.specs.Prelude.{All}
 use Rattle.wfc_model.specs.Legal.{Pin}
 use Rattle.wfc_overlap.specs.Built.{pin_in, pins_in}
-use Rattle.wfc_overlap.proofs.PartLemmas.{IsReadTo}
+use Rattle.wfc_pins.proofs.CallerLemmas.{IsReadTo}
 use Rattle.wfc_overlap.proofs.pins.marks.Given as goal
 
 abbrev pub invariant-loop-line : goal.invariant-loop-line

@@ -1,4 +1,4 @@
-use Rattle.std.proofs.Common.{ℕ, ◌*◌, length, sym, ap, ◌∙◌}
+use Rattle.std.proofs.Common.{◌*◌, length, sym, ap, ◌∙◌}
 use Rattle.std.proofs.lemmas.List.FromFn.{length-range_with_len}
 use Rattle.wfc_tiled.specs.Mask.{MaskView}
 use Rattle.wfc_tiled.proofs.painting.tiles_of.Goals as goal

@@ -1,5 +1,5 @@
 use Rattle.std.proofs.Common.{sym, arith}
-use Rattle.wfc_overlap.specs.Sample.{cell_of}
+use Rattle.wfc_places.specs.Steps.{cell_of}
 use Rattle.wfc_tiled.proofs.MaskLemmas.{there}
 use Rattle.wfc_tiled.proofs.pins.mark.Goals as goal
 

@@ -1,6 +1,6 @@
 use Rattle.std.proofs.Common.{sym, arith}
 use Rattle.std.proofs.lemmas.List.Elements.{All-push}
-use Rattle.wfc_overlap.proofs.PartLemmas.{read_on}
+use Rattle.wfc_pins.proofs.CallerLemmas.{read_on}
 use Rattle.wfc_tiled.specs.Built.{pin_in, pins_in}
 use Rattle.wfc_tiled.specs.Maps.{IsPlaced}
 use Rattle.wfc_tiled.proofs.pins.marks.Goals as goal

@@ -1,5 +1,5 @@
 use Rattle.std.specs.Prelude.{All}
-use Rattle.wfc_overlap.proofs.PartLemmas.{IsReadTo}
+use Rattle.wfc_pins.proofs.CallerLemmas.{IsReadTo}
 use Rattle.wfc_tiled.specs.Built.{pin_in, pins_in}
 use Rattle.wfc_tiled.specs.Maps.{IsPlaced}
 use Rattle.wfc_tiled.proofs.pins.marks.Given as goal

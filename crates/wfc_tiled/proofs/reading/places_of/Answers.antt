@@ -1,6 +1,6 @@
-use Rattle.std.proofs.Common.{ℕ, ◌++◌, [], ◌∷◌, cond, get_or, sym, ap, ◌∙◌}
+use Rattle.std.proofs.Common.{◌++◌, [], ◌∷◌, cond, get_or, sym, ap, ◌∙◌}
 use Rattle.std.specs.Prelude.{◌==◌}
-use Rattle.wfc_overlap.proofs.PushLemmas.{kept_more}
+use Rattle.wfc_lists.proofs.Growing.{kept_more}
 use Rattle.wfc_tiled.proofs.reading.places_of.Goals as goal
 
 pub loop-place-preserved : goal.loop-place-preserved

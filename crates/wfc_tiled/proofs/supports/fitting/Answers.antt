@@ -1,6 +1,6 @@
 use Rattle.std.proofs.Common.{ℕ, Bool, ◌++◌, [], ◌∷◌, cond, filter, sym, ap, ◌∙◌}
 use Rattle.std.specs.List.{range_with_len}
-use Rattle.wfc_overlap.proofs.PushLemmas.{kept_more}
+use Rattle.wfc_lists.proofs.Growing.{kept_more}
 use Rattle.wfc_tiled.specs.Tiles.{fits}
 use Rattle.wfc_tiled.proofs.supports.fitting.Goals as goal
 

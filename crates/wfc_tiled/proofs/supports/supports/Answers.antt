@@ -1,5 +1,5 @@
 use Rattle.std.proofs.Common.{◌++◌, List, ℕ, sym, ap, ◌∙◌}
-use Rattle.wfc_overlap.proofs.PushLemmas.{lists_more}
+use Rattle.wfc_lists.proofs.Ranges.{lists_more}
 use Rattle.wfc_tiled.specs.Tiles.{all_fitting}
 use Rattle.wfc_tiled.proofs.supports.supports.Goals as goal
 

@@ -1,0 +1,3 @@
+pub mod Steps
+pub mod Marks
+pub mod Flags
