@@ -11,4 +11,5 @@ pub mod PlainLemmas
 pub mod BytesLemmas
 pub mod StreamLemmas
 pub mod FaultLemmas
+pub mod FrontLemmas
 pub mod FileLemmas

@@ -14,7 +14,7 @@ use Rattle.wfc_check.specs.Lines.{IsPlain}
 use Rattle.wfc_check.specs.Text.{Place, line_led, answer_at_end, and_read, answer_to_parts, answer_from, staged}
 
 -- a part that others follow
-answer-cons : (P : Network) (shape : Shape) (over : Bool) (number : ℕ) (at : Place) (line : List ℕ) (parts : List (List ℕ)) → 0 < length parts
+pub answer-cons : (P : Network) (shape : Shape) (over : Bool) (number : ℕ) (at : Place) (line : List ℕ) (parts : List (List ℕ)) → 0 < length parts
     → answer_to_parts P shape over number at (line ∷ parts) ≡ and_read (line_led P shape number at line) (λ after. answer_to_parts P shape over (number + 1) after parts)
 answer-cons P shape over number at line [] some = absurd (omega arith)
 answer-cons P shape over number at line (next ∷ parts) some = refl
@@ -59,12 +59,12 @@ answer-over P shape room number at line left plain short full some =
     ∙ ap (λ test. cond test (Err (BadLine number)) (Err TooLong)) fits
 
 -- what is split begins with a part
-record Split (text : List ℕ) : Type 0 where
+pub record Split (text : List ℕ) : Type 0 where
   pub first : List ℕ
   pub others : List (List ℕ)
   pub is : slice_split is_line_feed text ≡ first ∷ others
 
-split_some : (text : List ℕ) → Split text
+pub split_some : (text : List ℕ) → Split text
 split_some text = by_parts (slice_split is_line_feed text) refl (omega (arith, length-slice_split is_line_feed text))
   where
     by_parts : (parts : List (List ℕ)) → slice_split is_line_feed text ≡ parts → 0 < length parts → Split text

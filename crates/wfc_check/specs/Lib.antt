@@ -4,6 +4,7 @@ pub mod Checker
 pub mod Fault
 pub mod Lines
 pub mod Text
+pub mod Fronts
 pub mod Reading
 pub mod Stream
 pub mod Answered

@@ -1,16 +1,19 @@
 //! Laws of the definitions, each a function with no body whose contract is the law. They run nothing.
 
-ghost use Rattle.std.specs.Prelude.{◌≡◌, ℕ, ◌↔◌, ◌++◌, List, codes, replicate, Ok, Err, true, false};
+ghost use Rattle.std.specs.Prelude.{◌≡◌, ℕ, ◌<◌, ◌↔◌, ◌⊎◌, ◌++◌, List, [], codes, replicate, None, Some, Ok, Err, true, false};
 ghost use Rattle.wfc_problem.specs.Network.{Network, IsProblem};
 ghost use Rattle.wfc_proof.specs.Heads.{IsShape};
 ghost use Rattle.wfc_proof.specs.declared.Reject.TheVariants.{NotEmpty, NotClosed, AfterEnd, IndexRange};
 ghost use Rattle.wfc_proof.specs.declared.heads.Shape.{Shape};
 ghost use Rattle.wfc_check.specs.Answered.{IsOfText};
-ghost use Rattle.wfc_check.specs.Cases.{answer_to, answer_within, head, head_2};
+ghost use Rattle.wfc_check.specs.Cases.{answer_to, answer_within, head, head_2, shape};
 ghost use Rattle.wfc_check.specs.Checker.{HasNone};
+ghost use Rattle.wfc_check.specs.Fronts.{first_lines, line_at_fault, IsAtFault};
 ghost use Rattle.wfc_check.specs.Text.{checked, IsRefutation};
 ghost use Rattle.wfc_check.specs.declared.fault.CheckFault.{CheckFault};
 ghost use Rattle.wfc_check.specs.declared.fault.CheckFault.TheVariants.{Rejected, BadLine, HeaderDiffers, NotEnded, TooLong, OptionsDiffer};
+
+use crate::reading::{MAX_LINE_BYTES, MAX_REFUTATION_BYTES};
 
 /// A text is accepted exactly where it is a refutation, and then there is no legal assignment. What else it is answered is a
 /// fault of the text or its length.
@@ -21,6 +24,32 @@ pub fn refutations_are_accepted()
         → IsRefutation P shape text → HasNone P }
     ensures fault { (P : Network) (shape : Shape) (text : List ℕ) (fault : CheckFault) → checked P shape text ≡ Err fault →
         IsOfText fault }
+{}
+
+/// A fault is at the first line that isn't right: the lines before it alone are accepted, or answered that they don't end
+/// the proof, and with it they are answered its fault.
+pub fn faults_are_at_the_first_line()
+    ensures here { (P : Network) (shape : Shape) (text : List ℕ) (fault : CheckFault) (k : ℕ) →
+        IsAtFault P shape text fault k → checked P shape (first_lines k text) ≡ Err fault }
+    ensures before { (P : Network) (shape : Shape) (text : List ℕ) (fault : CheckFault) (k n : ℕ) →
+        IsAtFault P shape text fault k → 0 < n → n < k →
+        (checked P shape (first_lines n text) ≡ Ok tt) ⊎ (checked P shape (first_lines n text) ≡ Err NotEnded) }
+{}
+
+/// The first lines of a text, and which line each fault of a text is at.
+pub fn lines_by_example()
+    ensures two { first_lines 2 (codes "ab\n\nc\nd") ≡ codes "ab\n\n" }
+    ensures all { first_lines 3 (codes "ab\nc") ≡ codes "ab\nc" }
+    ensures none { first_lines 0 (codes "ab\nc") ≡ [] }
+    ensures proof { (line_at_fault (Rejected 7 AfterEnd) ≡ Some 7) × (line_at_fault (BadLine 5) ≡ Some 5) }
+    ensures head { (line_at_fault (HeaderDiffers 4 5) ≡ Some 2) × (line_at_fault (OptionsDiffer shape) ≡ Some 3) }
+    ensures text { (line_at_fault NotEnded ≡ None) × (line_at_fault TooLong ≡ None) }
+{}
+
+/// The limits are these numbers.
+pub fn limits_are()
+    ensures line { MAX_LINE_BYTES ≡ 64 }
+    ensures file { MAX_REFUTATION_BYTES ≡ 4294967296 }
 {}
 
 /// Texts in both formats that are accepted: a span, its removals, and both branches of a split.

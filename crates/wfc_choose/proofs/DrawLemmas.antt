@@ -91,7 +91,7 @@ first_if P number running v vs true is rest = Contains_first v vs
 first_if P number running v vs false is rest = Contains_later v vs _ (rest is)
 
 -- where the whole sum exceeds the number, one of the values is found
-first_Contains : (P : Network) (number running : ℕ) (vs : List ℕ) → running ≤ number → number < running + sum_by (value_weight P) vs
+pub first_Contains : (P : Network) (number running : ℕ) (vs : List ℕ) → running ≤ number → number < running + sum_by (value_weight P) vs
     → Contains vs (first_above P number running vs)
 first_Contains P number running [] low high = absurd (omega arith)
 first_Contains P number running (v ∷ vs) low high =

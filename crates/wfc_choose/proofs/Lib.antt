@@ -1,4 +1,5 @@
 pub mod CallerLemmas
 pub mod DrawLemmas
+pub mod ShareLemmas
 pub mod IndexLemmas
 pub mod PickLemmas

@@ -1,5 +1,5 @@
 -- The value that a word draws.
-use Rattle.std.specs.Prelude.{ℕ, List, [], ◌∷◌, ◌+◌, ◌%◌, nat_lt, if◌then◌else◌}
+use Rattle.std.specs.Prelude.{ℕ, List, [], ◌∷◌, ◌+◌, ◌%◌, ◌<◌, ◌≤◌, nat_lt, if◌then◌else◌}
 use Rattle.std.specs.List.{sum_by}
 use Rattle.wfc_problem.specs.Network.{Network, value_weight}
 
@@ -12,3 +12,8 @@ first_above P number running (v ∷ vs) =
 -- the first of the values whose running sum of weights exceeds the word modulo the sum of all their weights
 unfoldable pub drawn : Network → List ℕ → ℕ → ℕ
 drawn P values word = first_above P (word % sum_by (value_weight P) values) 0 values
+
+-- the number is in the share of v behind these values: at least the sum of their weights, and below that with v's own
+abbrev pub IsInShare : Network → List ℕ → ℕ → ℕ → Type 0
+IsInShare P front v number =
+    (sum_by (value_weight P) front ≤ number) × (number < sum_by (value_weight P) front + value_weight P v)

@@ -1,12 +1,13 @@
 //! What the definitions imply. Each function does nothing; its contract is the law.
 
-ghost use Rattle.std.specs.Prelude.{◌≡◌, ℕ, ◌<◌, ◌≤◌, ◌↔◌, List, [], ◌∷◌, length, Option, Some, None, Contains, IsFalse, slice_index};
-ghost use Rattle.wfc_choose.specs.Draw.{drawn};
+ghost use Rattle.std.specs.Prelude.{◌≡◌, ℕ, ◌%◌, ◌<◌, ◌≤◌, ◌↔◌, List, [], ◌∷◌, ◌++◌, length, Option, Some, None, Contains, IsFalse, slice_index};
+ghost use Rattle.std.specs.List.{sum_by};
+ghost use Rattle.wfc_choose.specs.Draw.{drawn, IsInShare};
 ghost use Rattle.wfc_choose.specs.Pick.{Rule, picked, urge};
 ghost use Rattle.wfc_choose.specs.declared.RuleKind.TheVariants.{Scanline, Fewest, Ranked};
 ghost use Rattle.wfc_choose.specs.declared.TheConstants.{NO_RANK};
 ghost use Rattle.wfc_problem.specs.Domains.{Test};
-ghost use Rattle.wfc_problem.specs.Network.{Network, IsProblem};
+ghost use Rattle.wfc_problem.specs.Network.{Network, IsProblem, value_weight};
 ghost use Rattle.wfc_problem.specs.Sizes.{is_dead, sizes_of, values_at, size_at};
 
 /// The picked cell is one with two values or more, and none is picked only where there is no such cell. No other
@@ -34,6 +35,14 @@ pub fn draws_are_values()
         Contains (values_at P D c) (drawn P (values_at P D c) word) }
 {}
 
+/// Of the values of a cell one is drawn exactly where the sum of the weights of those before it is at most the word
+/// modulo the sum of all, and that sum with its own weight is above it.
+pub fn draws_are_by_weight()
+    ensures share { (P : Network) → IsProblem P → (D : Test) (c word v : ℕ) (front behind : List ℕ) →
+        values_at P D c ≡ front ++ v ∷ behind → (drawn P (values_at P D c) word ≡ v)
+        ↔ IsInShare P front v (word % sum_by (value_weight P) (values_at P D c)) }
+{}
+
 /// Each kind of rule picks its own cell of the sizes 1, 5, 0, 3, 2, 2, and none of 1, 0, 1. A cell without a rank comes
 /// last, and of cells with one rank the least comes first.
 pub fn small_picks()
@@ -52,6 +61,16 @@ pub fn small_picks()
 pub fn small_draws()
     ensures drawn { let P : Network = record { cells = 1; dirs = 4; neighbours = []; weights = 3 ∷ 1 ∷ 5 ∷ []; supports = []; base = [] } in
         drawn P (0 ∷ 2 ∷ []) 2 ∷ drawn P (0 ∷ 2 ∷ []) 3 ∷ drawn P (0 ∷ 2 ∷ []) 7 ∷ drawn P (0 ∷ 2 ∷ []) 8 ∷ [] ≡ 0 ∷ 2 ∷ 2 ∷ 0 ∷ [] }
+{}
+
+/// The share of the value 2 of weight 5 behind the value 0 of weight 3 goes from 3 to 7.
+pub fn small_shares()
+    ensures inside { let P : Network = record { cells = 1; dirs = 4; neighbours = []; weights = 3 ∷ 1 ∷ 5 ∷ []; supports = []; base = [] } in
+        IsInShare P (0 ∷ []) 2 3 × IsInShare P (0 ∷ []) 2 7 }
+    ensures below { let P : Network = record { cells = 1; dirs = 4; neighbours = []; weights = 3 ∷ 1 ∷ 5 ∷ []; supports = []; base = [] } in
+        IsInShare P (0 ∷ []) 2 2 → ⊥ }
+    ensures above { let P : Network = record { cells = 1; dirs = 4; neighbours = []; weights = 3 ∷ 1 ∷ 5 ∷ []; supports = []; base = [] } in
+        IsInShare P (0 ∷ []) 2 8 → ⊥ }
 {}
 
 /// The rank of a cell without one.

@@ -3,12 +3,12 @@ use Rattle.std.proofs.Common.{◌≡◌, ◌≢◌, ℕ, ◌+◌, ◌-◌, ◌<�
 use Rattle.std.specs.Prelude.{not, ◌&&◌, ◌==◌, IsTrue, filter, slice_index}
 use Rattle.std.specs.List.{range_with_len}
 use Rattle.std.proofs.lemmas.List.FromFn.{get_or-map-range_with_len}
-use Rattle.std.proofs.lemmas.Bool.{cases_lt, cases_eq, cond-true, cond-false, eq-eqb, ne_eqb}
+use Rattle.std.proofs.lemmas.Bool.{cases_lt, cases_eq, false_from_ne_true, cond-true, cond-false, eq-eqb, ne_eqb}
 use Rattle.std.proofs.lemmas.List.{take-append-le, drop-append-le, length-append, length_push, take_at, take_all, drop_all, get_or_append_left, get_or_push, get_or_past, append_assoc, append-nil}
 use Rattle.wfc_problem.specs.Network.{Network, values, in_base, IsProblem}
 use Rattle.wfc_problem.specs.Domains.{Test, Within}
 use Rattle.wfc_problem.specs.Rounds.{depth_of}
-use Rattle.wfc_problem.specs.Sizes.{size_at}
+use Rattle.wfc_problem.specs.Sizes.{is_dead, size_at}
 use Rattle.wfc_problem.specs.declared.Literal.{Literal}
 use Rattle.wfc_domains.specs.declared.Cause.{Cause}
 use Rattle.wfc_domains.specs.declared.Removal.{Removal}
@@ -20,7 +20,7 @@ use Rattle.wfc_domains.specs.Log.{extent_of, IsInside, IsCauseBelow, IsLogged, c
 use Rattle.wfc_domains.specs.Removals.{without, IsCause, IsRemoved, AreRemoved}
 use Rattle.wfc_domains.specs.Store.{StoreView, IsSound, mark_of, left_of, before_of}
 use Rattle.wfc_domains.specs.Board.{view_of, AreStood, IsTraced, HasLevels, HasValues, IsBoard, lost, Grows}
-use Rattle.wfc_domains.proofs.Problems.{base-in, base_table, depth-few, few_pairs}
+use Rattle.wfc_domains.proofs.Problems.{base-in, base_table, depth-few, few_pairs, dead-iff, empty-size}
 use Rattle.wfc_domains.proofs.SizeLemmas.{stood-sizes}
 use Rattle.wfc_domains.proofs.Removals.{less-gone, less-back, without-within, without-append, without-push, without-split, without-in, stood-push, stood-front, stood-room, stood-few, size-less, size-other, removed-push}
 
@@ -71,11 +71,26 @@ some-dead e = cc
 pub not-alive : {a : ℕ} → Dead a ≡ Alive → ⊥
 not-alive e = cc
 
+-- the domains of a board lie within the base
+pub left-within : (b : Board) → Within (left_of (view_of b)) (in_base b.problem.now)
+left-within b = without-within (in_base b.problem.now) b.trail.removals
+
+-- where each cell has a value none is empty
+pub left-filled : (b : Board) → IsTraced b → HasValues b → is_dead b.problem.now (left_of (view_of b)) ≡ false
+left-filled b t filled = false_from_ne_true _ (λ e.
+    let P = b.problem.now in
+    let dead = (dead-iff P t.problem (left_of (view_of b)) (left-within b)).0 e in
+    let pos = filled dead.0 dead.1 in
+    let same = size-at P b.domains (left_of (view_of b)) dead.0 t.same_values t.stands in
+    let none = empty-size P (left_of (view_of b)) dead.0 dead.2 in
+    omega arith)
+
 -- the removal is one from what is left
-pub removal-is : (b : Board) (D : Flags) (cell value : ℕ) (cause : Cause) → IsTraced b → IsLess b.domains D cell value
+pub removal-is : (b : Board) (D : Flags) (cell value : ℕ) (cause : Cause) → IsTraced b → HasValues b → IsLess b.domains D cell value
     → IsCause b.problem.now b.levels.standing (left_of (view_of b)) cell value cause
     → IsRemoved b.problem.now b.levels.standing (left_of (view_of b)) (record { cell = cell; value = value; before = size_of b.domains cell; cause = cause })
-removal-is b D cell value cause t l k = record {
+removal-is b D cell value cause t filled l k = record {
+  filled = left-filled b t filled;
   stood = ap (λ f. f cell value) (sym t.stands) ∙ l.stood;
   before = size-at b.problem.now b.domains (left_of (view_of b)) cell t.same_values t.stands;
   cause = k;
@@ -105,7 +120,7 @@ board-lost b D cell value cause h alive l hc hv k =
     let m_in = mark-in (view_of b) h.levels in
     let smaller = size-smaller P b.domains D cell value h.traced.same_values hv l in
     let left : without (without (in_base P) (take m rs)) (drop m rs) ≡ left_of (view_of b) = without-split (in_base P) rs m in
-    let here : IsRemoved P b.levels.standing (without (without (in_base P) (take m rs)) (drop m rs)) r = subst (λ E. IsRemoved P b.levels.standing E r) (sym left) (removal-is b D cell value cause h.traced l k) in
+    let here : IsRemoved P b.levels.standing (without (without (in_base P) (take m rs)) (drop m rs)) r = subst (λ E. IsRemoved P b.levels.standing E r) (sym left) (removal-is b D cell value cause h.traced (h.filled alive) l k) in
     let more = removed-push P b.levels.standing (without (in_base P) (take m rs)) (drop m rs) r h.added here in
     let A : List Removal → List Removal → Type 0 = λ front back. AreRemoved P b.levels.standing (without (in_base P) front) back in
     record {

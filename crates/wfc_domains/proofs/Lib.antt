@@ -16,3 +16,4 @@ pub mod Sound
 pub mod Cuts
 pub mod Shown
 pub mod Sweeps
+pub mod Stops

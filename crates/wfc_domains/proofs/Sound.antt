@@ -20,8 +20,8 @@ use Rattle.wfc_domains.specs.Removals.{without, IsCause, AreRemoved}
 use Rattle.wfc_domains.specs.Store.{StoreView, IsSound, IsVerdict, IsOpening, IsLeastEmpty, mark_of, left_of, before_of, added_of, all_but_last, without_last}
 use Rattle.wfc_domains.specs.Board.{view_of, IsTraced, HasLevels, IsBoard, IsCut}
 use Rattle.wfc_domains.proofs.Problems.{greatest-lower, greatest-within, greatest-from_holding, greatest-is, counts-from_consistent, support_count-le, dead-iff, zero-empty, empty-size, alive-pos}
-use Rattle.wfc_domains.proofs.Removals.{less-contains, without-within, without-split}
-use Rattle.wfc_domains.proofs.Boards.{size-at, not-alive, grown-within}
+use Rattle.wfc_domains.proofs.Removals.{less-contains, without-split}
+use Rattle.wfc_domains.proofs.Boards.{size-at, not-alive, grown-within, left-within, left-filled}
 use Rattle.wfc_domains.proofs.Cuts.{cut_is, cut_not}
 
 -- ---- what removals for true causes keep
@@ -67,19 +67,9 @@ board-holds b h E base consistent c v t =
 
 -- ---- the verdict
 
--- the domains of a board lie within the base
-pub left-within : (b : Board) → Within (left_of (view_of b)) (in_base b.problem.now)
-left-within b = without-within (in_base b.problem.now) b.trail.removals
-
 -- where each cell has a value none is empty
 pub board-filled : (b : Board) → IsBoard b → b.verdict ≡ Alive → is_dead b.problem.now (left_of (view_of b)) ≡ false
-board-filled b h alive = false_from_ne_true _ (λ t.
-    let P = b.problem.now in
-    let dead = (dead-iff P h.traced.problem (left_of (view_of b)) (left-within b)).0 t in
-    let pos = h.filled alive dead.0 dead.1 in
-    let same = size-at P b.domains (left_of (view_of b)) dead.0 h.traced.same_values h.traced.stands in
-    let none = empty-size P (left_of (view_of b)) dead.0 dead.2 in
-    omega arith)
+board-filled b h alive = left-filled b h.traced (h.filled alive)
 
 -- a cell without a value is empty
 pub board-empty : (b : Board) → IsBoard b → (cell : ℕ) → b.verdict ≡ Dead cell → IsEmptyAt (left_of (view_of b)) cell

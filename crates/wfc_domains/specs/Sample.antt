@@ -26,6 +26,10 @@ unsupported = record { cell = 2; value = 1; before = 3; cause = Arc 3 }
 abbrev pub cut_first : Removal
 cut_first = record { cell = 0; value = 0; before = 2; cause = Assumed }
 
+-- and what `Not 0 1` cuts behind it: the last value of its cell
+abbrev pub cut_second : Removal
+cut_second = record { cell = 0; value = 1; before = 1; cause = Assumed }
+
 -- what `Not 3 2` cuts there
 abbrev pub later : Removal
 later = record { cell = 3; value = 2; before = 2; cause = Assumed }

@@ -48,6 +48,8 @@ pub fn removals_are_judged()
     ensures before { AreRemoved corner [] (in_base corner) (record unsupported { before = 2 } ∷ [])
         → ⊥ }
     ensures once { AreRemoved corner [] (in_base corner) (unsupported ∷ unsupported ∷ []) → ⊥ }
+    ensures behind_the_last { AreRemoved corner (Is 1 0 ∷ []) (λ c v. nat_lt c 2)
+        (record cut_first { before = 3 } ∷ []) → ⊥ }
 {}
 
 /// Levels are told apart by their marks; the cell counts before the value, and the value before the direction.

@@ -6,6 +6,7 @@ mod board;
 mod counters;
 mod domains;
 pub mod examples;
+pub mod laws;
 mod levels;
 mod older;
 mod packed;

@@ -170,7 +170,7 @@ follow_proof P p D within ns q e =
     (f.0, f.1, f.2, f.4 ∙ ap (λ (xs : List Node). nodes f.0 ++ xs) f.6 ∙ append-nil (nodes f.0))
 
 -- a proof that follows, of which nothing was left off, closes
-follows_closes : (P : Network) (D : Test) (proof : Proof) → FollowsFrom P D proof → is_left_off proof ≡ false → Closes P D proof
+pub follows_closes : (P : Network) (D : Test) (proof : Proof) → FollowsFrom P D proof → is_left_off proof ≡ false → Closes P D proof
 follows_closes P D (empty c) h off = h
 follows_closes P D (remove c v d rest) h off = (h.0, follows_closes P (cut D (Not v c)) rest h.1 off)
 follows_closes P D (split c v left right) h off =

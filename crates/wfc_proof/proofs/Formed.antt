@@ -1,8 +1,6 @@
 -- Lines that spell a proof of a problem keep within the limits of each format.
 use Rattle.std.proofs.Common.{◌≡◌, ℕ, ◌<◌, ◌^◌, Bool, true, false, List, [], ◌∷◌, ◌++◌, refl, sym, ap, ◌∙◌, subst, arith}
-use Rattle.std.specs.Prelude.{◌&&◌}
 use Rattle.std.specs.List.{list_all}
-use Rattle.std.proofs.lemmas.Bool.{and_parts}
 use Rattle.wfc_problem.proofs.CallerLemmas.{base_inside, cut_within, few_cells, few_dirs, few_values, neighbour_in}
 use Rattle.wfc_problem.specs.Domains.{Test, Within, cut}
 use Rattle.wfc_problem.specs.Network.{Network, IsProblem, in_base}

@@ -1,7 +1,7 @@
 -- Bytes spell a line exactly where they are its text.
-use Rattle.std.proofs.Common.{◌≡◌, ℕ, ◌-◌, ◌^◌, ◌<◌, ◌≤◌, Bool, true, false, cond, nat_le, List, [], ◌∷◌, codes, decimal, Option, None, Some, Result, Ok, Err, refl, sym, ap, ◌∙◌, subst, arith}
+use Rattle.std.proofs.Common.{◌≡◌, ℕ, ◌-◌, ◌^◌, ◌<◌, ◌≤◌, Bool, true, false, cond, nat_le, List, [], ◌∷◌, codes, decimal, Option, None, Some, Ok, refl, sym, ap, ◌∙◌, subst, arith}
 use Rattle.std.specs.Option.{option_map, ok_or}
-use Rattle.std.specs.List.{All, slice_split, join_with_byte}
+use Rattle.std.specs.List.{All}
 use Rattle.std.specs.Str.{bytes_eq}
 use Rattle.std.proofs.lemmas.Bool.Decides.{nat_tests}
 use Rattle.std.proofs.lemmas.List.Elements.{All-cons}
@@ -9,9 +9,8 @@ use Rattle.std.proofs.lemmas.List.Splits.{join_with_byte-slice_split}
 use Rattle.std.proofs.lemmas.Slice.Eq.{bytes_eq-Decides}
 use Rattle.wfc_proof.specs.declared.Line.{Line}
 use Rattle.wfc_proof.specs.declared.Line.TheVariants.{Remove, Span, Try, Empty, End, Found, Out}
-use Rattle.wfc_proof.specs.declared.text.LineFault.{LineFault}
 use Rattle.wfc_proof.specs.declared.text.LineFault.TheVariants.{BadLine}
-use Rattle.wfc_proof.specs.Words.{is_space, spaced_words, with_spaces, decimal_within}
+use Rattle.wfc_proof.specs.Words.{is_space, spaced_words, with_spaces}
 use Rattle.wfc_proof.specs.Text.{line_words, line_text, IsOfBoth, IsOfFormat1, IsOfFormat2, cell_word, value_word, dir_word, removal, span, trial, line_of_mark, removal_of, span_of, trial_of, empty_of, mark_of, either_of, line_of_words, line_2_of_words, line_of, line_2_of}
 use Rattle.wfc_proof.proofs.WordLemmas.{AreSpaceless, spaced_back, decimal_spaceless, decimal_within-decimal, decimal_within-some}
 

@@ -1,5 +1,5 @@
 -- The lines that a line counts as, put one after another.
-use Rattle.std.proofs.Common.{◌≡◌, ℕ, zero, suc, ◌+◌, ◌-◌, ◌^◌, ◌≤◌, ◌<◌, List, [], ◌∷◌, ◌++◌, map, Result, Ok, Err, refl, sym, ap, ◌∙◌, subst, arith, append-nil}
+use Rattle.std.proofs.Common.{◌≡◌, ℕ, zero, suc, ◌+◌, ◌-◌, ◌^◌, ◌≤◌, ◌<◌, [], ◌∷◌, map, Result, Ok, Err, sym, ap, ◌∙◌, subst, arith, append-nil}
 use Rattle.std.specs.List.{range_with_len}
 use Rattle.wfc_outside.specs.Sink.{SinkView, after_bytes}
 use Rattle.wfc_outside.proofs.CallerLemmas.{after_bytes-append, puts_none}

@@ -1,7 +1,7 @@
 -- Removals joined into spans.
-use Rattle.std.proofs.Common.{◌≡◌, ℕ, zero, suc, ◌+◌, ◌-◌, ◌≤◌, Bool, true, false, cond, List, [], ◌∷◌, ◌++◌, map, take, Option, None, Some, is_some, Result, Ok, Err, IfOk, IfErr, refl, sym, ap, ◌∙◌, subst, arith, append_assoc, append-nil}
+use Rattle.std.proofs.Common.{◌≡◌, ℕ, zero, suc, ◌+◌, ◌-◌, ◌≤◌, Bool, true, false, cond, List, [], ◌∷◌, ◌++◌, map, Option, None, Some, is_some, Result, Ok, Err, IfOk, IfErr, refl, sym, ap, ◌∙◌, subst, arith, append_assoc, append-nil}
 use Rattle.std.specs.Prelude.{◌==◌, ◌&&◌, nat_le}
-use Rattle.std.specs.List.{range_with_len, flat_map}
+use Rattle.std.specs.List.{range_with_len}
 use Rattle.std.specs.Option.{option_map}
 use Rattle.std.specs.Borrow.{GName}
 use Rattle.std.proofs.lemmas.Bool.{and_parts, eqb-true, false≢true}
@@ -11,9 +11,9 @@ use Rattle.wfc_outside.specs.Sink.{Taken, SinkView, after_bytes}
 use Rattle.wfc_outside.proofs.CallerLemmas.{after_bytes-append, puts_none}
 use Rattle.wfc_proof.specs.Heads.{ended}
 use Rattle.wfc_proof.specs.Journal.{JournalView, Target, IsWhole, counted_as, after_line, IsRefused}
-use Rattle.wfc_proof.specs.Spans.{counted, as_span, span_behind, one_span, join_with, growing, settled, lines_of, Joined, nothing_joined, apart, grown_or_apart, join_line, join_on, all_joined, in_spans, spans_of, ending, waiting, joined_as, AreJoined, is_span, is_kept, IsSpanning, IsCutApart, PutsApart}
+use Rattle.wfc_proof.specs.Spans.{counted, as_span, span_behind, one_span, join_with, growing, settled, lines_of, Joined, nothing_joined, apart, grown_or_apart, join_line, join_on, spans_of, ending, AreJoined, is_span, is_kept, IsSpanning, IsCutApart, PutsApart}
 use Rattle.wfc_proof.specs.ProofText.{IsOfFormat}
-use Rattle.wfc_proof.specs.Telling.{lines_at_end, before_lines, text_of, IsAt, IsBare, begun, IsCut}
+use Rattle.wfc_proof.specs.Telling.{lines_at_end, text_of, IsAt, IsBare, begun, IsCut}
 use Rattle.wfc_proof.specs.Text.{line_text}
 use Rattle.wfc_proof.specs.declared.Line.{Line}
 use Rattle.wfc_proof.specs.declared.Line.TheVariants.{Remove, Span, Try, Empty, End, Found, Out}

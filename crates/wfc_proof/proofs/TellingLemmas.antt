@@ -1,6 +1,5 @@
 -- What a journal tells after more lines were put into its sink.
-use Rattle.std.proofs.Common.{◌≡◌, ℕ, ◌+◌, ◌-◌, ◌^◌, ◌<◌, ◌≤◌, Bool, true, false, cond, nat_eq, List, [], ◌∷◌, ◌++◌, length, take, drop, Option, None, Some, is_some, Result, Ok, Err, refl, sym, ap, ◌∙◌, subst, arith, append_assoc, append-nil, length-append}
-use Rattle.std.specs.List.{All}
+use Rattle.std.proofs.Common.{◌≡◌, ℕ, ◌^◌, ◌<◌, ◌≤◌, Bool, true, false, cond, nat_eq, List, [], ◌∷◌, ◌++◌, length, take, drop, Option, None, Some, is_some, Result, Ok, Err, refl, sym, ap, ◌∙◌, subst, arith, append_assoc, append-nil, length-append}
 use Rattle.std.specs.Option.{option_map}
 use Rattle.std.specs.Borrow.{GName}
 use Rattle.std.proofs.lemmas.Bool.{eqb-true, false≢true}
@@ -11,7 +10,7 @@ use Rattle.wfc_outside.specs.Sink.{Taken, SinkView, with_bytes, after_bytes}
 use Rattle.wfc_proof.specs.Heads.{ended, format_text, numbers_text, shape_text, head_text, head_2_text, IsShape}
 use Rattle.wfc_proof.specs.Journal.{JournalView, Target, counted_as, after_line, IsRefused}
 use Rattle.wfc_proof.specs.ProofText.{IsOfFormat, AreOfFormat}
-use Rattle.wfc_proof.specs.Telling.{text_of, Reading, line_in, and_line, read_byte, read_on, read_text, lines_at_end, before_lines, part_at_end, target_of, refused_lines, journal_of, IsAt, IsBare, begun, IsCut, IsCutAt}
+use Rattle.wfc_proof.specs.Telling.{text_of, Reading, line_in, and_line, read_byte, read_on, read_text, lines_at_end, before_lines, part_at_end, refused_lines, journal_of, IsAt, IsBare, begun, IsCutAt}
 use Rattle.wfc_proof.specs.Text.{line_text}
 use Rattle.wfc_proof.specs.declared.Line.{Line}
 use Rattle.wfc_proof.specs.declared.heads.Format.{Format}

@@ -1,25 +1,25 @@
 -- What is put of a text that is brought to format 2.
 use Rattle.std.proofs.Common.{◌≡◌, ℕ, zero, suc, ◌+◌, ◌-◌, ◌^◌, ◌<◌, ◌≤◌, Bool, true, false, cond, nat_eq, List, [], ◌∷◌, ◌++◌, length, map, take, drop, get_or, Option, None, Some, Result, Ok, Err, refl, sym, ap, ◌∙◌, subst, arith, append_assoc, append-nil, length-append, length-take}
-use Rattle.std.specs.Prelude.{nat_le, IsTrue, MatchResult, ◌&&◌}
-use Rattle.std.specs.List.{All, range_with_len, flat_map, list_all}
+use Rattle.std.specs.Prelude.{nat_le, ◌&&◌}
+use Rattle.std.specs.List.{range_with_len, list_all}
 use Rattle.std.proofs.lemmas.Bool.{and_parts, and_from, false≢true, false_from_ne_true}
 use Rattle.std.proofs.lemmas.Bool.Decides.{nat_tests}
 use Rattle.std.proofs.lemmas.Grind.{common_steps, flat_map-append}
 use Rattle.std.proofs.lemmas.List.{get_or_default, get_or-take}
 use Rattle.std.proofs.lemmas.List.Elements.{All-head, All-tail}
-use Rattle.wfc_outside.proofs.CallerLemmas.{after_bytes-append, puts_none, puts_on, fault_on, fault_out}
+use Rattle.wfc_outside.proofs.CallerLemmas.{puts_none, puts_on, fault_on, fault_out}
 use Rattle.wfc_outside.specs.Sink.{SinkView, after_bytes, IsFaultAfterFront, Puts}
 use Rattle.wfc_outside.specs.declared.SinkFault.{SinkFault}
 use Rattle.wfc_problem.specs.Network.{Network}
 use Rattle.wfc_problem.specs.Network.{values as values_of}
-use Rattle.wfc_proof.specs.Heads.{ended, format_of, format_text, head_text, head_2_text, numbers_text, shape_text, IsShape}
+use Rattle.wfc_proof.specs.Heads.{ended, format_of, format_text, head_2_text, numbers_text, shape_text, IsShape}
 use Rattle.wfc_proof.specs.Journal.{IsWhole, counted_as}
-use Rattle.wfc_proof.specs.Lines.{nodes_of, has_nodes, spelled, Spells}
-use Rattle.wfc_proof.specs.Proof.{Node, Proof, nodes}
-use Rattle.wfc_proof.specs.Proof.Node.{empties, removes, splits}
+use Rattle.wfc_proof.specs.Lines.{nodes_of, has_nodes, spelled}
+use Rattle.wfc_proof.specs.Proof.{Proof}
+use Rattle.wfc_proof.specs.Proof.Node.{removes}
 use Rattle.wfc_proof.specs.ProofText.{IsOfFormat, AreOfFormat, IsTextOf, head_in}
-use Rattle.wfc_proof.specs.Spans.{counted, as_span, one_span, join_with, growing, settled, lines_of, Joined, nothing_joined, apart, grown_or_apart, join_line, join_on, all_joined, in_spans, is_span, is_kept, IsCutApart, PutsApart}
-use Rattle.wfc_proof.specs.Telling.{Reading, line_in, read_on, read_text, text_of, IsCut, PutsOrCuts}
+use Rattle.wfc_proof.specs.Spans.{counted, as_span, one_span, join_with, growing, settled, lines_of, Joined, nothing_joined, grown_or_apart, join_line, join_on, all_joined, in_spans, is_span, is_kept, IsCutApart, PutsApart}
+use Rattle.wfc_proof.specs.Telling.{Reading, line_in, read_on, text_of, PutsOrCuts}
 use Rattle.wfc_proof.specs.Text.{line_text}
 use Rattle.wfc_proof.specs.Upgrade.{line_at, behind_line, named, format_at, behind_head, lines_in, upgraded_text, spans_left, TakesLine, TakesFront}
 use Rattle.wfc_proof.specs.declared.Line.{Line}
@@ -342,7 +342,7 @@ read_whole format text line is = format_whole format line (line_in-is format tex
 -- ---- the proof is the same
 
 -- what a line counts as counts as itself, and stands for its nodes
-counted_spells : (line : Line) → (counted (counted_as line) ≡ counted_as line) × (spelled (counted_as line) ≡ nodes_of line)
+pub counted_spells : (line : Line) → (counted (counted_as line) ≡ counted_as line) × (spelled (counted_as line) ≡ nodes_of line)
 counted_spells (Remove c v d) = (refl, refl)
 counted_spells (Span c first last d) = (again (range_with_len first (last + 1 - first)), nodes_are (range_with_len first (last + 1 - first)))
   where
@@ -363,7 +363,7 @@ counted_again : (lines : List Line) → counted (counted lines) ≡ counted line
 counted_again [] = refl
 counted_again (line ∷ lines) = flat_map-append counted_as (counted_as line) (counted lines) ∙ (λ i. (counted_spells line).0 i ++ counted_again lines i)
 
-spelled-append : (xs ys : List Line) → spelled (xs ++ ys) ≡ spelled xs ++ spelled ys
+pub spelled-append : (xs ys : List Line) → spelled (xs ++ ys) ≡ spelled xs ++ spelled ys
 spelled-append [] ys = refl
 spelled-append (x ∷ xs) ys = ap (λ ns. nodes_of x ++ ns) (spelled-append xs ys) ∙ sym (append_assoc (nodes_of x) (spelled xs) (spelled ys))
 

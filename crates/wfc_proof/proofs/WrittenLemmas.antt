@@ -1,16 +1,23 @@
 -- What a sink took, where a journal over it was told lines.
-use Rattle.std.proofs.Common.{◌≡◌, ℕ, ◌+◌, ◌≤◌, Bool, true, false, List, [], ◌∷◌, ◌++◌, length, take, Option, None, Some, is_some, refl, sym, ap, ◌∙◌, subst, arith, append_assoc, append-nil}
+use Rattle.std.proofs.Common.{◌≡◌, ℕ, ◌+◌, ◌<◌, ◌≤◌, Bool, true, false, List, [], ◌∷◌, ◌++◌, length, take, Option, None, Some, Result, Ok, Err, refl, sym, ap, ◌∙◌, arith, inl, inr, append_assoc, append-nil, length-append, length-take}
+use Rattle.std.specs.Prelude.{◌==◌, ◌||◌, if◌then◌else◌}
+use Rattle.std.specs.List.{list_any}
 use Rattle.std.specs.Option.{option_map}
 use Rattle.std.specs.Borrow.{GName}
 use Rattle.std.proofs.Math.Seq.{take-append-add, take-nil}
-use Rattle.std.proofs.lemmas.Bool.{false≢true}
-use Rattle.wfc_outside.specs.Count.{HasRisen}
+use Rattle.std.proofs.lemmas.Bool.{cases_lt, false≢true}
+use Rattle.std.proofs.lemmas.List.{take_all}
+use Rattle.std.proofs.lemmas.List.Folds.{list_any-append}
 use Rattle.wfc_outside.specs.Sink.{Taken, SinkView, with_bytes, after_bytes, IsFaultAfterFront}
 use Rattle.wfc_proof.specs.Journal.{JournalView, Target, after_lines, IsCutOff}
-use Rattle.wfc_proof.specs.Spans.{counted, growing, settled, lines_of, Joined, nothing_joined, apart, join_on, all_joined, in_spans, spans_of, ending, waiting, joined_as, AreJoined, IsSpanning}
-use Rattle.wfc_proof.specs.Telling.{Reading, read_text, lines_at_end, before_lines, part_at_end, text_of, journal_of, refused_lines, IsAt, begun}
+use Rattle.wfc_proof.specs.Spans.{counted, growing, settled, lines_of, Joined, nothing_joined, apart, join_on, all_joined, in_spans, spans_of, ending, joined_as, AreJoined, IsSpanning}
+use Rattle.wfc_proof.specs.Heads.{ended}
+use Rattle.wfc_proof.specs.Text.{line_text}
+use Rattle.wfc_proof.specs.Telling.{IsCut, Reading, and_line, line_in, read_byte, read_on, read_text, lines_at_end, before_lines, part_at_end, text_of, journal_of, refused_lines, IsAt, begun}
 use Rattle.wfc_proof.specs.declared.Line.{Line}
 use Rattle.wfc_proof.specs.declared.heads.Format.{Format}
+use Rattle.wfc_proof.specs.declared.text.LineFault.{LineFault}
+use Rattle.wfc_proof.proofs.Joins.{spans_some}
 use Rattle.wfc_proof.specs.declared.heads.Format.TheVariants.{One, Two}
 use Rattle.wfc_proof.proofs.SpanLemmas.{settled_growing}
 use Rattle.wfc_proof.proofs.TellingLemmas.{nothing_lost, text_of-append}
@@ -84,21 +91,66 @@ spans_written name started sink kept None lines is last seen =
         ∙ ap (λ t. with_bytes first (text_of (lines_at_end Two taken) ++ t)) (take-nil (length (part_at_end Two taken)))
         ∙ ap (with_bytes first) (append-nil (text_of (lines_at_end Two taken)) ∙ ap text_of (sym all)))
 
--- and where a line was refused, a front of the text of a front of them
+-- what was read of a line that didn't end has no line feed
+part_open : (format : Format) (read : Reading) (bytes : List ℕ) → list_any (λ b. b == 10) read.part ≡ false → list_any (λ b. b == 10) (read_on format read bytes).part ≡ false
+part_open format read [] none = none
+part_open format read (byte ∷ bytes) none = part_open format (read_byte format read byte) bytes (by_byte (byte == 10) refl)
+  where
+    or_none : (a b : Bool) → a ≡ false → b ≡ false → (a || (b || false)) ≡ false
+    or_none false false p q = refl
+    or_none true b p q = cc
+    or_none false true p q = cc
+
+    of_line : (answer : Result Line LineFault) → list_any (λ b. b == 10) (and_line read answer).part ≡ false
+    of_line (Ok line) = refl
+    of_line (Err fault) = refl
+
+    by_byte : (b : Bool) → (byte == 10) ≡ b
+        → list_any (λ b. b == 10) (if b then and_line read (line_in format read.part) else record { before = read.before; lines = read.lines; part = read.part ++ byte ∷ [] }).part ≡ false
+    by_byte true is = of_line (line_in format read.part)
+    by_byte false is = list_any-append (λ b. b == 10) read.part (byte ∷ []) ∙ or_none (list_any (λ b. b == 10) read.part) (byte == 10) none is
+
+-- so it is shorter than the text of lines that it is a front of
+part_short : (format : Format) (taken : Taken) (line : Line) (lines : List Line) → part_at_end format taken ≡ take (length (part_at_end format taken)) (text_of (line ∷ lines))
+    → length (part_at_end format taken) < length (text_of (line ∷ lines))
+part_short format taken line lines front = elim (cases_lt (length (part_at_end format taken)) (length (text_of (line ∷ lines)))) [
+  | inl short ↦ short
+  | inr long ↦
+      let all : part_at_end format taken ≡ text_of (line ∷ lines) = front ∙ take_all (length (part_at_end format taken)) (text_of (line ∷ lines)) long in
+      absurd (false≢true (sym (part_open format (record { before = []; lines = []; part = [] }) taken.bytes refl) ∙ ap (list_any (λ b. b == 10)) all ∙ ended_has (line_text line) (text_of lines)))
+]
+  where
+    or_true : (a : Bool) → (a || true) ≡ true
+    or_true true = refl
+    or_true false = refl
+
+    ended_has : (xs ys : List ℕ) → list_any (λ b. b == 10) ((xs ++ 10 ∷ []) ++ ys) ≡ true
+    ended_has [] ys = refl
+    ended_has (x ∷ xs) ys = ap (λ b. (x == 10) || b) (ended_has xs ys) ∙ or_true (x == 10)
+
+-- the text of lines isn't empty
+text_some : (lines : List Line) → 0 < length lines → 0 < length (text_of lines)
+text_some [] some = absurd (omega (arith, some))
+text_some (line ∷ lines) some = omega (arith, length-append (ended (line_text line)) (text_of lines), length-append (line_text line) (10 ∷ []))
+
+-- a kept span and a refused line are some lines
+waits_short : (kept : Option Line) (refused : Line) (taken : Taken) → part_at_end Two taken ≡ take (length (part_at_end Two taken)) (text_of (lines_of kept ++ refused ∷ []))
+    → length (part_at_end Two taken) < length (text_of (lines_of kept ++ refused ∷ []))
+waits_short None refused taken front = part_short Two taken refused [] front
+waits_short (Some span) refused taken front = part_short Two taken span (refused ∷ []) front
+
+-- and where a line was refused, a front of the text of a front of them, which ends before the last of its lines does
 pub spans_cut_off : (name : GName) (started sink : SinkView) (kept refused : Option Line) (lines : List Line) → IsSpanning sink kept refused
     → IsCutOff (begun name started) (spans_of name sink kept refused) lines
-    → (count : ℕ) × (count ≤ length lines) × IsFaultAfterFront started sink (text_of (in_spans (take count lines)))
+    → (count : ℕ) × (count ≤ length lines) × IsCut started sink (text_of (in_spans (take count lines)))
 spans_cut_off name started sink kept None lines is cut = absurd (false≢true cut.failed)
 spans_cut_off name started sink kept (Some refused) lines is cut =
     let front = told started.told sink.told is.at is.joined before cut.handed in (
       cut.count,
       cut.within,
-      record { front = (front.0, front.1); counted = cut.counted },
+      record { n = front.0; less = front.1; front = front.2; counted = cut.counted },
     )
   where
-    handed : List Line
-    handed = take cut.count lines
-
     before_of : Option Target → Option Taken
     before_of None = None
     before_of (Some target) = target.before
@@ -109,8 +161,10 @@ spans_cut_off name started sink kept (Some refused) lines is cut =
     told : (old new : Option Taken) → IsAt Two new (lines_of kept ++ refused ∷ []) → AreJoined (ending new) kept (Some refused) → option_map (before_lines Two) new ≡ old
         → option_map (λ (ls : List Line). counted (ls ++ (lines_of kept ++ refused ∷ []))) (ending new)
         ≡ option_map (λ (ls : List Line). ls ++ take cut.count lines) (option_map (λ (taken : Taken). let none : List Line = [] in none) old)
-        → (n : ℕ) × (new ≡ option_map (λ (taken : Taken). with_bytes taken (take n (text_of (in_spans (take cut.count lines))))) old)
-    told None None at joined b s = (0, refl)
+        → (n : ℕ) × (n < length (text_of (in_spans (take cut.count lines)))) × (new ≡ option_map (λ (taken : Taken). with_bytes taken (take n (text_of (in_spans (take cut.count lines))))) old)
+    told None None at joined b s =
+        let some : 0 < length (take cut.count lines) = omega (arith, cut.some, cut.within, length-take cut.count lines) in
+        (0, text_some (in_spans (take cut.count lines)) (spans_some (take cut.count lines) some), refl)
     told None (Some taken) at joined b s = cc
     told (Some first) None at joined b s = cc
     told (Some first) (Some taken) at joined b s =
@@ -119,8 +173,11 @@ spans_cut_off name started sink kept (Some refused) lines is cut =
         let join : join_on nothing_joined (counted (lines_at_end Two taken ++ (lines_of kept ++ refused ∷ []))) ≡ apart (record { done = lines_at_end Two taken; kept = kept }) refused = cc joined in
         let all : in_spans (take cut.count lines) ≡ lines_at_end Two taken ++ (lines_of kept ++ refused ∷ []) = told_joined (lines_at_end Two taken) (take cut.count lines) kept (Some refused) join are in
         let text = text_of (lines_at_end Two taken) in
-        let part = length (part_at_end Two taken) in (
+        let part = length (part_at_end Two taken) in
+        let whole : text_of (in_spans (take cut.count lines)) ≡ text ++ text_of (lines_of kept ++ refused ∷ []) = ap text_of all ∙ text_of-append (lines_at_end Two taken) (lines_of kept ++ refused ∷ []) in
+        let short : part < length (text_of (lines_of kept ++ refused ∷ [])) = waits_short kept refused taken (cc (at.0)) in (
           length text + part,
+          omega (arith, short, ap length whole, length-append text (text_of (lines_of kept ++ refused ∷ []))),
           ap Some
               (taken_parts Two taken first (lines_of kept ++ refused ∷ []) at begins
               ∙ ap (with_bytes first) (take_all_front text (text_of (lines_of kept ++ refused ∷ [])) part

@@ -1,5 +1,5 @@
 -- Removals joined into spans, as they are told.
-use Rattle.std.specs.Prelude.{◌≡◌, ℕ, ◌+◌, ◌==◌, ◌&&◌, ◌<◌, nat_le, Bool, true, false, List, [], ◌∷◌, ◌++◌, length, take, Option, None, Some, Result, Ok, Err, is_some, if◌then◌else◌}
+use Rattle.std.specs.Prelude.{◌≡◌, ℕ, ◌+◌, ◌==◌, ◌&&◌, ◌⊎◌, nat_le, Bool, true, false, List, [], ◌∷◌, ◌++◌, Option, None, Some, is_some, if◌then◌else◌}
 use Rattle.std.specs.List.{flat_map}
 use Rattle.std.specs.Option.{option_map}
 use Rattle.std.specs.Borrow.{GName}
@@ -110,6 +110,13 @@ all_joined joined = joined.done ++ lines_of joined.kept
 -- cell and direction and its value is the next one
 abbrev pub in_spans : List Line → List Line
 in_spans lines = all_joined (join_on nothing_joined lines)
+
+-- lines with one more, which stands behind them, or is one span with the last of them
+abbrev pub AreWithOneMore : List Line → Line → List Line → Type 0
+AreWithOneMore lines line more =
+    (more ≡ lines ++ line ∷ [])
+    ⊎ ((front : List Line) × (last : Line) × (span : Line) × (lines ≡ front ++ last ∷ []) × (one_span last line ≡ Some span)
+    × (more ≡ front ++ span ∷ []))
 
 -- the lines at the end of what was taken, where that is told
 abbrev pub ending : Option Taken → Option (List Line)

@@ -1,5 +1,5 @@
 -- Lines as words, in both formats, and the lines that words are.
-use Rattle.std.specs.Prelude.{◌≡◌, ℕ, ◌-◌, ◌^◌, ◌<◌, ◌≤◌, nat_le, List, [], ◌∷◌, codes, decimal, Option, None, Some, Result, if◌then◌else◌, ⊤}
+use Rattle.std.specs.Prelude.{ℕ, ◌-◌, ◌^◌, ◌<◌, ◌≤◌, nat_le, List, [], ◌∷◌, codes, decimal, Option, None, Some, Result, if◌then◌else◌, ⊤}
 use Rattle.std.specs.Option.{option_map, ok_or}
 use Rattle.std.specs.Str.{bytes_eq}
 use Rattle.wfc_proof.specs.Words.{spaced_words, with_spaces, decimal_within}

@@ -1,9 +1,9 @@
 -- A refutation in format 2 that has the proof of another.
-use Rattle.std.specs.Prelude.{◌≡◌, ℕ, ◌==◌, Bool, true, List, [], ◌∷◌, ◌++◌, Option, None, Some, Result, Ok, Err, if◌then◌else◌}
+use Rattle.std.specs.Prelude.{◌≡◌, ℕ, ◌==◌, true, List, [], ◌∷◌, ◌++◌, Option, Result, Ok, Err, if◌then◌else◌}
 use Rattle.wfc_outside.specs.Sink.{SinkView, after_bytes, IsFaultAfterFront}
 use Rattle.wfc_problem.specs.Network.{Network, values}
 use Rattle.wfc_proof.specs.Heads.{format_of, head_2_text}
-use Rattle.wfc_proof.specs.Spans.{Joined, all_joined, counted, in_spans, is_kept, join_on}
+use Rattle.wfc_proof.specs.Spans.{all_joined, counted, in_spans, is_kept, join_on}
 use Rattle.wfc_proof.specs.Telling.{read_text, text_of}
 use Rattle.wfc_proof.specs.declared.Line.{Line}
 use Rattle.wfc_proof.specs.declared.heads.Format.{Format}

@@ -9,14 +9,15 @@ ghost use Rattle.wfc_problem.specs.declared.Literal.TheVariants.{Is, Not};
 ghost use Rattle.wfc_problem.specs.Rounds.{pairs, depth_of};
 ghost use Rattle.wfc_proof.specs.Checker.{line_steps, node_fault};
 ghost use Rattle.wfc_proof.specs.Checker.Point.{going, closed, ended};
-ghost use Rattle.wfc_proof.specs.Lines.{Spells, behind, joined, push, spelled};
+ghost use Rattle.wfc_proof.specs.Lines.{Spells, spelled};
 ghost use Rattle.wfc_proof.specs.Proof.{Proof, Closes, FollowsFrom, StopsThere, is_left_off, Node, nodes, IsRemoval, IsSplit};
 ghost use Rattle.wfc_proof.specs.Proof.Node.{removes, splits, empties};
 ghost use Rattle.wfc_proof.specs.Proof.Proof.{empty, remove, split, left_off};
 ghost use Rattle.wfc_proof.specs.Small.{wide, dead, from_base};
-ghost use Rattle.wfc_proof.specs.Spans.{IsSpanning, in_spans, join_on, nothing_joined, spans_of};
-ghost use Rattle.wfc_proof.specs.Telling.{IsAt, begun, journal_of, read_text, refused_lines, text_of};
+ghost use Rattle.wfc_proof.specs.Spans.{AreWithOneMore, IsSpanning, as_span, in_spans, join_on, nothing_joined, one_span, spans_of};
+ghost use Rattle.wfc_proof.specs.Telling.{IsAt, IsCut, begun, journal_of, read_text, refused_lines, text_of};
 ghost use Rattle.std.specs.Borrow.{GName};
+ghost use Rattle.std.specs.List.{AllByRecursion};
 ghost use Rattle.wfc_outside.specs.Sink.{IsFaultAfterFront, SinkView, after_bytes};
 ghost use Rattle.wfc_proof.specs.Text.{line_text, line_of, line_2_of, IsOfFormat1, IsOfFormat2};
 ghost use Rattle.wfc_proof.specs.Upgrade.{upgraded_text};
@@ -138,13 +139,15 @@ pub fn few_branches_wait()
         Within E (in_base P) × (pairs P E + length waiting ≤ depth_of P) }
 {}
 
-/// Neighbouring removals joined in spans spell the nodes that they were made of. One more node changes the last line
-/// alone, or adds one.
+/// Lines whose removals are joined into spans spell the same nodes. No two that stand side by side could still be joined,
+/// and no removal is left that is no span. One more line stands behind them, or goes into the last.
 pub fn joined_lines_spell()
-    ensures spell { (told : List Node) → Spells (joined told) told }
-    ensures push { (told : List Node) (node : Node) → joined (told ++ node ∷ []) ≡ push (joined told) node }
-    ensures kept { (written : List Line) (kept : Line) (node : Node) →
-        push (written ++ kept ∷ []) node ≡ written ++ behind kept node }
+    ensures spell { (lines : List Line) → AllByRecursion IsWhole lines → spelled (in_spans lines) ≡ spelled lines }
+    ensures apart { (lines front back : List Line) (a b : Line) → in_spans lines ≡ front ++ a ∷ b ∷ back →
+        one_span (as_span a) (as_span b) ≡ None }
+    ensures spans { (lines : List Line) → map as_span (in_spans lines) ≡ in_spans lines }
+    ensures more { (lines : List Line) (line : Line) →
+        AreWithOneMore (in_spans lines) (as_span line) (in_spans (lines ++ line ∷ [])) }
 {}
 
 // ---- texts
@@ -203,17 +206,12 @@ pub fn proofs_by_example()
     ensures past { from_base (Span 0 0 2 2 ∷ []) ≡ Err NotStanding }
 {}
 
-/// The first branch of a split comes first. Of another cell, another direction, a value that doesn't follow, or with
-/// another node between, no removals are joined.
+/// The first branch of a split comes first, and the nodes of a span are its values' removals in rising order.
 pub fn nodes_by_example()
     ensures tree { nodes (split 0 1 (remove 0 1 2 (empty 0)) (remove 3 0 1 left_off))
         ≡ splits 0 1 ∷ removes 0 1 2 ∷ empties 0 ∷ removes 3 0 1 ∷ [] }
     ensures spelled { spelled (Span 3 1 3 2 ∷ Try 4 5 ∷ Remove 1 2 3 ∷ [])
         ≡ removes 3 1 2 ∷ removes 3 2 2 ∷ removes 3 3 2 ∷ splits 4 5 ∷ removes 1 2 3 ∷ [] }
-    ensures joined { joined (removes 3 1 2 ∷ removes 3 2 2 ∷ removes 3 4 2 ∷ removes 3 5 1 ∷ removes 2 6 1 ∷ [])
-        ≡ Span 3 1 2 2 ∷ Span 3 4 4 2 ∷ Span 3 5 5 1 ∷ Span 2 6 6 1 ∷ [] }
-    ensures apart { joined (removes 2 6 1 ∷ splits 2 1 ∷ removes 2 7 1 ∷ empties 2 ∷ [])
-        ≡ Span 2 6 6 1 ∷ Try 2 1 ∷ Span 2 7 7 1 ∷ Empty 2 ∷ [] }
 {}
 
 /// The texts of lines. A removal is of one value or of a span, and the order of the numbers is cell, value, direction.
@@ -261,6 +259,8 @@ pub fn heads_by_example()
     ensures too_large { map shape_of (codes "for 7 3 4 1 8 1 0" ∷ codes "for 2 3 4 1 256 1 0" ∷ codes "for 2 3 4 1 8 2 0" ∷ [])
         ≡ Err BadLine ∷ Err BadLine ∷ Err BadLine ∷ [] }
     ensures too_few { shape_of (codes "for 2 3 4 1 8 1") ≡ Err BadLine }
+    ensures most { shape_of (codes "for 6 4294967295 4294967295 4294967295 255 0 1")
+        ≡ Ok (record { n = 6; width = 4294967295; height = 4294967295; depth = 4294967295; symmetry = 255; wrap_in = false; wrap_out = true }) }
 {}
 
 /// What is read of a text, in each format: behind its last line that is none of the format.
@@ -287,9 +287,17 @@ pub fn spans_by_example()
         ≡ Span 1 4 4 2 ∷ Try 1 5 ∷ Span 1 5 5 2 ∷ Empty 1 ∷ Found ∷ [] }
 {}
 
+/// One line more stands behind the lines, or makes the last of them longer.
+pub fn one_more_by_example()
+    ensures behind { AreWithOneMore (Try 1 5 ∷ []) (Span 1 6 6 2) (Try 1 5 ∷ Span 1 6 6 2 ∷ []) }
+    ensures longer { AreWithOneMore (Try 1 5 ∷ Span 1 4 5 2 ∷ []) (Span 1 6 6 2) (Try 1 5 ∷ Span 1 4 6 2 ∷ []) }
+    ensures alone { AreWithOneMore (Span 1 4 5 2 ∷ []) (Span 1 6 6 2) (Span 1 6 6 2 ∷ []) → ⊥ }
+{}
+
 /// Where a journal over a sink was told lines, the sink has taken their text behind what it took before, with removals
 /// joined into spans in format 2; there the last line is one behind which nothing is kept. Where a line was refused, the
-/// sink has taken a front of the text of a front of them, and has counted a fault.
+/// sink has taken a front of the text of those up to it, and has counted a fault; in format 2 what it took ends before the
+/// last of the joined lines does.
 pub fn sinks_take_what_is_told()
     ensures lines { (name : GName) (started sink : SinkView) (refused : Option Line) (lines : List Line)
         → IsAt One sink.told (refused_lines refused)
@@ -305,7 +313,7 @@ pub fn sinks_take_what_is_told()
     ensures spans_cut_off { (name : GName) (started sink : SinkView) (kept refused : Option Line) (lines : List Line)
         → IsSpanning sink kept refused
         → IsCutOff (begun name started) (spans_of name sink kept refused) lines
-        → (count : ℕ) × (count ≤ length lines) × IsFaultAfterFront started sink (text_of (in_spans (take count lines))) }
+        → (count : ℕ) × (count ≤ length lines) × IsCut started sink (text_of (in_spans (take count lines))) }
 {}
 
 /// A text of either format, brought to format 2.

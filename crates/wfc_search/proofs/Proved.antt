@@ -1,6 +1,6 @@
 -- What a run tells leads a checker to where the run is.
 use Rattle.std.proofs.Common.{◌≡◌, ◌≢◌, ℕ, zero, suc, ◌+◌, ◌-◌, ◌<◌, ◌≤◌, Bool, true, false, cond, List, [], ◌∷◌, ◌++◌, length, take, drop, refl, sym, ◌∙◌, ap, subst, arith, inl, inr, ◌⊎◌, Option, Some, None, append_assoc, append-nil, length-append}
-use Rattle.std.specs.Prelude.{Result, Ok, ◌==◌, ◌||◌, ◌&&◌, not, slice_index, IsTrue, IsFalse, count_by, Contains}
+use Rattle.std.specs.Prelude.{Result, Ok, Err, ◌==◌, ◌||◌, ◌&&◌, not, slice_index, IsTrue, IsFalse, count_by, Contains}
 use Rattle.std.specs.List.{list_all, list_any, range_with_len}
 use Rattle.std.proofs.lemmas.Bool.{cases_Bool, eqb-true, eqb-false, false≢true, and_parts, and_from}
 use Rattle.rand_core.specs.Stream.{Stream, next_u64}
@@ -27,12 +27,12 @@ use Rattle.wfc_problem.specs.declared.Literal.TheVariants.{Is, Not}
 use Rattle.wfc_proof.specs.Checker.{Point, after_close, and_on, node_steps}
 use Rattle.wfc_proof.specs.Checker.Point.{going, closed, ended}
 use Rattle.wfc_proof.specs.Lines.{has_nodes, nodes_of, spelled, Spells}
-use Rattle.wfc_proof.specs.Proof.{Proof, IsRemoval, IsSplit, Node, nodes}
+use Rattle.wfc_proof.specs.Proof.{Proof, IsRemoval, IsSplit, Node, is_left_off, nodes}
 use Rattle.wfc_proof.specs.Proof.Node.{empties, removes, splits}
 use Rattle.wfc_proof.specs.declared.Line.{Line}
 use Rattle.wfc_proof.specs.declared.Line.TheVariants.{Remove, Try, Empty, End, Found, Out}
 use Rattle.wfc_proof.specs.declared.Reject.{Reject}
-use Rattle.wfc_proof.proofs.Forests.{step_on, steps_append, closed_proof, going_iff}
+use Rattle.wfc_proof.proofs.Forests.{step_on, steps_append, closed_proof, follow_proof, follows_closes, going_iff}
 use Rattle.wfc_proof.proofs.Nodes.{removal_accepted, split_accepted, empty_accepted, neither}
 use Rattle.wfc_search.specs.Between.{Cuts}
 use Rattle.wfc_search.specs.Proved.{AreProof, IsClosedBy, IsLeftOpen}
@@ -43,6 +43,7 @@ use Rattle.wfc_search.specs.declared.Outcome.TheVariants.{Map, NoMap, Spent}
 use Rattle.wfc_search.specs.declared.Turn.{Turn}
 use Rattle.wfc_search.specs.declared.Turn.TheVariants.{Chose, Retracted, Ended}
 use Rattle.std.proofs.lemmas.Grind.{common_steps}
+use Rattle.std.proofs.lemmas.List.Folds.{list_all-append}
 use Rattle.wfc_search.proofs.Stores.{left_added}
 use Rattle.wfc_search.proofs.Literals.{IsLast, last_is, none_first}
 use Rattle.wfc_search.proofs.Turns.{choice_cuts, ends_cases}
@@ -433,6 +434,24 @@ other_open P rule budget s outcome other is =
       ]
     ]
 
+-- all lines that are told from the opening to some turn lead a checker on
+told_reached : (P : Network) (rule : Rule) (budget : ℕ) (s last : State) (first : StoreView) (stores : List StoreView) (before : List Line) → s.standing ≡ [] → IsStoreAt P s first
+    → TellsTo P rule budget s stores last before → node_steps P (going (in_base P) []) (spelled (opening_lines first ++ before)) ≡ Ok (point_of P last.standing)
+told_reached P rule budget s last first stores before none at turns =
+    ap (node_steps P (going (in_base P) [])) (spelled_append (opening_lines first) before)
+    ∙ behind P (going (in_base P) []) (point_of P s.standing) (spelled (opening_lines first)) (spelled before) (opening_told P s first none at)
+    ∙ turns_told P (subst IsProblem at.problem at.sound.problem) rule budget s last stores before turns
+
+-- and stand for nodes
+told_stand : (P : Network) (rule : Rule) (budget : ℕ) (s last : State) (first : StoreView) (stores : List StoreView) (before : List Line)
+    → TellsTo P rule budget s stores last before → list_all has_nodes (opening_lines first ++ before) ≡ true
+told_stand P rule budget s last first stores before turns =
+    all_stand (opening_lines first) before (opening (length first.standing == 0)) (turns_stand P rule budget s last stores before turns)
+  where
+    opening : (b : Bool) → list_all has_nodes (cond b (level_lines first) []) ≡ true
+    opening true = level_stands first
+    opening false = refl
+
 -- the lines of a whole run are a proof
 pub run_proved : (P : Network) (rule : Rule) (budget : ℕ) (s : State) (first : StoreView) (outcome : Outcome) (lines : List Line) → s.standing ≡ [] → IsStoreAt P s first
     → TellsRun P rule budget s first outcome lines → AreProof P outcome lines
@@ -445,17 +464,10 @@ run_proved P rule budget s first outcome lines none at tells = by outcome tells.
     told = opening_lines first ++ tells.before
 
     reached : node_steps P (going (in_base P) []) (spelled (opening_lines first ++ tells.before)) ≡ Ok (point_of P tells.last.standing)
-    reached =
-        ap (node_steps P (going (in_base P) [])) (spelled_append (opening_lines first) tells.before)
-        ∙ behind P (going (in_base P) []) (point_of P s.standing) (spelled (opening_lines first)) (spelled tells.before) (opening_told P s first none at)
-        ∙ turns_told P p rule budget s tells.last tells.stores tells.before tells.turns
+    reached = told_reached P rule budget s tells.last first tells.stores tells.before none at tells.turns
 
     stand : list_all has_nodes (opening_lines first ++ tells.before) ≡ true
-    stand = all_stand (opening_lines first) tells.before (opening (length first.standing == 0)) (turns_stand P rule budget s tells.last tells.stores tells.before tells.turns)
-      where
-        opening : (b : Bool) → list_all has_nodes (cond b (level_lines first) []) ≡ true
-        opening true = level_stands first
-        opening false = refl
+    stand = told_stand P rule budget s tells.last first tells.stores tells.before tells.turns
 
     whole : (last : Line) → lines ≡ opening_lines first ++ (tells.before ++ last ∷ []) → lines ≡ (opening_lines first ++ tells.before) ++ last ∷ []
     whole last are = are ∙ sym (append_assoc (opening_lines first) tells.before (last ∷ []))
@@ -472,3 +484,65 @@ run_proved P rule budget s first outcome lines none at tells = by outcome tells.
     by NoMap is are =
         let f = closed_proof P p (in_base P) (λ c v t. t) (spelled (opening_lines first ++ tells.before)) (reached ∙ ap (λ (m : Point). accepted m) (no_map_closed P rule budget tells.last is)) in
         record { told = opening_lines first ++ tells.before; proof = f.0; closes = f.1; spells = (stand, f.2); whole = whole End are }
+
+-- ---- a run that is cut off
+
+-- where nodes are accepted, those at their front are
+front_accepted : (P : Network) (m k : Point) (xs ys : List Node) → node_steps P m (xs ++ ys) ≡ Ok k → (q : Point) × (node_steps P m xs ≡ Ok q)
+front_accepted P m k xs ys e = by_front (node_steps P m xs) refl (sym (steps_append P m xs ys) ∙ e)
+  where
+    by_front : (r : Result Point Reject) → node_steps P m xs ≡ r → and_on r (λ x. node_steps P x ys) ≡ Ok k → (q : Point) × (node_steps P m xs ≡ Ok q)
+    by_front (Ok q) is e = (q, is)
+    by_front (Err why) is e = absurd (cc e)
+
+-- lines that stand for nodes which a checker accepts spell a proof: a branch is left open, or all are closed
+accepted_proof : (P : Network) → IsProblem P → (lines : List Line) (q : Point) → list_all has_nodes lines ≡ true → node_steps P (going (in_base P) []) (spelled lines) ≡ Ok q
+    → AreProof P Map (lines ++ Found ∷ []) ⊎ AreProof P NoMap (lines ++ End ∷ [])
+accepted_proof P p lines q stand reached =
+    let f = follow_proof P p (in_base P) (λ c v t. t) (spelled lines) q reached in
+    elim (cases_Bool (is_left_off f.0)) [
+      | inl off ↦ inl (record { told = lines; proof = f.0; follows = f.1; stops = f.2; left_off = off; spells = (stand, f.3); whole = refl })
+      | inr none ↦ inr (record { told = lines; proof = f.0; closes = follows_closes P (in_base P) f.0 f.1 none; spells = (stand, f.3); whole = refl })
+    ]
+
+-- the first lines of a run, up to any of them: with the line of an end behind them they are a proof of which a branch is
+-- left open, or one that is closed
+pub front_proved : (P : Network) (rule : Rule) (budget : ℕ) (s last : State) (first : StoreView) (stores : List StoreView) (before lines rest : List Line) → s.standing ≡ [] → IsStoreAt P s first
+    → TellsTo P rule budget s stores last before → opening_lines first ++ before ≡ lines ++ rest → AreProof P Map (lines ++ Found ∷ []) ⊎ AreProof P NoMap (lines ++ End ∷ [])
+front_proved P rule budget s last first stores before lines rest none at turns whole =
+    let p : IsProblem P = subst IsProblem at.problem at.sound.problem in
+    let reached = told_reached P rule budget s last first stores before none at turns in
+    let joined : spelled lines ++ spelled rest ≡ spelled (opening_lines first ++ before) = sym (spelled_append lines rest) ∙ ap spelled (sym whole) in
+    let front = front_accepted P (going (in_base P) []) (point_of P last.standing) (spelled lines) (spelled rest) (ap (node_steps P (going (in_base P) [])) joined ∙ reached) in
+    let stand = (and_parts (list_all has_nodes lines) (list_all has_nodes rest)
+    (sym (list_all-append has_nodes lines rest) ∙ ap (list_all has_nodes) (sym whole) ∙ told_stand P rule budget s last first stores before turns)).0 in
+    accepted_proof P p lines front.0 stand front.1
+
+-- one turn more that is told
+pub tells_more : (P : Network) (rule : Rule) (budget : ℕ) (s t next : State) (stores : List StoreView) (store : StoreView) (before : List Line) → TellsTo P rule budget s stores t before
+    → LeadsTo (turn_of P rule budget t) next → IsStoreAt P next store → (more : List StoreView) × TellsTo P rule budget s more next (before ++ turn_lines (turn_of P rule budget t).0 store)
+tells_more P rule budget s t next [] store before tells leads at =
+    let X : State → List Line = λ u. turn_lines (turn_of P rule budget u).0 store in (
+      store ∷ [],
+      (
+        next,
+        subst (λ (u : State). LeadsTo (turn_of P rule budget u) next) (sym tells.0) leads,
+        at,
+        [],
+        (refl, refl),
+        ap (λ (ls : List Line). ls ++ X t) tells.1 ∙ ap X (sym tells.0) ∙ sym (append-nil (X s)),
+      ),
+    )
+tells_more P rule budget s t next (store ∷ stores) last before tells leads at =
+    let X : List Line = turn_lines (turn_of P rule budget t).0 last in
+    let later = tells_more P rule budget tells.0 t next stores last tells.3 tells.4 leads at in (
+      store ∷ later.0,
+      (
+        tells.0,
+        tells.1,
+        tells.2,
+        tells.3 ++ X,
+        later.1,
+        ap (λ (ls : List Line). ls ++ X) tells.5 ∙ append_assoc (turn_lines (turn_of P rule budget s).0 store) tells.3 X,
+      ),
+    )

@@ -20,6 +20,7 @@ returns-clause-cut_first c = λ k. false≢true (k.0 0 0 refl)
 pub returns-clause-removed : goal.returns-clause-removed
 returns-clause-removed c = (
   record {
+    filled = refl;
     stood = refl;
     before = refl;
     cause = (λ x y t. and_from _ _ t refl, record { next = 0; beside = refl; none = refl });
@@ -29,6 +30,9 @@ returns-clause-removed c = (
 
 pub returns-clause-before : goal.returns-clause-before
 returns-clause-before c = λ k. let e = k.0.before in absurd (omega arith)
+
+pub returns-clause-behind_the_last : goal.returns-clause-behind_the_last
+returns-clause-behind_the_last c = λ k. true≢false k.0.filled
 
 pub returns-clause-once : goal.returns-clause-once
 returns-clause-once c = λ k. false≢true k.1.0.stood

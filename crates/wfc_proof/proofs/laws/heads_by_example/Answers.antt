@@ -4,4 +4,4 @@ use Rattle.wfc_proof.proofs.laws.heads_by_example.Goals as goal
 
 pub returns : goal.returns
 unfolding digits
-returns c = record { format = refl; numbers = refl; zero_first = refl; exchanged = refl; shape = refl; too_large = refl; too_few = refl }
+returns c = record { format = refl; numbers = refl; zero_first = refl; exchanged = refl; shape = refl; too_large = refl; too_few = refl; most = refl }

@@ -1,4 +1,3 @@
-use Rattle.std.proofs.Common.{Ok, Err}
 use Rattle.wfc_proof.proofs.SpanLemmas.{kept_cut, kept_put_ok, kept_put_err, span_whole, span_spelled}
 use Rattle.wfc_proof.proofs.spans.put_behind.Goals as goal
 

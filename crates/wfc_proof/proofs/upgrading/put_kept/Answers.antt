@@ -1,7 +1,7 @@
-use Rattle.std.proofs.Common.{sym, ◌∙◌, ap, subst}
+use Rattle.std.proofs.Common.{sym, ◌∙◌, ap}
 use Rattle.wfc_proof.specs.Spans.{is_kept}
 use Rattle.wfc_proof.proofs.SpanLemmas.{span_whole}
-use Rattle.wfc_proof.proofs.UpgradeLemmas.{kept_whole, kept_put_all}
+use Rattle.wfc_proof.proofs.UpgradeLemmas.{kept_put_all}
 use Rattle.wfc_proof.proofs.upgrading.put_kept.Goals as goal
 
 pub write_line-requires : goal.write_line-requires

@@ -1,7 +1,6 @@
-use Rattle.std.proofs.Common.{◌≡◌, ◌<◌, length, subst, sym, ap, ◌∙◌, arith}
+use Rattle.std.proofs.Common.{◌≡◌, ◌<◌, length, sym, ap, ◌∙◌, arith}
 use Rattle.std.proofs.lemmas.Grind.{common_steps}
-use Rattle.wfc_proof.specs.Telling.{text_of}
-use Rattle.wfc_proof.specs.Upgrade.{lines_in, behind_line}
+use Rattle.wfc_proof.specs.Upgrade.{lines_in}
 use Rattle.wfc_proof.proofs.UpgradeLemmas.{line_read, never_fails, taken_on, taken_front, taken_all, read_whole}
 use Rattle.wfc_proof.proofs.upgrading.upgrade_lines.Goals as goal
 

@@ -1,12 +1,8 @@
-use Rattle.std.proofs.Common.{◌≡◌, ◌<◌, ◌^◌, ◌∙◌, ap, subst, sym, arith, Result}
-use Rattle.wfc_outside.proofs.CallerLemmas.{puts_on, fault_out}
-use Rattle.wfc_outside.specs.Sink.{SinkView, after_bytes, Puts, IsFaultAfterFront}
-use Rattle.wfc_outside.specs.declared.SinkFault.{SinkFault}
+use Rattle.std.proofs.Common.{◌<◌, ◌^◌, ◌∙◌, subst, arith}
+use Rattle.wfc_outside.proofs.CallerLemmas.{fault_out}
+use Rattle.wfc_outside.specs.Sink.{after_bytes, IsFaultAfterFront}
 use Rattle.wfc_problem.specs.Network.{values}
 use Rattle.wfc_proof.specs.Heads.{IsShape, head_2_text}
-use Rattle.wfc_proof.specs.Spans.{counted, in_spans}
-use Rattle.wfc_proof.specs.Telling.{text_of}
-use Rattle.wfc_proof.specs.Upgrade.{format_at, lines_in}
 use Rattle.wfc_proof.proofs.UpgradeLemmas.{proof_led, proof_kept, led_put}
 use Rattle.wfc_proof.proofs.upgrading.upgrade_to.Goals as goal
 

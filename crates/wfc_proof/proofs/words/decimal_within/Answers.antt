@@ -1,4 +1,4 @@
-use Rattle.std.proofs.Common.{◌≡◌, Ok, sym, ap, ◌∙◌, arith}
+use Rattle.std.proofs.Common.{sym, ap, ◌∙◌, arith}
 use Rattle.std.specs.Result.{result_ok}
 use Rattle.wfc_proof.proofs.WordLemmas.{zero_first-none, decimal_within-read}
 use Rattle.wfc_proof.proofs.words.decimal_within.Goals as goal

@@ -1,6 +1,5 @@
-use Rattle.std.proofs.Common.{◌≡◌, ◌+◌, ◌-◌, ◌∷◌, length, take, drop, ap, sym, ◌∙◌, arith}
+use Rattle.std.proofs.Common.{◌≡◌, ◌+◌, ◌-◌, length, take, drop, sym, arith}
 use Rattle.std.proofs.lemmas.Grind.{common_steps}
-use Rattle.wfc_proof.specs.Words.{spaced_words}
 use Rattle.wfc_proof.proofs.WordLemmas.{first_word, only_word}
 use Rattle.wfc_proof.proofs.words.first_word.Goals as goal
 
