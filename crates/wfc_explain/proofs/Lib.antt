@@ -1,0 +1,4 @@
+pub mod BlameLemmas
+pub mod TrialLemmas
+pub mod KeptLemmas
+pub mod ProblemLemmas

@@ -1,0 +1,80 @@
+-- The two pinned problems: that of a sample and that of a tile set.
+use Rattle.std.specs.Prelude.{◌≤◌, Bool, List, length, Result}
+use Rattle.wfc_model.specs.Legal.{Pin}
+use Rattle.wfc_outside.specs.Gives.{result_map}
+use Rattle.wfc_overlap.specs.Bridge.{AreInside, IsRoom}
+use Rattle.wfc_overlap.specs.Built as overlap
+use Rattle.wfc_overlap.specs.Sample.{Output, problem_of_sample}
+use Rattle.wfc_pattern.specs.Patterns.{PatternsView, IsPatterns}
+use Rattle.wfc_picture.specs.declared.symbol.Symbol.{Symbol}
+use Rattle.wfc_pins.specs.PinView.{PinView}
+use Rattle.wfc_pins.specs.declared.fault.BuildFault.{BuildFault}
+use Rattle.wfc_problem.specs.declared.TheConstants.{MAX_PAIRS}
+use Rattle.wfc_tiled.specs.Built as tiled
+use Rattle.wfc_tiled.specs.Maps.{ArePlaced}
+use Rattle.wfc_tiled.specs.Mask.{MaskView, IsMask}
+use Rattle.wfc_tiled.specs.Tiles.{problem_of_tiles}
+use Rattle.wfc_tileset.specs.Tiles.{TileSetView}
+use Rattle.wfc_tileset.specs.TileSets.{IsTileSet}
+use Rattle.wfc_explain.specs.KeptLines.{kept_of}
+use Rattle.wfc_explain.specs.Pinned.{PinnedView}
+
+-- ---- a sample
+
+-- learned patterns, an output, and what the lines mean that can be left out
+pub record SamplePins : Type 0 where
+  pub patterns : PatternsView
+  pub output : Output
+  pub pins : List Pin
+
+-- of the lines of a pins file, but for the faults of the problem of all lines
+abbrev pub sample_pins : PatternsView → List Symbol → Output → List PinView → Result SamplePins BuildFault
+sample_pins patterns palette output lines =
+    result_map (λ pins. record { patterns = patterns; output = output; pins = pins })
+    (overlap.built_pins patterns palette output lines)
+
+-- the problem of the lines that are kept: that of the sample with their pins
+abbrev pub pinned_sample : SamplePins → PinnedView
+pinned_sample s = record {
+  lines = length s.pins;
+  problem_of = λ keep. problem_of_sample s.patterns s.output (kept_of keep s.pins);
+}
+
+-- the output has room for a window, and all pins lie inside
+pub record IsSamplePins (s : SamplePins) : Type 0 where
+  pub patterns_are : IsPatterns s.patterns
+  pub room : IsRoom s.patterns s.output
+  pub width_limit : s.output.width ≤ 4096
+  pub height_limit : s.output.height ≤ 4096
+  pub inside : AreInside s.output s.pins
+  pub few_lines : length s.pins ≤ 4294967295
+
+-- ---- a tile set
+
+-- a tile set, a mask, whether the map wraps, and what the lines mean that can be left out
+pub record TilesPins : Type 0 where
+  pub tiles : TileSetView
+  pub mask : MaskView
+  pub wrap : Bool
+  pub pins : List Pin
+
+-- of the lines of a pins file, but for the faults of the problem of all lines
+abbrev pub tiles_pins : TileSetView → MaskView → Bool → List PinView → Result TilesPins BuildFault
+tiles_pins tiles mask wrap lines =
+    result_map (λ pins. record { tiles = tiles; mask = mask; wrap = wrap; pins = pins })
+    (tiled.built_pins tiles mask lines)
+
+-- the problem of the lines that are kept: that of the tile set with their pins
+abbrev pub pinned_tiles : TilesPins → PinnedView
+pinned_tiles s = record {
+  lines = length s.pins;
+  problem_of = λ keep. problem_of_tiles s.tiles s.mask s.wrap (kept_of keep s.pins);
+}
+
+-- there are few enough pairs of a place and a variant, and each pin lies at a place
+pub record IsTilesPins (s : TilesPins) : Type 0 where
+  pub tiles_are : IsTileSet s.tiles
+  pub mask_is : IsMask s.mask
+  pub few_pairs : tiled.pairs s.tiles s.mask ≤ MAX_PAIRS
+  pub placed : ArePlaced s.mask s.pins
+  pub few_lines : length s.pins ≤ 4294967295

@@ -1,0 +1,56 @@
+-- Small pinned problems without symmetry, on which laws try the definitions.
+use Rattle.std.specs.Prelude.{ℕ, Bool, true, false, not, List, [], ◌∷◌}
+use Rattle.wfc_model.specs.Legal.{banned_pin, kept_pin}
+use Rattle.wfc_overlap.specs.Small.{three_by_two, two_patterns}
+use Rattle.wfc_problem.specs.Network.{Network}
+use Rattle.wfc_search.specs.Small.{pair, ring}
+use Rattle.wfc_tiled.specs.Small.{line_and_cross, two_holes}
+use Rattle.wfc_explain.specs.Pinned.{PinnedView}
+use Rattle.wfc_explain.specs.Problems.{SamplePins, TilesPins}
+use Rattle.wfc_explain.specs.declared.explained.Kept.{Kept}
+use Rattle.wfc_explain.specs.declared.explained.Mark.{Mark}
+
+-- of two cells that differ, with lines that keep value 0 and value 1 at the first, and value 1 at
+-- the second
+abbrev pub pair_with : List Bool → Network
+pair_with (zero ∷ one ∷ other ∷ []) =
+    record pair { base = not one ∷ not zero ∷ not other ∷ true ∷ [] }
+pair_with _ = pair
+
+-- with all three lines
+abbrev pub three_lines : PinnedView
+three_lines = record { lines = 3; problem_of = pair_with }
+
+-- of three cells in a ring that differ, with a line that bans value 1 from the second
+abbrev pub ring_with : List Bool → Network
+ring_with (banned ∷ []) = record ring { base = true ∷ true ∷ true ∷ not banned ∷ true ∷ true ∷ [] }
+ring_with _ = ring
+
+-- with this line
+abbrev pub one_line : PinnedView
+one_line = record { lines = 1; problem_of = ring_with }
+
+-- a problem without lines
+abbrev pub no_lines : Network → PinnedView
+no_lines P = record { lines = 0; problem_of = λ keep. P }
+
+-- a line that is kept
+abbrev pub kept : ℕ → Mark → Kept
+kept index mark = record { index = index; mark = mark }
+
+-- an output of three by two with a line that keeps a blank and one that bans a colour
+abbrev pub two_sample_lines : SamplePins
+two_sample_lines = record {
+  patterns = two_patterns;
+  output = three_by_two;
+  pins = kept_pin 1 0 1 ∷ banned_pin 2 1 0 ∷ [];
+}
+
+-- a map with holes and two lines
+abbrev pub two_tile_lines : TilesPins
+two_tile_lines = record {
+  tiles = line_and_cross;
+  mask = two_holes;
+  wrap = false;
+  pins = kept_pin 0 1 1 ∷ banned_pin 2 0 2 ∷ [];
+}
