@@ -1,0 +1,13 @@
+pub mod BlockLemmas
+pub mod CanvasLemmas
+pub mod GrowthLemmas
+pub mod WholeLemmas
+pub mod BlockEndLemmas
+pub mod PaintLemmas
+pub mod LineLemmas
+pub mod SmallLemmas
+pub mod MeantLemmas
+pub mod PromiseLemmas
+pub mod StepLemmas
+pub mod GrownLemmas
+pub mod CallerLemmas

@@ -1,0 +1,11 @@
+pub mod Blocks
+pub mod Canvas
+pub mod CanvasView
+pub mod BlockEnds
+pub mod StuckView
+pub mod Covers
+pub mod Growth
+pub mod Grown
+pub mod Promises
+pub mod Small
+pub mod Steps

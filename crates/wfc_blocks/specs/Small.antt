@@ -1,0 +1,47 @@
+-- A small area, a canvas without symmetry, texts and patterns that the laws speak of.
+use Rattle.std.specs.Prelude.{ℕ, ◌+◌, List, [], ◌∷◌, map}
+use Rattle.std.specs.List.{range_with_len}
+use Rattle.wfc_model.specs.Raster.{Raster, raster_of}
+use Rattle.wfc_pattern.specs.Patterns.{PatternsView}
+use Rattle.wfc_picture.specs.declared.symbol.Symbol.{Symbol}
+use Rattle.wfc_picture.specs.declared.symbol.Symbol.TheVariants.{Char}
+use Rattle.wfc_blocks.specs.Blocks.{Area, area_with, block_at}
+use Rattle.wfc_blocks.specs.declared.block.Block.{Block}
+use Rattle.wfc_blocks.specs.Canvas.{Canvas, empty_canvas, with_block}
+
+-- five columns and four rows in blocks of three
+abbrev pub five_by_four : Area
+five_by_four = area_with 5 4 3
+
+-- the block with this number, first pixel and sides
+abbrev pub block_with : ℕ → ℕ → ℕ → ℕ → ℕ → Block
+block_with number x y width height =
+    record { number = number; x = x; y = y; width = width; height = height }
+
+-- nine numbers in three rows
+abbrev pub nine_set : Raster
+nine_set = raster_of 3 3 (11 ∷ 12 ∷ 13 ∷ 14 ∷ 15 ∷ 16 ∷ 17 ∷ 18 ∷ 19 ∷ [])
+
+-- the first block of three by three is set to them
+abbrev pub first_set : Canvas
+first_set = with_block empty_canvas (block_at 2 five_by_four 0) nine_set
+
+-- the letters from `a` to `t`, each a text
+abbrev pub twenty_texts : List (List ℕ)
+twenty_texts = map (λ k. (97 + k) ∷ []) (range_with_len 0 20)
+
+-- the letters `a` and `b`
+abbrev pub two_letters : List Symbol
+two_letters = Char 97 ∷ Char 98 ∷ []
+
+-- the checkerboard of two by two that begins with `a`, and the one that begins with `b`
+abbrev pub two_boards : PatternsView
+two_boards = record {
+  n = 2;
+  windows = (0 ∷ 1 ∷ 1 ∷ 0 ∷ []) ∷ (1 ∷ 0 ∷ 0 ∷ 1 ∷ []) ∷ [];
+  weights = 2 ∷ 2 ∷ [];
+}
+
+-- the first of them alone
+abbrev pub one_board : PatternsView
+one_board = record { n = 2; windows = (0 ∷ 1 ∷ 1 ∷ 0 ∷ []) ∷ []; weights = 1 ∷ [] }

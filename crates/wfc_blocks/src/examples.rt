@@ -1,0 +1,135 @@
+//! What the definitions give on small cases without symmetry. Each function does nothing; its
+//! contract is the law.
+
+ghost use Rattle.std.specs.Prelude.{◌≡◌, ℕ, ◌∷◌, true, false, List, [], codes, None, Some, Ok, Err};
+ghost use Rattle.wfc_model.specs.Legal.{banned_pin, kept_pin};
+ghost use Rattle.wfc_model.specs.Raster.{raster_of};
+ghost use Rattle.wfc_overlap.specs.Sample.{output_with};
+ghost use Rattle.wfc_overlap.specs.Small.{line_of};
+ghost use Rattle.wfc_blocks.specs.Blocks.{HasWindow, area_with, block_at, block_count, block_from, blocks_across, blocks_along, blocks_down, blocks_of, lies_in, output_of_block, stride, whole_of};
+ghost use Rattle.wfc_blocks.specs.Canvas.{empty_canvas, canvas_picture, lines_of_block, number_set, pin_in_block, pins_of_block, set_line};
+ghost use Rattle.wfc_search.specs.Small.{scanline};
+ghost use Rattle.wfc_blocks.specs.Growth.{AreNumbersBelow, seed_of_block};
+ghost use Rattle.wfc_blocks.specs.Grown.{grown_of};
+ghost use Rattle.wfc_blocks.specs.Small.{block_with, first_set, five_by_four, nine_set, one_board, twenty_texts, two_boards, two_letters};
+ghost use Rattle.wfc_blocks.specs.declared.grown.Grown.TheVariants as grown;
+ghost use Rattle.wfc_blocks.specs.declared.grown.GrowFault.TheVariants as faults;
+
+/// A block begins so far behind the one before that they share one pixel less than a window is
+/// wide. Along a side there are as many as hold all starts of windows, the last one perhaps in
+/// part, and one where the side is no longer than a block.
+pub fn blocks_along_sides()
+    ensures strides { stride 2 3 ∷ stride 1 3 ∷ stride 3 3 ∷ [] ≡ 2 ∷ 3 ∷ 1 ∷ [] }
+    ensures twos { blocks_along 2 2 4 ≡ 3 }
+    ensures exact { blocks_along 2 3 5 ≡ 2 }
+    ensures rest { blocks_along 2 3 6 ≡ 3 }
+    ensures apart { blocks_along 1 3 7 ≡ 3 }
+    ensures one { blocks_along 2 9 5 ≡ 1 }
+    ensures least { blocks_along 2 2 2 ≡ 1 }
+{}
+
+/// Five columns and four rows in blocks of three for windows of two: two in a row, two rows. The
+/// lower two end at the area's edge. With windows of one pixel they share none, and the right ones
+/// end at the edge too.
+pub fn blocks_of_five_by_four()
+    ensures counts { blocks_across 2 five_by_four ∷ blocks_down 2 five_by_four
+        ∷ block_count 2 (area_with 7 4 3) ∷ [] ≡ 2 ∷ 2 ∷ 6 ∷ [] }
+    ensures shared { blocks_of 2 five_by_four ≡ block_with 0 0 0 3 3 ∷ block_with 1 2 0 3 3
+        ∷ block_with 2 0 2 3 2 ∷ block_with 3 2 2 3 2 ∷ [] }
+    ensures apart { blocks_of 1 five_by_four ≡ block_with 0 0 0 3 3 ∷ block_with 1 3 0 2 3
+        ∷ block_with 2 0 3 3 1 ∷ block_with 3 3 3 2 1 ∷ [] }
+    ensures steps_of_one { block_at 3 five_by_four 4 ≡ block_with 4 1 1 3 3 }
+    ensures single { blocks_of 2 (area_with 5 4 9) ≡ block_with 0 0 0 5 4 ∷ [] }
+    ensures whole { whole_of five_by_four ≡ output_with 5 4 false }
+    ensures part { output_of_block (block_at 2 five_by_four 2) ≡ output_with 3 2 false }
+{}
+
+/// A block begins at its first pixel and ends before its sides do. A window lies in it from there
+/// to where it just fits.
+pub fn pixels_of_a_block()
+    ensures first { lies_in (block_at 2 five_by_four 2) 0 2 ≡ true }
+    ensures last { lies_in (block_at 2 five_by_four 2) 2 3 ≡ true }
+    ensures above { lies_in (block_at 2 five_by_four 2) 0 1 ≡ false }
+    ensures beside { lies_in (block_at 2 five_by_four 2) 3 2 ≡ false }
+    ensures below { lies_in (block_at 2 five_by_four 2) 2 4 ≡ false }
+    ensures before { lies_in (block_at 2 five_by_four 3) 1 3 ≡ false }
+    ensures window { HasWindow 2 (block_at 2 five_by_four 3) 3 2 }
+    ensures past { HasWindow 2 (block_at 2 five_by_four 3) 4 2 → ⊥ }
+    ensures under { HasWindow 2 (block_at 2 five_by_four 3) 3 3 → ⊥ }
+    ensures left_of { HasWindow 2 (block_at 2 five_by_four 3) 1 2 → ⊥ }
+    ensures over { HasWindow 2 (block_at 2 five_by_four 3) 3 1 → ⊥ }
+{}
+
+/// Of a canvas whose first block is set, that block has the picture's numbers, and none stands
+/// elsewhere.
+pub fn set_pixels()
+    ensures set { first_set 2 1 ≡ Some 16 }
+    ensures right { first_set 3 1 ≡ None }
+    ensures below { first_set 2 3 ≡ None }
+    ensures empty { empty_canvas 0 0 ≡ None }
+    ensures number { number_set (first_set 1 2) ≡ 18 }
+    ensures picture { canvas_picture (area_with 4 2 3) first_set
+        ≡ raster_of 4 2 (11 ∷ 12 ∷ 13 ∷ 0 ∷ 14 ∷ 15 ∷ 16 ∷ 0 ∷ []) }
+{}
+
+/// The pins of the block to the right: what is set in its first column, from above, and then the
+/// file's pin and ban that lie in it, all seen from its first pixel. Below, the first row is set.
+pub fn pins_of_blocks()
+    ensures right { pins_of_block (banned_pin 4 1 7 ∷ kept_pin 1 3 5 ∷ kept_pin 2 2 9 ∷ [])
+        first_set (block_at 2 five_by_four 1) ≡ kept_pin 0 0 13 ∷ kept_pin 0 1 16 ∷ kept_pin 0 2 19
+        ∷ banned_pin 2 1 7 ∷ kept_pin 0 2 9 ∷ [] }
+    ensures below { pins_of_block (banned_pin 4 1 7 ∷ kept_pin 1 3 5 ∷ []) first_set
+        (block_at 2 five_by_four 2) ≡ kept_pin 0 0 17 ∷ kept_pin 1 0 18 ∷ kept_pin 2 0 19
+        ∷ kept_pin 1 1 5 ∷ [] }
+    ensures corner { pins_of_block [] first_set (block_at 2 five_by_four 3) ≡ kept_pin 0 0 19 ∷ [] }
+    ensures first { pins_of_block (kept_pin 2 1 4 ∷ []) empty_canvas (block_at 2 five_by_four 0)
+        ≡ kept_pin 2 1 4 ∷ [] }
+    ensures moved { pin_in_block (block_from five_by_four 0 1 2) (banned_pin 4 3 8)
+        ≡ banned_pin 3 1 8 }
+{}
+
+/// The same as lines of a pins file: those of set pixels have the line 0 and the text of their
+/// symbol, and those of the file keep their line and their symbol.
+pub fn lines_of_blocks()
+    ensures set { set_line twenty_texts 2 1 19 ≡ line_of 0 true 2 1 (codes "t") }
+    ensures right { lines_of_block twenty_texts
+        (line_of 7 false 4 1 (codes "z") ∷ line_of 8 true 1 3 (codes "a") ∷ []) first_set
+        (block_at 2 five_by_four 1) ≡ line_of 0 true 0 0 (codes "n")
+        ∷ line_of 0 true 0 1 (codes "q") ∷ line_of 0 true 0 2 (codes "t")
+        ∷ line_of 7 false 2 1 (codes "z") ∷ [] }
+{}
+
+/// The seed of a block is the seed and its number, modulo 2^64.
+pub fn seeds_of_blocks()
+    ensures more { seed_of_block 7 (block_at 2 five_by_four 3) ≡ 10 }
+    ensures over { seed_of_block 18446744073709551615 (block_at 2 five_by_four 3) ≡ 2 }
+{}
+
+/// Growth whole. In blocks of two by two a board whose first pixel is kept is set pixel by pixel.
+/// Where one board alone was learned, the second block is stuck at what the first set: `b` above
+/// `a`.
+pub fn grown_boards()
+    ensures map { grown_of two_boards two_letters (area_with 3 3 2)
+        (line_of 1 true 0 0 (codes "a") ∷ []) scanline 0 7
+        ≡ Ok (grown.Map (raster_of 3 3 (0 ∷ 1 ∷ 0 ∷ 1 ∷ 0 ∷ 1 ∷ 0 ∷ 1 ∷ 0 ∷ []))) }
+    ensures stuck { grown_of one_board two_letters (area_with 3 2 2) [] scanline 0 7
+        ≡ Ok (grown.Stuck (record {
+          block = block_with 1 1 0 2 2;
+          pins = line_of 0 true 0 0 (codes "b") ∷ line_of 0 true 0 1 (codes "a") ∷ [];
+        })) }
+    ensures below { AreNumbersBelow 2 two_boards }
+    ensures not_below { AreNumbersBelow 1 two_boards → ⊥ }
+{}
+
+/// What isn't grown: a side below that of a window, which comes before all else, too many blocks, a
+/// pin outside, which comes before its symbol, and a symbol that there isn't.
+pub fn refused_growth()
+    ensures narrow { grown_of one_board two_letters (area_with 1 99 2)
+        (line_of 4 true 3 0 (codes "a") ∷ []) scanline 0 7 ≡ Err faults.SizeBelowN }
+    ensures many { grown_of one_board two_letters (area_with 10 10 2)
+        (line_of 4 true 10 0 (codes "a") ∷ []) scanline 0 7 ≡ Err (faults.TooManyBlocks 81) }
+    ensures most { grown_of one_board two_letters (area_with 9 9 2)
+        (line_of 4 true 9 0 (codes "c") ∷ []) scanline 0 7 ≡ Err (faults.PinOutside 4) }
+    ensures unknown { grown_of one_board two_letters (area_with 9 9 2)
+        (line_of 5 false 8 8 (codes "c") ∷ []) scanline 0 7 ≡ Err (faults.UnknownSymbol 5) }
+{}
