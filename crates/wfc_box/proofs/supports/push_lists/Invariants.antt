@@ -1,0 +1,7 @@
+use Rattle.std.proofs.Common.{◌≡◌, ◌++◌, map}
+use Rattle.std.specs.List.{range_with_len}
+use Rattle.wfc_box.specs.BoxProblem.{fitting_in_box}
+use Rattle.wfc_box.proofs.supports.push_lists.Given as goal
+
+abbrev pub invariant-loop-dir : goal.invariant-loop-dir
+invariant-loop-dir l = map (λ list. list.items) l.lists.items ≡ map (λ list. list.items) l.initial.lists.items ++ map (fitting_in_box l.tiles l.stacks l.v) (range_with_len 0 l.dir)

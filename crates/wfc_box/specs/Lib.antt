@@ -1,0 +1,13 @@
+pub mod Stacks
+pub mod StackDocument
+pub mod StackTable
+pub mod Boxes
+pub mod BoxPinView
+pub mod BoxPinWords
+pub mod BoxPins
+pub mod BoxProblem
+pub mod BoxText
+pub mod Built
+pub mod Exactly
+pub mod Small
+pub mod Written

@@ -1,0 +1,59 @@
+-- Small tile sets, frames and boxes without symmetry, on which laws try the definitions.
+use Rattle.std.specs.Prelude.{ℕ, Bool, true, false, List, [], ◌∷◌, codes}
+use Rattle.toml.specs.Data.{Data, Members, array, member, no_members, string, table}
+use Rattle.wfc_tileset.specs.Documents.{items_of}
+use Rattle.wfc_box.specs.BoxPinView.{BoxPinView}
+use Rattle.wfc_model.specs.Legal.{banned_pin, kept_pin}
+use Rattle.wfc_model.specs.Raster.{Raster, raster_of}
+use Rattle.wfc_tileset.specs.Samples.{end_of}
+use Rattle.wfc_box.specs.Boxes.{LayerPin, frame_of}
+use Rattle.wfc_box.specs.declared.frame.Frame.{Frame}
+use Rattle.wfc_box.specs.declared.stack.Stack.{Stack}
+
+-- three columns, two rows and four layers, which don't wrap
+abbrev pub flat : Frame
+flat = frame_of 3 2 4 false
+
+-- the same with layers that wrap
+abbrev pub wrapped : Frame
+wrapped = frame_of 3 2 4 true
+
+-- a stack of the variant that action 1 makes of tile 0 below what action 6 makes of tile 1
+abbrev pub one_stack : Stack
+one_stack = record { lower = end_of 0 1; upper = end_of 1 6 }
+
+-- a pin that keeps a number in a column and a row of a layer
+abbrev pub kept_in : ℕ → ℕ → ℕ → ℕ → LayerPin
+kept_in x y z number = record { layer = z; pin = kept_pin x y number }
+
+-- and one that bans it from there
+abbrev pub banned_in : ℕ → ℕ → ℕ → ℕ → LayerPin
+banned_in x y z number = record { layer = z; pin = banned_pin x y number }
+
+-- a box of two layers of three by two places, all different
+abbrev pub twelve : List Raster
+twelve = raster_of 3 2 (1 ∷ 2 ∷ 3 ∷ 4 ∷ 5 ∷ 6 ∷ []) ∷ raster_of 3 2 (7 ∷ 8 ∷ 9 ∷ 10 ∷ 11 ∷ 12 ∷ []) ∷ []
+
+-- two tiles side by side in each of two layers
+abbrev pub two_by_two : Frame
+two_by_two = frame_of 2 1 2 false
+
+-- a line of a box's pins file
+abbrev pub box_line : ℕ → Bool → ℕ → ℕ → ℕ → List ℕ → BoxPinView
+box_line number keep x y z symbol = record { line = number; keep = keep; x = x; y = y; z = z; symbol = symbol }
+
+-- a stack of a document
+abbrev pub stack_data : List ℕ → List ℕ → Data
+stack_data lower upper = table (member (codes "lower") (string lower) (member (codes "upper") (string upper) no_members))
+
+-- a document of these stacks
+abbrev pub with_stacks : List Data → Members
+with_stacks stacks = member (codes "stack") (array (items_of stacks)) no_members
+
+-- a layer of one place
+abbrev pub single : ℕ → Raster
+single number = raster_of 1 1 (number ∷ [])
+
+-- two layers of one place
+abbrev pub pillar : Frame
+pillar = frame_of 1 1 2 false
