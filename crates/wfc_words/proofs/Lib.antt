@@ -1,3 +1,6 @@
+pub mod DefaultLemmas
 pub mod MatchLemmas
 pub mod RangeLemmas
 pub mod SimpleLemmas
+pub mod TableLemmas
+pub mod ValueLemmas

@@ -15,7 +15,7 @@ use Rattle.wfc_words.specs.Request.{fault_by, matches_by, unless_refused}
 use Rattle.wfc_words.specs.declared.fault.CommandFault.{CommandFault}
 use Rattle.wfc_words.specs.declared.fault.CommandFault.TheVariants.{NoMemory, Refused}
 use Rattle.wfc_words.specs.declared.kinds.CommandKind.{CommandKind}
-use Rattle.wfc_words.specs.declared.kinds.CommandKind.TheVariants.{Learn, Fill, Domains, Refute, Check, Upgrade, Demo, Race}
+use Rattle.wfc_words.specs.declared.kinds.CommandKind.TheVariants.{Learn, Fill, Domains, Refute, Check, Upgrade, Demo, Race, Explain}
 
 -- every command of the table is simple
 pub commands_are_simple : (kind : CommandKind) → is_simple (app_of_command (command_row kind)) ≡ true
@@ -27,6 +27,7 @@ commands_are_simple Check = refl
 commands_are_simple Upgrade = refl
 commands_are_simple Demo = refl
 commands_are_simple Race = refl
+commands_are_simple Explain = refl
 
 -- and no word of it has a rule on another
 pub commands_are_free : (kind : CommandKind) → is_simple_and_free (app_of_command (command_row kind)) ≡ true
@@ -38,6 +39,7 @@ commands_are_free Check = refl
 commands_are_free Upgrade = refl
 commands_are_free Demo = refl
 commands_are_free Race = refl
+commands_are_free Explain = refl
 
 -- the name of a command names it
 pub commands_are_named : (kind : CommandKind) → command_named (command_row kind).name ≡ Some kind
@@ -49,6 +51,7 @@ commands_are_named Check = refl
 commands_are_named Upgrade = refl
 commands_are_named Demo = refl
 commands_are_named Race = refl
+commands_are_named Explain = refl
 
 -- a fault in place of what was found
 abbrev pub err : {X : Type 0} → CommandFault → Result X CommandFault

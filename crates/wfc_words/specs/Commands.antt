@@ -1,12 +1,12 @@
 -- The table of the commands, and what `clap` is told of a command.
-use Rattle.std.specs.Prelude.{Bool, true, List, [], ◌∷◌, ◌++◌, map, codes, Option, Some, find}
-use Rattle.std.specs.List.{list_any}
+use Rattle.std.specs.Prelude.{Bool, true, false, List, [], ◌∷◌, ◌++◌, map, codes, Option, Some, None, find, unwrap_or, if◌then◌else◌}
+use Rattle.std.specs.List.{flat_map, list_any}
 use Rattle.std.specs.Str.{bytes_eq}
-use Rattle.clap.specs.Walk.{Rule, Text}
+use Rattle.clap.specs.Walk.{Row, Rule, Text, first_of}
 use Rattle.clap.specs.Simple.{App, new_rule, new_shape}
 use Rattle.clap.specs.declared.builder.action.ArgAction.TheVariants.{Set, SetTrue}
 use Rattle.wfc_words.specs.declared.kinds.CommandKind.{CommandKind}
-use Rattle.wfc_words.specs.declared.kinds.CommandKind.TheVariants.{Learn, Fill, Domains, Refute, Check, Upgrade, Demo, Race}
+use Rattle.wfc_words.specs.declared.kinds.CommandKind.TheVariants.{Learn, Fill, Domains, Refute, Check, Upgrade, Demo, Race, Explain}
 
 -- a word behind a command's name: a text that must be there, an option with one text, one that must be there, or a flag
 pub data Word : Type 0 where
@@ -15,56 +15,112 @@ pub data Word : Type 0 where
   demand : Text → Word
   flag : Text → Word
 
--- a command's name and its words
+-- a command's name, and its words by groups that commands share
 pub record Command : Type 0 where
   pub name : Text
-  pub words : List Word
+  pub groups : List (List Word)
 
--- the words that say what problem is meant, behind the file, the model and the sides
-abbrev pub problem_words : List Word
-problem_words =
-    choice (codes "symmetry") ∷ flag (codes "wrap-in") ∷ flag (codes "wrap-out")
-    ∷ choice (codes "pins") ∷ choice (codes "mask") ∷ []
+-- ---- groups of words
 
--- the file, the model, and the sides of the map
-abbrev pub sized_words : List Word
-sized_words = needed (codes "FILE") ∷ needed (codes "MODEL") ∷ needed (codes "WIDTH") ∷ needed (codes "HEIGHT") ∷ []
+-- the file that a map is made from
+abbrev pub file_words : List Word
+file_words = needed (codes "FILE") ∷ []
 
--- the words of a run
+-- the side of a window of a sample, or that the file is a tile set
+abbrev pub model_words : List Word
+model_words = needed (codes "MODEL") ∷ []
+
+-- the sides of the map
+abbrev pub side_words : List Word
+side_words = needed (codes "WIDTH") ∷ needed (codes "HEIGHT") ∷ []
+
+-- the file of a refutation that is read
+abbrev pub refutation_words : List Word
+refutation_words = needed (codes "REFUTATION") ∷ []
+
+-- how windows are taken from a sample
+abbrev pub sample_words : List Word
+sample_words = choice (codes "symmetry") ∷ flag (codes "wrap-in") ∷ []
+
+-- whether the map goes on over its edges
+abbrev pub edge_words : List Word
+edge_words = flag (codes "wrap-out") ∷ []
+
+-- the file of pins
+abbrev pub pin_words : List Word
+pin_words = choice (codes "pins") ∷ []
+
+-- the file of pins, which must be there
+abbrev pub demanded_pin_words : List Word
+demanded_pin_words = demand (codes "pins") ∷ []
+
+-- the file of a tile map's holes
+abbrev pub mask_words : List Word
+mask_words = choice (codes "mask") ∷ []
+
+-- the file of steps
+abbrev pub step_words : List Word
+step_words = choice (codes "steps") ∷ []
+
+-- how a run goes
 abbrev pub run_words : List Word
 run_words = choice (codes "seed") ∷ choice (codes "budget") ∷ choice (codes "rule") ∷ []
 
--- the words of a refutation that is read
-abbrev pub checked_words : List Word
-checked_words = sized_words ++ (needed (codes "REFUTATION") ∷ problem_words)
+-- the form of a written map
+abbrev pub form_words : List Word
+form_words = choice (codes "form") ∷ []
 
--- the table: each command with its name and its words
+-- the format of a written refutation
+abbrev pub format_words : List Word
+format_words = choice (codes "format") ∷ []
+
+-- the number of a demonstration
+abbrev pub number_words : List Word
+number_words = needed (codes "NUMBER") ∷ []
+
+-- how many seeds race, and by how many turns
+abbrev pub race_words : List Word
+race_words = demand (codes "seeds") ∷ choice (codes "quantum") ∷ []
+
+-- ---- the table
+
+-- a command with its name and its groups
+abbrev row : Text → List (List Word) → Command
+row name groups = record { name = name; groups = groups }
+
+-- the table: each command with its name and its groups of words
 abbrev pub command_row : CommandKind → Command
-command_row Learn = record {
-  name = codes "learn";
-  words = needed (codes "FILE") ∷ needed (codes "MODEL") ∷ choice (codes "symmetry") ∷ flag (codes "wrap-in") ∷ [];
-}
-command_row Fill = record { name = codes "fill"; words = sized_words ++ (problem_words ++ (run_words ++ (choice (codes "form") ∷ []))) }
-command_row Domains = record { name = codes "domains"; words = sized_words ++ (problem_words ++ (choice (codes "steps") ∷ [])) }
-command_row Refute = record {
-  name = codes "refute";
-  words = sized_words ++ (problem_words ++ (run_words ++ (choice (codes "format") ∷ [])));
-}
-command_row Check = record { name = codes "check"; words = checked_words }
-command_row Upgrade = record { name = codes "upgrade"; words = checked_words }
-command_row Demo = record { name = codes "demo"; words = needed (codes "NUMBER") ∷ [] }
-command_row Race = record {
-  name = codes "race";
-  words = sized_words ++ (problem_words ++ (run_words ++ (demand (codes "seeds") ∷ choice (codes "quantum") ∷ [])));
-}
+command_row Learn = row (codes "learn") (file_words ∷ model_words ∷ sample_words ∷ [])
+command_row Fill = row (codes "fill")
+    (file_words ∷ model_words ∷ side_words ∷ sample_words ∷ edge_words ∷ pin_words ∷ mask_words ∷ run_words ∷ form_words ∷ [])
+command_row Domains = row (codes "domains")
+    (file_words ∷ model_words ∷ side_words ∷ sample_words ∷ edge_words ∷ pin_words ∷ mask_words ∷ step_words ∷ [])
+command_row Refute = row (codes "refute")
+    (file_words ∷ model_words ∷ side_words ∷ sample_words ∷ edge_words ∷ pin_words ∷ mask_words ∷ run_words ∷ format_words ∷ [])
+command_row Check = row (codes "check")
+    (file_words ∷ model_words ∷ side_words ∷ refutation_words ∷ sample_words ∷ edge_words ∷ pin_words ∷ mask_words ∷ [])
+command_row Upgrade = row (codes "upgrade")
+    (file_words ∷ model_words ∷ side_words ∷ refutation_words ∷ sample_words ∷ edge_words ∷ pin_words ∷ mask_words ∷ [])
+command_row Demo = row (codes "demo") (number_words ∷ [])
+command_row Race = row (codes "race")
+    (file_words ∷ model_words ∷ side_words ∷ sample_words ∷ edge_words ∷ pin_words ∷ mask_words ∷ run_words ∷ race_words ∷ [])
+command_row Explain = row (codes "explain")
+    (file_words ∷ model_words ∷ side_words ∷ sample_words ∷ edge_words ∷ demanded_pin_words ∷ mask_words
+    ∷ run_words ∷ [])
+
+-- all words of a command, group by group
+abbrev pub command_words : Command → List Word
+command_words command = flat_map (λ group. group) command.groups
 
 -- all commands
 abbrev pub commands : List CommandKind
-commands = Learn ∷ Fill ∷ Domains ∷ Refute ∷ Check ∷ Upgrade ∷ Demo ∷ Race ∷ []
+commands = Learn ∷ Fill ∷ Domains ∷ Refute ∷ Check ∷ Upgrade ∷ Demo ∷ Race ∷ Explain ∷ []
 
 -- the command that a word names
 abbrev pub command_named : Text → Option CommandKind
 command_named word = find (λ kind. bytes_eq (command_row kind).name word) commands
+
+-- ---- the words of a command
 
 -- the name of a word
 abbrev pub word_name : Word → Text
@@ -73,9 +129,46 @@ word_name (choice name) = name
 word_name (demand name) = name
 word_name (flag name) = name
 
+-- whether words without it are refused
+abbrev pub is_required : Word → Bool
+is_required (needed name) = true
+is_required (choice name) = false
+is_required (demand name) = true
+is_required (flag name) = false
+
+-- whether it is a word of this name
+abbrev pub is_word : Text → Word → Bool
+is_word name word = bytes_eq (word_name word) name
+
+-- whether it is a word of this name that must be there
+abbrev pub is_required_word : Text → Word → Bool
+is_required_word name word = if is_required word then is_word name word else false
+
+-- whether a command of these groups has the word
+abbrev pub has_word : List (List Word) → Text → Bool
+has_word groups name = list_any (λ group. list_any (is_word name) group) groups
+
+-- whether a command of these groups has the word, and it must be there
+abbrev pub has_required_word : List (List Word) → Text → Bool
+has_required_word groups name = list_any (λ group. list_any (is_required_word name) group) groups
+
 -- whether the command has the word
 abbrev pub takes_word : CommandKind → Text → Bool
-takes_word kind name = list_any (λ word. bytes_eq (word_name word) name) (command_row kind).words
+takes_word kind name = has_word (command_row kind).groups name
+
+-- whether the command has the word, and refuses words that lack it
+abbrev pub requires_word : CommandKind → Text → Bool
+requires_word kind name = has_required_word (command_row kind).groups name
+
+-- the text of a word among what `clap` found: always one of a word that must be there, since `clap` refuses words that
+-- lack it, and none of a word that the command doesn't have
+abbrev pub word_text : CommandKind → Text → List Row → Option Text
+word_text kind name rows =
+    if requires_word kind name then Some (unwrap_or (first_of name rows) [])
+    else if takes_word kind name then first_of name rows
+    else None
+
+-- ---- what `clap` is told
 
 -- a word as `clap` has it: a required argument of one text, an option of one text, a required one, a flag
 abbrev pub rule_of_word : Word → Rule
@@ -84,14 +177,17 @@ rule_of_word (choice name) = record (new_rule name) { long = Some name; action =
 rule_of_word (demand name) = record (new_rule name) { long = Some name; required = true; action = Some Set }
 rule_of_word (flag name) = record (new_rule name) { long = Some name; action = Some SetTrue }
 
--- a command as `clap` has it: help and version are switched off, and the words begin behind its name
-abbrev pub app_of_command : Command → App
-app_of_command command = record {
-  top = record (new_shape command.name) {
-    rules = map rule_of_word command.words;
-    no_binary_name = true;
-    disable_help_flag = true;
-    disable_version_flag = true;
-  };
+-- a command of no words as `clap` has it: help and version are switched off, and the words begin behind its name
+abbrev pub bare_app : Text → App
+bare_app name = record {
+  top = record (new_shape name) { no_binary_name = true; disable_help_flag = true; disable_version_flag = true };
   subs = [];
 }
+
+-- a command with these words behind its own
+abbrev pub app_with : App → List Word → App
+app_with app words = record app { top = record app.top { rules = app.top.rules ++ map rule_of_word words } }
+
+-- a command as `clap` has it, with the words of all its groups
+abbrev pub app_of_command : Command → App
+app_of_command command = app_with (bare_app command.name) (command_words command)

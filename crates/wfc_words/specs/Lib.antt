@@ -1,5 +1,8 @@
 pub mod Commands
+pub mod Defaults
 pub mod InRange
+pub mod Named
+pub mod Numbers
 pub mod Request
 pub mod RequestView
 pub mod Rows

@@ -8,10 +8,10 @@ use Rattle.std.specs.declared.string.String.{String}
 use Rattle.clap.specs.Faults.{fault_of}
 use Rattle.clap.specs.Simple.{matches_of}
 use Rattle.clap.specs.Kinds.{Kinds}
-use Rattle.clap.specs.Walk.{Row, Text, first_of}
+use Rattle.clap.specs.Walk.{Row, Text}
 use Rattle.clap.specs.declared.error.kind.ErrorKind.{ErrorKind}
 use Rattle.clap.specs.declared.error.kind.ErrorKind.TheVariants.{OutOfMemory}
-use Rattle.wfc_words.specs.Commands.{app_of_command, command_named, command_row}
+use Rattle.wfc_words.specs.Commands.{app_of_command, command_named, command_row, word_text}
 use Rattle.wfc_words.specs.RequestView.{RequestView}
 use Rattle.wfc_words.specs.Values.{values_of, with_value}
 use Rattle.wfc_words.specs.declared.fault.CommandFault.{CommandFault}
@@ -40,32 +40,34 @@ fault_by OutOfMemory = NoMemory
 fault_by _ = Refused
 
 -- whether a flag is given
-abbrev pub has_flag : Text → List Row → Bool
-has_flag name rows = option_map_or (λ text. bytes_eq text (codes "true")) (first_of name rows) false
+abbrev pub has_flag : CommandKind → Text → List Row → Bool
+has_flag kind name rows = option_map_or (λ text. bytes_eq text (codes "true")) (word_text kind name rows) false
 
 -- the request with these values and the texts that were found
 abbrev pub request_with : CommandKind → List Row → Values → RequestView
 request_with kind rows values = record {
   command = kind;
-  file = unwrap_or (first_of (codes "FILE") rows) [];
-  source = values.source;
-  width = values.width;
-  height = values.height;
-  symmetry = values.symmetry;
-  wrap_in = has_flag (codes "wrap-in") rows;
-  wrap_out = has_flag (codes "wrap-out") rows;
-  pins = first_of (codes "pins") rows;
-  steps = first_of (codes "steps") rows;
-  refutation = first_of (codes "REFUTATION") rows;
-  seed = values.seed;
-  budget = values.budget;
-  rule = values.rule;
-  form = values.form;
-  number = values.number;
-  format = values.format;
-  mask = first_of (codes "mask") rows;
-  seeds = values.seeds;
-  quantum = values.quantum;
+  file = unwrap_or (word_text kind (codes "FILE") rows) [];
+  source = values.map.source;
+  width = values.map.width;
+  height = values.map.height;
+  symmetry = values.map.symmetry;
+  wrap_in = has_flag kind (codes "wrap-in") rows;
+  wrap_out = has_flag kind (codes "wrap-out") rows;
+  pins = word_text kind (codes "pins") rows;
+  steps = word_text kind (codes "steps") rows;
+  refutation = word_text kind (codes "REFUTATION") rows;
+  seed = values.run.seed;
+  budget = values.run.budget;
+  rule = values.run.rule;
+  form = values.writing.form;
+  number = values.writing.number;
+  format = values.writing.format;
+  mask = word_text kind (codes "mask") rows;
+  seeds = values.race.seeds;
+  quantum = values.race.quantum;
+  block = values.space.block;
+  depth = values.space.depth;
 }
 
 -- the request of what was found, or the first value that isn't in its range

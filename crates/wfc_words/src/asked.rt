@@ -45,6 +45,10 @@ pub struct Request {
     pub seeds: u32,
     /// How many turns a runner makes in a round.
     pub quantum: u32,
+    /// The side of a block of a large map, in pixels.
+    pub block: u32,
+    /// The layers of a box.
+    pub depth: u32,
 }
 
 impl Model for Request {
@@ -75,6 +79,8 @@ impl Model for Request {
       mask = option_map string_bytes r.mask;
       seeds = r.seeds;
       quantum = r.quantum;
+      block = r.block;
+      depth = r.depth;
     } };
 }
 

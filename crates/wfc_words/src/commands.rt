@@ -3,8 +3,8 @@
 ghost use Rattle.std.specs.Prelude.{◌≡◌, find};
 ghost use Rattle.std.specs.List.{list_any};
 ghost use Rattle.std.specs.Str.{bytes_eq};
-ghost use Rattle.wfc_words.specs.Commands.{command_named, command_row, takes_word, word_name};
-ghost use Rattle.wfc_words.specs.Rows.{row_view, word_view};
+ghost use Rattle.wfc_words.specs.Commands.{command_named, command_row, is_required, is_required_word, is_word, requires_word, takes_word, word_name};
+ghost use Rattle.wfc_words.specs.Rows.{row_view, some_word, word_view};
 
 use crate::kinds::CommandKind;
 
@@ -33,146 +33,143 @@ impl<'a> Argument<'a> {
             Argument::Flag(name) => name,
         }
     }
+
+    /// Whether words without it are refused.
+    fn is_required(self) -> bool
+        ensures value { result ≡ is_required (word_view self.entry) }
+    {
+        match self {
+            Argument::Required(_) | Argument::Demand(_) => true,
+            Argument::Choice(_) | Argument::Flag(_) => false,
+        }
+    }
 }
 
-/// A command's name and its words.
+/// A command's name, and its words by groups that commands share.
 #[derive(Clone, Copy)]
 pub(crate) struct CommandRow<'a> {
     pub(crate) name: &'a str,
-    pub(crate) arguments: &'a [Argument<'a>],
+    pub(crate) groups: &'a [&'a [Argument<'a>]],
 }
+
+/// The file that a map is made from.
+const FILE: &[Argument<'static>] = &[Argument::Required("FILE")];
+
+/// The side of a window of a sample, or that the file is a tile set.
+const MODEL: &[Argument<'static>] = &[Argument::Required("MODEL")];
+
+/// The sides of the map.
+const SIDES: &[Argument<'static>] = &[Argument::Required("WIDTH"), Argument::Required("HEIGHT")];
+
+/// The file of a refutation that is read.
+const REFUTATION: &[Argument<'static>] = &[Argument::Required("REFUTATION")];
+
+/// How windows are taken from a sample.
+const SAMPLE: &[Argument<'static>] = &[Argument::Choice("symmetry"), Argument::Flag("wrap-in")];
+
+/// Whether the map goes on over its edges.
+const EDGES: &[Argument<'static>] = &[Argument::Flag("wrap-out")];
+
+/// The file of pins.
+const PINS: &[Argument<'static>] = &[Argument::Choice("pins")];
+
+/// The file of pins, which must be there.
+const DEMANDED_PINS: &[Argument<'static>] = &[Argument::Demand("pins")];
+
+/// The file of a tile map's holes.
+const MASK: &[Argument<'static>] = &[Argument::Choice("mask")];
+
+/// The file of steps.
+const STEPS: &[Argument<'static>] = &[Argument::Choice("steps")];
+
+/// How a run goes.
+const RUN: &[Argument<'static>] = &[
+    Argument::Choice("seed"),
+    Argument::Choice("budget"),
+    Argument::Choice("rule"),
+];
+
+/// The form of a written map.
+const FORM: &[Argument<'static>] = &[Argument::Choice("form")];
+
+/// The format of a written refutation.
+const FORMAT: &[Argument<'static>] = &[Argument::Choice("format")];
+
+/// The number of a demonstration.
+const NUMBER: &[Argument<'static>] = &[Argument::Required("NUMBER")];
+
+/// How many seeds race, and by how many turns.
+const RACE: &[Argument<'static>] = &[Argument::Demand("seeds"), Argument::Choice("quantum")];
 
 /// The row of a command.
 pub(crate) fn row(kind: CommandKind) -> CommandRow<'static>
     ensures value { row_view result ≡ command_row kind }
 {
     match kind {
-        CommandKind::Learn => LEARN,
-        CommandKind::Fill => FILL,
-        CommandKind::Domains => DOMAINS,
-        CommandKind::Refute => REFUTE,
-        CommandKind::Check => CHECK,
-        CommandKind::Upgrade => UPGRADE,
-        CommandKind::Demo => DEMO,
-        CommandKind::Race => RACE,
+        CommandKind::Learn => LEARN_ROW,
+        CommandKind::Fill => FILL_ROW,
+        CommandKind::Domains => DOMAINS_ROW,
+        CommandKind::Refute => REFUTE_ROW,
+        CommandKind::Check => CHECK_ROW,
+        CommandKind::Upgrade => UPGRADE_ROW,
+        CommandKind::Demo => DEMO_ROW,
+        CommandKind::Race => RACE_ROW,
+        CommandKind::Explain => EXPLAIN_ROW,
     }
 }
 
-const LEARN: CommandRow<'static> = CommandRow {
+const LEARN_ROW: CommandRow<'static> = CommandRow {
     name: "learn",
-    arguments: &[
-        Argument::Required("FILE"),
-        Argument::Required("MODEL"),
-        Argument::Choice("symmetry"),
-        Argument::Flag("wrap-in"),
-    ],
+    groups: &[FILE, MODEL, SAMPLE],
 };
 
-const FILL: CommandRow<'static> = CommandRow {
+const FILL_ROW: CommandRow<'static> = CommandRow {
     name: "fill",
-    arguments: &[
-        Argument::Required("FILE"),
-        Argument::Required("MODEL"),
-        Argument::Required("WIDTH"),
-        Argument::Required("HEIGHT"),
-        Argument::Choice("symmetry"),
-        Argument::Flag("wrap-in"),
-        Argument::Flag("wrap-out"),
-        Argument::Choice("pins"),
-        Argument::Choice("mask"),
-        Argument::Choice("seed"),
-        Argument::Choice("budget"),
-        Argument::Choice("rule"),
-        Argument::Choice("form"),
-    ],
+    groups: &[FILE, MODEL, SIDES, SAMPLE, EDGES, PINS, MASK, RUN, FORM],
 };
 
-const DOMAINS: CommandRow<'static> = CommandRow {
+const DOMAINS_ROW: CommandRow<'static> = CommandRow {
     name: "domains",
-    arguments: &[
-        Argument::Required("FILE"),
-        Argument::Required("MODEL"),
-        Argument::Required("WIDTH"),
-        Argument::Required("HEIGHT"),
-        Argument::Choice("symmetry"),
-        Argument::Flag("wrap-in"),
-        Argument::Flag("wrap-out"),
-        Argument::Choice("pins"),
-        Argument::Choice("mask"),
-        Argument::Choice("steps"),
-    ],
+    groups: &[FILE, MODEL, SIDES, SAMPLE, EDGES, PINS, MASK, STEPS],
 };
 
-const REFUTE: CommandRow<'static> = CommandRow {
+const REFUTE_ROW: CommandRow<'static> = CommandRow {
     name: "refute",
-    arguments: &[
-        Argument::Required("FILE"),
-        Argument::Required("MODEL"),
-        Argument::Required("WIDTH"),
-        Argument::Required("HEIGHT"),
-        Argument::Choice("symmetry"),
-        Argument::Flag("wrap-in"),
-        Argument::Flag("wrap-out"),
-        Argument::Choice("pins"),
-        Argument::Choice("mask"),
-        Argument::Choice("seed"),
-        Argument::Choice("budget"),
-        Argument::Choice("rule"),
-        Argument::Choice("format"),
-    ],
+    groups: &[FILE, MODEL, SIDES, SAMPLE, EDGES, PINS, MASK, RUN, FORMAT],
 };
 
-const CHECK: CommandRow<'static> = CommandRow {
+const CHECK_ROW: CommandRow<'static> = CommandRow {
     name: "check",
-    arguments: CHECKED,
+    groups: CHECKED,
 };
 
-const UPGRADE: CommandRow<'static> = CommandRow {
+const UPGRADE_ROW: CommandRow<'static> = CommandRow {
     name: "upgrade",
-    arguments: CHECKED,
+    groups: CHECKED,
 };
 
 /// The words of a refutation that is read.
-const CHECKED: &[Argument<'static>] = &[
-    Argument::Required("FILE"),
-    Argument::Required("MODEL"),
-    Argument::Required("WIDTH"),
-    Argument::Required("HEIGHT"),
-    Argument::Required("REFUTATION"),
-    Argument::Choice("symmetry"),
-    Argument::Flag("wrap-in"),
-    Argument::Flag("wrap-out"),
-    Argument::Choice("pins"),
-    Argument::Choice("mask"),
+const CHECKED: &[&[Argument<'static>]] = &[
+    FILE, MODEL, SIDES, REFUTATION, SAMPLE, EDGES, PINS, MASK,
 ];
 
-const DEMO: CommandRow<'static> = CommandRow {
+const DEMO_ROW: CommandRow<'static> = CommandRow {
     name: "demo",
-    arguments: &[Argument::Required("NUMBER")],
+    groups: &[NUMBER],
 };
 
-const RACE: CommandRow<'static> = CommandRow {
+const RACE_ROW: CommandRow<'static> = CommandRow {
     name: "race",
-    arguments: &[
-        Argument::Required("FILE"),
-        Argument::Required("MODEL"),
-        Argument::Required("WIDTH"),
-        Argument::Required("HEIGHT"),
-        Argument::Choice("symmetry"),
-        Argument::Flag("wrap-in"),
-        Argument::Flag("wrap-out"),
-        Argument::Choice("pins"),
-        Argument::Choice("mask"),
-        Argument::Choice("seed"),
-        Argument::Choice("budget"),
-        Argument::Choice("rule"),
-        Argument::Demand("seeds"),
-        Argument::Choice("quantum"),
-    ],
+    groups: &[FILE, MODEL, SIDES, SAMPLE, EDGES, PINS, MASK, RUN, RACE],
+};
+
+const EXPLAIN_ROW: CommandRow<'static> = CommandRow {
+    name: "explain",
+    groups: &[FILE, MODEL, SIDES, SAMPLE, EDGES, DEMANDED_PINS, MASK, RUN],
 };
 
 /// All commands.
-const COMMANDS: [CommandKind; 8] = [
+const COMMANDS: [CommandKind; 9] = [
     CommandKind::Learn,
     CommandKind::Fill,
     CommandKind::Domains,
@@ -181,6 +178,7 @@ const COMMANDS: [CommandKind; 8] = [
     CommandKind::Upgrade,
     CommandKind::Demo,
     CommandKind::Race,
+    CommandKind::Explain,
 ];
 
 /// The command that a word names.
@@ -200,11 +198,37 @@ fn named_among(kinds: &[CommandKind], word: &str) -> Option<CommandKind>
 pub(crate) fn takes(kind: CommandKind, name: &str) -> bool
     ensures value { result ≡ takes_word kind name.now }
 {
-    takes_among(row(kind).arguments, name)
+    any_takes(row(kind).groups, name)
 }
 
-fn takes_among(arguments: &[Argument<'_>], name: &str) -> bool
-    ensures value { result ≡ list_any (λ word. bytes_eq (word_name (word_view word)) name.now) arguments.now }
+fn any_takes(groups: &[&[Argument<'_>]], name: &str) -> bool
+    ensures value { result ≡ list_any (λ group. some_word (is_word name.now) group.now) groups.now }
 {
-    arguments.iter().any(|argument| argument.name() == name)
+    groups.iter().any(|group| group_takes(group, name))
+}
+
+fn group_takes(group: &[Argument<'_>], name: &str) -> bool
+    ensures value { result ≡ some_word (is_word name.now) group.now }
+{
+    group.iter().any(|argument| argument.name() == name)
+}
+
+/// Whether the command has the word, and refuses words that lack it.
+pub(crate) fn requires_it(kind: CommandKind, name: &str) -> bool
+    ensures value { result ≡ requires_word kind name.now }
+{
+    any_requires(row(kind).groups, name)
+}
+
+fn any_requires(groups: &[&[Argument<'_>]], name: &str) -> bool
+    ensures value { result
+        ≡ list_any (λ group. some_word (is_required_word name.now) group.now) groups.now }
+{
+    groups.iter().any(|group| group_requires(group, name))
+}
+
+fn group_requires(group: &[Argument<'_>], name: &str) -> bool
+    ensures value { result ≡ some_word (is_required_word name.now) group.now }
+{
+    group.iter().any(|argument| argument.is_required() && argument.name() == name)
 }

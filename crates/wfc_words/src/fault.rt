@@ -20,6 +20,8 @@ pub enum ValueName {
     Mask,
     Seeds,
     Quantum,
+    Block,
+    Depth,
 }
 
 /// Why the words are no request.

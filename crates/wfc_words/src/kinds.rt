@@ -11,6 +11,7 @@ pub enum CommandKind {
     Upgrade,
     Demo,
     Race,
+    Explain,
 }
 
 /// What a map is made of.

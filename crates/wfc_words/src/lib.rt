@@ -7,6 +7,8 @@ mod commands;
 mod fault;
 mod kinds;
 pub mod laws;
+mod named;
+mod numbers;
 mod reading;
 mod simple;
 mod values;

@@ -21,7 +21,8 @@ use std::alloc::{AllocError, Global};
 /// The request of the words, which are those behind the program's name. The first names the command; the others are
 /// read by `clap` as one simple command.
 pub fn request(alloc: Global, words: &[String]) -> Result<Request, CommandFault>
-    ensures exact { Gives CommandFault.NoMemory (λ asked. asked) result (request_of (texts words.now)) }
+    ensures exact { Gives CommandFault.NoMemory (λ asked. asked) result
+        (request_of (texts words.now)) }
     ensures in_range { IfOk result IsInRange }
 {
     let [name, rest @ ..] = words else {
@@ -35,7 +36,8 @@ pub fn request(alloc: Global, words: &[String]) -> Result<Request, CommandFault>
 
 /// The request of the words behind a command's name.
 fn asked_by(alloc: Global, kind: CommandKind, words: &[String]) -> Result<Request, CommandFault>
-    ensures exact { Gives CommandFault.NoMemory (λ asked. asked) result (request_by kind (texts words.now)) }
+    ensures exact { Gives CommandFault.NoMemory (λ asked. asked) result
+        (request_by kind (texts words.now)) }
 {
     let found = matches(alloc, kind, words)?;
     asked_for(alloc, kind, &found)
@@ -64,40 +66,44 @@ fn with_texts(
     found: &ArgMatches<'_>,
     values: Values,
 ) -> Result<Request, AllocError>
-    ensures ok { IfOk result (λ request. request ≡ request_with kind (rows_of (found_of found.now)) values) }
+    ensures ok { IfOk result (λ request.
+        request ≡ request_with kind (rows_of (found_of found.now)) values) }
 {
-    let file = String::from_str(alloc, text(found, "FILE").unwrap_or(""))?;
-    let pins = copied(alloc, text(found, "pins"))?;
-    let steps = copied(alloc, text(found, "steps"))?;
-    let refutation = copied(alloc, text(found, "REFUTATION"))?;
-    let mask = copied(alloc, text(found, "mask"))?;
+    let file = String::from_str(alloc, text(kind, found, "FILE").unwrap_or(""))?;
+    let pins = copied(alloc, text(kind, found, "pins"))?;
+    let steps = copied(alloc, text(kind, found, "steps"))?;
+    let refutation = copied(alloc, text(kind, found, "REFUTATION"))?;
+    let mask = copied(alloc, text(kind, found, "mask"))?;
     Ok(Request {
         command: kind,
         file,
-        source: values.source,
-        width: values.width,
-        height: values.height,
-        symmetry: values.symmetry,
-        wrap_in: flag(found, "wrap-in"),
-        wrap_out: flag(found, "wrap-out"),
+        source: values.map.source,
+        width: values.map.width,
+        height: values.map.height,
+        symmetry: values.map.symmetry,
+        wrap_in: flag(kind, found, "wrap-in"),
+        wrap_out: flag(kind, found, "wrap-out"),
         pins,
         steps,
         refutation,
-        seed: values.seed,
-        budget: values.budget,
-        rule: values.rule,
-        form: values.form,
-        number: values.number,
-        format: values.format,
+        seed: values.run.seed,
+        budget: values.run.budget,
+        rule: values.run.rule,
+        form: values.writing.form,
+        number: values.writing.number,
+        format: values.writing.format,
         mask,
-        seeds: values.seeds,
-        quantum: values.quantum,
+        seeds: values.race.seeds,
+        quantum: values.race.quantum,
+        block: values.space.block,
+        depth: values.space.depth,
     })
 }
 
 /// A text that may be missing, as a text of its own.
 fn copied(alloc: Global, text: Option<&str>) -> Result<Option<String>, AllocError>
-    ensures ok { IfOk result (λ copy. option_map string_bytes copy ≡ option_map (λ text. text.now) text.entry) }
+    ensures ok { IfOk result (λ copy.
+        option_map string_bytes copy ≡ option_map (λ text. text.now) text.entry) }
 {
     match text {
         Some(text) => Ok(Some(String::from_str(alloc, text)?)),

@@ -7,11 +7,11 @@ ghost use Rattle.clap.specs.Simple.{app_of};
 ghost use Rattle.clap.specs.Values.{kind_of};
 ghost use Rattle.clap.specs.Walk.{first_of, rows_of, rule_of};
 ghost use Rattle.wfc_outside.specs.Gives.{Gives};
-ghost use Rattle.wfc_words.specs.Commands.{app_of_command, rule_of_word};
+ghost use Rattle.wfc_words.specs.Commands.{app_of_command, app_with, rule_of_word, word_text};
 ghost use Rattle.wfc_words.specs.Request.{fault_by, has_flag, matches_by, texts};
-ghost use Rattle.wfc_words.specs.Rows.{row_view, word_view};
+ghost use Rattle.wfc_words.specs.Rows.{group_view, row_view, word_view};
 
-use crate::commands::{Argument, CommandRow, row};
+use crate::commands::{Argument, CommandRow, requires_it, row, takes};
 use crate::fault::CommandFault;
 use crate::kinds::CommandKind;
 use clap::error::ErrorKind;
@@ -42,10 +42,26 @@ fn simple<'a>(alloc: Global, row: CommandRow<'a>) -> Result<Command<'a>, AllocEr
         .no_binary_name(true)
         .disable_help_flag(true)
         .disable_version_flag(true);
-    for argument in row.arguments {
-        command = command.arg(arg(alloc, *argument))?;
+    for group in row.groups {
+        command = with_group(alloc, command, group)?;
     }
     Ok(command)
+}
+
+/// The command with the words of a group behind its own.
+fn with_group<'a>(
+    alloc: Global,
+    command: Command<'a>,
+    group: &[Argument<'a>],
+) -> Result<Command<'a>, AllocError>
+    ensures app { IfOk result (λ grown.
+        app_of grown ≡ app_with (app_of command.entry) (group_view group.now)) }
+{
+    let mut grown = command;
+    for argument in group {
+        grown = grown.arg(arg(alloc, *argument))?;
+    }
+    Ok(grown)
 }
 
 /// What `clap` finds among the words behind a command's name.
@@ -73,16 +89,31 @@ fn fault(error: &Error) -> CommandFault
     }
 }
 
-/// The text of an argument, if it has one.
-pub(crate) fn text<'a>(matches: &ArgMatches<'a>, name: &str) -> Option<&'a str>
-    ensures value { option_map (λ text. text.now) result ≡ first_of name.now (rows_of (found_of matches.now)) }
+/// The text of a word: always one of a word that must be there, and none of a word that the command doesn't have.
+pub(crate) fn text<'a>(kind: CommandKind, matches: &ArgMatches<'a>, name: &str) -> Option<&'a str>
+    ensures value { option_map (λ text. text.now) result
+        ≡ word_text kind name.now (rows_of (found_of matches.now)) }
+{
+    if requires_it(kind, name) {
+        return Some(found(matches, name).unwrap_or(""));
+    }
+    if takes(kind, name) {
+        return found(matches, name);
+    }
+    None
+}
+
+/// The text that `clap` found of a word.
+fn found<'a>(matches: &ArgMatches<'a>, name: &str) -> Option<&'a str>
+    ensures value { option_map (λ text. text.now) result
+        ≡ first_of name.now (rows_of (found_of matches.now)) }
 {
     matches.get_str(name)
 }
 
 /// Whether a flag is given.
-pub(crate) fn flag(matches: &ArgMatches<'_>, name: &str) -> bool
-    ensures value { result ≡ has_flag name.now (rows_of (found_of matches.now)) }
+pub(crate) fn flag(kind: CommandKind, matches: &ArgMatches<'_>, name: &str) -> bool
+    ensures value { result ≡ has_flag kind name.now (rows_of (found_of matches.now)) }
 {
-    text(matches, name).is_some_and(|text| text == "true")
+    text(kind, matches, name).is_some_and(|text| text == "true")
 }

@@ -1,17 +1,17 @@
-//! The values among the words.
+//! The values among the words, by groups in the order of their names.
 
-ghost use Rattle.std.specs.Prelude.{◌≡◌, ◌≤◌, None, IfOk};
-ghost use Rattle.std.specs.Option.{option_map};
+ghost use Rattle.std.specs.Prelude.{◌≡◌, ◌≤◌, IfOk};
 ghost use Rattle.clap.specs.Matches.{found_of};
 ghost use Rattle.clap.specs.Walk.{rows_of};
-ghost use Rattle.wfc_words.specs.Values.{form_named, in_range, needed_text, is_rankable, number_in, rule_asked, rule_named, source_of, unranked, value_in, values_of, with_mask, with_race};
-ghost use Rattle.wfc_words.specs.declared.fault.ValueName.TheVariants as names;
-ghost use Rattle.wfc_words.specs.declared.kinds.SourceModel.TheVariants as models;
-ghost use Rattle.wfc_choose.specs.declared.RuleKind.TheVariants as rules;
+ghost use Rattle.wfc_words.specs.Rows.{range_view};
+ghost use Rattle.wfc_words.specs.Values.{form_value, map_values, model_value, number_value, race_values, rule_value, run_values, space_values, unless_masked, values_of, writing_values};
 
-use crate::commands::takes;
 use crate::fault::{CommandFault, ValueName};
 use crate::kinds::{CommandKind, SourceModel};
+use crate::named::{form_named, rule_asked, source_of};
+use crate::numbers::{
+    BUDGET, DEPTH, FORMAT, HEIGHT, NUMBER, NumberRow, QUANTUM, SEED, SYMMETRY, WIDTH, block, seeds,
+};
 use crate::simple::text;
 use clap::ArgMatches;
 use wfc_choose::RuleKind;
@@ -21,18 +21,50 @@ use wfc_text::number;
 /// The values of a request.
 #[derive(Clone, Copy)]
 pub(crate) struct Values {
+    pub(crate) map: MapValues,
+    pub(crate) run: RunValues,
+    pub(crate) writing: WritingValues,
+    pub(crate) race: RaceValues,
+    pub(crate) space: SpaceValues,
+}
+
+/// What a map is made of, its sides, and how many images of a window count.
+#[derive(Clone, Copy)]
+pub(crate) struct MapValues {
     pub(crate) source: SourceModel,
     pub(crate) width: u32,
     pub(crate) height: u32,
     pub(crate) symmetry: u8,
+}
+
+/// How a run goes.
+#[derive(Clone, Copy)]
+pub(crate) struct RunValues {
     pub(crate) seed: u64,
     pub(crate) budget: u32,
     pub(crate) rule: RuleKind,
+}
+
+/// What is written, and how.
+#[derive(Clone, Copy)]
+pub(crate) struct WritingValues {
     pub(crate) form: Option<Form>,
     pub(crate) number: u32,
     pub(crate) format: u8,
+}
+
+/// How many seeds race, and how many turns a runner makes in a round.
+#[derive(Clone, Copy)]
+pub(crate) struct RaceValues {
     pub(crate) seeds: u32,
     pub(crate) quantum: u32,
+}
+
+/// The side of a block in pixels, and the layers of a box.
+#[derive(Clone, Copy)]
+pub(crate) struct SpaceValues {
+    pub(crate) block: u32,
+    pub(crate) depth: u32,
 }
 
 /// All values, or the first that isn't in its range.
@@ -42,226 +74,162 @@ pub(crate) fn values_among(
 ) -> Result<Values, CommandFault>
     ensures exact { result ≡ values_of kind (rows_of (found_of matches.now)) }
 {
-    let source = source(needed(kind, matches, "MODEL"))?;
-    let width = number_of(needed(kind, matches, "WIDTH"), ValueName::Width, 1, 4096, 0)?;
-    let height = number_of(
-        needed(kind, matches, "HEIGHT"),
-        ValueName::Height,
-        1,
-        4096,
-        0,
-    )?;
-    let symmetry = number_of(text(matches, "symmetry"), ValueName::Symmetry, 1, 8, 1)?;
-    let seed = number_of(text(matches, "seed"), ValueName::Seed, 0, u64::MAX, 0)?;
-    let budget = number_of(
-        text(matches, "budget"),
-        ValueName::Budget,
-        0,
-        1_000_000_000,
-        1_000_000,
-    )?;
-    let rule = rule(kind, text(matches, "rule"))?;
-    let form = form(text(matches, "form"))?;
-    let number = number_of(
-        needed(kind, matches, "NUMBER"),
-        ValueName::Number,
-        0,
-        1_000_000,
-        0,
-    )?;
-    let format = number_of(text(matches, "format"), ValueName::Format, 1, 2, 2)?;
-    let values = Values {
+    let map = map_among(kind, matches)?;
+    let run = run_among(kind, matches)?;
+    let writing = writing_among(kind, matches, map.source)?;
+    let race = race_among(kind, matches, run.seed)?;
+    let space = space_among(kind, matches, map.source)?;
+    Ok(Values {
+        map,
+        run,
+        writing,
+        race,
+        space,
+    })
+}
+
+fn map_among(kind: CommandKind, matches: &ArgMatches<'_>) -> Result<MapValues, CommandFault>
+    ensures exact { result ≡ map_values kind (rows_of (found_of matches.now)) }
+{
+    let source = model_among(kind, matches)?;
+    let width = number_among(kind, matches, WIDTH)?;
+    let height = number_among(kind, matches, HEIGHT)?;
+    let symmetry = number_among(kind, matches, SYMMETRY)?;
+    Ok(MapValues {
         source,
         width: width as u32,
         height: height as u32,
         symmetry: symmetry as u8,
+    })
+}
+
+fn run_among(kind: CommandKind, matches: &ArgMatches<'_>) -> Result<RunValues, CommandFault>
+    ensures exact { result ≡ run_values kind (rows_of (found_of matches.now)) }
+{
+    let seed = number_among(kind, matches, SEED)?;
+    let budget = number_among(kind, matches, BUDGET)?;
+    let rule = rule_among(kind, matches)?;
+    Ok(RunValues {
         seed,
         budget: budget as u32,
         rule,
+    })
+}
+
+fn writing_among(
+    kind: CommandKind,
+    matches: &ArgMatches<'_>,
+    source: SourceModel,
+) -> Result<WritingValues, CommandFault>
+    ensures exact { result ≡ writing_values kind (rows_of (found_of matches.now)) source }
+{
+    let form = form_among(kind, matches)?;
+    let number = number_among(kind, matches, NUMBER)?;
+    let format = number_among(kind, matches, FORMAT)?;
+    let values = WritingValues {
         form,
         number: number as u32,
         format: format as u8,
-        seeds: 0,
-        quantum: 1,
     };
-    let values = masked(text(matches, "mask"), values)?;
-    raced(kind, matches, values)
+    unless_masked(kind, matches, source, values)
 }
 
-/// The same values with those of a race, or the first of these that isn't in its range.
-fn raced(
+/// A mask is for tile maps alone.
+fn unless_masked(
     kind: CommandKind,
     matches: &ArgMatches<'_>,
-    values: Values,
-) -> Result<Values, CommandFault>
-    ensures exact { result ≡ with_race kind (rows_of (found_of matches.now)) values }
+    source: SourceModel,
+    values: WritingValues,
+) -> Result<WritingValues, CommandFault>
+    ensures exact { result ≡ unless_masked kind (rows_of (found_of matches.now)) source values }
 {
-    let mut raced = values;
-    let seeds = number_of(
-        needed(kind, matches, "seeds"),
-        ValueName::Seeds,
-        1,
-        (u64::MAX - values.seed).min(7) + 1,
-        0,
-    )?;
-    let quantum = number_of(
-        text(matches, "quantum"),
-        ValueName::Quantum,
-        1,
-        1_000_000,
-        1,
-    )?;
-    raced.seeds = seeds as u32;
-    raced.quantum = quantum as u32;
-    Ok(raced)
-}
-
-/// The text of a word that must be there, and none where the command doesn't have that word.
-fn needed<'a>(kind: CommandKind, matches: &ArgMatches<'a>, word: &str) -> Option<&'a str>
-    ensures value { option_map (λ text. text.now) result ≡ needed_text kind word.now (rows_of (found_of matches.now)) }
-{
-    if takes(kind, word) {
-        return Some(text(matches, word).unwrap_or(""));
+    match (source, text(kind, matches, "mask")) {
+        (SourceModel::Overlap { .. }, Some(_)) => Err(CommandFault::Value {
+            name: ValueName::Mask,
+        }),
+        _ => Ok(values),
     }
-    None
 }
 
-/// The number of a text from `least` to `most`, and `absent` where there is no text.
-fn number_of(
-    text: Option<&str>,
-    name: ValueName,
-    least: u64,
-    most: u64,
-    absent: u64,
-) -> Result<u64, CommandFault>
-    requires absent_in { absent ≤ most }
-    ensures exact { result ≡ value_in name (number_in least most) absent (option_map (λ text. text.now) text.entry) }
-    ensures in_range { IfOk result (λ n. n ≤ most) }
+fn race_among(
+    kind: CommandKind,
+    matches: &ArgMatches<'_>,
+    seed: u64,
+) -> Result<RaceValues, CommandFault>
+    ensures exact { result ≡ race_values kind (rows_of (found_of matches.now)) seed }
 {
-    match text {
-        None => Ok(absent),
-        Some(text) => match number(text.as_bytes(), least, most) {
+    let seeds = number_among(kind, matches, seeds(seed))?;
+    let quantum = number_among(kind, matches, QUANTUM)?;
+    Ok(RaceValues {
+        seeds: seeds as u32,
+        quantum: quantum as u32,
+    })
+}
+
+fn space_among(
+    kind: CommandKind,
+    matches: &ArgMatches<'_>,
+    source: SourceModel,
+) -> Result<SpaceValues, CommandFault>
+    ensures exact { result ≡ space_values kind (rows_of (found_of matches.now)) source }
+{
+    let block = number_among(kind, matches, block(source))?;
+    let depth = number_among(kind, matches, DEPTH)?;
+    Ok(SpaceValues {
+        block: block as u32,
+        depth: depth as u32,
+    })
+}
+
+/// A number of the table.
+fn number_among(
+    kind: CommandKind,
+    matches: &ArgMatches<'_>,
+    row: NumberRow<'_>,
+) -> Result<u64, CommandFault>
+    requires absent_in { row.absent ≤ row.most }
+    ensures exact { result
+        ≡ number_value kind (rows_of (found_of matches.now)) (range_view row.entry) }
+    ensures in_range { IfOk result (λ n. n ≤ row.entry.most) }
+{
+    match text(kind, matches, row.word) {
+        None => Ok(row.absent),
+        Some(text) => match number(text.as_bytes(), row.least, row.most) {
             Ok(n) => Ok(n),
-            Err(_) => Err(CommandFault::Value { name }),
+            Err(_) => Err(CommandFault::Value { name: row.name }),
         },
     }
 }
 
-fn source(text: Option<&str>) -> Result<SourceModel, CommandFault>
-    ensures exact { result ≡ value_in names.Model source_of (models.Overlap 0)
-        (option_map (λ text. text.now) text.entry) }
+fn model_among(kind: CommandKind, matches: &ArgMatches<'_>) -> Result<SourceModel, CommandFault>
+    ensures exact { result ≡ model_value kind (rows_of (found_of matches.now)) }
 {
-    match text {
+    match text(kind, matches, "MODEL") {
         None => Ok(SourceModel::Overlap { n: 0 }),
-        Some(text) => model(text),
-    }
-}
-
-fn model(text: &str) -> Result<SourceModel, CommandFault>
-    ensures exact { result ≡ in_range names.Model (source_of text.now) }
-{
-    if text == "tiles" {
-        return Ok(SourceModel::Tiles);
-    }
-    match number(text.as_bytes(), 1, 6) {
-        Ok(n) => Ok(SourceModel::Overlap { n: n as u32 }),
-        Err(_) => Err(CommandFault::Value {
+        Some(text) => source_of(text).ok_or(CommandFault::Value {
             name: ValueName::Model,
         }),
     }
 }
 
-fn rule(kind: CommandKind, text: Option<&str>) -> Result<RuleKind, CommandFault>
-    ensures exact { result ≡ value_in names.Rule (rule_asked kind) rules.Fewest
-        (option_map (λ text. text.now) text.entry) }
+fn rule_among(kind: CommandKind, matches: &ArgMatches<'_>) -> Result<RuleKind, CommandFault>
+    ensures exact { result ≡ rule_value kind (rows_of (found_of matches.now)) }
 {
-    match text {
+    match text(kind, matches, "rule") {
         None => Ok(RuleKind::Fewest),
-        Some(text) => rule_for(kind, text).ok_or(CommandFault::Value {
+        Some(text) => rule_asked(kind, text).ok_or(CommandFault::Value {
             name: ValueName::Rule,
         }),
     }
 }
 
-/// The rule that a text names, of those that the command's runs may have.
-fn rule_for(kind: CommandKind, text: &str) -> Option<RuleKind>
-    ensures value { result ≡ rule_asked kind text.now }
+fn form_among(kind: CommandKind, matches: &ArgMatches<'_>) -> Result<Option<Form>, CommandFault>
+    ensures exact { result ≡ form_value kind (rows_of (found_of matches.now)) }
 {
-    if rankable(kind) {
-        return rule_by_name(text);
-    }
-    unranked(rule_by_name(text))
-}
-
-/// Whether the command's runs may have the rule that goes by ranks.
-fn rankable(kind: CommandKind) -> bool
-    ensures value { result ≡ is_rankable kind }
-{
-    !matches!(kind, CommandKind::Race)
-}
-
-/// The rule, if it doesn't go by ranks.
-fn unranked(rule: Option<RuleKind>) -> Option<RuleKind>
-    ensures value { result ≡ unranked rule }
-{
-    match rule {
-        Some(RuleKind::Ranked) => None,
-        _ => rule,
-    }
-}
-
-fn rule_by_name(text: &str) -> Option<RuleKind>
-    ensures value { result ≡ rule_named text.now }
-{
-    if text == "scanline" {
-        return Some(RuleKind::Scanline);
-    }
-    if text == "fewest" {
-        return Some(RuleKind::Fewest);
-    }
-    if text == "ranked" {
-        return Some(RuleKind::Ranked);
-    }
-    None
-}
-
-fn form(text: Option<&str>) -> Result<Option<Form>, CommandFault>
-    ensures exact { result ≡ value_in names.Form form_named None (option_map (λ text. text.now) text.entry) }
-{
-    match text {
+    match text(kind, matches, "form") {
         None => Ok(None),
-        Some(text) => form_by_name(text).ok_or(CommandFault::Value {
+        Some(text) => form_named(text).ok_or(CommandFault::Value {
             name: ValueName::Form,
         }),
-    }
-}
-
-fn form_by_name(text: &str) -> Option<Option<Form>>
-    ensures value { result ≡ form_named text.now }
-{
-    if text == "p6" {
-        return Some(Some(Form::P6));
-    }
-    if text == "p3" {
-        return Some(Some(Form::P3));
-    }
-    if text == "grid" {
-        return Some(Some(Form::Grid));
-    }
-    if text == "cells" {
-        return Some(Some(Form::Cells));
-    }
-    None
-}
-
-/// A mask is for tile maps alone.
-fn masked(mask: Option<&str>, values: Values) -> Result<Values, CommandFault>
-    ensures exact { result ≡ with_mask (option_map (λ text. text.now) mask.entry) values }
-{
-    match (values.source, mask) {
-        (SourceModel::Overlap { .. }, Some(_)) => Err(CommandFault::Value {
-            name: ValueName::Mask,
-        }),
-        _ => Ok(values),
     }
 }

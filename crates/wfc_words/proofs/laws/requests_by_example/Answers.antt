@@ -4,4 +4,4 @@ use Rattle.wfc_words.proofs.laws.requests_by_example.Goals as goal
 
 pub returns : goal.returns
 unfolding clap_on_literals
-returns c = record { fill = refl; check = refl; demo = refl; race = refl }
+returns c = record { learn = refl; fill = refl; domains = refl; refute = refl; check = refl; upgrade = refl; demo = refl; race = refl; explain = refl }

@@ -1,0 +1,83 @@
+//! The values that are no numbers, by their texts.
+
+ghost use Rattle.std.specs.Prelude.{◌≡◌};
+ghost use Rattle.wfc_words.specs.Named.{form_named, is_rankable, rule_asked, rule_named, source_of, unranked};
+
+use crate::kinds::{CommandKind, SourceModel};
+use wfc_choose::RuleKind;
+use wfc_render::Form;
+use wfc_text::number;
+
+/// The model: the side of a window, or the word `tiles`.
+pub(crate) fn source_of(text: &str) -> Option<SourceModel>
+    ensures value { result ≡ source_of text.now }
+{
+    if text == "tiles" {
+        return Some(SourceModel::Tiles);
+    }
+    match number(text.as_bytes(), 1, 6) {
+        Ok(n) => Some(SourceModel::Overlap { n: n as u32 }),
+        Err(_) => None,
+    }
+}
+
+/// The rule that a text names, of those that the command's runs may have.
+pub(crate) fn rule_asked(kind: CommandKind, text: &str) -> Option<RuleKind>
+    ensures value { result ≡ rule_asked kind text.now }
+{
+    if is_rankable(kind) {
+        return rule_named(text);
+    }
+    unranked(rule_named(text))
+}
+
+/// Whether the command's runs may have the rule that goes by ranks.
+fn is_rankable(kind: CommandKind) -> bool
+    ensures value { result ≡ is_rankable kind }
+{
+    !matches!(kind, CommandKind::Race | CommandKind::Explain)
+}
+
+/// The rule, if it doesn't go by ranks.
+fn unranked(rule: Option<RuleKind>) -> Option<RuleKind>
+    ensures value { result ≡ unranked rule }
+{
+    match rule {
+        Some(RuleKind::Ranked) => None,
+        _ => rule,
+    }
+}
+
+fn rule_named(text: &str) -> Option<RuleKind>
+    ensures value { result ≡ rule_named text.now }
+{
+    if text == "scanline" {
+        return Some(RuleKind::Scanline);
+    }
+    if text == "fewest" {
+        return Some(RuleKind::Fewest);
+    }
+    if text == "ranked" {
+        return Some(RuleKind::Ranked);
+    }
+    None
+}
+
+/// The form that a text names, as a form that is asked for.
+pub(crate) fn form_named(text: &str) -> Option<Option<Form>>
+    ensures value { result ≡ form_named text.now }
+{
+    if text == "p6" {
+        return Some(Some(Form::P6));
+    }
+    if text == "p3" {
+        return Some(Some(Form::P3));
+    }
+    if text == "grid" {
+        return Some(Some(Form::Grid));
+    }
+    if text == "cells" {
+        return Some(Some(Form::Cells));
+    }
+    None
+}
