@@ -23,6 +23,8 @@ text_of_value names.Format = codes "command value format"
 text_of_value names.Mask = codes "command value mask"
 text_of_value names.Seeds = codes "command value seeds"
 text_of_value names.Quantum = codes "command value quantum"
+text_of_value names.Block = codes "command value block"
+text_of_value names.Depth = codes "command value DEPTH"
 
 abbrev pub text_of_command : CommandFault → List ℕ
 text_of_command faults.Refused = codes "command refused"

@@ -14,3 +14,5 @@ pub mod Render
 pub mod Steps
 pub mod Tiles
 pub mod Race
+pub mod Stacks
+pub mod Explain

@@ -40,6 +40,8 @@ fn value_text(name: ValueName) -> &'static str
         ValueName::Mask => "command value mask",
         ValueName::Seeds => "command value seeds",
         ValueName::Quantum => "command value quantum",
+        ValueName::Block => "command value block",
+        ValueName::Depth => "command value DEPTH",
     }
 }
 

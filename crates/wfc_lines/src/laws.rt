@@ -3,6 +3,8 @@
 ghost use Rattle.std.specs.Prelude.{◌≡◌, true, false, codes};
 ghost use Rattle.wfc_choose.specs.declared.RuleKind.TheVariants as rules;
 ghost use Rattle.wfc_grid.specs.declared.reading.GridFault.TheVariants as grids;
+ghost use Rattle.wfc_box.specs.declared.fault.StackFault.TheVariants as stacks;
+ghost use Rattle.wfc_box.specs.declared.fault.StackKey.TheVariants as ends;
 ghost use Rattle.wfc_check.specs.declared.fault.CheckFault.TheVariants as checks;
 ghost use Rattle.wfc_lines.specs.Build.{text_of_build};
 ghost use Rattle.wfc_lines.specs.Check.{text_of_check};
@@ -19,6 +21,7 @@ ghost use Rattle.wfc_lines.specs.Ppm.{text_of_ppm};
 ghost use Rattle.wfc_lines.specs.Race.{text_of_race};
 ghost use Rattle.wfc_lines.specs.Reading.{text_of_reading};
 ghost use Rattle.wfc_lines.specs.Render.{text_of_render};
+ghost use Rattle.wfc_lines.specs.Stacks.{text_of_stacks};
 ghost use Rattle.wfc_lines.specs.Steps.{text_of_range, text_of_steps};
 ghost use Rattle.wfc_lines.specs.Tiles.{text_of_tiles};
 ghost use Rattle.wfc_outside.specs.declared.whole.ReadFault.TheVariants as reads;
@@ -54,6 +57,8 @@ pub fn texts_of_commands_by_example()
     ensures mask { text_of_command (commands.Value names.Mask) ≡ codes "command value mask" }
     ensures seeds { text_of_command (commands.Value names.Seeds) ≡ codes "command value seeds" }
     ensures quantum { text_of_command (commands.Value names.Quantum) ≡ codes "command value quantum" }
+    ensures block { text_of_command (commands.Value names.Block) ≡ codes "command value block" }
+    ensures depth { text_of_command (commands.Value names.Depth) ≡ codes "command value DEPTH" }
     ensures race { text_of_race 2500 ≡ codes "race TooLarge product=2500" }
     ensures memory { text_of_command commands.NoMemory ≡ no_memory_text }
     ensures chooser { text_of_chooser rules.Ranked ≡ codes "chooser missing rule=ranked" }
@@ -153,4 +158,20 @@ pub fn texts_of_masks_by_example()
         ≡ codes "mask SizeDiffers width=2 height=1 file=m" }
     ensures symbol { text_of_mask (masks.BadSymbol 1 2) (codes "m") ≡ codes "mask BadSymbol line=1 column=2 file=m" }
     ensures holes { text_of_mask masks.AllHoles (codes "m") ≡ codes "mask AllHoles file=m" }
+{}
+
+/// The texts of documents whose stacks are at fault, by example.
+pub fn texts_of_stacks_by_example()
+    ensures array { text_of_stacks stacks.NotArray (codes "t") ≡ codes "stack NotArray file=t" }
+    ensures table { text_of_stacks (stacks.NotTable 2) (codes "t")
+        ≡ codes "stack NotTable stack=2 file=t" }
+    ensures missing { text_of_stacks (stacks.MissingKey 3 ends.Lower) (codes "t")
+        ≡ codes "stack MissingKey stack=3 key=lower file=t" }
+    ensures no_text { text_of_stacks (stacks.NotText 0 ends.Upper) (codes "t")
+        ≡ codes "stack NotText stack=0 key=upper file=t" }
+    ensures tile { text_of_stacks (stacks.UnknownTile 1) (codes "t")
+        ≡ codes "stack UnknownTile stack=1 file=t" }
+    ensures turn { text_of_stacks (stacks.BadTurn 0) (codes "t")
+        ≡ codes "stack BadTurn stack=0 file=t" }
+    ensures memory { text_of_stacks stacks.NoMemory (codes "t") ≡ no_memory_text }
 {}

@@ -39,6 +39,14 @@ pub fn numbered<E: Sink>(err: &mut E, text: &str, n: u32, file: &str) -> Result<
     ensures told { Puts (E.seen err.old) (E.seen err.new)
         (line (numbered_text text.now n file.now)) result }
 {
+    counted(err, text, u64::from(n), file)
+}
+
+/// The same with a longer number.
+pub(crate) fn counted<E: Sink>(err: &mut E, text: &str, n: u64, file: &str) -> Result<(), SinkFault>
+    ensures told { Puts (E.seen err.old) (E.seen err.new)
+        (line (numbered_text text.now n file.now)) result }
+{
     let mut buffer = Buffer::new();
     let number = buffer.format(n).as_bytes();
     put(

@@ -79,7 +79,7 @@ fn keyed_at_top<E: Sink>(err: &mut E, text: &str, key: &str, file: &str) -> Resu
 }
 
 /// Puts the line of a text that speaks of a key at a numbered place.
-fn keyed_at<'a, E: Sink>(
+pub(crate) fn keyed_at<'a, E: Sink>(
     err: &mut E,
     text: &'a str,
     kind: &'a str,
