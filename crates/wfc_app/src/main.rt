@@ -4,9 +4,9 @@
 ghost use Rattle.std.specs.Prelude.{◌≡◌, IfOk, IfErr};
 ghost use Rattle.std.specs.Process.{exit_status};
 ghost use Rattle.std.specs.IoError.{error_kind};
-ghost use Rattle.wfc_cli.specs.Answer.{IsAnswer};
-ghost use Rattle.wfc_cli.specs.Call.{call_of};
-ghost use Rattle.wfc_cli.specs.Reply.{Tells, said_of_words};
+ghost use Rattle.wfc_cli.specs.Delivery.{Tells, said_of_words};
+ghost use Rattle.wfc_cli.specs.Promises.{KeepsPromises};
+ghost use Rattle.wfc_reply.specs.Call.{call_of};
 ghost use Rattle.wfc_app.specs.Unread.{unread_fault};
 
 #[cfg(test)]
@@ -45,7 +45,7 @@ fn program<F: Folder, O: Sink, E: Sink>(
     out: &mut O,
     err: &mut E,
 ) -> ExitCode
-    ensures taken { IfOk words (λ words. IsAnswer (call_of (λ chooser. (told chooser).rule) choosers.items words.items
+    ensures promises { IfOk words (λ words. KeepsPromises (call_of (λ chooser. (told chooser).rule) choosers.items words.items
         F.seen folder.old folder.new O.seen out.old out.new E.seen err.old err.new (exit_status result))) }
     ensures unread_status { IfErr words
         (λ e. exit_status result ≡ (said_of_words (unread_fault (error_kind e))).status) }
@@ -61,16 +61,15 @@ fn program<F: Folder, O: Sink, E: Sink>(
 /// How many choosers of each kind there are: one for each runner of a race, and more.
 const CHOOSERS: u32 = 65;
 
-/// The choosers that the program hands in, of either kind as many.
-fn choosers(alloc: Global) -> Result<Vec<Box<dyn Chooser>>, NoMemory> {
-    let mut choosers: Vec<Box<dyn Chooser>> = Vec::new(alloc);
-    for _made in 0..CHOOSERS {
-        let scanline = Box::new(alloc, Scanning::scanline(alloc))?;
-        choosers.push(scanline)?;
-        let fewest = Box::new(alloc, Buckets::new(alloc))?;
-        choosers.push(fewest)?;
-    }
-    Ok(choosers)
+/// Puts two choosers behind the others.
+fn push_both(
+    choosers: &mut Vec<Box<dyn Chooser>>,
+    one: Box<dyn Chooser>,
+    other: Box<dyn Chooser>,
+) -> Result<(), NoMemory> {
+    choosers.push(one)?;
+    choosers.push(other)?;
+    Ok(())
 }
 
 fn main(rt: HostRuntime) -> ExitCode {
@@ -78,8 +77,17 @@ fn main(rt: HostRuntime) -> ExitCode {
     let mut folder = DiskFolder::new(&rt);
     let mut out = StdoutSink::new(rt.stdout());
     let mut err = StderrSink::new(rt.stderr());
-    let Ok(choosers) = choosers(alloc) else {
-        return ExitCode::from(refuse(&mut err, CommandFault::NoMemory));
-    };
+    let mut choosers: Vec<Box<dyn Chooser>> = Vec::new(alloc);
+    for _made in 0..CHOOSERS {
+        let Ok(scanline) = Box::new(alloc, Scanning::scanline(alloc)) else {
+            return ExitCode::from(refuse(&mut err, CommandFault::NoMemory));
+        };
+        let Ok(fewest) = Box::new(alloc, Buckets::new(alloc)) else {
+            return ExitCode::from(refuse(&mut err, CommandFault::NoMemory));
+        };
+        let Ok(()) = push_both(&mut choosers, scanline, fewest) else {
+            return ExitCode::from(refuse(&mut err, CommandFault::NoMemory));
+        };
+    }
     program(alloc, words(&rt), choosers, &mut folder, &mut out, &mut err)
 }

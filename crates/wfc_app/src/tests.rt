@@ -2,6 +2,7 @@
 
 ghost use Rattle.std.specs.Prelude.{◌≤◌};
 
+mod cores;
 mod devices;
 mod hostile;
 mod proofs;
@@ -16,7 +17,7 @@ use wfc_cli::run;
 use wfc_outside::{Folder, MemoryFolder, MemorySink};
 
 /// The files of the tests.
-const FILES: [(&str, &str); 34] = [
+const FILES: [(&str, &str); 36] = [
     ("chk.txt", "ab\nba\n"),
     ("a.txt", "a\n"),
     ("col.txt", "ab\ncd\nef\n"),
@@ -34,6 +35,8 @@ const FILES: [(&str, &str); 34] = [
     ("a.pins", "pin 0 0 a\n"),
     ("blue.pins", "pin 0 0 0,0,9\nban 1 0 0,0,9\n"),
     ("ab.pins", "pin 0 0 a\npin 0 0 b\n"),
+    ("core.pins", "pin 0 0 a\npin 0 0 b\npin 2 2 a\n"),
+    ("no.pins", "# no pin\n"),
     ("not_a.pins", "# none\n\nban 0 0 a\n"),
     ("last.pins", "ban 2 1 a\nban 2 0 a\n"),
     ("z.pins", "pin 0 0 z\n"),
@@ -115,7 +118,7 @@ fn words_of(alloc: Global, line: &str) -> Result<Vec<String>, AllocError> {
 /// A command line with its status, its answer and its line on the error stream.
 pub type Row = (&'static str, u8, &'static str, &'static str);
 
-/// The status of a command line over these devices, with a chooser of the least cell and one of the fewest values.
+/// The status of a command line over these devices, with 65 choosers of the least cell and as many of the fewest values.
 pub fn status_of<F: Folder>(
     alloc: Global,
     line: &str,
@@ -125,8 +128,10 @@ pub fn status_of<F: Folder>(
 ) -> Result<u8, AllocError> {
     let words = words_of(alloc, line)?;
     let mut choosers: Vec<Box<dyn Chooser>> = Vec::new(alloc);
-    choosers.push(Box::new(alloc, Scanning::scanline(alloc))?)?;
-    choosers.push(Box::new(alloc, Buckets::new(alloc))?)?;
+    for _ in 0..65 {
+        choosers.push(Box::new(alloc, Scanning::scanline(alloc))?)?;
+        choosers.push(Box::new(alloc, Buckets::new(alloc))?)?;
+    }
     Ok(run(alloc, &words, folder, out, err, choosers))
 }
 

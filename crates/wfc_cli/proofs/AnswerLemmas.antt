@@ -1,17 +1,18 @@
 -- What a call came to, by the command of its request.
-use Rattle.std.proofs.Common.{◌≡◌, inl, inr, List, Result, Ok, Err, subst, refl, arith}
+use Rattle.std.proofs.Common.{Err, List, Ok, Result, arith, inl, inr, refl, subst, ◌≡◌}
+use Rattle.wfc_cli.proofs.ToldLemmas.{IsToldCall, ToldReply, short, told, told_call}
+use Rattle.wfc_cli.specs.Answer.{IsAnswer}
+use Rattle.wfc_cli.specs.Commands.{Answers, asked_command, command_of, task_of}
+use Rattle.wfc_cli.specs.Delivery.{Delivers, said_of}
 use Rattle.wfc_outside.specs.Folder.{File}
+use Rattle.wfc_plan.specs.declared.fault.Fault.{Fault}
+use Rattle.wfc_reply.proofs.CallerLemmas.{CameTo, HasAnswered, answer_apart, cut, fault_apart, none, whole}
+use Rattle.wfc_reply.specs.Asking.{IsCommand}
+use Rattle.wfc_reply.specs.Call.{Call}
+use Rattle.wfc_reply.specs.Ends.{Replied}
+use Rattle.wfc_reply.specs.Reply.{Answered, HasAnswer, Reply}
 use Rattle.wfc_words.specs.RequestView.{RequestView}
 use Rattle.wfc_words.specs.declared.kinds.CommandKind.{CommandKind}
-use Rattle.wfc_task.specs.declared.fault.Fault.{Fault}
-use Rattle.wfc_cli.specs.Answer.{IsAnswer, Replied}
-use Rattle.wfc_cli.specs.Asking.{IsCommand}
-use Rattle.wfc_cli.specs.Call.{Call}
-use Rattle.wfc_cli.specs.Commands.{Answers, asked_command, command_of, task_of}
-use Rattle.wfc_cli.specs.Reply.{Answered, Delivers, HasAnswer, Reply, said_of}
-use Rattle.wfc_cli.proofs.CameLemmas.{CameTo, HasAnswered, cut, none, whole}
-use Rattle.wfc_cli.proofs.TheoremLemmas.{IsToldCall, ToldReply, short, told, told_call}
-use Rattle.wfc_cli.proofs.VerdictLemmas.{answer_apart, fault_apart}
 
 -- the answer of a call whose files are told
 pub answered_task : (call : Call) (asked : RequestView) (files : List File) (answered : Answered) → ToldReply call asked files (Ok answered) → HasAnswered (asked_command asked) call.rules asked files answered

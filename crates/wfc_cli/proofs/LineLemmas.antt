@@ -1,189 +1,43 @@
 -- What the error stream is told with each status.
-use Rattle.std.proofs.Common.{◌≡◌, ◌≢◌, ℕ, inl, inr, List, Option, Some, Result, Ok, Err, ap, sym, ◌∙◌, subst, refl, arith}
-use Rattle.wfc_outside.specs.Folder.{File}
-use Rattle.wfc_outside.specs.Sink.{SinkView}
-use Rattle.wfc_grid.specs.declared.reading.GridFault.{GridFault}
-use Rattle.wfc_ppm.specs.declared.reading.PpmFault.{PpmFault}
-use Rattle.wfc_picture.specs.declared.palette.PaletteFault.{PaletteFault}
-use Rattle.wfc_pattern.specs.declared.learning.LearnFault.{LearnFault}
-use Rattle.wfc_pins.specs.declared.pins.PinFault.{PinFault}
-use Rattle.wfc_pins.specs.declared.fault.BuildFault.{BuildFault}
-use Rattle.wfc_pins.specs.declared.steps.StepFault.{StepFault}
-use Rattle.wfc_tiled.specs.declared.reading.MaskFault.{MaskFault}
-use Rattle.wfc_tileset.specs.declared.fault.TileFault.{TileFault}
-use Rattle.wfc_lines.specs.Build.{text_of_build}
+use Rattle.std.proofs.Common.{Err, List, Ok, Option, Result, Some, ap, arith, inl, inr, refl, subst, sym, ℕ, ◌∙◌, ◌≡◌, ◌≢◌}
+use Rattle.wfc_cli.proofs.AnswerLemmas.{answered_task}
+use Rattle.wfc_cli.proofs.MemoryLemmas.{memory_text}
+use Rattle.wfc_cli.proofs.TheoremLemmas.{file_fault}
+use Rattle.wfc_cli.proofs.ToldLemmas.{FaultOf, command_between, cut_counted, fault_from, of_plan, of_task, refused_status, told_reply}
+use Rattle.wfc_cli.specs.Answer.{AnswersAsked, IsAnswer, IsAnswerTo, IsRefusedCall}
+use Rattle.wfc_cli.specs.Commands.{Answers, asked_command, command_of, plan_of}
+use Rattle.wfc_cli.specs.Delivery.{Delivers, IsTold, Tells, said_of}
+use Rattle.wfc_cli.specs.ErrorLine.{fault_text}
+use Rattle.wfc_cli.specs.LineClaims.{IsApartFromErr, TellsReason, TellsStatus, TellsWords, says_fault, says_file, says_no, says_out, says_short, says_spent}
 use Rattle.wfc_lines.specs.Check.{text_of_check}
 use Rattle.wfc_lines.specs.Command.{text_of_command}
-use Rattle.wfc_lines.specs.Grid.{text_of_grid}
-use Rattle.wfc_lines.specs.Learn.{text_of_learn}
-use Rattle.wfc_lines.specs.Mask.{text_of_mask, text_of_mask_grid}
 use Rattle.wfc_lines.specs.Outcome.{map_exists_text, no_domains_text, no_map_text, no_memory_text, out_failed_text, text_of_budget}
-use Rattle.wfc_lines.specs.Palette.{text_of_palette}
-use Rattle.wfc_lines.specs.Pins.{text_of_pins}
-use Rattle.wfc_lines.specs.Ppm.{text_of_ppm}
-use Rattle.wfc_lines.specs.Steps.{text_of_steps}
-use Rattle.wfc_lines.specs.Tiles.{text_of_tiles}
+use Rattle.wfc_map_commands.proofs.CallerLemmas.{demo_ends, domains_ends, fill_ends, learn_ends}
+use Rattle.wfc_outside.specs.Folder.{File}
+use Rattle.wfc_outside.specs.Sink.{SinkView}
+use Rattle.wfc_outside.specs.declared.whole.ReadFault.TheVariants as reads
+use Rattle.wfc_plan.proofs.CallerLemmas.{fault_between, goes_stopped}
+use Rattle.wfc_plan.specs.Fault.{status_of}
+use Rattle.wfc_plan.specs.Plan.{Goes}
+use Rattle.wfc_plan.specs.declared.fault.Fault.{Fault}
+use Rattle.wfc_plan.specs.declared.fault.Fault.TheVariants.{Unread}
+use Rattle.wfc_plan.specs.declared.fault.Source.TheVariants as source
+use Rattle.wfc_proof_commands.proofs.CallerLemmas.{check_ends, refute_ends, upgrade_ends}
+use Rattle.wfc_reply.proofs.CallerLemmas.{EndsSo, IsEnding, as_asked, as_no, as_spent}
+use Rattle.wfc_reply.specs.Asking.{IsGiven}
+use Rattle.wfc_reply.specs.Call.{Call, beside}
+use Rattle.wfc_reply.specs.Ends.{Ends}
+use Rattle.wfc_reply.specs.FileNames.{name_of}
+use Rattle.wfc_reply.specs.Reply.{IsNoStatus, Reply, verdict_status, verdict_text}
+use Rattle.wfc_reply.specs.declared.reply.Verdict.{Verdict}
+use Rattle.wfc_reply.specs.declared.reply.Verdict.TheVariants as verdict
+use Rattle.wfc_run_commands.proofs.CallerLemmas.{explain_ends, race_ends}
 use Rattle.wfc_words.specs.Request.{request_of}
 use Rattle.wfc_words.specs.RequestView.{RequestView}
 use Rattle.wfc_words.specs.declared.fault.CommandFault.{CommandFault}
-use Rattle.wfc_words.specs.declared.kinds.CommandKind.{CommandKind}
-use Rattle.wfc_task.specs.Fault.{build_class, class_status, colours_class, grid_class, learn_class, mask_class, pins_class, ppm_class, status_of, steps_class, tiles_class}
-use Rattle.wfc_task.specs.Plan.{Goes}
-use Rattle.wfc_task.specs.declared.fault.Fault.{Fault}
-use Rattle.wfc_task.specs.declared.fault.Fault.TheVariants.{Unread, Refused}
-use Rattle.wfc_task.specs.declared.fault.Source.{Source}
-use Rattle.wfc_cli.specs.Answer.{AnswersAsked, Ends, IsAnswer, IsAnswerTo, IsRefusedCall}
-use Rattle.wfc_cli.specs.ErrorLine.{fault_text, grid_text, name_of, unread_text}
-use Rattle.wfc_cli.specs.LineClaims.{IsApartFromErr, TellsReason, TellsStatus, TellsWords, says_fault, says_file, says_no, says_out, says_short, says_spent}
-use Rattle.wfc_cli.specs.Reply.{Delivers, IsTold, Reply, Tells, said_of, verdict_status, verdict_text}
-use Rattle.wfc_cli.specs.Asking.{IsGiven}
-use Rattle.wfc_cli.specs.declared.reply.Verdict.{Verdict}
-use Rattle.wfc_cli.proofs.AnswerLemmas.{answered_task}
-use Rattle.wfc_cli.proofs.ReachLemmas.{goes_stopped}
-use Rattle.wfc_cli.proofs.TheoremLemmas.{FaultOf, command_between, cut_counted, fault_from, file_fault, of_plan, of_task, refused_status, told_reply}
-use Rattle.wfc_cli.specs.Call.{Call, beside}
-use Rattle.wfc_cli.specs.Commands.{Answers, asked_command, command_of, plan_of}
-use Rattle.wfc_cli.proofs.VerdictLemmas.{fault_between}
-use Rattle.wfc_cli.proofs.EndingLemmas.{EndsSo, IsEnding, as_asked, as_no, as_spent}
-use Rattle.wfc_cli.proofs.LearnPromiseLemmas.{learn_ends}
-use Rattle.wfc_cli.proofs.FillPromiseLemmas.{fill_ends}
-use Rattle.wfc_cli.proofs.DomainsPromiseLemmas.{domains_ends}
-use Rattle.wfc_cli.proofs.DemoPromiseLemmas.{demo_ends}
-use Rattle.wfc_cli.proofs.RefuteLemmas.{refute_ends}
-use Rattle.wfc_cli.proofs.CheckLemmas.{check_ends}
-use Rattle.wfc_cli.proofs.RacePromiseLemmas.{race_ends}
-use Rattle.wfc_cli.proofs.UpgradeLemmas.{upgrade_ends}
-use Rattle.wfc_outside.specs.declared.whole.ReadFault.TheVariants as reads
-use Rattle.wfc_grid.specs.declared.reading.GridFault.TheVariants as grids
-use Rattle.wfc_ppm.specs.declared.reading.PpmFault.TheVariants as ppms
-use Rattle.wfc_picture.specs.declared.palette.PaletteFault.TheVariants as palettes
-use Rattle.wfc_pattern.specs.declared.learning.LearnFault.TheVariants as learning
-use Rattle.wfc_pins.specs.declared.pins.PinFault.TheVariants as pins
-use Rattle.wfc_pins.specs.declared.fault.BuildFault.TheVariants as builds
-use Rattle.wfc_pins.specs.declared.steps.StepFault.TheVariants as steps
-use Rattle.wfc_tiled.specs.declared.reading.MaskFault.TheVariants as masks
-use Rattle.wfc_tileset.specs.declared.fault.TileFault.TheVariants as tiles
 use Rattle.wfc_words.specs.declared.fault.CommandFault.TheVariants as words_fault
+use Rattle.wfc_words.specs.declared.kinds.CommandKind.{CommandKind}
 use Rattle.wfc_words.specs.declared.kinds.CommandKind.TheVariants as commands
-use Rattle.wfc_task.specs.declared.fault.Refusal.TheVariants as refused
-use Rattle.wfc_task.specs.declared.fault.Source.TheVariants as source
-use Rattle.wfc_cli.specs.declared.reply.Verdict.TheVariants as verdict
-
--- ---- want of memory has one line
-
-grid_memory : (fault : GridFault) (file : List ℕ) → class_status (grid_class fault) ≡ 6 → text_of_grid fault file ≡ no_memory_text
-grid_memory grids.NoMemory file six = refl
-grid_memory grids.Empty file six = absurd (omega (arith, six))
-grid_memory (grids.Ragged line) file six = absurd (omega (arith, six))
-grid_memory (grids.BadByte line column) file six = absurd (omega (arith, six))
-grid_memory grids.TooLarge file six = absurd (omega (arith, six))
-
-mask_grid_memory : (fault : GridFault) (file : List ℕ) → class_status (grid_class fault) ≡ 6 → text_of_mask_grid fault file ≡ no_memory_text
-mask_grid_memory grids.NoMemory file six = refl
-mask_grid_memory grids.Empty file six = absurd (omega (arith, six))
-mask_grid_memory (grids.Ragged line) file six = absurd (omega (arith, six))
-mask_grid_memory (grids.BadByte line column) file six = absurd (omega (arith, six))
-mask_grid_memory grids.TooLarge file six = absurd (omega (arith, six))
-
-ppm_memory : (fault : PpmFault) (file : List ℕ) → class_status (ppm_class fault) ≡ 6 → text_of_ppm fault file ≡ no_memory_text
-ppm_memory ppms.NoMemory file six = refl
-ppm_memory ppms.Magic file six = absurd (omega (arith, six))
-ppm_memory (ppms.Header at) file six = absurd (omega (arith, six))
-ppm_memory (ppms.Maxval value) file six = absurd (omega (arith, six))
-ppm_memory ppms.TooLarge file six = absurd (omega (arith, six))
-ppm_memory (ppms.Truncated wanted found) file six = absurd (omega (arith, six))
-ppm_memory (ppms.SampleAboveMaxval at) file six = absurd (omega (arith, six))
-ppm_memory (ppms.BadSample at) file six = absurd (omega (arith, six))
-ppm_memory (ppms.Trailing at) file six = absurd (omega (arith, six))
-
-palette_memory : (fault : PaletteFault) (file : List ℕ) → class_status (colours_class fault) ≡ 6 → text_of_palette fault file ≡ no_memory_text
-palette_memory palettes.NoMemory file six = refl
-palette_memory (palettes.TooManyColours at) file six = absurd (omega (arith, six))
-
-learn_memory : (fault : LearnFault) (file : List ℕ) → class_status (learn_class fault) ≡ 6 → text_of_learn fault file ≡ no_memory_text
-learn_memory learning.NoMemory file six = refl
-learn_memory learning.SampleBelowN file six = absurd (omega (arith, six))
-learn_memory (learning.TooManyPatterns count) file six = absurd (omega (arith, six))
-
-pins_memory : (fault : PinFault) (file : List ℕ) → class_status (pins_class fault) ≡ 6 → text_of_pins fault file ≡ no_memory_text
-pins_memory pins.NoMemory file six = refl
-pins_memory (pins.BadLine line) file six = absurd (omega (arith, six))
-
-build_memory : (fault : BuildFault) (file : List ℕ) → class_status (build_class fault) ≡ 6 → text_of_build fault file ≡ no_memory_text
-build_memory builds.NoMemory file six = refl
-build_memory builds.SizeBelowN file six = absurd (omega (arith, six))
-build_memory (builds.PinOutside line) file six = absurd (omega (arith, six))
-build_memory (builds.UnknownSymbol line) file six = absurd (omega (arith, six))
-build_memory (builds.TooLarge product) file six = absurd (omega (arith, six))
-build_memory (builds.PinInHole line) file six = absurd (omega (arith, six))
-
-steps_memory : (fault : StepFault) (file : List ℕ) → class_status (steps_class fault) ≡ 6 → text_of_steps fault file ≡ no_memory_text
-steps_memory steps.NoMemory file six = refl
-steps_memory (steps.BadLine line) file six = absurd (omega (arith, six))
-steps_memory (steps.NothingToUndo line) file six = absurd (omega (arith, six))
-
-tiles_memory : (fault : TileFault) (file : List ℕ) → class_status (tiles_class fault) ≡ 6 → text_of_tiles fault file ≡ no_memory_text
-tiles_memory tiles.NoMemory file six = refl
-tiles_memory tiles.Toml file six = absurd (omega (arith, six))
-tiles_memory tiles.NoTiles file six = absurd (omega (arith, six))
-tiles_memory (tiles.MissingKey place key) file six = absurd (omega (arith, six))
-tiles_memory (tiles.WrongKind place key) file six = absurd (omega (arith, six))
-tiles_memory (tiles.BadClass tile) file six = absurd (omega (arith, six))
-tiles_memory (tiles.BadWeight tile) file six = absurd (omega (arith, six))
-tiles_memory (tiles.BadPicture tile) file six = absurd (omega (arith, six))
-tiles_memory (tiles.SizeDiffers tile) file six = absurd (omega (arith, six))
-tiles_memory (tiles.DoubleName tile) file six = absurd (omega (arith, six))
-tiles_memory (tiles.UnknownTile pair) file six = absurd (omega (arith, six))
-tiles_memory (tiles.BadTurn pair) file six = absurd (omega (arith, six))
-tiles_memory (tiles.TooManyVariants count) file six = absurd (omega (arith, six))
-tiles_memory (tiles.Missing tile) file six = absurd (omega (arith, six))
-tiles_memory (tiles.Failed tile) file six = absurd (omega (arith, six))
-tiles_memory (tiles.MixedKinds tile) file six = absurd (omega (arith, six))
-tiles_memory (tiles.BadName tile) file six = absurd (omega (arith, six))
-
-mask_memory : (fault : MaskFault) (file : List ℕ) → class_status (mask_class fault) ≡ 6 → text_of_mask fault file ≡ no_memory_text
-mask_memory masks.NoMemory file six = refl
-mask_memory (masks.SizeDiffers width height) file six = absurd (omega (arith, six))
-mask_memory (masks.BadSymbol line column) file six = absurd (omega (arith, six))
-mask_memory masks.AllHoles file six = absurd (omega (arith, six))
-
-reading_memory : (which : Source) (file : List ℕ) → unread_text which reads.NoMemory file ≡ no_memory_text
-reading_memory source.Sample file = refl
-reading_memory source.Pins file = refl
-reading_memory source.Steps file = refl
-reading_memory source.Refutation file = refl
-reading_memory (source.Picture tile) file = refl
-reading_memory source.Mask file = refl
-
-any_grid_memory : (which : Source) (fault : GridFault) (file : List ℕ) → class_status (grid_class fault) ≡ 6 → grid_text which fault file ≡ no_memory_text
-any_grid_memory source.Sample fault file six = grid_memory fault file six
-any_grid_memory source.Pins fault file six = grid_memory fault file six
-any_grid_memory source.Steps fault file six = grid_memory fault file six
-any_grid_memory source.Refutation fault file six = grid_memory fault file six
-any_grid_memory (source.Picture tile) fault file six = grid_memory fault file six
-any_grid_memory source.Mask fault file six = mask_grid_memory fault file six
-
--- a fault with the status of want of memory has its text
-memory_text : (asked : RequestView) (fault : Fault) → status_of fault ≡ 6 → fault_text asked fault ≡ no_memory_text
-memory_text asked (Unread which reads.NoMemory) six = reading_memory which (name_of asked which)
-memory_text asked (Unread which reads.Missing) six = absurd (omega (arith, six))
-memory_text asked (Unread which reads.Failed) six = absurd (omega (arith, six))
-memory_text asked (Unread which reads.TooLong) six = absurd (omega (arith, six))
-memory_text asked (Refused (refused.Chooser rule)) six = absurd (omega (arith, six))
-memory_text asked (Refused (refused.Grid which fault)) six = any_grid_memory which fault (name_of asked which) six
-memory_text asked (Refused (refused.Ppm which fault)) six = ppm_memory fault (name_of asked which) six
-memory_text asked (Refused (refused.Colours fault)) six = palette_memory fault asked.file six
-memory_text asked (Refused (refused.Learn fault)) six = learn_memory fault asked.file six
-memory_text asked (Refused (refused.Render fault)) six = absurd (omega (arith, six))
-memory_text asked (Refused (refused.Pins fault)) six = pins_memory fault (name_of asked source.Pins) six
-memory_text asked (Refused (refused.Build fault)) six = build_memory fault (name_of asked source.Pins) six
-memory_text asked (Refused (refused.Steps fault)) six = steps_memory fault (name_of asked source.Steps) six
-memory_text asked (Refused (refused.Range fault)) six = absurd (omega (arith, six))
-memory_text asked (Refused (refused.TooLong which)) six = absurd (omega (arith, six))
-memory_text asked (Refused refused.NoMemory) six = refl
-memory_text asked (Refused (refused.Tiles fault)) six = tiles_memory fault asked.file six
-memory_text asked (Refused (refused.Mask fault)) six = mask_memory fault (name_of asked source.Mask) six
-memory_text asked (Refused (refused.RaceTooLarge product)) six = absurd (omega (arith, six))
 
 -- ---- how each command ends
 
@@ -196,6 +50,7 @@ ends_so commands.Refute = refute_ends
 ends_so commands.Check = check_ends
 ends_so commands.Upgrade = upgrade_ends
 ends_so commands.Race = race_ends
+ends_so commands.Explain = explain_ends
 
 -- ---- the line of each status
 
@@ -273,11 +128,11 @@ tells_status call answer = record {
     by_words asked files (inr told) = (no_memory_text, says_short told.0 refl, told.1)
 
     -- a verdict
-    by_ending : (asked : RequestView) (files : List File) (said : Verdict) → call.status ≢ 0 → call.status ≡ verdict_status said → Tells (verdict_text asked said) call.before.err call.after.err → IsEnding (asked_command asked) asked files said
+    by_ending : (asked : RequestView) (files : List File) (said : Verdict) → call.status ≢ 0 → call.status ≡ verdict_status said → Tells (verdict_text asked said) call.before.err call.after.err → IsEnding (asked_command asked) call.rules asked files said
         → TellsReason call asked files
     by_ending asked files said some same told (as_asked is) = absurd (some (same ∙ ap verdict_status is))
     by_ending asked files said some same told (as_no text is one denied) =
-        (text, says_no (same ∙ one) denied, subst (λ (t : Option (List ℕ)). Tells t call.before.err call.after.err) is told)
+        (text, says_no (subst IsNoStatus (sym same) one) denied, subst (λ (t : Option (List ℕ)). Tells t call.before.err call.after.err) is told)
     by_ending asked files said some same told (as_spent is) =
         (text_of_budget ((asked_command asked).budget asked), says_spent (same ∙ ap verdict_status is) refl, subst (λ v. Tells (verdict_text asked v) call.before.err call.after.err) is told)
 

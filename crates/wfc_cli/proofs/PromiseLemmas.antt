@@ -1,84 +1,35 @@
--- What a call promises of a request for each command.
-use Rattle.wfc_cli.specs.Answer.{IsAnswer}
-use Rattle.wfc_cli.specs.Call.{Call}
-use Rattle.wfc_cli.specs.CheckClaims.{CheckPromises}
-use Rattle.wfc_cli.specs.DemoClaims.{DemoPromises}
-use Rattle.wfc_cli.specs.DomainsClaims.{DomainsPromises}
-use Rattle.wfc_cli.specs.FillClaims.{FillPromises}
-use Rattle.wfc_cli.specs.LearnClaims.{LearnPromises}
-use Rattle.wfc_cli.specs.RaceClaims.{RacePromises}
-use Rattle.wfc_cli.specs.RefuteClaims.{RefutePromises}
-use Rattle.wfc_cli.specs.UpgradeClaims.{UpgradePromises}
-use Rattle.wfc_cli.proofs.CheckLemmas.{check_cut, checks_refutation}
-use Rattle.wfc_cli.proofs.DemoLemmas.{ends_demo}
-use Rattle.wfc_cli.proofs.DemoPromiseLemmas.{demo_cut, writes_demo}
-use Rattle.wfc_cli.proofs.DomainsPromiseLemmas.{domains_cut, writes_domains}
-use Rattle.wfc_cli.proofs.FillPromiseLemmas.{has_no_map, is_as_run, is_never_spent, writes_front, writes_legal}
-use Rattle.wfc_cli.proofs.LearnPromiseLemmas.{learn_cut, writes_learned}
-use Rattle.wfc_cli.proofs.RacePromiseLemmas.{has_no_raced_map, has_raced_map, is_as_race, is_as_runner, is_never_all_spent, race_cut}
-use Rattle.wfc_cli.proofs.RefuteLemmas.{writes_refutation, writes_run_front}
-use Rattle.wfc_cli.proofs.UpgradeLemmas.{upgrades_front, upgrades_refutation}
-use Rattle.wfc_words.specs.declared.kinds.CommandKind.TheVariants as commands
+-- What a call that is an answer promises.
 use Rattle.wfc_cli.proofs.AnswerLemmas.{came_to}
+use Rattle.wfc_cli.proofs.LineLemmas.{is_apart_from_err, tells_status}
+use Rattle.wfc_cli.proofs.TheoremLemmas.{first_fault_decides, has_first_fault, is_device_fault, is_no_command, keeps_counts, keeps_out, no_command_is_3, task_is_answered}
+use Rattle.wfc_cli.specs.Answer.{IsAnswer}
+use Rattle.wfc_cli.specs.Promises.{KeepsPromises}
+use Rattle.wfc_map_commands.proofs.CallerLemmas.{demo_promise, domains_promise, fill_promise, learn_promise}
+use Rattle.wfc_proof_commands.proofs.CallerLemmas.{check_promise, refute_promise, upgrade_promise}
+use Rattle.wfc_reply.specs.Call.{Call}
+use Rattle.wfc_run_commands.proofs.CallerLemmas.{explain_promise, race_promise}
+use Rattle.wfc_words.specs.declared.kinds.CommandKind.TheVariants as commands
 
--- `fill`
-pub fill_promises : (call : Call) → IsAnswer call → FillPromises call
-fill_promises call answer asked files is =
-    let came = came_to commands.Fill call answer asked files is in record {
-      legal = writes_legal call asked files is came;
-      front = writes_front call asked files is came;
-      no_map = has_no_map call asked files is came;
-      as_run = is_as_run call asked files is came;
-      never_spent = is_never_spent call asked files is came;
-    }
-
--- `learn`
-pub learn_promises : (call : Call) → IsAnswer call → LearnPromises call
-learn_promises call answer asked files is =
-    let came = came_to commands.Learn call answer asked files is in
-    record { written = writes_learned call asked files is came; cut = learn_cut call asked files is came }
-
--- `domains`
-pub domains_promises : (call : Call) → IsAnswer call → DomainsPromises call
-domains_promises call answer asked files is =
-    let came = came_to commands.Domains call answer asked files is in
-    record { written = writes_domains call asked files is came; cut = domains_cut call asked files is came }
-
--- `demo`
-pub demo_promises : (call : Call) → IsAnswer call → DemoPromises call
-demo_promises call answer asked files is =
-    let came = came_to commands.Demo call answer asked files is in record {
-      written = writes_demo call asked files is came;
-      ends = ends_demo call asked files is came;
-      cut = demo_cut call asked files is came;
-    }
-
--- `refute`
-pub refute_promises : (call : Call) → IsAnswer call → RefutePromises call
-refute_promises call answer asked files is =
-    let came = came_to commands.Refute call answer asked files is in
-    record { written = writes_refutation call asked files is came; front = writes_run_front call asked files is came }
-
--- `check`
-pub check_promises : (call : Call) → IsAnswer call → CheckPromises call
-check_promises call answer asked files is =
-    let came = came_to commands.Check call answer asked files is in
-    record { checked = checks_refutation call asked files is came; cut = check_cut call asked files is came }
-
--- `upgrade`
-pub upgrade_promises : (call : Call) → IsAnswer call → UpgradePromises call
-upgrade_promises call answer asked files is =
-    let came = came_to commands.Upgrade call answer asked files is in
-    record { written = upgrades_refutation call asked files is came; front = upgrades_front call asked files is came }
-
--- `race`
-pub race_promises : (call : Call) → IsAnswer call → RacePromises call
-race_promises call answer asked files is =
-    let came = came_to commands.Race call answer asked files is in record {
-      as_race = is_as_race call asked files came;
-      as_runner = is_as_runner call asked files is;
-      legal = has_raced_map call asked files is came;
-      no_map = has_no_raced_map call asked files is came;
-      never_spent = is_never_all_spent call asked files is came;
-      cut = race_cut call asked files is came;
-    }
+pub keeps_promises : (call : Call) → IsAnswer call → KeepsPromises call
+keeps_promises call answer = record {
+  answer = answer;
+  command = is_no_command call answer;
+  refused_command = no_command_is_3 call answer;
+  input = has_first_fault call answer;
+  device = is_device_fault call answer;
+  counts = keeps_counts call answer;
+  untouched = keeps_out call answer;
+  told = tells_status call answer;
+  apart = is_apart_from_err call answer;
+  refused = first_fault_decides call answer;
+  complete = task_is_answered call answer;
+  learn = λ asked files is. learn_promise call asked files is (came_to commands.Learn call answer asked files is);
+  fill = λ asked files is. fill_promise call asked files is (came_to commands.Fill call answer asked files is);
+  domains = λ asked files is. domains_promise call asked files is (came_to commands.Domains call answer asked files is);
+  demo = λ asked files is. demo_promise call asked files is (came_to commands.Demo call answer asked files is);
+  refute = λ asked files is. refute_promise call asked files is (came_to commands.Refute call answer asked files is);
+  check = λ asked files is. check_promise call asked files is (came_to commands.Check call answer asked files is);
+  upgrade = λ asked files is. upgrade_promise call asked files is (came_to commands.Upgrade call answer asked files is);
+  race = λ asked files is. race_promise call asked files is (came_to commands.Race call answer asked files is);
+  explain = λ asked files is. explain_promise call asked files is (came_to commands.Explain call answer asked files is);
+}

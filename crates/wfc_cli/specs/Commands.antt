@@ -1,23 +1,24 @@
 -- The commands.
 use Rattle.std.specs.Prelude.{List, Result}
-use Rattle.wfc_outside.specs.Folder.{File}
 use Rattle.wfc_choose.specs.Pick.{Rule}
+use Rattle.wfc_map_commands.specs.DemoCommand.{demo_command}
+use Rattle.wfc_map_commands.specs.DomainsCommand.{domains_command}
+use Rattle.wfc_map_commands.specs.FillCommand.{fill_command}
+use Rattle.wfc_map_commands.specs.LearnCommand.{learn_command}
+use Rattle.wfc_outside.specs.Folder.{File}
+use Rattle.wfc_plan.specs.Plan.{Plan, outcome}
+use Rattle.wfc_plan.specs.declared.fault.Fault.{Fault}
+use Rattle.wfc_proof_commands.specs.CheckCommand.{check_command}
+use Rattle.wfc_proof_commands.specs.RefuteCommand.{refute_command}
+use Rattle.wfc_proof_commands.specs.UpgradeCommand.{upgrade_command}
+use Rattle.wfc_reply.specs.Choosers.{kinds_of}
+use Rattle.wfc_reply.specs.Command.{Command}
+use Rattle.wfc_reply.specs.Reply.{Answered}
+use Rattle.wfc_run_commands.specs.ExplainCommand.{explain_command}
+use Rattle.wfc_run_commands.specs.RaceCommand.{race_command}
 use Rattle.wfc_words.specs.RequestView.{RequestView}
 use Rattle.wfc_words.specs.declared.kinds.CommandKind.{CommandKind}
 use Rattle.wfc_words.specs.declared.kinds.CommandKind.TheVariants as commands
-use Rattle.wfc_task.specs.Plan.{Plan, outcome}
-use Rattle.wfc_task.specs.declared.fault.Fault.{Fault}
-use Rattle.wfc_cli.specs.Choosers.{kinds_of}
-use Rattle.wfc_cli.specs.Command.{Command}
-use Rattle.wfc_cli.specs.Reply.{Answered}
-use Rattle.wfc_cli.specs.LearnCommand.{learn_command}
-use Rattle.wfc_cli.specs.FillCommand.{fill_command}
-use Rattle.wfc_cli.specs.DomainsCommand.{domains_command}
-use Rattle.wfc_cli.specs.DemoCommand.{demo_command}
-use Rattle.wfc_cli.specs.RefuteCommand.{refute_command}
-use Rattle.wfc_cli.specs.CheckCommand.{check_command}
-use Rattle.wfc_cli.specs.UpgradeCommand.{upgrade_command}
-use Rattle.wfc_cli.specs.RaceCommand.{race_command}
 
 -- the command of each kind
 abbrev pub command_of : CommandKind → Command
@@ -29,6 +30,7 @@ command_of commands.Refute = refute_command
 command_of commands.Check = check_command
 command_of commands.Upgrade = upgrade_command
 command_of commands.Race = race_command
+command_of commands.Explain = explain_command
 
 -- the command of a request
 abbrev pub asked_command : RequestView → Command

@@ -1,8 +1,6 @@
 -- The text of the line of a fault: which kind of line it is, and the file that it names.
-use Rattle.std.specs.Prelude.{ℕ, List, [], unwrap_or}
+use Rattle.std.specs.Prelude.{List, ℕ}
 use Rattle.wfc_grid.specs.declared.reading.GridFault.{GridFault}
-use Rattle.wfc_outside.specs.declared.whole.ReadFault.{ReadFault}
-use Rattle.wfc_outside.specs.declared.whole.ReadFault.TheVariants as reads
 use Rattle.wfc_lines.specs.Build.{text_of_build}
 use Rattle.wfc_lines.specs.Command.{text_of_chooser}
 use Rattle.wfc_lines.specs.Grid.{text_of_grid}
@@ -12,30 +10,26 @@ use Rattle.wfc_lines.specs.Outcome.{no_memory_text}
 use Rattle.wfc_lines.specs.Palette.{text_of_palette}
 use Rattle.wfc_lines.specs.Pins.{text_of_pins}
 use Rattle.wfc_lines.specs.Ppm.{text_of_ppm}
+use Rattle.wfc_lines.specs.Explain.{text_of_many_pins}
 use Rattle.wfc_lines.specs.Race.{text_of_race}
 use Rattle.wfc_lines.specs.Reading.{text_of_reading}
 use Rattle.wfc_lines.specs.Render.{text_of_render}
+use Rattle.wfc_lines.specs.Stacks.{text_of_stacks}
 use Rattle.wfc_lines.specs.Steps.{text_of_range, text_of_steps}
 use Rattle.wfc_lines.specs.Tiles.{text_of_tiles}
+use Rattle.wfc_outside.specs.declared.whole.ReadFault.{ReadFault}
+use Rattle.wfc_outside.specs.declared.whole.ReadFault.TheVariants as reads
+use Rattle.wfc_plan.specs.declared.fault.Fault.{Fault}
+use Rattle.wfc_plan.specs.declared.fault.Fault.TheVariants.{Refused, Unread}
+use Rattle.wfc_plan.specs.declared.fault.Refusal.{Refusal}
+use Rattle.wfc_plan.specs.declared.fault.Refusal.TheVariants as refused
+use Rattle.wfc_plan.specs.declared.fault.Source.{Source}
+use Rattle.wfc_plan.specs.declared.fault.Source.TheVariants as source
+use Rattle.wfc_reply.specs.FileNames.{name_of}
 use Rattle.wfc_tileset.specs.declared.fault.TileFault.TheVariants as tiles
 use Rattle.wfc_words.specs.RequestView.{RequestView}
 use Rattle.wfc_words.specs.declared.fault.CommandFault.{CommandFault}
 use Rattle.wfc_words.specs.declared.fault.CommandFault.TheVariants as words
-use Rattle.wfc_task.specs.declared.fault.Refusal.{Refusal}
-use Rattle.wfc_task.specs.declared.fault.Refusal.TheVariants as refused
-use Rattle.wfc_task.specs.declared.fault.Fault.{Fault}
-use Rattle.wfc_task.specs.declared.fault.Fault.TheVariants.{Unread, Refused}
-use Rattle.wfc_task.specs.declared.fault.Source.{Source}
-use Rattle.wfc_task.specs.declared.fault.Source.TheVariants as source
-
--- the name of a file by what it is to the command
-abbrev pub name_of : RequestView → Source → List ℕ
-name_of asked source.Sample = asked.file
-name_of asked source.Pins = unwrap_or asked.pins []
-name_of asked source.Steps = unwrap_or asked.steps []
-name_of asked source.Refutation = unwrap_or asked.refutation []
-name_of asked (source.Picture tile) = asked.file
-name_of asked source.Mask = unwrap_or asked.mask []
 
 -- the exit status of words that were read as no request
 abbrev pub command_status : CommandFault → ℕ
@@ -75,7 +69,9 @@ refusal_text asked (refused.TooLong which) = text_of_reading reads.TooLong (name
 refusal_text asked refused.NoMemory = no_memory_text
 refusal_text asked (refused.Tiles fault) = text_of_tiles fault (name_of asked source.Sample)
 refusal_text asked (refused.Mask fault) = text_of_mask fault (name_of asked source.Mask)
+refusal_text asked (refused.Stacks fault) = text_of_stacks fault (name_of asked source.Sample)
 refusal_text asked (refused.RaceTooLarge product) = text_of_race product
+refusal_text asked (refused.TooManyPins count) = text_of_many_pins count (name_of asked source.Pins)
 
 -- the text of a fault; a file is named as the words do
 abbrev pub fault_text : RequestView → Fault → List ℕ

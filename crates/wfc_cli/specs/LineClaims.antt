@@ -1,29 +1,30 @@
 -- What the error stream is told with each status, and that nothing else depends on that stream.
-use Rattle.std.specs.Prelude.{◌≡◌, ◌≢◌, ℕ, ◌⊎◌, List, Option, Err}
+use Rattle.std.specs.Prelude.{Err, List, Option, ℕ, ◌≡◌, ◌≢◌, ◌⊎◌}
+use Rattle.wfc_cli.specs.Answer.{IsAnswer}
+use Rattle.wfc_cli.specs.Commands.{asked_command, task_of}
+use Rattle.wfc_cli.specs.Delivery.{IsTold, Tells}
+use Rattle.wfc_cli.specs.ErrorLine.{command_status, fault_text}
+use Rattle.wfc_cli.specs.Theorem.{IsFileFault}
+use Rattle.wfc_lines.specs.Command.{text_of_command}
+use Rattle.wfc_lines.specs.Outcome.{no_memory_text, out_failed_text, text_of_budget}
 use Rattle.wfc_outside.specs.Count.{HasRisen}
 use Rattle.wfc_outside.specs.Folder.{File}
 use Rattle.wfc_outside.specs.Sink.{SinkView}
-use Rattle.wfc_lines.specs.Command.{text_of_command}
-use Rattle.wfc_lines.specs.Outcome.{no_memory_text, out_failed_text, text_of_budget}
+use Rattle.wfc_plan.specs.Fault.{status_of}
+use Rattle.wfc_plan.specs.declared.fault.Fault.{Fault}
+use Rattle.wfc_plan.specs.declared.fault.Fault.TheVariants.{Unread}
+use Rattle.wfc_reply.specs.Asking.{IsGiven}
+use Rattle.wfc_reply.specs.Call.{Call, beside}
+use Rattle.wfc_reply.specs.Reply.{IsNoStatus}
 use Rattle.wfc_words.specs.Request.{request_of}
 use Rattle.wfc_words.specs.RequestView.{RequestView}
 use Rattle.wfc_words.specs.declared.fault.CommandFault.{CommandFault}
-use Rattle.wfc_task.specs.Fault.{status_of}
-use Rattle.wfc_task.specs.declared.fault.Fault.{Fault}
-use Rattle.wfc_task.specs.declared.fault.Fault.TheVariants.{Unread}
-use Rattle.wfc_cli.specs.Answer.{IsAnswer}
-use Rattle.wfc_cli.specs.Call.{Call, beside}
-use Rattle.wfc_cli.specs.Commands.{asked_command, task_of}
-use Rattle.wfc_cli.specs.ErrorLine.{command_status, fault_text}
-use Rattle.wfc_cli.specs.Reply.{IsTold, Tells}
-use Rattle.wfc_cli.specs.Asking.{IsGiven}
-use Rattle.wfc_cli.specs.Theorem.{IsFileFault}
 
 -- why a call ends with its status, and the text of the line that says so: the answer is no, the
 -- budget is spent, the request has a first fault, a file can't be read, the sink of the answer
 -- failed, or memory ran out
 pub data IsReason (call : Call) (asked : RequestView) (files : List File) (text : List ℕ) : Type 0 where
-  says_no : call.status ≡ 1 → (asked_command asked).IsNo asked files text → IsReason call asked files text
+  says_no : IsNoStatus call.status → (asked_command asked).IsNo call.rules asked files text → IsReason call asked files text
   says_spent : call.status ≡ 2 → text ≡ text_of_budget ((asked_command asked).budget asked)
       → IsReason call asked files text
   says_fault : (fault : Fault) → task_of call.rules asked files ≡ Err fault → call.status ≡ status_of fault

@@ -1,21 +1,22 @@
 -- The words of the main theorem on a call of the program.
-use Rattle.std.specs.Prelude.{◌≡◌, ◌≢◌, ℕ, ◌⊎◌, List, Some, Ok, Err, IsErr}
+use Rattle.std.specs.Prelude.{Err, IsErr, List, Ok, Some, ℕ, ◌≡◌, ◌≢◌, ◌⊎◌}
+use Rattle.wfc_cli.specs.Commands.{Answers, asked_command, plan_of, task_of}
+use Rattle.wfc_cli.specs.Delivery.{IsDelivered, said_of}
 use Rattle.wfc_outside.specs.Count.{HasRisen}
 use Rattle.wfc_outside.specs.Folder.{File, IsFaultOf}
 use Rattle.wfc_outside.specs.declared.whole.ReadFault.{ReadFault}
 use Rattle.wfc_outside.specs.declared.whole.ReadFault.TheVariants as reading
+use Rattle.wfc_plan.specs.Fault.{status_of}
+use Rattle.wfc_plan.specs.Reaching.{IsDeviceCause, Reaches}
+use Rattle.wfc_plan.specs.declared.fault.Fault.{Fault}
+use Rattle.wfc_plan.specs.declared.fault.Fault.TheVariants.{Unread}
+use Rattle.wfc_plan.specs.declared.fault.Source.{Source}
+use Rattle.wfc_reply.specs.Asking.{IsGiven}
+use Rattle.wfc_reply.specs.Call.{Call}
+use Rattle.wfc_reply.specs.Ends.{Replies}
+use Rattle.wfc_reply.specs.Reply.{Answered}
 use Rattle.wfc_words.specs.Request.{request_of}
 use Rattle.wfc_words.specs.RequestView.{RequestView}
-use Rattle.wfc_task.specs.Fault.{status_of}
-use Rattle.wfc_task.specs.declared.fault.Fault.{Fault}
-use Rattle.wfc_task.specs.declared.fault.Fault.TheVariants.{Unread}
-use Rattle.wfc_task.specs.declared.fault.Source.{Source}
-use Rattle.wfc_cli.specs.Answer.{Replies}
-use Rattle.wfc_cli.specs.Asking.{IsGiven}
-use Rattle.wfc_cli.specs.Call.{Call}
-use Rattle.wfc_cli.specs.Commands.{Answers, asked_command, plan_of, task_of}
-use Rattle.wfc_cli.specs.Reaching.{IsDeviceCause, Reaches}
-use Rattle.wfc_cli.specs.Reply.{Answered, IsDelivered, said_of}
 
 -- the words are no request
 abbrev pub IsNoCommand : Call → Type 0

@@ -1,32 +1,18 @@
 //! The commands.
 
 ghost use Rattle.std.specs.Prelude.{map};
-ghost use Rattle.wfc_words.specs.InRange.{IsInRange};
 ghost use Rattle.wfc_cli.specs.Commands.{asked_command};
-ghost use Rattle.wfc_cli.specs.Ending.{EndsAs};
-
-mod check;
-mod demo;
-mod domains;
-mod fill;
-mod learn;
-mod race;
-mod refute;
-mod upgrade;
+ghost use Rattle.wfc_reply.specs.Ending.{EndsAs};
+ghost use Rattle.wfc_words.specs.InRange.{IsInRange};
 
 use crate::deliver::put;
-use crate::reply::{Stop, Verdict};
-use check::check;
-use demo::demo;
-use domains::domains;
-use fill::fill;
-use learn::learn;
-use race::race;
-use refute::refute;
 use std::alloc::Global;
-use upgrade::upgrade;
 use wfc_choose::Chooser;
+use wfc_map_commands::{demo, domains, fill, learn};
 use wfc_outside::{Folder, Sink};
+use wfc_proof_commands::{check, refute, upgrade};
+use wfc_reply::{Stop, Verdict};
+use wfc_run_commands::{explain, race};
 use wfc_words::{CommandKind, Request};
 
 /// Runs the command that is asked for, and puts its text.
@@ -38,7 +24,8 @@ pub(crate) fn run<F: Folder, O: Sink>(
     out: &mut O,
 ) -> Result<Verdict, Stop>
     requires in_range { IsInRange request.now }
-    ensures ends { EndsAs (asked_command request.now) (map (λ chooser. (told chooser).rule) choosers.items) request.now
+    ensures ends { EndsAs (asked_command request.now)
+        (map (λ chooser. (told chooser).rule) choosers.items) request.now
         (F.seen folder.old) (F.seen folder.new) (O.seen out.old) (O.seen out.new) result }
 {
     match request.command {
@@ -50,5 +37,6 @@ pub(crate) fn run<F: Folder, O: Sink>(
         CommandKind::Check => put(out, check(alloc, request, folder)),
         CommandKind::Upgrade => upgrade(alloc, request, folder, out),
         CommandKind::Race => put(out, race(alloc, request, choosers, folder)),
+        CommandKind::Explain => put(out, explain(alloc, request, choosers, folder)),
     }
 }

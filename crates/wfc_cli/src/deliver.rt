@@ -1,15 +1,16 @@
 //! What leaves a call: the text of an answer, the line of the error stream, and the status.
 
 ghost use Rattle.std.specs.Prelude.{◌≡◌};
-ghost use Rattle.wfc_cli.specs.Ending.{Leaves, Says};
-ghost use Rattle.wfc_cli.specs.Reply.{Tells, said_of_words, verdict_text};
-ghost use Rattle.wfc_cli.specs.ReplyView.{reply_view};
+ghost use Rattle.wfc_cli.specs.Delivery.{Says, Tells, said_of_words};
+ghost use Rattle.wfc_reply.specs.Ending.{Leaves};
+ghost use Rattle.wfc_reply.specs.Reply.{verdict_text};
+ghost use Rattle.wfc_reply.specs.ReplyView.{reply_view};
 
 use crate::lines::{name, tell_fault};
-use crate::reply::{Answer, Stop, Verdict};
 use wfc_lines::{budget_spent, check, command, map_exists, no_domains, no_map, out_failed};
 use wfc_outside::{Sink, write_all};
-use wfc_task::{Fault, Source};
+use wfc_plan::{Fault, Source};
+use wfc_reply::{Answer, Stop, Verdict};
 use wfc_words::{CommandFault, Request};
 
 /// Tells how a command ended, and answers the status.

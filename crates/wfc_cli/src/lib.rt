@@ -3,28 +3,14 @@
 
 ghost use Rattle.std.specs.Prelude.{◌≡◌};
 ghost use Rattle.wfc_cli.specs.Answer.{IsAnswer};
-ghost use Rattle.wfc_cli.specs.Call.{call_of};
-ghost use Rattle.wfc_cli.specs.CheckClaims.{CheckPromises};
-ghost use Rattle.wfc_cli.specs.DemoClaims.{DemoPromises};
-ghost use Rattle.wfc_cli.specs.DomainsClaims.{DomainsPromises};
-ghost use Rattle.wfc_cli.specs.FillClaims.{FillPromises};
-ghost use Rattle.wfc_cli.specs.LearnClaims.{LearnPromises};
-ghost use Rattle.wfc_cli.specs.LineClaims.{IsApartFromErr, TellsStatus};
-ghost use Rattle.wfc_cli.specs.RaceClaims.{RacePromises};
-ghost use Rattle.wfc_cli.specs.RefuteClaims.{RefutePromises};
-ghost use Rattle.wfc_cli.specs.Reply.{Tells, said_of_words};
-ghost use Rattle.wfc_cli.specs.Theorem.{CountsFaults, HasDeviceFault, HasFirstFault, HasRefusedWords};
-ghost use Rattle.wfc_cli.specs.Theorem.{IsComplete, IsRefusedFirst, KeepsOut, RefusesWords};
-ghost use Rattle.wfc_cli.specs.UpgradeClaims.{UpgradePromises};
+ghost use Rattle.wfc_cli.specs.Delivery.{Tells, said_of_words};
+ghost use Rattle.wfc_cli.specs.Promises.{KeepsPromises};
+ghost use Rattle.wfc_reply.specs.Call.{call_of};
 
-mod choosers;
 mod commands;
 mod deliver;
 pub mod laws;
 mod lines;
-mod races;
-mod reply;
-mod runs;
 
 use deliver::{deliver, refuse_words};
 use std::alloc::Global;
@@ -43,52 +29,7 @@ pub fn run<F: Folder, O: Sink, E: Sink>(
     err: &mut E,
     choosers: Vec<Box<dyn Chooser>>,
 ) -> u8
-    // Which statuses, bytes and lines go together, and why each comes.
-    ensures answer { IsAnswer (call_of (λ chooser. (told chooser).rule) choosers.items words.now
-        F.seen folder.old folder.new O.seen out.old out.new E.seen err.old err.new result) }
-
-    // Each status has its cause.
-    ensures command { RefusesWords (call_of (λ chooser. (told chooser).rule) choosers.items words.now
-        F.seen folder.old folder.new O.seen out.old out.new E.seen err.old err.new result) }
-    ensures refused_command { HasRefusedWords (call_of (λ chooser. (told chooser).rule) choosers.items words.now
-        F.seen folder.old folder.new O.seen out.old out.new E.seen err.old err.new result) }
-    ensures input { HasFirstFault (call_of (λ chooser. (told chooser).rule) choosers.items words.now
-        F.seen folder.old folder.new O.seen out.old out.new E.seen err.old err.new result) }
-    ensures device { HasDeviceFault (call_of (λ chooser. (told chooser).rule) choosers.items words.now
-        F.seen folder.old folder.new O.seen out.old out.new E.seen err.old err.new result) }
-    ensures counts { CountsFaults (call_of (λ chooser. (told chooser).rule) choosers.items words.now
-        F.seen folder.old folder.new O.seen out.old out.new E.seen err.old err.new result) }
-    ensures untouched { KeepsOut (call_of (λ chooser. (told chooser).rule) choosers.items words.now
-        F.seen folder.old folder.new O.seen out.old out.new E.seen err.old err.new result) }
-
-    // The error stream takes the line of the status, and nothing else depends on that stream.
-    ensures told { TellsStatus (call_of (λ chooser. (told chooser).rule) choosers.items words.now
-        F.seen folder.old folder.new O.seen out.old out.new E.seen err.old err.new result) }
-    ensures apart { IsApartFromErr (call_of (λ chooser. (told chooser).rule) choosers.items words.now
-        F.seen folder.old folder.new O.seen out.old out.new E.seen err.old err.new result) }
-
-    // Where no fault is counted, the files and the words decide.
-    ensures refused { IsRefusedFirst (call_of (λ chooser. (told chooser).rule) choosers.items words.now
-        F.seen folder.old folder.new O.seen out.old out.new E.seen err.old err.new result) }
-    ensures complete { IsComplete (call_of (λ chooser. (told chooser).rule) choosers.items words.now
-        F.seen folder.old folder.new O.seen out.old out.new E.seen err.old err.new result) }
-
-    // What each command promises.
-    ensures learn { LearnPromises (call_of (λ chooser. (told chooser).rule) choosers.items words.now
-        F.seen folder.old folder.new O.seen out.old out.new E.seen err.old err.new result) }
-    ensures fill { FillPromises (call_of (λ chooser. (told chooser).rule) choosers.items words.now
-        F.seen folder.old folder.new O.seen out.old out.new E.seen err.old err.new result) }
-    ensures domains { DomainsPromises (call_of (λ chooser. (told chooser).rule) choosers.items words.now
-        F.seen folder.old folder.new O.seen out.old out.new E.seen err.old err.new result) }
-    ensures demo { DemoPromises (call_of (λ chooser. (told chooser).rule) choosers.items words.now
-        F.seen folder.old folder.new O.seen out.old out.new E.seen err.old err.new result) }
-    ensures refute { RefutePromises (call_of (λ chooser. (told chooser).rule) choosers.items words.now
-        F.seen folder.old folder.new O.seen out.old out.new E.seen err.old err.new result) }
-    ensures check { CheckPromises (call_of (λ chooser. (told chooser).rule) choosers.items words.now
-        F.seen folder.old folder.new O.seen out.old out.new E.seen err.old err.new result) }
-    ensures upgrade { UpgradePromises (call_of (λ chooser. (told chooser).rule) choosers.items words.now
-        F.seen folder.old folder.new O.seen out.old out.new E.seen err.old err.new result) }
-    ensures race { RacePromises (call_of (λ chooser. (told chooser).rule) choosers.items words.now
+    ensures promises { KeepsPromises (call_of (λ chooser. (told chooser).rule) choosers.items words.now
         F.seen folder.old folder.new O.seen out.old out.new E.seen err.old err.new result) }
 {
     answer(alloc, words, folder, out, err, choosers)

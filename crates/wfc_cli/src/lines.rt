@@ -1,19 +1,20 @@
 //! The line of a fault: which kind of line it is, and the file that it names.
 
 ghost use Rattle.std.specs.Prelude.{◌≡◌};
+ghost use Rattle.wfc_cli.specs.ErrorLine.{fault_text, grid_text, picture_text, refusal_text, unread_text};
 ghost use Rattle.wfc_lines.specs.Line.{line};
 ghost use Rattle.wfc_outside.specs.Sink.{Puts};
-ghost use Rattle.wfc_cli.specs.ErrorLine.{fault_text, grid_text, name_of, picture_text, refusal_text, unread_text};
+ghost use Rattle.wfc_reply.specs.FileNames.{name_of};
 
 use wfc_grid::GridFault;
 use wfc_lines::{
-    build, chooser, command, grid, learn, mask, mask_grid, no_memory, palette, pins, ppm, race,
-    range, reading, render, steps, tiles,
+    build, chooser, grid, learn, many_pins, mask, mask_grid, no_memory, palette, pins, ppm, race,
+    range, reading, render, stack, steps, tiles,
 };
 use wfc_outside::{ReadFault, Sink, SinkFault};
-use wfc_task::{Fault, Refusal, Source};
+use wfc_plan::{Fault, Refusal, Source};
 use wfc_tileset::TileFault;
-use wfc_words::{CommandFault, Request};
+use wfc_words::Request;
 
 /// Tells the line of a fault.
 pub(crate) fn tell_fault<E: Sink>(
@@ -21,7 +22,8 @@ pub(crate) fn tell_fault<E: Sink>(
     request: &Request,
     fault: Fault,
 ) -> Result<(), SinkFault>
-    ensures told { Puts (E.seen err.old) (E.seen err.new) (line (fault_text request.now fault)) result }
+    ensures told { Puts (E.seen err.old) (E.seen err.new) (line (fault_text request.now fault))
+        result }
 {
     match fault {
         Fault::Unread { source, fault } => unread(err, source, fault, name(request, source)),
@@ -89,7 +91,8 @@ pub(crate) fn name(request: &Request, source: Source) -> &str
 }
 
 fn tell_refusal<E: Sink>(err: &mut E, request: &Request, refusal: Refusal) -> Result<(), SinkFault>
-    ensures told { Puts (E.seen err.old) (E.seen err.new) (line (refusal_text request.now refusal)) result }
+    ensures told { Puts (E.seen err.old) (E.seen err.new) (line (refusal_text request.now refusal))
+        result }
 {
     match refusal {
         Refusal::Chooser { rule } => chooser(err, rule),
@@ -106,6 +109,8 @@ fn tell_refusal<E: Sink>(err: &mut E, request: &Request, refusal: Refusal) -> Re
         Refusal::NoMemory => no_memory(err),
         Refusal::Tiles { fault } => tiles(err, fault, name(request, Source::Sample)),
         Refusal::Mask { fault } => mask(err, fault, name(request, Source::Mask)),
+        Refusal::Stacks { fault } => stack(err, fault, name(request, Source::Sample)),
         Refusal::RaceTooLarge { product } => race(err, product),
+        Refusal::TooManyPins { count } => many_pins(err, count, name(request, Source::Pins)),
     }
 }

@@ -10,15 +10,15 @@ use std::process::Abort;
 use std::test::Fail;
 use wfc_choose::RuleKind;
 use wfc_grid::GridFault;
+use wfc_map_commands::{Filled, Learned, demo_task, domains_task, fill_task, learn_task};
 use wfc_outside::{MemoryFolder, ReadFault};
 use wfc_pattern::{LearnFault, Patterns};
 use wfc_pins::{BuildFault, PinFault, RangeFault, StepFault};
+use wfc_plan::{Fault, Refusal, Source};
 use wfc_problem::Problem;
+use wfc_proof_commands::{check_task, refute_task, upgrade_task};
 use wfc_render::{Form, RenderFault};
-use wfc_task::{
-    Fault, Filled, Learned, Refusal, Source, check_task, demo_task, domains_task, fill_task,
-    learn_task, refute_task, upgrade_task,
-};
+use wfc_run_commands::race_task;
 use wfc_tileset::TileSet;
 use wfc_words::{CommandKind, Request, SourceModel};
 
@@ -55,8 +55,6 @@ const CHECKERS: Row = Row {
     wrap_out: false,
     pins: None,
     mask: None,
-    seeds: 0,
-    quantum: 1,
     steps: None,
     rule: RuleKind::Fewest,
     form: None,
@@ -174,6 +172,10 @@ fn request_of(alloc: Global, command: CommandKind, row: Row) -> Result<Request, 
         number: row.number,
         format: 2,
         mask: text(alloc, row.mask)?,
+        seeds: 1,
+        quantum: 1,
+        block: 512,
+        depth: 0,
     })
 }
 
@@ -235,6 +237,8 @@ fn task(
         CommandKind::Refute => refute(alloc, request, folder),
         CommandKind::Upgrade => upgrade(alloc, request, folder),
         CommandKind::Check => check(alloc, request, folder),
+        // The problem of `explain` is posed as that of a race; what it answers are rows of the program.
+        CommandKind::Race | CommandKind::Explain => race(alloc, request, folder),
     }
 }
 
@@ -274,6 +278,14 @@ fn refute(alloc: Global, request: &Request, folder: &mut MemoryFolder) -> Result
     requires output { IsOutputAsked request.now }
 {
     let problem = refute_task(alloc, request, &KINDS, folder)?;
+    Ok((problem.values(), 0, 0, problem.cells(), 0))
+}
+
+fn race(alloc: Global, request: &Request, folder: &mut MemoryFolder) -> Result<Sizes, Fault>
+    requires source { IsSourceAsked request.now }
+    requires output { IsOutputAsked request.now }
+{
+    let problem = race_task(alloc, request, &KINDS, folder)?;
     Ok((problem.values(), 0, 0, problem.cells(), 0))
 }
 
@@ -336,6 +348,7 @@ fn comes_to_tasks_of_steps_and_refutations(rt: HostRuntime) -> Result<(), Fail> 
     comes_to(&rt, CommandKind::Domains, stepped("s.txt"), (2, 0, 0, 3, 4))?;
     comes_to(&rt, CommandKind::Domains, CHECKERS, (1, 0, 0, 1, 0))?;
     comes_to(&rt, CommandKind::Refute, CHECKERS, (1, 0, 0, 1, 0))?;
+    comes_to(&rt, CommandKind::Race, CHECKERS, (1, 0, 0, 1, 0))?;
     comes_to(
         &rt,
         CommandKind::Upgrade,
@@ -594,6 +607,7 @@ fn refuses_steps_by_the_first_fault(rt: HostRuntime) -> Result<(), Fail> {
 fn refuses_refutations_by_the_first_fault(rt: HostRuntime) -> Result<(), Fail> {
     let upgrade = CommandKind::Upgrade;
     refuses(&rt, CommandKind::Refute, ranked(), unchosen())?;
+    refuses(&rt, CommandKind::Race, ranked(), unchosen())?;
     refuses(
         &rt,
         upgrade,

@@ -1,98 +1,50 @@
 -- What plans come to over told files, in the subject's words.
-use Rattle.std.proofs.Common.{◌≡◌, ℕ, nat_lt, Bool, true, false, List, [], length, Option, None, Some, Result, Ok, Err, ap, sym, ◌∙◌, subst, refl, arith, inl, if◌then◌else◌}
-use Rattle.std.specs.Prelude.{Contains}
-use Rattle.std.specs.List.{list_any}
+use Rattle.std.proofs.Common.{Bool, Err, List, None, Ok, Option, Result, Some, [], ap, arith, false, inl, nat_lt, refl, subst, sym, true, ℕ, ◌∙◌, ◌≡◌}
 use Rattle.std.proofs.lemmas.Bool.Decides.{nat_tests}
-use Rattle.wfc_lists.proofs.Lists.{any_Contains, Contains_any}
-use Rattle.wfc_outside.specs.Gives.{result_map}
-use Rattle.wfc_outside.specs.Folder.{File, file_of}
-use Rattle.wfc_outside.specs.declared.whole.ReadFault.TheVariants as reading
-use Rattle.wfc_model.specs.Legal.{Pin}
-use Rattle.wfc_model.specs.Raster.{Raster}
+use Rattle.wfc_grid.proofs.CallerLemmas.{grid_read, read_grid}
 use Rattle.wfc_grid.specs.Grid.{GridView}
 use Rattle.wfc_grid.specs.Reading.{grid_of}
 use Rattle.wfc_grid.specs.declared.reading.GridFault.{GridFault}
-use Rattle.wfc_grid.proofs.CallerLemmas.{grid_read, read_grid}
-use Rattle.wfc_picture.specs.Palette.{indexed}
-use Rattle.wfc_picture.specs.declared.symbol.Symbol.{Symbol}
-use Rattle.wfc_picture.specs.declared.symbol.Kind.{Kind}
-use Rattle.wfc_picture.specs.declared.palette.PaletteFault.{PaletteFault}
-use Rattle.wfc_pattern.specs.Learning.{patterns_of}
-use Rattle.wfc_pattern.specs.Patterns.{PatternsView}
-use Rattle.wfc_ppm.specs.Ppm.{PpmView}
-use Rattle.wfc_ppm.specs.Reading.{ppm_of}
-use Rattle.wfc_ppm.specs.declared.reading.PpmFault.{PpmFault}
-use Rattle.wfc_ppm.proofs.CallerLemmas.{read-picture}
-use Rattle.wfc_problem.specs.Network.{Network}
-use Rattle.wfc_problem.specs.declared.TheConstants.{MAX_PAIRS}
-use Rattle.wfc_pins.specs.PinView.{PinView}
-use Rattle.wfc_pins.specs.Pins.{pins_of}
-use Rattle.wfc_pins.specs.Steps.{range_fault, steps_of}
-use Rattle.wfc_pins.specs.declared.fault.BuildFault.{BuildFault}
-use Rattle.wfc_pins.specs.declared.steps.StepLine.{StepLine}
-use Rattle.wfc_pins.specs.declared.steps.RangeFault.{RangeFault}
+use Rattle.wfc_model.specs.Legal.{Pin}
+use Rattle.wfc_model.specs.Raster.{Raster}
+use Rattle.wfc_outside.specs.Folder.{File}
+use Rattle.wfc_outside.specs.Gives.{result_map}
 use Rattle.wfc_overlap.specs.Bridge.{IsRoom, pairs}
 use Rattle.wfc_overlap.specs.Built.{built, pins_in, texts_of}
 use Rattle.wfc_overlap.specs.Sample.{Output, output_with, problem_of_sample}
-use Rattle.wfc_choose.specs.declared.RuleKind.{RuleKind}
-use Rattle.wfc_choose.specs.declared.RuleKind.TheVariants.{Scanline, Fewest, Ranked}
-use Rattle.wfc_words.specs.RequestView.{RequestView}
-use Rattle.wfc_task.specs.declared.fault.Source.{Source}
-use Rattle.wfc_task.specs.declared.fault.Source.TheVariants.{Sample, Pins, Steps}
-use Rattle.wfc_task.specs.declared.fault.Fault.{Fault}
-use Rattle.wfc_task.specs.declared.fault.Refusal.{Refusal}
-use Rattle.wfc_task.specs.declared.fault.Refusal.TheVariants as refusals
-use Rattle.wfc_task.specs.declared.task.Taught.{Taught}
-use Rattle.wfc_task.specs.Sources.{is_picture_name, side_of}
-use Rattle.wfc_task.specs.Demo.{demo_patterns, demo_problem}
-use Rattle.wfc_task.specs.Given.{IsFile, IsSample, IsSampleFile, Shows, ShowsGrid, ShowsPpm, HoldsPins, HoldsSteps, IsProblemOf}
-use Rattle.wfc_task.specs.Plan.{Plan, done, step, and_then, most_bytes, reading_of, after_reading, outcome}
-use Rattle.wfc_task.specs.Sampled.{SampledView, of_grid, of_ppm}
-use Rattle.wfc_task.specs.Steps.{chosen, coloured, fitting, or_refuse, posed, same_rule, sampled_in, shown_in, steps_in, taught, unless_out}
-use Rattle.wfc_task.specs.Steps.{pins_in as lines_in}
-use Rattle.wfc_task.specs.SamplePlans.{file_plan, picture_plan, sample_plan, sampled_plan, pins_plan, problem_plan, steps_plan}
-use Rattle.wfc_task.specs.Asked.{IsSampleAsked}
-use Rattle.wfc_task.specs.Filling.{IsLesson, IsNumbered, IsSampled}
-use Rattle.wfc_task.specs.DemoTask.{DemoTask, demo, demo_plan}
-use Rattle.wfc_task.proofs.FillingLemmas.{built_is, grid_sampled, ppm_sampled, lesson_of, numbered_sample, unrefused}
-use Rattle.wfc_task.proofs.StepLemmas.{made_small}
-use Rattle.wfc_task.proofs.PlanLemmas.{outcome_on, outcome_parts}
+use Rattle.wfc_pattern.specs.Learning.{patterns_of}
+use Rattle.wfc_pattern.specs.Patterns.{PatternsView}
+use Rattle.wfc_picture.specs.Palette.{indexed}
+use Rattle.wfc_picture.specs.declared.palette.PaletteFault.{PaletteFault}
+use Rattle.wfc_picture.specs.declared.symbol.Kind.{Kind}
+use Rattle.wfc_picture.specs.declared.symbol.Symbol.{Symbol}
+use Rattle.wfc_pins.specs.PinView.{PinView}
+use Rattle.wfc_pins.specs.Pins.{pins_of}
+use Rattle.wfc_pins.specs.declared.fault.BuildFault.{BuildFault}
+use Rattle.wfc_plan.proofs.CallerLemmas.{done_is, file_given, given_file, ok_refused, ok_step, outcome_on, outcome_parts, step_ok, unrefused}
+use Rattle.wfc_plan.specs.Files.{file_plan}
+use Rattle.wfc_plan.specs.Plan.{Plan, done, or_refuse, outcome, step}
+use Rattle.wfc_plan.specs.declared.fault.Fault.{Fault}
+use Rattle.wfc_plan.specs.declared.fault.Refusal.{Refusal}
+use Rattle.wfc_plan.specs.declared.fault.Refusal.TheVariants as refusals
+use Rattle.wfc_plan.specs.declared.fault.Source.TheVariants.{Pins, Sample}
+use Rattle.wfc_ppm.proofs.CallerLemmas.{read-picture}
+use Rattle.wfc_ppm.specs.Ppm.{PpmView}
+use Rattle.wfc_ppm.specs.Reading.{ppm_of}
+use Rattle.wfc_ppm.specs.declared.reading.PpmFault.{PpmFault}
+use Rattle.wfc_problem.specs.Network.{Network}
+use Rattle.wfc_problem.specs.declared.TheConstants.{MAX_PAIRS}
+use Rattle.wfc_task.proofs.LessonLemmas.{built_is, grid_sampled, lesson_of, made_small, numbered_sample, ppm_sampled}
 use Rattle.wfc_task.proofs.TaskLemmas.{behind_picture, behind_sampled}
-
--- a step that comes to a value, and a value that a step comes to
-pub step_ok : {T : Type 0} (result : Result T Refusal) (files : List File) (value : T) → outcome (step result) files ≡ Ok value → result ≡ Ok value
-step_ok (Ok x) files value is = let same : x ≡ value = cc in ap (λ v. let result : Result _ Refusal = Ok v in result) same
-step_ok (Err refusal) files value is = absurd (cc)
-
-pub ok_step : {T : Type 0} (result : Result T Refusal) (files : List File) (value : T) → result ≡ Ok value → outcome (step result) files ≡ Ok value
-ok_step result files value is = ap (λ r. outcome (step r) files) is
-
--- a plan that ends with what it came to
-pub done_is : {T : Type 0} (value wanted : T) (files : List File) → outcome (done value) files ≡ Ok wanted → value ≡ wanted
-done_is value wanted files is = cc
-
--- a call whose fault is refused
-pub ok_refused : {T E : Type 0} (refusal : E → Refusal) (result : Result T E) (value : T) → result ≡ Ok value → or_refuse refusal result ≡ Ok value
-ok_refused refusal result value is = ap (or_refuse refusal) is
-
--- files
-pub file_given : (source : Source) (name : List ℕ) (files : List File) (bytes : List ℕ) → outcome (file_plan source name) files ≡ Ok bytes → IsFile files name bytes
-file_given source name files bytes is = by_file (file_of files name) refl is
-  where
-    by_length : (kept : List ℕ) → file_of files name ≡ Some kept → (long : Bool) → nat_lt 16777216 (length kept) ≡ long
-        → after_reading source (λ bytes. let end : Result (List ℕ) Fault = Ok bytes in end) (if long then Err reading.TooLong else Ok kept) ≡ Ok bytes → IsFile files name bytes
-    by_length kept there true test is = absurd (cc)
-    by_length kept there false test is = let same : kept ≡ bytes = cc in subst (IsFile files name) same (record { there = there; short = grind (arith, nat_tests, test) })
-
-    by_file : (file : Option (List ℕ)) → file_of files name ≡ file → after_reading source (λ bytes. let end : Result (List ℕ) Fault = Ok bytes in end) (reading_of most_bytes file) ≡ Ok bytes → IsFile files name bytes
-    by_file None was is = absurd (cc)
-    by_file (Some kept) was is = by_length kept was (nat_lt 16777216 (length kept)) refl is
-
-pub given_file : (source : Source) (name : List ℕ) (files : List File) (bytes : List ℕ) → IsFile files name bytes → outcome (file_plan source name) files ≡ Ok bytes
-given_file source name files bytes file =
-    let short : nat_lt 16777216 (length bytes) ≡ false = grind (arith, nat_tests, file.short) in
-    let reading : reading_of most_bytes (file_of files name) ≡ Ok bytes = rw (file.there, short) refl in
-    ap (after_reading source (λ bytes. let end : Result (List ℕ) Fault = Ok bytes in end)) reading
+use Rattle.wfc_task.specs.Asked.{IsSampleAsked}
+use Rattle.wfc_task.specs.Given.{HoldsPins, IsProblemOf, IsSample, IsSampleFile, Shows, ShowsGrid, ShowsPpm}
+use Rattle.wfc_task.specs.Lesson.{IsLesson, IsNumbered, IsSampled}
+use Rattle.wfc_task.specs.SamplePlans.{picture_plan, pins_plan, problem_plan, sample_plan, sampled_plan}
+use Rattle.wfc_task.specs.Sampled.{SampledView, of_grid, of_ppm}
+use Rattle.wfc_task.specs.Sources.{is_picture_name, side_of}
+use Rattle.wfc_task.specs.Steps.{coloured, pins_in as lines_in, posed, sampled_in, shown_in, taught}
+use Rattle.wfc_task.specs.declared.lesson.Taught.{Taught}
+use Rattle.wfc_words.specs.RequestView.{RequestView}
 
 -- samples
 grid_shown : (bytes : List ℕ) (sampled : SampledView) → shown_in false bytes ≡ Ok sampled → ShowsGrid bytes sampled
@@ -196,26 +148,6 @@ given_pins (Some name) files lines held =
     outcome_on (file_plan Pins name) (λ bytes. step (lines_in bytes)) files held.0 (given_file Pins name files held.0 held.1)
     ∙ ok_step (lines_in held.0) files lines (ok_refused refusals.Pins (pins_of held.0) lines held.2)
 
-in_problem : (P : Network) (steps kept : List StepLine) (fault : Option RangeFault) → unless_out steps fault ≡ Ok kept → (fault ≡ None) × (steps ≡ kept)
-in_problem P steps kept None is = (refl, cc)
-in_problem P steps kept (Some fault) is = absurd (cc)
-
-pub steps_given : (name : Option (List ℕ)) (P : Network) (files : List File) (steps : List StepLine) → outcome (steps_plan name P) files ≡ Ok steps → HoldsSteps files name steps × (range_fault P steps ≡ None)
-steps_given None P files steps is = let same : [] ≡ steps = done_is [] steps files is in (same, subst (λ steps. range_fault P steps ≡ None) same refl)
-steps_given (Some name) P files steps is =
-    let parts = outcome_parts (file_plan Steps name) (λ bytes. and_then (step (steps_in bytes)) (λ steps. step (fitting P steps))) files steps is in
-    let said = outcome_parts (step (steps_in parts.0)) (λ steps. step (fitting P steps)) files steps parts.2 in
-    let fits = in_problem P said.0 steps (range_fault P said.0) (step_ok (fitting P said.0) files steps said.2) in
-    let steps_are = unrefused refusals.Steps (steps_of parts.0) said.0 (step_ok (steps_in parts.0) files said.0 said.1) in
-    ((parts.0, file_given Steps name files parts.0 parts.1, subst (λ steps. steps_of parts.0 ≡ Ok steps) fits.1 steps_are), subst (λ steps. range_fault P steps ≡ None) fits.1 fits.0)
-
-pub given_steps : (name : Option (List ℕ)) (P : Network) (files : List File) (steps : List StepLine) → HoldsSteps files name steps → range_fault P steps ≡ None → outcome (steps_plan name P) files ≡ Ok steps
-given_steps None P files steps held inside = ap (λ steps. let end : Result (List StepLine) Fault = Ok steps in end) held
-given_steps (Some name) P files steps held inside =
-    outcome_on (file_plan Steps name) (λ bytes. and_then (step (steps_in bytes)) (λ steps. step (fitting P steps))) files held.0 (given_file Steps name files held.0 held.1)
-    ∙ outcome_on (step (steps_in held.0)) (λ steps. step (fitting P steps)) files steps (ok_step (steps_in held.0) files steps (ok_refused refusals.Steps (steps_of held.0) steps held.2))
-    ∙ ok_step (fitting P steps) files steps (ap (unless_out steps) inside)
-
 -- problems
 pub problem_given : (asked : RequestView) (files : List File) (lesson : Taught) (P : Network) → outcome (problem_plan asked lesson) files ≡ Ok P → IsProblemOf asked files lesson.patterns lesson.palette P
 problem_given asked files lesson P is =
@@ -239,35 +171,3 @@ given_problem asked files lesson P task =
     outcome_on (pins_plan asked.pins) (λ lines. step (posed asked lesson.patterns lesson.palette lines)) files task.lines (given_pins asked.pins files task.lines task.held)
     ∙ ok_step (posed asked lesson.patterns lesson.palette task.lines) files P
     (ok_refused refusals.Build (built lesson.patterns lesson.palette output task.lines) P (given_built lesson.patterns lesson.palette output task.lines task.pins task.room task.meant ∙ ap (λ P. let end : Result Network BuildFault = Ok P in end) (sym task.problem)))
-
--- choosers
-same_kind : (a b : RuleKind) → same_rule a b ≡ true → a ≡ b
-same_kind Scanline Scanline is = refl
-same_kind Fewest Fewest is = refl
-same_kind Ranked Ranked is = refl
-same_kind Scanline Fewest is = absurd (cc)
-same_kind Scanline Ranked is = absurd (cc)
-same_kind Fewest Scanline is = absurd (cc)
-same_kind Fewest Ranked is = absurd (cc)
-same_kind Ranked Scanline is = absurd (cc)
-same_kind Ranked Fewest is = absurd (cc)
-
-own_kind : (a : RuleKind) → same_rule a a ≡ true
-own_kind Scanline = refl
-own_kind Fewest = refl
-own_kind Ranked = refl
-
-pub chooser_given : (kinds : List RuleKind) (rule : RuleKind) (value : Unit {0}) → chosen kinds rule ≡ Ok value → Contains kinds rule
-chooser_given kinds rule value is = by_test (list_any (same_rule rule) kinds) refl is
-  where
-    by_test : (there : Bool) → list_any (same_rule rule) kinds ≡ there → (if there then Ok tt else Err (refusals.Chooser rule)) ≡ Ok value → Contains kinds rule
-    by_test true found is = let one = any_Contains (same_rule rule) kinds found in subst (Contains kinds) (sym (same_kind rule one.0 one.2)) one.1
-    by_test false found is = absurd (cc)
-
-pub given_chooser : (kinds : List RuleKind) (rule : RuleKind) → Contains kinds rule → chosen kinds rule ≡ Ok tt
-given_chooser kinds rule there = rw (Contains_any (same_rule rule) kinds rule there (own_kind rule)) refl
-
--- what `demo` comes to
-pub given_demo : (kinds : List RuleKind) (asked : RequestView) (files : List File) → Contains kinds Fewest → outcome (demo_plan kinds asked) files ≡ Ok (demo (demo_patterns asked.number) (demo_problem asked.number))
-given_demo kinds asked files there =
-    outcome_on (step (chosen kinds Fewest)) (λ _. let end : Plan DemoTask = done (demo (demo_patterns asked.number) (demo_problem asked.number)) in end) files tt (ok_step (chosen kinds Fewest) files tt (given_chooser kinds Fewest there))

@@ -1,21 +1,21 @@
 -- A tile set that was read has all pictures that it names.
-use Rattle.std.proofs.Common.{◌≡◌, ℕ, zero, suc, ◌+◌, ◌≤◌, ◌⊎◌, inl, inr, List, [], ◌∷◌, length, Option, None, Some, Result, Ok, Err, ap, sym, ◌∙◌, subst, refl, arith, length-append}
+use Rattle.std.proofs.Common.{Err, List, None, Ok, Option, Result, Some, [], ap, arith, inl, inr, length, length-append, refl, subst, suc, sym, zero, ℕ, ◌+◌, ◌∙◌, ◌∷◌, ◌≡◌, ◌≤◌, ◌⊎◌}
 use Rattle.std.proofs.lemmas.List.{get_or_past}
 use Rattle.wfc_outside.specs.Folder.{FolderView}
+use Rattle.wfc_plan.proofs.CallerLemmas.{unrefused}
+use Rattle.wfc_plan.specs.Plan.{Follows, Goes, Plan, and_then, done, read, refuse, step}
+use Rattle.wfc_plan.specs.declared.fault.Refusal.{Refusal}
+use Rattle.wfc_plan.specs.declared.fault.Refusal.TheVariants as refusals
+use Rattle.wfc_task.specs.TilePlans.{document_plan, next_plan, picture_plan, pictures_plan, tiles_plan}
+use Rattle.wfc_task.specs.TileSteps.{pictured}
 use Rattle.wfc_tileset.specs.Document.{and_then as if_given}
 use Rattle.wfc_tileset.specs.Pictures.{picture_for, picture_name, picture_taken, with_picture}
 use Rattle.wfc_tileset.specs.Tiles.{PictureView, TileSetView}
 use Rattle.wfc_tileset.specs.declared.fault.TileFault.{TileFault}
 use Rattle.wfc_words.specs.RequestView.{RequestView}
-use Rattle.wfc_task.specs.Plan.{Plan, done, refuse, read, step, and_then, Follows, Goes}
-use Rattle.wfc_task.specs.TilePlans.{document_plan, next_plan, picture_plan, pictures_plan, tiles_plan}
-use Rattle.wfc_task.specs.TileSteps.{pictured}
-use Rattle.wfc_task.specs.declared.fault.Refusal.{Refusal}
-use Rattle.wfc_task.specs.declared.fault.Refusal.TheVariants as refusals
-use Rattle.wfc_task.proofs.FillingLemmas.{unrefused}
 
 -- where two plans in a row came to something, so did each
-follows_parts : {A B : Type 0} (plan : Plan A) (next : A → Plan B) (before after : FolderView) (value : B) → Follows (and_then plan next) before after (Ok value)
+pub follows_parts : {A B : Type 0} (plan : Plan A) (next : A → Plan B) (before after : FolderView) (value : B) → Follows (and_then plan next) before after (Ok value)
     → (first : A) × Follows plan before before (Ok first) × Follows (next first) before after (Ok value)
 follows_parts (done first) next before after value follows = (first, (refl, refl), follows)
 follows_parts (refuse refusal) next before after value follows = absurd (cc (follows.1))
@@ -65,7 +65,7 @@ next_enough left (Some name) set next before after is enough (inl goes_on) =
     ]
 
 -- the pictures of the tiles that are left are read, and then the tile set has all that it names
-all_taken : (left : ℕ) (set next : TileSetView) (before after : FolderView) → IsEnough left set → Follows (pictures_plan left set) before after (Ok next) → IsWhole next
+pub all_taken : (left : ℕ) (set next : TileSetView) (before after : FolderView) → IsEnough left set → Follows (pictures_plan left set) before after (Ok next) → IsWhole next
 all_taken zero set next before after (inl whole) follows = let same : next ≡ set = cc (follows.1) in subst IsWhole (sym same) whole
 all_taken zero set next before after (inr few) follows = let same : next ≡ set = cc (follows.1) in subst IsWhole (sym same) (whole_past set (omega (arith, few)))
 all_taken (suc left) set next before after enough follows =

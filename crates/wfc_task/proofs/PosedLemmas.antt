@@ -1,21 +1,21 @@
 -- The problem of a request over told files, whatever its map is made of.
-use Rattle.std.proofs.Common.{◌≡◌, List, Result, Ok, ap, ◌∙◌}
+use Rattle.std.proofs.Common.{List, Ok, Result, ap, ◌∙◌, ◌≡◌}
 use Rattle.wfc_outside.specs.Folder.{File}
+use Rattle.wfc_plan.proofs.CallerLemmas.{done_is, outcome_on, outcome_parts}
+use Rattle.wfc_plan.specs.Plan.{Plan, and_then, done, outcome}
+use Rattle.wfc_plan.specs.declared.fault.Fault.{Fault}
 use Rattle.wfc_problem.specs.Network.{Network}
+use Rattle.wfc_task.proofs.GivenLemmas.{given_problem, given_sample, problem_given, sample_given}
+use Rattle.wfc_task.proofs.TileGivenLemmas.{given_tiled, given_tiles, tiled_given, tiles_given}
+use Rattle.wfc_task.specs.Posed.{OfSample, OfTiles, Posed, PosedBy, posed_plan, posed_plan_by, sample_problem_plan, tile_problem_plan}
+use Rattle.wfc_task.specs.SamplePlans.{problem_plan, sample_plan}
+use Rattle.wfc_task.specs.TilePlans.{tiled_plan, tiles_plan}
+use Rattle.wfc_task.specs.declared.lesson.Taught.{Taught}
 use Rattle.wfc_tiled.specs.Mask.{MaskView}
 use Rattle.wfc_tileset.specs.Tiles.{TileSetView}
 use Rattle.wfc_words.specs.RequestView.{RequestView}
 use Rattle.wfc_words.specs.declared.kinds.SourceModel.{SourceModel}
 use Rattle.wfc_words.specs.declared.kinds.SourceModel.TheVariants.{Overlap, Tiles}
-use Rattle.wfc_task.specs.Plan.{Plan, done, and_then, outcome}
-use Rattle.wfc_task.specs.Posed.{OfSample, OfTiles, Posed, PosedBy, posed_plan, posed_plan_by, sample_problem_plan, tile_problem_plan}
-use Rattle.wfc_task.specs.SamplePlans.{problem_plan, sample_plan}
-use Rattle.wfc_task.specs.TilePlans.{tiled_plan, tiles_plan}
-use Rattle.wfc_task.specs.declared.fault.Fault.{Fault}
-use Rattle.wfc_task.specs.declared.task.Taught.{Taught}
-use Rattle.wfc_task.proofs.GivenLemmas.{done_is, given_problem, given_sample, problem_given, sample_given}
-use Rattle.wfc_task.proofs.PlanLemmas.{outcome_on, outcome_parts}
-use Rattle.wfc_task.proofs.TileGivenLemmas.{given_tiled, given_tiles, tiled_given, tiles_given}
 
 -- the problem of a mask and a problem
 abbrev pub problem_made : MaskView × Network → Plan Network

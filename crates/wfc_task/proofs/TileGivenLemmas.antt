@@ -1,14 +1,28 @@
 -- What plans on tile sets come to over told files, in the subject's words.
-use Rattle.std.proofs.Common.{◌≡◌, ℕ, ◌≤◌, zero, suc, nat_lt, Bool, false, List, length, Option, None, Some, Result, Ok, ap, sym, ◌∙◌, subst, refl, arith}
+use Rattle.std.proofs.Common.{Bool, List, None, Ok, Option, Result, Some, ap, arith, false, length, nat_lt, refl, subst, suc, sym, zero, ℕ, ◌∙◌, ◌≡◌, ◌≤◌}
 use Rattle.std.proofs.lemmas.Bool.Decides.{nat_tests}
-use Rattle.wfc_outside.specs.Folder.{File}
-use Rattle.wfc_model.specs.Legal.{Pin}
-use Rattle.wfc_grid.specs.Reading.{grid_of}
 use Rattle.wfc_grid.proofs.CallerLemmas.{grid_read, read_grid}
+use Rattle.wfc_grid.specs.Reading.{grid_of}
+use Rattle.wfc_model.specs.Legal.{Pin}
+use Rattle.wfc_outside.specs.Folder.{File}
 use Rattle.wfc_pins.specs.PinView.{PinView}
 use Rattle.wfc_pins.specs.declared.fault.BuildFault.{BuildFault}
+use Rattle.wfc_plan.proofs.CallerLemmas.{done_is, file_given, given_file, ok_refused, ok_step, outcome_on, outcome_parts, step_ok, unrefused}
+use Rattle.wfc_plan.specs.Files.{file_plan}
+use Rattle.wfc_plan.specs.Plan.{Plan, done, outcome, step}
+use Rattle.wfc_plan.specs.declared.fault.Fault.{Fault}
+use Rattle.wfc_plan.specs.declared.fault.Refusal.TheVariants as refusals
+use Rattle.wfc_plan.specs.declared.fault.Source.TheVariants.{Mask, Picture, Sample}
 use Rattle.wfc_problem.specs.Network.{Network}
 use Rattle.wfc_problem.specs.declared.TheConstants.{MAX_PAIRS}
+use Rattle.wfc_task.proofs.GivenLemmas.{given_pins, pins_given}
+use Rattle.wfc_task.proofs.TileTaskLemmas.{behind_mask, behind_mask_grid, behind_masked, behind_pins}
+use Rattle.wfc_task.proofs.TilingLemmas.{tiles_built_is}
+use Rattle.wfc_task.specs.SamplePlans.{pins_plan}
+use Rattle.wfc_task.specs.Steps.{grid_in}
+use Rattle.wfc_task.specs.TileGiven.{HoldsMask, HoldsPicture, HoldsPictures, IsTileProblemOf, IsTileSetOf}
+use Rattle.wfc_task.specs.TilePlans.{document_plan, mask_plan_by, next_plan, picture_plan, pictures_plan, tiled_plan, tiles_plan}
+use Rattle.wfc_task.specs.TileSteps.{document_in, mask_in, pictured, posed_tiles}
 use Rattle.wfc_tiled.specs.Built.{built, pairs, pins_in}
 use Rattle.wfc_tiled.specs.Mask.{MaskView, mask_of, plain_mask}
 use Rattle.wfc_tiled.specs.Tiles.{problem_of_tiles}
@@ -16,20 +30,6 @@ use Rattle.wfc_tileset.specs.Document.{set_of}
 use Rattle.wfc_tileset.specs.Pictures.{picture_name, picture_taken}
 use Rattle.wfc_tileset.specs.Tiles.{TileSetView}
 use Rattle.wfc_words.specs.RequestView.{RequestView}
-use Rattle.wfc_task.specs.Plan.{Plan, done, step, outcome}
-use Rattle.wfc_task.specs.Steps.{grid_in}
-use Rattle.wfc_task.specs.SamplePlans.{file_plan, pins_plan}
-use Rattle.wfc_task.specs.TileGiven.{HoldsMask, HoldsPicture, HoldsPictures, IsTileProblemOf, IsTileSetOf}
-use Rattle.wfc_task.specs.TilePlans.{document_plan, mask_plan_by, next_plan, picture_plan, pictures_plan, tiled_plan, tiles_plan}
-use Rattle.wfc_task.specs.TileSteps.{document_in, mask_in, pictured, posed_tiles}
-use Rattle.wfc_task.specs.declared.fault.Fault.{Fault}
-use Rattle.wfc_task.specs.declared.fault.Refusal.TheVariants as refusals
-use Rattle.wfc_task.specs.declared.fault.Source.TheVariants.{Mask, Picture, Sample}
-use Rattle.wfc_task.proofs.FillingLemmas.{unrefused}
-use Rattle.wfc_task.proofs.GivenLemmas.{done_is, file_given, given_file, given_pins, ok_refused, ok_step, pins_given, step_ok}
-use Rattle.wfc_task.proofs.PlanLemmas.{outcome_on, outcome_parts}
-use Rattle.wfc_task.proofs.TileTaskLemmas.{behind_mask, behind_mask_grid, behind_masked, behind_pins}
-use Rattle.wfc_task.proofs.TilingLemmas.{tiles_built_is}
 
 -- a value as the end of a plan
 abbrev ended : {T : Type 0} → T → Result T Fault
@@ -49,13 +49,13 @@ given_picture files (Some name) before after holds =
     outcome_on (file_plan (Picture (length before.pictures)) name) (λ bytes. step (pictured before bytes)) files holds.0 (given_file (Picture (length before.pictures)) name files holds.0 holds.1)
     ∙ ok_step (pictured before holds.0) files after (ok_refused refusals.Tiles (picture_taken before holds.0) after holds.2)
 
-pictures_given : (files : List File) (left : ℕ) (before after : TileSetView) → outcome (pictures_plan left before) files ≡ Ok after → HoldsPictures files left before after
+pub pictures_given : (files : List File) (left : ℕ) (before after : TileSetView) → outcome (pictures_plan left before) files ≡ Ok after → HoldsPictures files left before after
 pictures_given files zero before after is = done_is before after files is
 pictures_given files (suc left) before after is =
     let parts = outcome_parts (next_plan before) (λ set. pictures_plan left set) files after is in
     (parts.0, picture_given files (picture_name before (length before.pictures)) before parts.0 parts.1, pictures_given files left parts.0 after parts.2)
 
-given_pictures : (files : List File) (left : ℕ) (before after : TileSetView) → HoldsPictures files left before after → outcome (pictures_plan left before) files ≡ Ok after
+pub given_pictures : (files : List File) (left : ℕ) (before after : TileSetView) → HoldsPictures files left before after → outcome (pictures_plan left before) files ≡ Ok after
 given_pictures files zero before after holds = ap ended holds
 given_pictures files (suc left) before after holds =
     outcome_on (next_plan before) (λ set. pictures_plan left set) files holds.0 (given_picture files (picture_name before (length before.pictures)) before holds.0 holds.1)

@@ -1,39 +1,37 @@
 -- The first faults of what is read of a tile set, its pictures and its mask.
-use Rattle.std.proofs.Common.{◌≡◌, ℕ, zero, suc, ◌⊎◌, inl, inr, List, [], ◌∷◌, length, Option, None, Some, Result, Ok, Err, ap, sym, ◌∙◌, refl}
-use Rattle.wfc_outside.specs.Folder.{File}
+use Rattle.std.proofs.Common.{Err, List, None, Ok, Option, Result, Some, [], ap, inl, inr, length, refl, suc, sym, zero, ℕ, ◌∙◌, ◌∷◌, ◌≡◌, ◌⊎◌}
 use Rattle.wfc_grid.specs.Grid.{GridView}
 use Rattle.wfc_grid.specs.Reading.{grid_of}
-use Rattle.wfc_problem.specs.Network.{Network}
+use Rattle.wfc_outside.specs.Folder.{File}
 use Rattle.wfc_pins.specs.PinView.{PinView}
+use Rattle.wfc_plan.proofs.CallerLemmas.{Faults, Same, faults_as, faults_first, faults_group, faults_last, faults_none, faults_reading, faults_step, file_given, given_file, ok_refused, ok_step, one_file, one_value, outcome_on, outcome_out, outcome_parts, same_first, same_known, same_on, step_ok, unrefused}
+use Rattle.wfc_plan.specs.Files.{IsFile, file_plan}
+use Rattle.wfc_plan.specs.Order.{IsFirstFault}
+use Rattle.wfc_plan.specs.Plan.{Plan, and_then, done, outcome, step}
+use Rattle.wfc_plan.specs.Stages.{IsNamedFault, IsReadingFault, IsRefusal, TaskStage}
+use Rattle.wfc_plan.specs.declared.fault.Fault.{Fault}
+use Rattle.wfc_plan.specs.declared.fault.Refusal.TheVariants as refusals
+use Rattle.wfc_plan.specs.declared.fault.Source.TheVariants.{Mask, Picture, Pins, Sample}
+use Rattle.wfc_problem.specs.Network.{Network}
+use Rattle.wfc_render.specs.Layout.{layout_of}
+use Rattle.wfc_task.proofs.ProblemOrderLemmas.{faults_count, faults_pins, pins_stages, same_lines}
+use Rattle.wfc_task.proofs.TileGivenLemmas.{given_mask, given_picture, given_tiles, mask_given, picture_given, tiles_given}
+use Rattle.wfc_task.proofs.TileTaskLemmas.{behind_mask, behind_mask_grid, behind_masked, behind_pins}
+use Rattle.wfc_task.specs.Given.{HoldsPins}
+use Rattle.wfc_task.specs.SamplePlans.{pins_plan}
+use Rattle.wfc_task.specs.Stages.{IsCountFault, IsPinsFault}
+use Rattle.wfc_task.specs.Steps.{grid_in}
+use Rattle.wfc_task.specs.TileGiven.{HoldsMask, IsTileSetOf}
+use Rattle.wfc_task.specs.TilePlans.{document_plan, mask_plan, mask_plan_by, next_plan, picture_plan, pictures_plan, tiled_plan, tiles_plan}
+use Rattle.wfc_task.specs.TileStages.{IsDocumentFault, IsDocumentOf, IsGridOf, IsMaskFault, IsMaskFormFault, IsPictureFault, IsPicturesFault, IsTileLayoutFault, IsTilePairsFault, IsTilePinFault, IsTilesFault}
+use Rattle.wfc_task.specs.TileSteps.{document_in, laid_tiles, mask_in, pictured, posed_tiles}
 use Rattle.wfc_tiled.specs.Built.{pairs, pins_in}
 use Rattle.wfc_tiled.specs.Mask.{MaskView, mask_of}
 use Rattle.wfc_tiled.specs.Tiles.{problem_of_tiles}
 use Rattle.wfc_tileset.specs.Document.{set_of}
 use Rattle.wfc_tileset.specs.Pictures.{kind_of, picture_name, picture_taken, side_of}
 use Rattle.wfc_tileset.specs.Tiles.{TileSetView}
-use Rattle.wfc_render.specs.Layout.{layout_of}
 use Rattle.wfc_words.specs.RequestView.{RequestView}
-use Rattle.wfc_task.specs.declared.fault.Source.TheVariants.{Sample, Pins, Mask, Picture}
-use Rattle.wfc_task.specs.declared.fault.Fault.{Fault}
-use Rattle.wfc_task.specs.declared.fault.Refusal.TheVariants as refusals
-use Rattle.wfc_task.specs.FillTask.{fill_tiles, fill_tiles_plan}
-use Rattle.wfc_task.specs.Given.{IsFile, HoldsPins}
-use Rattle.wfc_task.specs.Order.{IsFirstFault}
-use Rattle.wfc_task.specs.Plan.{Plan, done, step, and_then, outcome}
-use Rattle.wfc_task.specs.SamplePlans.{file_plan, pins_plan}
-use Rattle.wfc_task.specs.Stages.{TaskStage, IsRefusal, IsReadingFault, IsNamedFault, IsPinsFault, IsCountFault}
-use Rattle.wfc_task.specs.Steps.{grid_in}
-use Rattle.wfc_task.specs.TileGiven.{HoldsMask, IsTileSetOf}
-use Rattle.wfc_task.specs.TilePlans.{document_plan, mask_plan, mask_plan_by, next_plan, picture_plan, pictures_plan, tiled_plan, tiles_plan}
-use Rattle.wfc_task.specs.TileStages.{IsDocumentFault, IsDocumentOf, IsPictureFault, IsPicturesFault, IsTilesFault, IsTileLayoutFault, IsMaskFormFault, IsGridOf, IsMaskFault, IsTilePairsFault, IsTilePinFault}
-use Rattle.wfc_task.specs.TileSteps.{document_in, laid_tiles, mask_in, pictured, posed_tiles}
-use Rattle.wfc_task.proofs.FillingLemmas.{unrefused}
-use Rattle.wfc_task.proofs.GivenLemmas.{file_given, given_file, ok_refused, ok_step, step_ok}
-use Rattle.wfc_task.proofs.OrderLemmas.{Same, Faults, faults_as, faults_first, faults_group, faults_last, faults_none, faults_reading, faults_step, outcome_out, same_first, same_known, same_on}
-use Rattle.wfc_task.proofs.PlanLemmas.{outcome_on, outcome_parts}
-use Rattle.wfc_task.proofs.SampleOrderLemmas.{faults_count, faults_pins, one_file, one_value, pins_stages, same_lines}
-use Rattle.wfc_task.proofs.TileGivenLemmas.{given_mask, given_picture, given_tiles, mask_given, picture_given, tiles_given}
-use Rattle.wfc_task.proofs.TileTaskLemmas.{behind_mask, behind_mask_grid, behind_masked, behind_pins, behind_set, behind_tile_layout, fill_made_tiles}
 
 -- ---- pictures
 
@@ -68,7 +66,7 @@ faults_picture files (Some name) set =
       λ has. elim has [ inl one ↦ inl one | inr one ↦ inr (one.0, given_file (Picture (length set.pictures)) name files one.0 one.1, one.2) ],
     )
 
-faults_pictures : (files : List File) (left : ℕ) (set : TileSetView) → Faults (pictures_plan left set) files (IsPicturesFault files left set)
+pub faults_pictures : (files : List File) (left : ℕ) (set : TileSetView) → Faults (pictures_plan left set) files (IsPicturesFault files left set)
 faults_pictures files zero set = λ fault. (λ is. absurd (cc (is)), λ none. absurd none)
 faults_pictures files (suc left) set =
     faults_as (pictures_plan (suc left) set) files (λ fault. IsPictureFault files (picture_name set (length set.pictures)) set fault ⊎ ((next : TileSetView) × (outcome (next_plan set) files ≡ Ok next) × IsPicturesFault files left next fault))
@@ -129,7 +127,7 @@ pub same_set : (asked : RequestView) (files : List File) (set : TileSetView) (st
 same_set asked files set stage was =
     same_known (λ other. IsTileSetOf asked files other) stage set (tiles_given asked files set was) (λ other also. one_value (tiles_plan asked) files set other was (given_tiles asked files other also))
 
-faults_tile_layout : (asked : RequestView) (files : List File) (set : TileSetView) → outcome (tiles_plan asked) files ≡ Ok set → Faults (step (laid_tiles set asked)) files (IsTileLayoutFault asked files)
+pub faults_tile_layout : (asked : RequestView) (files : List File) (set : TileSetView) → outcome (tiles_plan asked) files ≡ Ok set → Faults (step (laid_tiles set asked)) files (IsTileLayoutFault asked files)
 faults_tile_layout asked files set was =
     let stage : TileSetView → TaskStage = λ other. IsRefusal refusals.Render (layout_of (kind_of other.pictures) asked.form asked.width asked.height (side_of other.pictures)) in
     faults_as (step (laid_tiles set asked)) files (stage set) (IsTileLayoutFault asked files) (same_set asked files set stage was)
@@ -215,17 +213,3 @@ faults_tiled asked files set was =
     (faults_as (step (posed_tiles asked set mask lines)) files (IsFirstFault pins) (IsFirstFault (tile_problem_stages asked files)) (same_tiles_built asked files set lines mask was held masked)
     (faults_count (pairs set mask) (problem_of_tiles set mask asked.wrap_out) (pins_in set.tiles mask lines) files))
     (λ P made. faults_none (mask, P) files)))
-
--- ---- `fill`
-
--- of `fill` of a tile set behind its chooser
-abbrev pub fill_tiles_stages : RequestView → List File → List TaskStage
-fill_tiles_stages asked files = IsReadingFault Sample files asked.file ∷ IsDocumentFault asked files ∷ IsTilesFault asked files ∷ IsTileLayoutFault asked files ∷ tiled_stages asked files
-
-pub faults_fill_tiles : (asked : RequestView) (files : List File)
-    → Faults (fill_tiles_plan asked) files (IsFirstFault (fill_tiles_stages asked files))
-faults_fill_tiles asked files =
-    faults_group (tiles_plan asked) (behind_set asked) files (tiles_stages asked files) (IsTileLayoutFault asked files ∷ tiled_stages asked files) (faults_tiles asked files)
-    (λ set was. faults_first (step (laid_tiles set asked)) (behind_tile_layout asked set) files (IsTileLayoutFault asked files) (tiled_stages asked files) (faults_tile_layout asked files set was)
-    (λ layout written. faults_group (tiled_plan asked set) (fill_made_tiles set layout) files (tiled_stages asked files) [] (faults_tiled asked files set was)
-    (λ made given. faults_none (fill_tiles set made.0 layout made.1) files)))

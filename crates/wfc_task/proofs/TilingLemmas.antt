@@ -1,33 +1,33 @@
 -- What holds of the problem of a tile set.
-use Rattle.std.proofs.Common.{◌≡◌, ℕ, ◌*◌, ◌<◌, ◌≤◌, ◌&&◌, nat_lt, Bool, true, false, List, [], ◌∷◌, length, position, Option, None, Some, Result, Ok, Err, ap, sym, subst, inl, inr, refl, arith, if◌then◌else◌}
-use Rattle.std.specs.Prelude.{◌==◌, is_some}
-use Rattle.std.specs.Option.{ok_or, option_map}
+use Rattle.std.proofs.Common.{Bool, Err, List, None, Ok, Option, Result, Some, [], ap, arith, false, if◌then◌else◌, inl, inr, length, nat_lt, position, refl, subst, sym, true, ℕ, ◌&&◌, ◌*◌, ◌<◌, ◌∷◌, ◌≡◌, ◌≤◌}
 use Rattle.std.proofs.lemmas.Bool.{eqb-true}
 use Rattle.std.proofs.lemmas.Bool.Decides.{nat_tests}
 use Rattle.std.proofs.lemmas.List.Elements.{All-cons, All-nil}
-use Rattle.wfc_outside.specs.Folder.{File}
-use Rattle.wfc_outside.specs.Gives.{Gives, result_map}
+use Rattle.std.specs.Option.{ok_or, option_map}
+use Rattle.std.specs.Prelude.{is_some, ◌==◌}
 use Rattle.wfc_grid.specs.Grid.{GridView}
 use Rattle.wfc_model.specs.Legal.{Pin}
-use Rattle.wfc_problem.specs.Network.{Network}
-use Rattle.wfc_problem.specs.declared.TheConstants.{MAX_PAIRS}
+use Rattle.wfc_outside.specs.Folder.{File}
+use Rattle.wfc_outside.specs.Gives.{Gives, result_map}
+use Rattle.wfc_overlap.specs.Built.{pin_with}
+use Rattle.wfc_overlap.specs.Sample.{cell_of}
 use Rattle.wfc_pins.specs.InOrder.{and_rest}
 use Rattle.wfc_pins.specs.PinView.{PinView}
 use Rattle.wfc_pins.specs.declared.fault.BuildFault.{BuildFault}
 use Rattle.wfc_pins.specs.declared.fault.BuildFault.TheVariants.{NoMemory, PinInHole, PinOutside, TooLarge, UnknownSymbol}
-use Rattle.wfc_overlap.specs.Built.{pin_with}
-use Rattle.wfc_overlap.specs.Sample.{cell_of}
-use Rattle.wfc_tiled.specs.Built.{built, pairs, pin_in, pins_in}
-use Rattle.wfc_tiled.specs.Mask.{IsMask, MaskView, cell_number, is_other, mask_from, mask_of, places_of}
-use Rattle.wfc_tiled.specs.Maps.{ArePlaced, IsPlaced}
-use Rattle.wfc_tiled.specs.Tiles.{problem_of_tiles}
-use Rattle.wfc_tiled.specs.declared.reading.MaskFault.TheVariants.{SizeDiffers}
-use Rattle.wfc_tiled.proofs.MaskLemmas.{kept_is, plain_is, there}
-use Rattle.wfc_tileset.specs.Tiles.{TileSetView, TileView, variant_of}
-use Rattle.wfc_words.specs.RequestView.{RequestView}
+use Rattle.wfc_problem.specs.Network.{Network}
+use Rattle.wfc_problem.specs.declared.TheConstants.{MAX_PAIRS}
 use Rattle.wfc_task.specs.Asked.{IsOutputAsked}
 use Rattle.wfc_task.specs.TileGiven.{HoldsMask}
 use Rattle.wfc_task.specs.Tiling.{HasSides, IsTiled}
+use Rattle.wfc_tiled.proofs.MaskLemmas.{kept_is, plain_is, there}
+use Rattle.wfc_tiled.specs.Built.{built, pairs, pin_in, pins_in}
+use Rattle.wfc_tiled.specs.Maps.{ArePlaced, IsPlaced}
+use Rattle.wfc_tiled.specs.Mask.{IsMask, MaskView, cell_number, is_other, mask_from, mask_of, places_of}
+use Rattle.wfc_tiled.specs.Tiles.{problem_of_tiles}
+use Rattle.wfc_tiled.specs.declared.reading.MaskFault.TheVariants.{SizeDiffers}
+use Rattle.wfc_tileset.specs.Tiles.{TileSetView, TileView, variant_of}
+use Rattle.wfc_words.specs.RequestView.{RequestView}
 
 -- the pin that a line means stands at a place that is no hole
 pin_placed : (tiles : List TileView) (mask : MaskView) (line : PinView) (pin : Pin) → pin_in tiles mask line ≡ Ok pin → IsPlaced mask pin

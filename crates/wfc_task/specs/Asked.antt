@@ -1,9 +1,9 @@
 -- What a request has to say, so that a sample can be learned from and a map made.
 use Rattle.std.specs.Prelude.{◌<◌, ◌≤◌}
+use Rattle.wfc_task.specs.Sources.{side_of}
 use Rattle.wfc_words.specs.RequestView.{RequestView}
 use Rattle.wfc_words.specs.declared.kinds.SourceModel.{SourceModel}
 use Rattle.wfc_words.specs.declared.kinds.SourceModel.TheVariants.{Overlap, Tiles}
-use Rattle.wfc_task.specs.Sources.{side_of}
 
 -- a window has a side of 1 to 6, and one to eight of its images are learned
 pub record IsSampleAsked (asked : RequestView) : Type 0 where

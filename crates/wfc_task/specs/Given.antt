@@ -1,36 +1,27 @@
 -- Tasks over files that are told, in the subject's words.
-use Rattle.std.specs.Prelude.{◌≡◌, ℕ, ◌*◌, ◌≤◌, Bool, true, false, List, [], length, Option, None, Some, Ok, Contains}
-use Rattle.wfc_outside.specs.Folder.{File, file_of}
-use Rattle.wfc_model.specs.Legal.{Pin}
-use Rattle.wfc_model.specs.Raster.{Raster}
+use Rattle.std.specs.Prelude.{Bool, List, None, Ok, Option, Some, [], false, true, ℕ, ◌*◌, ◌≡◌, ◌≤◌}
 use Rattle.wfc_grid.specs.Grid.{GridView}
 use Rattle.wfc_grid.specs.Spelling.{SpellsGrid}
-use Rattle.wfc_picture.specs.Palette.{indexed}
-use Rattle.wfc_picture.specs.declared.symbol.Symbol.{Symbol}
-use Rattle.wfc_picture.specs.declared.symbol.Kind.{Kind}
-use Rattle.wfc_pattern.specs.Learning.{patterns_of}
-use Rattle.wfc_pattern.specs.Patterns.{PatternsView}
-use Rattle.wfc_problem.specs.Network.{Network}
-use Rattle.wfc_ppm.specs.Ppm.{PpmView}
-use Rattle.wfc_ppm.specs.Reading.{ppm_of}
-use Rattle.wfc_pins.specs.PinView.{PinView}
-use Rattle.wfc_pins.specs.Pins.{pins_of}
-use Rattle.wfc_pins.specs.Steps.{steps_of}
-use Rattle.wfc_pins.specs.declared.steps.StepLine.{StepLine}
+use Rattle.wfc_model.specs.Legal.{Pin}
+use Rattle.wfc_model.specs.Raster.{Raster}
+use Rattle.wfc_outside.specs.Folder.{File}
 use Rattle.wfc_overlap.specs.Bridge.{IsRoom}
 use Rattle.wfc_overlap.specs.Built.{pins_in, texts_of}
 use Rattle.wfc_overlap.specs.Sample.{output_with, problem_of_sample}
-use Rattle.wfc_choose.specs.declared.RuleKind.{RuleKind}
-use Rattle.wfc_render.specs.Layout.{layout_of}
-use Rattle.wfc_render.specs.declared.form.Layout.{Layout}
-use Rattle.wfc_words.specs.RequestView.{RequestView}
-use Rattle.wfc_task.specs.Sources.{is_picture_name, side_of}
+use Rattle.wfc_pattern.specs.Learning.{patterns_of}
+use Rattle.wfc_pattern.specs.Patterns.{PatternsView}
+use Rattle.wfc_picture.specs.Palette.{indexed}
+use Rattle.wfc_picture.specs.declared.symbol.Kind.{Kind}
+use Rattle.wfc_picture.specs.declared.symbol.Symbol.{Symbol}
+use Rattle.wfc_pins.specs.PinView.{PinView}
+use Rattle.wfc_pins.specs.Pins.{pins_of}
+use Rattle.wfc_plan.specs.Files.{IsFile}
+use Rattle.wfc_ppm.specs.Ppm.{PpmView}
+use Rattle.wfc_ppm.specs.Reading.{ppm_of}
+use Rattle.wfc_problem.specs.Network.{Network}
 use Rattle.wfc_task.specs.Sampled.{SampledView, of_grid, of_ppm}
-
--- the file of that name has these bytes, which are no more than a file may have
-pub record IsFile (files : List File) (name bytes : List ℕ) : Type 0 where
-  pub there : file_of files name ≡ Some bytes
-  pub short : length bytes ≤ 16777216
+use Rattle.wfc_task.specs.Sources.{is_picture_name, side_of}
+use Rattle.wfc_words.specs.RequestView.{RequestView}
 
 -- the bytes spell a grid, within the limit of a grid, that shows this
 pub record ShowsGrid (bytes : List ℕ) (sampled : SampledView) : Type 0 where
@@ -76,11 +67,6 @@ abbrev pub HoldsPins : List File → Option (List ℕ) → List PinView → Type
 HoldsPins files None lines = [] ≡ lines
 HoldsPins files (Some name) lines = (bytes : List ℕ) × IsFile files name bytes × (pins_of bytes ≡ Ok lines)
 
--- the steps file has these steps; there are none where no file is named
-abbrev pub HoldsSteps : List File → Option (List ℕ) → List StepLine → Type 0
-HoldsSteps files None steps = [] ≡ steps
-HoldsSteps files (Some name) steps = (bytes : List ℕ) × IsFile files name bytes × (steps_of bytes ≡ Ok steps)
-
 -- the problem of these patterns, for the output asked for and the pins that the lines of the pins file mean
 pub record IsProblemOf (asked : RequestView) (files : List File) (patterns : PatternsView)
     (palette : List Symbol) (P : Network) : Type 0 where
@@ -90,12 +76,3 @@ pub record IsProblemOf (asked : RequestView) (files : List File) (patterns : Pat
   pub pins : List Pin
   pub meant : pins_in (texts_of palette) asked.width asked.height lines ≡ Ok pins
   pub problem : P ≡ problem_of_sample patterns (output_with asked.width asked.height asked.wrap_out) pins
-
--- a chooser goes by the rule, and the sample, the layout and the problem are those of the request
-pub record IsFillTask (kinds : List RuleKind) (asked : RequestView) (files : List File)
-    (patterns : PatternsView) (palette : List Symbol) (layout : Layout) (P : Network) : Type 0 where
-  pub chooser : Contains kinds asked.rule
-  pub kind : Kind
-  pub sample : IsSample asked files kind patterns palette
-  pub written : layout_of kind asked.form asked.width asked.height 1 ≡ Ok layout
-  pub problem : IsProblemOf asked files patterns palette P

@@ -1,20 +1,20 @@
 -- The problem of a request, whatever its map is made of.
 use Rattle.std.specs.Prelude.{List}
 use Rattle.wfc_outside.specs.Folder.{File}
+use Rattle.wfc_pattern.specs.Patterns.{PatternsView}
 use Rattle.wfc_picture.specs.declared.symbol.Kind.{Kind}
 use Rattle.wfc_picture.specs.declared.symbol.Symbol.{Symbol}
-use Rattle.wfc_pattern.specs.Patterns.{PatternsView}
+use Rattle.wfc_plan.specs.Plan.{Plan, and_then, done}
 use Rattle.wfc_problem.specs.Network.{Network}
+use Rattle.wfc_task.specs.Given.{IsProblemOf, IsSample}
+use Rattle.wfc_task.specs.SamplePlans.{problem_plan, sample_plan}
+use Rattle.wfc_task.specs.TileGiven.{IsTileProblemOf, IsTileSetOf}
+use Rattle.wfc_task.specs.TilePlans.{tiled_plan, tiles_plan}
 use Rattle.wfc_tiled.specs.Mask.{MaskView}
 use Rattle.wfc_tileset.specs.Tiles.{TileSetView}
 use Rattle.wfc_words.specs.RequestView.{RequestView}
 use Rattle.wfc_words.specs.declared.kinds.SourceModel.{SourceModel}
 use Rattle.wfc_words.specs.declared.kinds.SourceModel.TheVariants.{Overlap, Tiles}
-use Rattle.wfc_task.specs.Given.{IsSample, IsProblemOf}
-use Rattle.wfc_task.specs.Plan.{Plan, done, and_then}
-use Rattle.wfc_task.specs.SamplePlans.{problem_plan, sample_plan}
-use Rattle.wfc_task.specs.TileGiven.{IsTileProblemOf, IsTileSetOf}
-use Rattle.wfc_task.specs.TilePlans.{tiled_plan, tiles_plan}
 
 -- the sample is read and learned from, and then the problem is made
 abbrev pub sample_problem_plan : RequestView → Plan Network

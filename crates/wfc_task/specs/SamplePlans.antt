@@ -1,22 +1,17 @@
 -- What is read and refused of a sample and of the files beside it, in order.
-use Rattle.std.specs.Prelude.{ℕ, List, [], Option, None, Some}
+use Rattle.std.specs.Prelude.{List, None, Option, Some, [], ℕ}
 use Rattle.wfc_model.specs.Raster.{Raster}
 use Rattle.wfc_picture.specs.declared.symbol.Kind.{Kind}
 use Rattle.wfc_picture.specs.declared.symbol.Symbol.{Symbol}
-use Rattle.wfc_problem.specs.Network.{Network}
 use Rattle.wfc_pins.specs.PinView.{PinView}
-use Rattle.wfc_pins.specs.declared.steps.StepLine.{StepLine}
-use Rattle.wfc_words.specs.RequestView.{RequestView}
-use Rattle.wfc_task.specs.declared.fault.Source.{Source}
-use Rattle.wfc_task.specs.declared.fault.Source.TheVariants.{Sample, Pins, Steps}
-use Rattle.wfc_task.specs.declared.task.Taught.{Taught}
-use Rattle.wfc_task.specs.Plan.{Plan, done, read, step, and_then, most_bytes}
+use Rattle.wfc_plan.specs.Files.{file_plan}
+use Rattle.wfc_plan.specs.Plan.{Plan, and_then, done, step}
+use Rattle.wfc_plan.specs.declared.fault.Source.TheVariants.{Pins, Sample}
+use Rattle.wfc_problem.specs.Network.{Network}
 use Rattle.wfc_task.specs.Sampled.{SampledView}
-use Rattle.wfc_task.specs.Steps.{sampled_in, coloured, taught, pins_in, posed, steps_in, fitting}
-
--- the whole of a file
-abbrev pub file_plan : Source → List ℕ → Plan (List ℕ)
-file_plan source name = read source name most_bytes (λ bytes. done bytes)
+use Rattle.wfc_task.specs.Steps.{coloured, pins_in, posed, sampled_in, taught}
+use Rattle.wfc_task.specs.declared.lesson.Taught.{Taught}
+use Rattle.wfc_words.specs.RequestView.{RequestView}
 
 -- the sample is read: what its pixels show
 abbrev pub sampled_plan : RequestView → Plan SampledView
@@ -49,14 +44,3 @@ abbrev pub problem_plan : RequestView → Taught → Plan Network
 problem_plan asked lesson =
     and_then (pins_plan asked.pins)
     (λ lines. step (posed asked lesson.patterns lesson.palette lines))
-
--- the steps file is read, if one is named, and then each step is looked up in the problem
-abbrev pub steps_file_plan : List ℕ → Network → Plan (List StepLine)
-steps_file_plan name P =
-    and_then (file_plan Steps name) (λ bytes.
-    and_then (step (steps_in bytes)) (λ steps.
-    step (fitting P steps)))
-
-abbrev pub steps_plan : Option (List ℕ) → Network → Plan (List StepLine)
-steps_plan None P = done []
-steps_plan (Some name) P = steps_file_plan name P

@@ -1,5 +1,5 @@
 -- What a sample shows, whatever the format of its file.
-use Rattle.std.specs.Prelude.{ℕ, List, map}
+use Rattle.std.specs.Prelude.{List, map, ℕ}
 use Rattle.wfc_grid.specs.Grid.{GridView}
 use Rattle.wfc_picture.specs.declared.symbol.Kind.{Kind}
 use Rattle.wfc_picture.specs.declared.symbol.Kind.TheVariants as kinds

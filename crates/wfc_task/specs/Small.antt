@@ -1,20 +1,16 @@
 -- Small requests, whose files have several faults at once.
-use Rattle.std.specs.Prelude.{◌≡◌, ℕ, false, List, [], ◌∷◌, Option, None, Some, Result, Ok, codes}
+use Rattle.std.specs.Prelude.{List, None, Ok, Option, Some, [], codes, ℕ, ◌∷◌, ◌≡◌}
 use Rattle.wfc_outside.specs.Folder.{File, file_of}
-use Rattle.wfc_choose.specs.declared.RuleKind.TheVariants.{Fewest}
-use Rattle.wfc_render.specs.declared.form.Form.{Form}
 use Rattle.wfc_render.specs.Layout.{layout_of}
+use Rattle.wfc_render.specs.declared.form.Form.{Form}
 use Rattle.wfc_render.specs.declared.form.Layout.{Layout}
+use Rattle.wfc_task.specs.TileGiven.{IsTileSetOf}
 use Rattle.wfc_tileset.specs.Pictures.{kind_of, side_of}
 use Rattle.wfc_tileset.specs.Tiles.{TileSetView}
-use Rattle.wfc_words.specs.RequestView.{RequestView}
+use Rattle.wfc_words.specs.RequestView.{RequestView, default_request}
 use Rattle.wfc_words.specs.declared.kinds.CommandKind.TheVariants.{Fill}
 use Rattle.wfc_words.specs.declared.kinds.SourceModel.{SourceModel}
 use Rattle.wfc_words.specs.declared.kinds.SourceModel.TheVariants.{Overlap, Tiles}
-use Rattle.wfc_task.specs.declared.fault.Fault.{Fault}
-use Rattle.wfc_task.specs.FillTask.{FillTask, fill_plan}
-use Rattle.wfc_task.specs.Plan.{outcome}
-use Rattle.wfc_task.specs.TileGiven.{IsTileSetOf}
 
 -- the file of this name has these bytes
 abbrev pub file : List ℕ → List ℕ → File
@@ -22,23 +18,16 @@ file name bytes = record { name = name; bytes = bytes }
 
 -- a map of two by one of the file `a`, with the pins of `p`, the mask `m`, the steps `s` and the refutation `r`
 abbrev pub asked_of : SourceModel → Option Form → RequestView
-asked_of source form = record {
-  command = Fill;
+asked_of source form = record (default_request Fill) {
   file = codes "a";
   source = source;
   width = 2;
   height = 1;
-  symmetry = 1;
-  wrap_in = false;
-  wrap_out = false;
   pins = Some (codes "p");
   steps = Some (codes "s");
   refutation = Some (codes "r");
-  seed = 0;
   budget = 0;
-  rule = Fewest;
   form = form;
-  number = 0;
   format = 1;
   mask = Some (codes "m");
 }
@@ -67,10 +56,6 @@ pub record AreBeside (files : List File) (pins : Option (List ℕ)) : Type 0 whe
 -- a map of a sample, with windows of this side, in this form
 abbrev pub sample_asked : ℕ → Form → RequestView
 sample_asked n form = asked_of (Overlap n) (Some form)
-
--- what `fill` comes to with one chooser
-abbrev pub filled : RequestView → List File → Result FillTask Fault
-filled asked files = outcome (fill_plan (Fewest ∷ []) asked) files
 
 -- a map of a tile set, in the form of its kind
 abbrev pub tiles_asked : RequestView

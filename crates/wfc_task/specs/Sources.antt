@@ -1,6 +1,6 @@
 -- What a map is made of, and which files are pictures in colours.
-use Rattle.std.specs.Prelude.{ℕ, Bool, true, false, ◌||◌, List, nat_eq, codes}
 use Rattle.std.specs.List.{ends_with}
+use Rattle.std.specs.Prelude.{Bool, List, codes, false, nat_eq, true, ℕ, ◌||◌}
 use Rattle.wfc_words.specs.declared.kinds.SourceModel.{SourceModel}
 use Rattle.wfc_words.specs.declared.kinds.SourceModel.TheVariants.{Overlap, Tiles}
 

@@ -1,76 +1,31 @@
--- The stages of a request, each with the faults that it may have, over files that are told. A stage
--- says nothing of the stages before it but what it looks at itself.
-use Rattle.std.specs.Prelude.{◌≡◌, ℕ, ◌<◌, ◌⊎◌, Bool, true, false, List, length, Option, None, Some, Result, Ok, Err, Contains}
-use Rattle.wfc_outside.specs.Folder.{File, file_of}
-use Rattle.wfc_outside.specs.declared.whole.ReadFault.TheVariants as reading
+-- The stages of a sample and of its problem, each with the faults that it may have, over files that are told.
+use Rattle.std.specs.Prelude.{Bool, List, None, Ok, Option, Some, false, true, ℕ, ◌<◌, ◌≡◌, ◌⊎◌}
 use Rattle.wfc_grid.specs.Reading.{grid_of}
 use Rattle.wfc_model.specs.Raster.{Raster}
-use Rattle.wfc_picture.specs.Palette.{indexed}
-use Rattle.wfc_picture.specs.declared.symbol.Symbol.{Symbol}
-use Rattle.wfc_pattern.specs.Learning.{patterns_of}
-use Rattle.wfc_ppm.specs.Reading.{ppm_of}
-use Rattle.wfc_problem.specs.declared.TheConstants.{MAX_PAIRS}
-use Rattle.wfc_pins.specs.PinView.{PinView}
-use Rattle.wfc_pins.specs.Pins.{pins_of}
-use Rattle.wfc_pins.specs.declared.fault.BuildFault.TheVariants.{SizeBelowN, TooLarge}
+use Rattle.wfc_outside.specs.Folder.{File}
 use Rattle.wfc_overlap.specs.Bridge.{pairs}
 use Rattle.wfc_overlap.specs.Built.{pins_in, texts_of}
 use Rattle.wfc_overlap.specs.Sample.{Output, output_with}
-use Rattle.wfc_choose.specs.declared.RuleKind.{RuleKind}
+use Rattle.wfc_pattern.specs.Learning.{patterns_of}
+use Rattle.wfc_picture.specs.Palette.{indexed}
+use Rattle.wfc_picture.specs.declared.symbol.Symbol.{Symbol}
+use Rattle.wfc_pins.specs.PinView.{PinView}
+use Rattle.wfc_pins.specs.Pins.{pins_of}
+use Rattle.wfc_pins.specs.declared.fault.BuildFault.TheVariants.{SizeBelowN, TooLarge}
+use Rattle.wfc_plan.specs.Files.{IsFile}
+use Rattle.wfc_plan.specs.Stages.{IsRefusal, TaskStage}
+use Rattle.wfc_plan.specs.declared.fault.Fault.{Fault}
+use Rattle.wfc_plan.specs.declared.fault.Fault.TheVariants.{Refused}
+use Rattle.wfc_plan.specs.declared.fault.Refusal.TheVariants as refusals
+use Rattle.wfc_plan.specs.declared.fault.Source.TheVariants.{Sample}
+use Rattle.wfc_ppm.specs.Reading.{ppm_of}
+use Rattle.wfc_problem.specs.declared.TheConstants.{MAX_PAIRS}
 use Rattle.wfc_render.specs.Layout.{layout_of}
-use Rattle.wfc_words.specs.RequestView.{RequestView}
-use Rattle.wfc_task.specs.declared.fault.Source.{Source}
-use Rattle.wfc_task.specs.declared.fault.Source.TheVariants.{Sample}
-use Rattle.wfc_task.specs.declared.fault.Fault.{Fault}
-use Rattle.wfc_task.specs.declared.fault.Fault.TheVariants.{Unread, Refused}
-use Rattle.wfc_task.specs.declared.fault.Refusal.{Refusal}
-use Rattle.wfc_task.specs.declared.fault.Refusal.TheVariants as refusals
-use Rattle.wfc_task.specs.declared.task.Taught.{Taught}
-use Rattle.wfc_task.specs.Given.{IsFile, IsSample, IsSampleFile, HoldsPins}
+use Rattle.wfc_task.specs.Given.{HoldsPins, IsSample, IsSampleFile}
 use Rattle.wfc_task.specs.Sampled.{SampledView}
 use Rattle.wfc_task.specs.Sources.{is_picture_name, side_of}
-
--- a stage of a request, by the faults that it may have
-abbrev pub TaskStage : Type 1
-TaskStage = Fault → Type 0
-
--- ---- what stages have in common
-
--- this is the result's fault, which is refused
-abbrev pub IsRefusal : {T E : Type 0} → (E → Refusal) → Result T E → TaskStage
-IsRefusal {T} {E} refusal result fault =
-    (why : E) × (result ≡ Err why) × (fault ≡ Refused (refusal why))
-
--- there is no file of this name
-pub record IsMissingFault (source : Source) (files : List File) (name : List ℕ) (fault : Fault)
-    : Type 0 where
-  pub lacking : file_of files name ≡ None
-  pub is : fault ≡ Unread source reading.Missing
-
--- the file of this name is longer than a file may be
-pub record IsLengthFault (source : Source) (files : List File) (name : List ℕ) (fault : Fault)
-    : Type 0 where
-  pub bytes : List ℕ
-  pub there : file_of files name ≡ Some bytes
-  pub long : 16777216 < length bytes
-  pub is : fault ≡ Unread source reading.TooLong
-
--- the file of this name isn't there, or is too long
-abbrev pub IsReadingFault : Source → List File → List ℕ → TaskStage
-IsReadingFault source files name fault =
-    IsMissingFault source files name fault ⊎ IsLengthFault source files name fault
-
--- so it is with the file that is named; there is no fault where none is
-abbrev pub IsNamedFault : Source → List File → Option (List ℕ) → TaskStage
-IsNamedFault source files None fault = ⊥
-IsNamedFault source files (Some name) fault = IsReadingFault source files name fault
-
--- ---- choosers
-
--- no chooser goes by the rule
-pub record IsChooserFault (kinds : List RuleKind) (rule : RuleKind) (fault : Fault) : Type 0 where
-  pub lacking : Contains kinds rule → ⊥
-  pub is : fault ≡ Refused (refusals.Chooser rule)
+use Rattle.wfc_task.specs.declared.lesson.Taught.{Taught}
+use Rattle.wfc_words.specs.RequestView.{RequestView}
 
 -- ---- samples
 

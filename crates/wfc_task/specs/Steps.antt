@@ -1,52 +1,31 @@
 -- The steps of tasks that read no file, each with its first fault.
-use Rattle.std.specs.Prelude.{ℕ, Bool, true, false, List, Option, None, Some, Result, Ok, Err, if◌then◌else◌}
-use Rattle.std.specs.List.{list_any}
-use Rattle.wfc_outside.specs.Gives.{result_map}
-use Rattle.wfc_model.specs.Raster.{Raster}
+use Rattle.std.specs.Prelude.{Bool, List, Result, false, true, ℕ}
 use Rattle.wfc_grid.specs.Grid.{GridView}
 use Rattle.wfc_grid.specs.Reading.{grid_of}
-use Rattle.wfc_picture.specs.Palette.{indexed}
-use Rattle.wfc_picture.specs.declared.symbol.Symbol.{Symbol}
-use Rattle.wfc_picture.specs.declared.symbol.Kind.{Kind}
-use Rattle.wfc_pattern.specs.Learning.{patterns_of}
-use Rattle.wfc_pattern.specs.Patterns.{PatternsView}
-use Rattle.wfc_problem.specs.Network.{Network}
-use Rattle.wfc_ppm.specs.Ppm.{PpmView}
-use Rattle.wfc_ppm.specs.Reading.{ppm_of}
-use Rattle.wfc_pins.specs.PinView.{PinView}
-use Rattle.wfc_pins.specs.Pins.{pins_of}
-use Rattle.wfc_pins.specs.Steps.{steps_of, range_fault}
-use Rattle.wfc_pins.specs.declared.steps.StepLine.{StepLine}
-use Rattle.wfc_pins.specs.declared.steps.RangeFault.{RangeFault}
+use Rattle.wfc_model.specs.Raster.{Raster}
+use Rattle.wfc_outside.specs.Gives.{result_map}
 use Rattle.wfc_overlap.specs.Built.{built}
 use Rattle.wfc_overlap.specs.Sample.{output_with}
-use Rattle.wfc_choose.specs.declared.RuleKind.{RuleKind}
-use Rattle.wfc_choose.specs.declared.RuleKind.TheVariants.{Scanline, Fewest, Ranked}
+use Rattle.wfc_pattern.specs.Learning.{patterns_of}
+use Rattle.wfc_pattern.specs.Patterns.{PatternsView}
+use Rattle.wfc_picture.specs.Palette.{indexed}
+use Rattle.wfc_picture.specs.declared.symbol.Kind.{Kind}
+use Rattle.wfc_picture.specs.declared.symbol.Symbol.{Symbol}
+use Rattle.wfc_pins.specs.PinView.{PinView}
+use Rattle.wfc_pins.specs.Pins.{pins_of}
+use Rattle.wfc_plan.specs.Plan.{or_refuse}
+use Rattle.wfc_plan.specs.declared.fault.Refusal.{Refusal}
+use Rattle.wfc_plan.specs.declared.fault.Refusal.TheVariants.{Build, Colours, Grid, Learn, Pins, Ppm, Render}
+use Rattle.wfc_plan.specs.declared.fault.Source.{Source}
+use Rattle.wfc_plan.specs.declared.fault.Source.TheVariants.{Sample}
+use Rattle.wfc_ppm.specs.Ppm.{PpmView}
+use Rattle.wfc_ppm.specs.Reading.{ppm_of}
+use Rattle.wfc_problem.specs.Network.{Network}
 use Rattle.wfc_render.specs.Layout.{layout_of}
 use Rattle.wfc_render.specs.declared.form.Layout.{Layout}
-use Rattle.wfc_words.specs.RequestView.{RequestView}
-use Rattle.wfc_task.specs.declared.fault.Source.{Source}
-use Rattle.wfc_task.specs.declared.fault.Source.TheVariants.{Sample}
-use Rattle.wfc_task.specs.declared.fault.Refusal.{Refusal}
-use Rattle.wfc_task.specs.declared.fault.Refusal.TheVariants.{Chooser, Grid, Ppm, Colours, Learn, Render, Pins, Build, Steps, Range}
-use Rattle.wfc_task.specs.Sources.{is_picture_name, side_of}
 use Rattle.wfc_task.specs.Sampled.{SampledView, of_grid, of_ppm}
-
--- a result whose fault is refused
-abbrev pub or_refuse : {T E : Type 0} → (E → Refusal) → Result T E → Result T Refusal
-or_refuse refusal (Ok value) = Ok value
-or_refuse refusal (Err fault) = Err (refusal fault)
-
--- whether two kinds of rule are one
-abbrev pub same_rule : RuleKind → RuleKind → Bool
-same_rule Scanline Scanline = true
-same_rule Fewest Fewest = true
-same_rule Ranked Ranked = true
-same_rule _ _ = false
-
--- a chooser of this kind is there
-abbrev pub chosen : List RuleKind → RuleKind → Result (Unit {0}) Refusal
-chosen kinds rule = if list_any (same_rule rule) kinds then Ok tt else Err (Chooser rule)
+use Rattle.wfc_task.specs.Sources.{is_picture_name, side_of}
+use Rattle.wfc_words.specs.RequestView.{RequestView}
 
 -- the grid that a file spells
 abbrev pub grid_in : Source → List ℕ → Result GridView Refusal
@@ -83,16 +62,3 @@ pins_in text = or_refuse Pins (pins_of text)
 -- the problem of learned patterns and the lines of a pins file
 abbrev pub posed : RequestView → PatternsView → List Symbol → List PinView → Result Network Refusal
 posed asked patterns palette lines = or_refuse Build (built patterns palette (output_with asked.width asked.height asked.wrap_out) lines)
-
--- the steps that a file has
-abbrev pub steps_in : List ℕ → Result (List StepLine) Refusal
-steps_in text = or_refuse Steps (steps_of text)
-
--- the steps, unless this is the fault of one
-abbrev pub unless_out : List StepLine → Option RangeFault → Result (List StepLine) Refusal
-unless_out steps None = Ok steps
-unless_out steps (Some fault) = Err (Range fault)
-
--- steps that are all in the problem
-abbrev pub fitting : Network → List StepLine → Result (List StepLine) Refusal
-fitting P steps = unless_out steps (range_fault P steps)

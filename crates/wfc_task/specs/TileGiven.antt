@@ -1,23 +1,21 @@
 -- Tile sets, masks and their problems over files that are told, in the subject's words.
-use Rattle.std.specs.Prelude.{◌≡◌, ℕ, zero, suc, ◌*◌, ◌≤◌, List, length, Option, None, Some, Ok, Contains}
-use Rattle.wfc_outside.specs.Folder.{File}
-use Rattle.wfc_model.specs.Legal.{Pin}
+use Rattle.std.specs.Prelude.{List, None, Ok, Option, Some, length, suc, zero, ℕ, ◌*◌, ◌≡◌, ◌≤◌}
 use Rattle.wfc_grid.specs.Grid.{GridView}
 use Rattle.wfc_grid.specs.Spelling.{SpellsGrid}
+use Rattle.wfc_model.specs.Legal.{Pin}
+use Rattle.wfc_outside.specs.Folder.{File}
 use Rattle.wfc_pins.specs.PinView.{PinView}
+use Rattle.wfc_plan.specs.Files.{IsFile}
 use Rattle.wfc_problem.specs.Network.{Network}
 use Rattle.wfc_problem.specs.declared.TheConstants.{MAX_PAIRS}
+use Rattle.wfc_task.specs.Given.{HoldsPins}
 use Rattle.wfc_tiled.specs.Built.{pairs, pins_in}
 use Rattle.wfc_tiled.specs.Mask.{MaskView, mask_of, plain_mask}
 use Rattle.wfc_tiled.specs.Tiles.{problem_of_tiles}
 use Rattle.wfc_tileset.specs.Document.{set_of}
-use Rattle.wfc_tileset.specs.Pictures.{kind_of, picture_name, picture_taken, side_of}
+use Rattle.wfc_tileset.specs.Pictures.{picture_name, picture_taken}
 use Rattle.wfc_tileset.specs.Tiles.{TileSetView}
-use Rattle.wfc_choose.specs.declared.RuleKind.{RuleKind}
-use Rattle.wfc_render.specs.Layout.{layout_of}
-use Rattle.wfc_render.specs.declared.form.Layout.{Layout}
 use Rattle.wfc_words.specs.RequestView.{RequestView}
-use Rattle.wfc_task.specs.Given.{IsFile, HoldsPins}
 
 -- the next tile's picture is that of the file of this name; none is taken where no file is named
 abbrev pub HoldsPicture : List File → Option (List ℕ) → TileSetView → TileSetView → Type 0
@@ -65,11 +63,3 @@ pub record IsTileProblemOf (asked : RequestView) (files : List File) (set : Tile
   pub pins : List Pin
   pub meant : pins_in set.tiles mask lines ≡ Ok pins
   pub problem : P ≡ problem_of_tiles set mask asked.wrap_out pins
-
--- a chooser goes by the rule, and the tile set, the layout, the mask and the problem are those of the request
-pub record IsTileFillTask (kinds : List RuleKind) (asked : RequestView) (files : List File)
-    (set : TileSetView) (mask : MaskView) (layout : Layout) (P : Network) : Type 0 where
-  pub chooser : Contains kinds asked.rule
-  pub tiles : IsTileSetOf asked files set
-  pub written : layout_of (kind_of set.pictures) asked.form asked.width asked.height (side_of set.pictures) ≡ Ok layout
-  pub problem : IsTileProblemOf asked files set mask P

@@ -1,15 +1,16 @@
 -- What is read and refused of a tile set, its pictures and its mask, in order.
-use Rattle.std.specs.Prelude.{ℕ, zero, suc, List, length, Option, None, Some}
+use Rattle.std.specs.Prelude.{List, None, Option, Some, length, suc, zero, ℕ}
+use Rattle.wfc_plan.specs.Files.{file_plan}
+use Rattle.wfc_plan.specs.Plan.{Plan, and_then, done, step}
+use Rattle.wfc_plan.specs.declared.fault.Source.TheVariants.{Mask, Picture, Sample}
 use Rattle.wfc_problem.specs.Network.{Network}
+use Rattle.wfc_task.specs.SamplePlans.{pins_plan}
+use Rattle.wfc_task.specs.Steps.{grid_in}
+use Rattle.wfc_task.specs.TileSteps.{document_in, mask_in, pictured, posed_tiles}
 use Rattle.wfc_tiled.specs.Mask.{MaskView, plain_mask}
 use Rattle.wfc_tileset.specs.Pictures.{picture_name}
 use Rattle.wfc_tileset.specs.Tiles.{TileSetView}
 use Rattle.wfc_words.specs.RequestView.{RequestView}
-use Rattle.wfc_task.specs.Plan.{Plan, done, step, and_then}
-use Rattle.wfc_task.specs.Steps.{grid_in}
-use Rattle.wfc_task.specs.SamplePlans.{file_plan, pins_plan}
-use Rattle.wfc_task.specs.TileSteps.{document_in, mask_in, pictured, posed_tiles}
-use Rattle.wfc_task.specs.declared.fault.Source.TheVariants.{Mask, Picture, Sample}
 
 -- the document is read
 abbrev pub document_plan : RequestView → Plan TileSetView

@@ -1,21 +1,23 @@
 -- The stages of a request for a tile map, each with the faults that it may have, over files that are told.
-use Rattle.std.specs.Prelude.{◌≡◌, ℕ, zero, suc, ◌⊎◌, List, length, Option, None, Some, Ok}
-use Rattle.wfc_outside.specs.Folder.{File}
+use Rattle.std.specs.Prelude.{List, None, Ok, Option, Some, length, suc, zero, ℕ, ◌≡◌, ◌⊎◌}
 use Rattle.wfc_grid.specs.Grid.{GridView}
 use Rattle.wfc_grid.specs.Reading.{grid_of}
+use Rattle.wfc_outside.specs.Folder.{File}
 use Rattle.wfc_pins.specs.PinView.{PinView}
+use Rattle.wfc_plan.specs.Files.{IsFile}
+use Rattle.wfc_plan.specs.Stages.{IsReadingFault, IsRefusal, TaskStage}
+use Rattle.wfc_plan.specs.declared.fault.Refusal.TheVariants as refusals
+use Rattle.wfc_plan.specs.declared.fault.Source.TheVariants.{Mask, Picture}
+use Rattle.wfc_render.specs.Layout.{layout_of}
+use Rattle.wfc_task.specs.Given.{HoldsPins}
+use Rattle.wfc_task.specs.Stages.{IsCountFault}
+use Rattle.wfc_task.specs.TileGiven.{HoldsMask, HoldsPicture, IsTileSetOf}
 use Rattle.wfc_tiled.specs.Built.{pairs, pins_in}
 use Rattle.wfc_tiled.specs.Mask.{MaskView, mask_of}
 use Rattle.wfc_tileset.specs.Document.{set_of}
 use Rattle.wfc_tileset.specs.Pictures.{kind_of, picture_name, picture_taken, side_of}
 use Rattle.wfc_tileset.specs.Tiles.{TileSetView}
-use Rattle.wfc_render.specs.Layout.{layout_of}
 use Rattle.wfc_words.specs.RequestView.{RequestView}
-use Rattle.wfc_task.specs.declared.fault.Source.TheVariants.{Mask, Picture}
-use Rattle.wfc_task.specs.declared.fault.Refusal.TheVariants as refusals
-use Rattle.wfc_task.specs.Given.{IsFile, HoldsPins}
-use Rattle.wfc_task.specs.Stages.{TaskStage, IsRefusal, IsReadingFault, IsCountFault}
-use Rattle.wfc_task.specs.TileGiven.{HoldsMask, HoldsPicture, IsTileSetOf}
 
 -- ---- tile sets
 

@@ -1,7 +1,10 @@
 -- The steps of tasks on tile sets that read no file, each with its first fault.
-use Rattle.std.specs.Prelude.{ℕ, List, Result}
+use Rattle.std.specs.Prelude.{List, Result, ℕ}
 use Rattle.wfc_grid.specs.Grid.{GridView}
 use Rattle.wfc_pins.specs.PinView.{PinView}
+use Rattle.wfc_plan.specs.Plan.{or_refuse}
+use Rattle.wfc_plan.specs.declared.fault.Refusal.{Refusal}
+use Rattle.wfc_plan.specs.declared.fault.Refusal.TheVariants.{Build, Mask, Render, Tiles}
 use Rattle.wfc_problem.specs.Network.{Network}
 use Rattle.wfc_render.specs.Layout.{layout_of}
 use Rattle.wfc_render.specs.declared.form.Layout.{Layout}
@@ -11,9 +14,6 @@ use Rattle.wfc_tileset.specs.Document.{set_of}
 use Rattle.wfc_tileset.specs.Pictures.{kind_of, picture_taken, side_of}
 use Rattle.wfc_tileset.specs.Tiles.{TileSetView}
 use Rattle.wfc_words.specs.RequestView.{RequestView}
-use Rattle.wfc_task.specs.Steps.{or_refuse}
-use Rattle.wfc_task.specs.declared.fault.Refusal.{Refusal}
-use Rattle.wfc_task.specs.declared.fault.Refusal.TheVariants.{Build, Mask, Render, Tiles}
 
 -- the tile set that a document spells, without its pictures
 abbrev pub document_in : List ℕ → Result TileSetView Refusal

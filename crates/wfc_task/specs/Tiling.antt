@@ -1,9 +1,9 @@
 -- What holds of the problem of a tile set that the code hands on, whatever the files are.
-use Rattle.std.specs.Prelude.{◌≡◌, List, Option, unwrap_or}
+use Rattle.std.specs.Prelude.{List, Option, unwrap_or, ◌≡◌}
 use Rattle.wfc_model.specs.Legal.{Pin}
 use Rattle.wfc_problem.specs.Network.{Network}
-use Rattle.wfc_tiled.specs.Mask.{MaskView, plain_mask}
 use Rattle.wfc_tiled.specs.Maps.{ArePlaced}
+use Rattle.wfc_tiled.specs.Mask.{MaskView, plain_mask}
 use Rattle.wfc_tiled.specs.Tiles.{problem_of_tiles}
 use Rattle.wfc_tileset.specs.Tiles.{TileSetView}
 use Rattle.wfc_words.specs.RequestView.{RequestView}

@@ -1,45 +1,26 @@
 //! The files of a request, and what they hold.
 
-ghost use Rattle.std.specs.Prelude.{◌≡◌, ◌+◌, ◌*◌, ◌≤◌, length, IfOk, All};
 ghost use Rattle.std.specs.Option.{option_map};
-ghost use Rattle.wfc_outside.specs.Gives.{result_map};
+ghost use Rattle.std.specs.Prelude.{IfOk, ◌*◌, ◌≤◌};
 ghost use Rattle.wfc_model.specs.Raster.{height_of};
+ghost use Rattle.wfc_outside.specs.Gives.{result_map};
 ghost use Rattle.wfc_pattern.specs.Patterns.{IsPatterns};
-ghost use Rattle.wfc_pins.specs.Steps.{IsStepIn};
-ghost use Rattle.wfc_pins.specs.declared.steps.StepLine.{StepLine};
-ghost use Rattle.wfc_task.specs.Asked.{IsSampleAsked, IsOutputAsked};
-ghost use Rattle.wfc_task.specs.Filling.{IsLesson, IsNumbered, IsPosed, IsSampled};
-ghost use Rattle.wfc_task.specs.Plan.{Goes};
+ghost use Rattle.wfc_plan.specs.Plan.{Goes};
+ghost use Rattle.wfc_task.specs.Asked.{IsOutputAsked, IsSampleAsked};
+ghost use Rattle.wfc_task.specs.Lesson.{IsLesson, IsNumbered, IsPosed, IsSampled};
+ghost use Rattle.wfc_task.specs.SamplePlans.{picture_plan, pins_file_plan, pins_plan, problem_plan, sample_plan, sampled_plan};
 ghost use Rattle.wfc_task.specs.Sampled.{sampled_view};
-ghost use Rattle.wfc_task.specs.SamplePlans.{file_plan, picture_plan, pins_file_plan, pins_plan, problem_plan, sample_plan, sampled_plan, steps_file_plan, steps_plan};
 
-use crate::fault::{Fault, Source};
+use crate::lesson::Taught;
 use crate::sampled::{Sampled, shown};
-use crate::steps::{coloured, fitting, pins_in, posed, steps_in, taught};
-use crate::task::Taught;
+use crate::steps::{coloured, pins_in, posed, taught};
 use std::alloc::Global;
-use wfc_outside::{Folder, MAX_FILE_BYTES, read_all};
+use wfc_outside::Folder;
 use wfc_picture::{Kind, MAX_PIXELS, Palette, Picture};
-use wfc_pins::{PinLine, StepLine};
+use wfc_pins::PinLine;
+use wfc_plan::{Fault, Source, whole_file};
 use wfc_problem::Problem;
 use wfc_words::Request;
-
-/// The whole of a file.
-pub(crate) fn file<F: Folder>(
-    alloc: Global,
-    folder: &mut F,
-    source: Source,
-    name: &str,
-) -> Result<Vec<u8>, Fault>
-    ensures goes { Goes (file_plan source name.now)
-        (F.seen folder.old) (F.seen folder.new) (result_map (λ bytes. bytes.items) result) }
-    ensures short { IfOk result (λ bytes. length bytes.items ≤ MAX_FILE_BYTES) }
-{
-    match read_all(alloc, folder, name, MAX_FILE_BYTES) {
-        Ok(bytes) => Ok(bytes),
-        Err(fault) => Err(Fault::Unread { source, fault }),
-    }
-}
 
 /// What the sample shows.
 fn sample_file<F: Folder>(
@@ -51,7 +32,7 @@ fn sample_file<F: Folder>(
         (F.seen folder.old) (F.seen folder.new) (result_map sampled_view result) }
     ensures sampled { IfOk result (λ sampled. IsSampled (sampled_view sampled)) }
 {
-    let bytes = file(alloc, folder, Source::Sample, request.file())?;
+    let bytes = whole_file(alloc, folder, Source::Sample, request.file())?;
     let sampled = shown(alloc, request, &bytes)?;
     Ok(sampled)
 }
@@ -72,11 +53,7 @@ fn picture<F: Folder>(
 }
 
 /// What the sample teaches.
-pub(crate) fn sample<F: Folder>(
-    alloc: Global,
-    request: &Request,
-    folder: &mut F,
-) -> Result<Taught, Fault>
+pub fn sample<F: Folder>(alloc: Global, request: &Request, folder: &mut F) -> Result<Taught, Fault>
     requires sample { IsSampleAsked request.now }
     ensures goes { Goes (sample_plan request.now) (F.seen folder.old) (F.seen folder.new) result }
     ensures lesson { IfOk result IsLesson }
@@ -95,13 +72,13 @@ fn pins_file<F: Folder>(alloc: Global, folder: &mut F, name: &str) -> Result<Vec
     ensures goes { Goes (pins_file_plan name.now)
         (F.seen folder.old) (F.seen folder.new) (result_map (λ lines. lines.items) result) }
 {
-    let bytes = file(alloc, folder, Source::Pins, name)?;
+    let bytes = whole_file(alloc, folder, Source::Pins, name)?;
     let lines = pins_in(alloc, &bytes)?;
     Ok(lines)
 }
 
 /// The pins and bans of the pins file, if one is named.
-pub(crate) fn pins<F: Folder>(
+pub fn pins<F: Folder>(
     alloc: Global,
     folder: &mut F,
     name: Option<&str>,
@@ -116,7 +93,7 @@ pub(crate) fn pins<F: Folder>(
 }
 
 /// The problem of what the sample teaches, by the pins file.
-pub(crate) fn problem<F: Folder>(
+pub fn problem<F: Folder>(
     alloc: Global,
     request: &Request,
     taught: &Taught,
@@ -131,42 +108,4 @@ pub(crate) fn problem<F: Folder>(
     let lines = pins(alloc, folder, request.pins())?;
     let problem = posed(alloc, request, taught, &lines)?;
     Ok(problem)
-}
-
-/// The steps of a steps file, which are all in the problem.
-fn steps_file<F: Folder>(
-    alloc: Global,
-    folder: &mut F,
-    name: &str,
-    problem: &Problem,
-) -> Result<Vec<StepLine>, Fault>
-    ensures goes { Goes (steps_file_plan name.now problem.now)
-        (F.seen folder.old) (F.seen folder.new) (result_map (λ steps. steps.items) result) }
-    ensures inside { IfOk result (λ steps. All (λ
-        (line : StepLine). IsStepIn problem.now line.step) steps.items) }
-    ensures few { IfOk result (λ steps. length steps.items ≤ MAX_FILE_BYTES + 1) }
-{
-    let bytes = file(alloc, folder, Source::Steps, name)?;
-    let steps = steps_in(alloc, &bytes)?;
-    let steps = fitting(problem, steps)?;
-    Ok(steps)
-}
-
-/// The steps of the steps file, if one is named.
-pub(crate) fn steps<F: Folder>(
-    alloc: Global,
-    folder: &mut F,
-    name: Option<&str>,
-    problem: &Problem,
-) -> Result<Vec<StepLine>, Fault>
-    ensures goes { Goes (steps_plan (option_map (λ text. text.now) name.entry) problem.now)
-        (F.seen folder.old) (F.seen folder.new) (result_map (λ steps. steps.items) result) }
-    ensures inside { IfOk result (λ steps. All (λ
-        (line : StepLine). IsStepIn problem.now line.step) steps.items) }
-    ensures few { IfOk result (λ steps. length steps.items ≤ MAX_FILE_BYTES + 1) }
-{
-    match name {
-        Some(name) => steps_file(alloc, folder, name, problem),
-        None => Ok(Vec::new(alloc)),
-    }
 }

@@ -1,29 +1,22 @@
-//! The task of a request: what is read for it and refused, in order, and what it comes to.
+//! How a problem of two dimensions is posed by a request: what is read for it and refused, in order, and which maps it
+//! is the problem of.
 #![tactic(auto)]
 
-mod checking;
-mod demo;
-mod fault;
 mod files;
 pub mod laws;
+mod lesson;
 pub mod order;
 mod posing;
-mod racing;
-mod refuting;
 mod sampled;
 mod sources;
 mod steps;
-mod task;
 mod tile_files;
 mod tile_steps;
-mod upgrading;
 
-pub use checking::{check_task, shape};
-pub use fault::{Class, Fault, Refusal, Source};
-pub use racing::{MAX_RACE, race_task};
-pub use refuting::refute_task;
-pub use task::{
-    Demo, Filled, Filling, Learned, Stepping, Taught, TileFilling, demo_task, domains_task,
-    fill_task, learn_task,
-};
-pub use upgrading::{Upgrading, upgrade_task};
+pub use files::{pins, problem, sample};
+pub use lesson::Taught;
+pub use posing::posed_problem;
+pub use sources::side_of;
+pub use steps::{Output, indexed, laid, learned, posed_for};
+pub use tile_files::{mask, pictures, tile_set, tiled_problem};
+pub use tile_steps::{document, laid_tiles};

@@ -1,55 +1,14 @@
 //! Laws of the order of refusals, each a function with no body whose contract is the law. They run nothing.
 
-ghost use Rattle.std.specs.Prelude.{◌≡◌, ◌↔◌, List, [], ◌∷◌, None, Some, Ok, Err, codes};
+ghost use Rattle.std.specs.Prelude.{Err, List, Ok, ◌↔◌, ◌≡◌};
 ghost use Rattle.wfc_outside.specs.Folder.{File};
-ghost use Rattle.wfc_outside.specs.declared.whole.ReadFault.TheVariants.{Missing};
-ghost use Rattle.wfc_choose.specs.declared.RuleKind.{RuleKind};
-ghost use Rattle.wfc_choose.specs.declared.RuleKind.TheVariants.{Fewest};
-ghost use Rattle.wfc_pattern.specs.declared.learning.LearnFault.TheVariants.{SampleBelowN};
-ghost use Rattle.wfc_pins.specs.declared.pins.PinFault.TheVariants as pins;
-ghost use Rattle.wfc_pins.specs.declared.fault.BuildFault.TheVariants as builds;
-ghost use Rattle.wfc_render.specs.declared.form.Form.TheVariants.{Grid, P6};
-ghost use Rattle.wfc_render.specs.declared.form.RenderFault.TheVariants.{FormDiffers};
-ghost use Rattle.wfc_tileset.specs.Tiles.{TileSetView};
-ghost use Rattle.wfc_words.specs.RequestView.{RequestView};
+ghost use Rattle.wfc_plan.specs.Order.{AreInOrder, IsFirstFault};
+ghost use Rattle.wfc_plan.specs.Plan.{outcome};
+ghost use Rattle.wfc_plan.specs.declared.fault.Fault.{Fault};
 ghost use Rattle.wfc_problem.specs.Network.{Network};
-ghost use Rattle.wfc_task.specs.CheckTask.{CheckTask, check_plan};
-ghost use Rattle.wfc_task.specs.DemoTask.{DemoTask, demo_plan};
-ghost use Rattle.wfc_task.specs.DomainsTask.{DomainsTask, domains_plan};
-ghost use Rattle.wfc_task.specs.FillTask.{FillTask, fill_plan};
-ghost use Rattle.wfc_task.specs.LearnTask.{LearnTask, learn_plan};
 ghost use Rattle.wfc_task.specs.Posed.{posed_plan};
-ghost use Rattle.wfc_task.specs.RefuteTask.{RefuteTask, refute_plan};
-ghost use Rattle.wfc_task.specs.UpgradeTask.{UpgradeTask, upgrade_plan};
-ghost use Rattle.wfc_task.specs.Order.{AreInOrder, IsFirstFault, check_order, demo_order};
-ghost use Rattle.wfc_task.specs.Order.{domains_order, fill_order, learn_order, posed_order};
-ghost use Rattle.wfc_task.specs.Order.{refute_order, upgrade_order};
-ghost use Rattle.wfc_task.specs.Plan.{outcome};
-ghost use Rattle.wfc_task.specs.Small.{AreBeside, IsLaid, filled, sample_asked, tiles_asked, with_pins, with_sample};
-ghost use Rattle.wfc_task.specs.declared.fault.Fault.{Fault};
-ghost use Rattle.wfc_task.specs.declared.fault.Fault.TheVariants.{Refused, Unread};
-ghost use Rattle.wfc_task.specs.declared.fault.Refusal.TheVariants as refusals;
-ghost use Rattle.wfc_task.specs.declared.fault.Source.TheVariants.{Mask, Pins, Refutation, Sample, Steps};
-
-/// `fill` has a fault exactly where it is that of the first stage at fault, and comes to a task exactly where all are in order.
-pub fn fill_refuses_in_order()
-    ensures refused { (kinds : List RuleKind) (asked : RequestView) (files : List File)
-        (fault : Fault) → (outcome (fill_plan kinds asked) files ≡ Err fault)
-        ↔ IsFirstFault (fill_order kinds asked files) fault }
-    ensures made { (kinds : List RuleKind) (asked : RequestView) (files : List File) →
-        ((task : FillTask) × (outcome (fill_plan kinds asked) files ≡ Ok task))
-        ↔ AreInOrder (fill_order kinds asked files) }
-{}
-
-/// `learn` has a fault exactly where it is that of the first stage at fault, and comes to a task exactly where all are in order.
-pub fn learn_refuses_in_order()
-    ensures refused { (asked : RequestView) (files : List File) (fault : Fault) →
-        (outcome (learn_plan asked) files ≡ Err fault)
-        ↔ IsFirstFault (learn_order asked files) fault }
-    ensures made { (asked : RequestView) (files : List File) →
-        ((task : LearnTask) × (outcome (learn_plan asked) files ≡ Ok task))
-        ↔ AreInOrder (learn_order asked files) }
-{}
+ghost use Rattle.wfc_task.specs.PosedOrder.{posed_order};
+ghost use Rattle.wfc_words.specs.RequestView.{RequestView};
 
 /// So it is with the problem of a request.
 pub fn posing_refuses_in_order()
@@ -59,106 +18,4 @@ pub fn posing_refuses_in_order()
     ensures made { (asked : RequestView) (files : List File) →
         ((task : Network) × (outcome (posed_plan asked) files ≡ Ok task))
         ↔ AreInOrder (posed_order asked files) }
-{}
-
-/// So it is with `domains`: the problem before the steps.
-pub fn domains_refuses_in_order()
-    ensures refused { (asked : RequestView) (files : List File) (fault : Fault) →
-        (outcome (domains_plan asked) files ≡ Err fault)
-        ↔ IsFirstFault (domains_order asked files) fault }
-    ensures made { (asked : RequestView) (files : List File) →
-        ((task : DomainsTask) × (outcome (domains_plan asked) files ≡ Ok task))
-        ↔ AreInOrder (domains_order asked files) }
-{}
-
-/// So it is with `refute`: the chooser before the problem.
-pub fn refute_refuses_in_order()
-    ensures refused { (kinds : List RuleKind) (asked : RequestView) (files : List File)
-        (fault : Fault) → (outcome (refute_plan kinds asked) files ≡ Err fault)
-        ↔ IsFirstFault (refute_order kinds asked files) fault }
-    ensures made { (kinds : List RuleKind) (asked : RequestView) (files : List File) →
-        ((task : RefuteTask) × (outcome (refute_plan kinds asked) files ≡ Ok task))
-        ↔ AreInOrder (refute_order kinds asked files) }
-{}
-
-/// So it is with `check`: the problem before the refutation.
-pub fn check_refuses_in_order()
-    ensures refused { (asked : RequestView) (files : List File) (fault : Fault) →
-        (outcome (check_plan asked) files ≡ Err fault)
-        ↔ IsFirstFault (check_order asked files) fault }
-    ensures made { (asked : RequestView) (files : List File) →
-        ((task : CheckTask) × (outcome (check_plan asked) files ≡ Ok task))
-        ↔ AreInOrder (check_order asked files) }
-{}
-
-/// So it is with `upgrade`: the problem before the refutation.
-pub fn upgrade_refuses_in_order()
-    ensures refused { (asked : RequestView) (files : List File) (fault : Fault) →
-        (outcome (upgrade_plan asked) files ≡ Err fault)
-        ↔ IsFirstFault (upgrade_order asked files) fault }
-    ensures made { (asked : RequestView) (files : List File) →
-        ((task : UpgradeTask) × (outcome (upgrade_plan asked) files ≡ Ok task))
-        ↔ AreInOrder (upgrade_order asked files) }
-{}
-
-/// So it is with `demo`, where nothing but a chooser can be missing.
-pub fn demo_refuses_in_order()
-    ensures refused { (kinds : List RuleKind) (asked : RequestView) (files : List File)
-        (fault : Fault) → (outcome (demo_plan kinds asked) files ≡ Err fault)
-        ↔ IsFirstFault (demo_order kinds) fault }
-    ensures made { (kinds : List RuleKind) (asked : RequestView) (files : List File) →
-        ((task : DemoTask) × (outcome (demo_plan kinds asked) files ≡ Ok task))
-        ↔ AreInOrder (demo_order kinds) }
-{}
-
-/// Of several faults at once the first in the order is named: `fill` of a sample.
-pub fn first_of_several_faults()
-    ensures chooser_and_file { outcome (fill_plan [] (sample_asked 1 P6)) []
-        ≡ Err (Refused (refusals.Chooser Fewest)) }
-    ensures file_and_pins { filled (sample_asked 1 P6) [] ≡ Err (Unread Sample Missing) }
-    ensures learning_and_layout { filled (sample_asked 3 P6) (with_sample [])
-        ≡ Err (Refused (refusals.Learn SampleBelowN)) }
-    ensures layout_and_pins { filled (sample_asked 1 P6) (with_sample [])
-        ≡ Err (Refused (refusals.Render FormDiffers)) }
-    ensures pins_and_size { filled (sample_asked 2 Grid) (with_sample [])
-        ≡ Err (Unread Pins Missing) }
-    ensures lines_and_size { filled (sample_asked 2 Grid) (with_pins (codes "pin\n"))
-        ≡ Err (Refused (refusals.Pins (pins.BadLine 1))) }
-    ensures size_and_pin { filled (sample_asked 2 Grid) (with_pins (codes "pin 9 9 x\n"))
-        ≡ Err (Refused (refusals.Build builds.SizeBelowN)) }
-    ensures pin { filled (sample_asked 1 Grid) (with_pins (codes "pin 9 9 x\n"))
-        ≡ Err (Refused (refusals.Build (builds.PinOutside 1))) }
-{}
-
-/// And of a tile set, whatever the tile set is: the pins before the mask, and the mask before what the pins mean.
-pub fn first_of_several_faults_of_tiles()
-    ensures pins_and_mask { (files : List File) (set : TileSetView) →
-        IsLaid tiles_asked files set → AreBeside files None →
-        filled tiles_asked files ≡ Err (Unread Pins Missing) }
-    ensures lines_and_mask { (files : List File) (set : TileSetView) →
-        IsLaid tiles_asked files set → AreBeside files (Some (codes "pin\n")) →
-        filled tiles_asked files ≡ Err (Refused (refusals.Pins (pins.BadLine 1))) }
-    ensures mask_and_pin { (files : List File) (set : TileSetView) →
-        IsLaid tiles_asked files set → AreBeside files (Some (codes "pin 9 9 x\n")) →
-        filled tiles_asked files ≡ Err (Unread Mask Missing) }
-{}
-
-/// And of what stands behind a problem: the problem before the steps and before the refutation, which no layout is looked at for.
-pub fn first_of_several_faults_behind_problems()
-    ensures pins_and_steps { outcome (domains_plan (sample_asked 2 P6)) (with_sample [])
-        ≡ Err (Unread Pins Missing) }
-    ensures size_and_steps { outcome (domains_plan (sample_asked 2 P6)) (with_pins (codes ""))
-        ≡ Err (Refused (refusals.Build builds.SizeBelowN)) }
-    ensures steps { outcome (domains_plan (sample_asked 1 P6)) (with_pins (codes ""))
-        ≡ Err (Unread Steps Missing) }
-    ensures chooser_and_pins { outcome (refute_plan [] (sample_asked 2 P6)) (with_sample [])
-        ≡ Err (Refused (refusals.Chooser Fewest)) }
-    ensures size_and_refutation { outcome (check_plan (sample_asked 2 P6)) (with_pins (codes ""))
-        ≡ Err (Refused (refusals.Build builds.SizeBelowN)) }
-    ensures refutation { outcome (check_plan (sample_asked 1 P6)) (with_pins (codes ""))
-        ≡ Err (Unread Refutation Missing) }
-    ensures size_and_upgrade { outcome (upgrade_plan (sample_asked 2 P6)) (with_pins (codes ""))
-        ≡ Err (Refused (refusals.Build builds.SizeBelowN)) }
-    ensures upgrade { outcome (upgrade_plan (sample_asked 1 P6)) (with_pins (codes ""))
-        ≡ Err (Unread Refutation Missing) }
 {}

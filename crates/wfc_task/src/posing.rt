@@ -1,19 +1,19 @@
 //! The problem of a request, whatever its map is made of.
 
+ghost use Rattle.wfc_plan.specs.Plan.{Goes};
 ghost use Rattle.wfc_task.specs.Asked.{AskedBy, IsOutputAsked, IsSampleAsked, IsSourceAsked};
-ghost use Rattle.wfc_task.specs.Plan.{Goes};
 ghost use Rattle.wfc_task.specs.Posed.{posed_plan, posed_plan_by, sample_problem_plan, tile_problem_plan};
 
-use crate::fault::Fault;
 use crate::files::{problem, sample};
 use crate::tile_files::{tile_set, tiled_problem};
 use std::alloc::Global;
 use wfc_outside::Folder;
+use wfc_plan::Fault;
 use wfc_problem::Problem;
 use wfc_words::{Request, SourceModel};
 
 /// The problem of what the request names, by the pins file and the mask.
-pub(crate) fn posed_problem<F: Folder>(
+pub fn posed_problem<F: Folder>(
     alloc: Global,
     request: &Request,
     folder: &mut F,

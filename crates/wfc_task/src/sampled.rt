@@ -1,19 +1,19 @@
 //! What a sample shows, whatever the format of its file.
 
-ghost use Rattle.std.specs.Prelude.{◌≡◌, ◌*◌, ◌≤◌, length, IfOk, Ok};
+ghost use Rattle.std.specs.Prelude.{IfOk, Ok, length, ◌*◌, ◌≡◌, ◌≤◌};
 ghost use Rattle.wfc_outside.specs.Gives.{result_map};
-ghost use Rattle.wfc_task.specs.Filling.{IsSampled};
-ghost use Rattle.wfc_task.specs.Plan.{GivesStep};
+ghost use Rattle.wfc_plan.specs.Plan.{GivesStep};
+ghost use Rattle.wfc_task.specs.Lesson.{IsSampled};
 ghost use Rattle.wfc_task.specs.Sampled.{colours_of, of_grid, of_ppm, sampled_view, symbols_of};
 ghost use Rattle.wfc_task.specs.Steps.{sampled_in};
 
-use crate::fault::{Refusal, Source};
 use crate::sources::is_picture_name;
 use crate::steps::{grid, ppm};
 use std::alloc::Global;
 use wfc_grid::{Grid, MAX_CELLS};
 use wfc_outside::{MAX_FILE_BYTES, NoMemory};
 use wfc_picture::{Kind, MAX_PIXELS, Symbol};
+use wfc_plan::{Refusal, Source};
 use wfc_ppm::Ppm;
 use wfc_words::Request;
 

@@ -13,7 +13,7 @@ pub(crate) fn is_picture_name(name: &[u8]) -> bool
 }
 
 /// The side of a window, in pixels; 0 where the map is of tiles.
-pub(crate) fn side_of(source: SourceModel) -> u32
+pub fn side_of(source: SourceModel) -> u32
     ensures value { result ≡ side_of source }
 {
     match source {

@@ -1,50 +1,35 @@
 //! The steps of tasks that read no file.
 
-ghost use Rattle.std.specs.Prelude.{◌≡◌, ◌+◌, ◌*◌, ◌%◌, ◌<◌, ◌≤◌, length, Contains, IfOk, OnOk, All};
-ghost use Rattle.wfc_outside.specs.Gives.{result_map};
+ghost use Rattle.std.specs.Prelude.{IfOk, length, ◌%◌, ◌*◌, ◌<◌, ◌≡◌, ◌≤◌};
 ghost use Rattle.wfc_model.specs.Raster.{height_of};
-ghost use Rattle.wfc_picture.specs.Palette.{indexed};
-ghost use Rattle.wfc_pattern.specs.Learning.{patterns_of};
-ghost use Rattle.wfc_pattern.specs.Patterns.{IsPatterns};
-ghost use Rattle.wfc_pins.specs.Steps.{IsStepIn};
-ghost use Rattle.wfc_pins.specs.declared.steps.StepLine.{StepLine};
+ghost use Rattle.wfc_outside.specs.Gives.{result_map};
 ghost use Rattle.wfc_overlap.specs.Built.{built};
 ghost use Rattle.wfc_overlap.specs.Sample.{output_with};
-ghost use Rattle.wfc_task.specs.Asked.{IsSampleAsked, IsOutputAsked};
-ghost use Rattle.wfc_task.specs.Filling.{IsNumbered, IsPosed, IsSampled};
-ghost use Rattle.wfc_task.specs.Plan.{GivesStep};
+ghost use Rattle.wfc_pattern.specs.Learning.{patterns_of};
+ghost use Rattle.wfc_pattern.specs.Patterns.{IsPatterns};
+ghost use Rattle.wfc_picture.specs.Palette.{indexed};
+ghost use Rattle.wfc_plan.specs.Plan.{GivesStep, or_refuse};
+ghost use Rattle.wfc_plan.specs.declared.fault.Refusal.TheVariants.{Build, Colours, Learn};
+ghost use Rattle.wfc_task.specs.Asked.{IsOutputAsked, IsSampleAsked};
+ghost use Rattle.wfc_task.specs.Lesson.{IsNumbered, IsPosed, IsSampled};
 ghost use Rattle.wfc_task.specs.Sampled.{sampled_view};
-ghost use Rattle.wfc_task.specs.Steps.{chosen, coloured, fitting, grid_in, laid, or_refuse, pins_in, posed, ppm_in, same_rule, steps_in, taught};
-ghost use Rattle.wfc_task.specs.declared.fault.Refusal.TheVariants.{Build, Colours, Learn};
+ghost use Rattle.wfc_task.specs.Steps.{coloured, grid_in, laid, pins_in, posed, ppm_in, taught};
 
-use crate::fault::{Refusal, Source};
+use crate::lesson::Taught;
 use crate::sampled::Sampled;
 use crate::sources::side_of;
-use crate::task::Taught;
 use std::alloc::Global;
-use wfc_choose::RuleKind;
 use wfc_grid::{Grid, MAX_CELLS};
 use wfc_outside::MAX_FILE_BYTES;
 use wfc_overlap::build;
 use wfc_pattern::{Patterns, learn};
 use wfc_picture::{Kind, MAX_PIXELS, Palette, Picture, Symbol};
-use wfc_pins::{PinLine, StepLine, read_pins, read_steps, steps_fit};
+use wfc_pins::{PinLine, read_pins};
+use wfc_plan::{Refusal, Source};
 use wfc_ppm::Ppm;
 use wfc_problem::Problem;
 use wfc_render::{Layout, layout};
 use wfc_words::Request;
-
-/// Whether a chooser goes by the rule, where these are the kinds of all of them.
-pub(crate) fn chosen(kinds: &[RuleKind], rule: RuleKind) -> Result<(), Refusal>
-    ensures exact { result ≡ chosen kinds.now rule }
-    ensures there { OnOk result (Contains kinds.now rule) }
-{
-    if kinds.contains(&rule) {
-        Ok(())
-    } else {
-        Err(Refusal::Chooser { rule })
-    }
-}
 
 /// The grid that the bytes of a file spell.
 pub(crate) fn grid(alloc: Global, source: Source, bytes: &[u8]) -> Result<Grid, Refusal>
@@ -82,11 +67,7 @@ pub(crate) fn coloured(alloc: Global, sampled: &Sampled) -> Result<(Picture, Pal
 }
 
 /// The picture of these symbols in numbers, and its palette.
-pub(crate) fn indexed(
-    alloc: Global,
-    symbols: &[Symbol],
-    width: u32,
-) -> Result<(Picture, Palette), Refusal>
+pub fn indexed(alloc: Global, symbols: &[Symbol], width: u32) -> Result<(Picture, Palette), Refusal>
     requires some_column { 0 < width }
     requires rows { length symbols.now % width ≡ 0 }
     requires some_pixel { 0 < length symbols.now }
@@ -115,7 +96,7 @@ pub(crate) fn taught(
 }
 
 /// What a picture teaches: its windows of `n` by `n` pixels, each in its first `symmetry` images.
-pub(crate) fn learned(
+pub fn learned(
     alloc: Global,
     picture: &Picture,
     n: u32,
@@ -136,7 +117,7 @@ pub(crate) fn learned(
 }
 
 /// How the map of a sample of this kind is written.
-pub(crate) fn laid(kind: Kind, request: &Request) -> Result<Layout, Refusal>
+pub fn laid(kind: Kind, request: &Request) -> Result<Layout, Refusal>
     requires output { IsOutputAsked request.now }
     ensures exact { result ≡ laid kind request.now }
 {
@@ -166,7 +147,8 @@ pub(crate) fn posed(
 ) -> Result<Problem, Refusal>
     requires patterns { IsPatterns taught.now.patterns }
     requires output { IsOutputAsked request.now }
-    ensures exact { GivesStep (posed request.now taught.now.patterns taught.now.palette lines.now) result }
+    ensures exact { GivesStep (posed request.now taught.now.patterns taught.now.palette lines.now)
+        result }
     ensures posed { IfOk result (IsPosed request.now taught.now.patterns) }
 {
     let output = Output {
@@ -179,14 +161,14 @@ pub(crate) fn posed(
 
 /// A map that is to be made: its sides, in pixels, and whether it wraps.
 #[derive(Clone, Copy)]
-pub(crate) struct Output {
+pub struct Output {
     pub width: u32,
     pub height: u32,
     pub wrap: bool,
 }
 
 /// The problem of patterns and the lines of a pins file.
-pub(crate) fn posed_for(
+pub fn posed_for(
     alloc: Global,
     patterns: &Patterns,
     palette: &Palette,
@@ -208,30 +190,5 @@ pub(crate) fn posed_for(
     match build(alloc, patterns, palette, width, height, wrap, lines) {
         Ok(problem) => Ok(problem),
         Err(fault) => Err(Refusal::Build { fault }),
-    }
-}
-
-/// The steps of the bytes of a steps file.
-pub(crate) fn steps_in(alloc: Global, bytes: &[u8]) -> Result<Vec<StepLine>, Refusal>
-    requires short { length bytes.now ≤ MAX_FILE_BYTES }
-    ensures exact { GivesStep (steps_in bytes.now) (result_map (λ steps. steps.items) result) }
-    ensures few { IfOk result (λ steps. length steps.items ≤ length bytes.now + 1) }
-{
-    match read_steps(alloc, bytes) {
-        Ok(steps) => Ok(steps),
-        Err(fault) => Err(Refusal::Steps { fault }),
-    }
-}
-
-/// The steps, if they are all in the problem.
-pub(crate) fn fitting(problem: &Problem, steps: Vec<StepLine>) -> Result<Vec<StepLine>, Refusal>
-    ensures exact { result_map (λ steps. steps.items) result ≡ fitting problem.now steps.items }
-    ensures inside { IfOk result (λ steps. All (λ
-        (line : StepLine). IsStepIn problem.now line.step) steps.items) }
-    ensures few { IfOk result (λ kept. length kept.items ≡ length steps.items) }
-{
-    match steps_fit(&steps, problem) {
-        Ok(()) => Ok(steps),
-        Err(fault) => Err(Refusal::Range { fault }),
     }
 }

@@ -1,18 +1,18 @@
 //! The files of a tile set and of a mask, and what they hold.
 
-ghost use Rattle.std.specs.Prelude.{◌≡◌, length, IfOk};
+ghost use Rattle.std.specs.Prelude.{IfOk, length};
 ghost use Rattle.wfc_outside.specs.Gives.{result_map};
+ghost use Rattle.wfc_plan.specs.Plan.{Goes};
 ghost use Rattle.wfc_task.specs.Asked.{IsOutputAsked};
-ghost use Rattle.wfc_task.specs.Plan.{Goes};
-ghost use Rattle.wfc_task.specs.Tiling.{HasSides, IsTiled, masked};
 ghost use Rattle.wfc_task.specs.TilePlans.{document_plan, mask_file_plan, mask_plan, next_plan, pictures_plan, tiled_plan, tiles_plan};
+ghost use Rattle.wfc_task.specs.Tiling.{HasSides, IsTiled, masked};
 
-use crate::fault::{Fault, Source};
-use crate::files::{file, pins};
+use crate::files::pins;
 use crate::steps::grid;
 use crate::tile_steps::{document, mask_in, posed_tiles, take_picture};
 use std::alloc::Global;
 use wfc_outside::Folder;
+use wfc_plan::{Fault, Source, whole_file};
 use wfc_problem::Problem;
 use wfc_tiled::Mask;
 use wfc_tileset::TileSet;
@@ -27,7 +27,7 @@ fn document_file<F: Folder>(
     ensures goes { Goes (document_plan request.now)
         (F.seen folder.old) (F.seen folder.new) result }
 {
-    let bytes = file(alloc, folder, Source::Sample, request.file())?;
+    let bytes = whole_file(alloc, folder, Source::Sample, request.file())?;
     let tiles = document(alloc, &bytes)?;
     Ok(tiles)
 }
@@ -41,13 +41,13 @@ fn next_picture<F: Folder>(alloc: Global, folder: &mut F, tiles: &mut TileSet) -
     let Some(name) = tiles.picture_name(tile) else {
         return Ok(());
     };
-    let bytes = file(alloc, folder, Source::Picture { tile }, name)?;
+    let bytes = whole_file(alloc, folder, Source::Picture { tile }, name)?;
     take_picture(alloc, tiles, &bytes)?;
     Ok(())
 }
 
 /// Reads the pictures of all tiles, one by one.
-fn pictures<F: Folder>(alloc: Global, folder: &mut F, tiles: &mut TileSet) -> Result<(), Fault>
+pub fn pictures<F: Folder>(alloc: Global, folder: &mut F, tiles: &mut TileSet) -> Result<(), Fault>
     ensures goes { Goes (pictures_plan (length tiles.old.tiles) tiles.old)
         (F.seen folder.old) (F.seen folder.new) (result_map (λ _. tiles.new) result) }
 {
@@ -58,7 +58,7 @@ fn pictures<F: Folder>(alloc: Global, folder: &mut F, tiles: &mut TileSet) -> Re
 }
 
 /// The tile set that is asked for, with its pictures.
-pub(crate) fn tile_set<F: Folder>(
+pub fn tile_set<F: Folder>(
     alloc: Global,
     request: &Request,
     folder: &mut F,
@@ -82,14 +82,18 @@ fn mask_file<F: Folder>(
         (F.seen folder.old) (F.seen folder.new) result }
     ensures sides { IfOk result (HasSides request.now) }
 {
-    let bytes = file(alloc, folder, Source::Mask, name)?;
+    let bytes = whole_file(alloc, folder, Source::Mask, name)?;
     let grid = grid(alloc, Source::Mask, &bytes)?;
     let mask = mask_in(alloc, request, &grid)?;
     Ok(mask)
 }
 
 /// The mask of the file that is named, if one is.
-fn mask<F: Folder>(alloc: Global, request: &Request, folder: &mut F) -> Result<Option<Mask>, Fault>
+pub fn mask<F: Folder>(
+    alloc: Global,
+    request: &Request,
+    folder: &mut F,
+) -> Result<Option<Mask>, Fault>
     requires output { IsOutputAsked request.now }
     ensures goes { Goes (mask_plan request.now)
         (F.seen folder.old) (F.seen folder.new) (result_map (masked request.now) result) }
@@ -102,7 +106,7 @@ fn mask<F: Folder>(alloc: Global, request: &Request, folder: &mut F) -> Result<O
 }
 
 /// The mask that is asked for, if one is, and the problem of the tile set on it, by the pins file.
-pub(crate) fn tiled_problem<F: Folder>(
+pub fn tiled_problem<F: Folder>(
     alloc: Global,
     request: &Request,
     tiles: &TileSet,

@@ -1,19 +1,19 @@
 //! The steps of tasks on tile sets that read no file.
 
-ghost use Rattle.std.specs.Prelude.{◌≡◌, ◌≤◌, length, IfOk, IsSome};
+ghost use Rattle.std.specs.Prelude.{IfOk, IsSome, length, ◌≡◌, ◌≤◌};
 ghost use Rattle.wfc_outside.specs.Gives.{Gives, result_map};
+ghost use Rattle.wfc_plan.specs.Plan.{GivesStep};
+ghost use Rattle.wfc_task.specs.Asked.{IsOutputAsked};
+ghost use Rattle.wfc_task.specs.TileSteps.{document_in, laid_tiles, mask_in, pictured, posed_tiles};
+ghost use Rattle.wfc_task.specs.Tiling.{HasSides, IsTiled, masked};
 ghost use Rattle.wfc_tiled.specs.Built.{built};
 ghost use Rattle.wfc_tileset.specs.Pictures.{picture_name};
-ghost use Rattle.wfc_task.specs.Asked.{IsOutputAsked};
-ghost use Rattle.wfc_task.specs.Plan.{GivesStep};
-ghost use Rattle.wfc_task.specs.Tiling.{HasSides, IsTiled, masked};
-ghost use Rattle.wfc_task.specs.TileSteps.{document_in, laid_tiles, mask_in, pictured, posed_tiles};
 
-use crate::fault::Refusal;
 use std::alloc::Global;
 use wfc_grid::{Grid, MAX_CELLS};
 use wfc_outside::MAX_FILE_BYTES;
 use wfc_pins::{BuildFault, PinLine};
+use wfc_plan::Refusal;
 use wfc_problem::Problem;
 use wfc_render::{Layout, layout};
 use wfc_tiled::{Mask, build, build_masked, mask};
@@ -21,7 +21,7 @@ use wfc_tileset::{TileSet, read};
 use wfc_words::Request;
 
 /// The tile set that a document spells, whose pictures are named and not read.
-pub(crate) fn document(alloc: Global, bytes: &[u8]) -> Result<TileSet, Refusal>
+pub fn document(alloc: Global, bytes: &[u8]) -> Result<TileSet, Refusal>
     requires short { length bytes.now ≤ MAX_FILE_BYTES }
     ensures exact { GivesStep (document_in bytes.now) result }
 {
@@ -43,7 +43,7 @@ pub(crate) fn take_picture(alloc: Global, tiles: &mut TileSet, bytes: &[u8]) -> 
 }
 
 /// How the map of a tile set is written.
-pub(crate) fn laid_tiles(tiles: &TileSet, request: &Request) -> Result<Layout, Refusal>
+pub fn laid_tiles(tiles: &TileSet, request: &Request) -> Result<Layout, Refusal>
     requires output { IsOutputAsked request.now }
     ensures exact { result ≡ laid_tiles tiles.now request.now }
 {

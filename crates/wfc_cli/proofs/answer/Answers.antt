@@ -1,8 +1,8 @@
 use Rattle.std.proofs.Common.{refl}
+use Rattle.wfc_cli.proofs.DeliveryLemmas.{answered, unanswered}
+use Rattle.wfc_cli.proofs.answer.Goals as goal
 use Rattle.wfc_outside.proofs.CallerLemmas.{gives_fault, gives_value}
 use Rattle.wfc_words.specs.declared.fault.CommandFault.TheVariants.{NoMemory}
-use Rattle.wfc_cli.proofs.EndLemmas.{answered, unanswered}
-use Rattle.wfc_cli.proofs.answer.Goals as goal
 
 pub returns-in-Ok : goal.returns-in-Ok
 returns-in-Ok g c = record { answer = answered _ _ _ (gives_value NoMemory (λ r. r) c.in-Ok.request _ c.in-Ok.ensures.exact) c.run-ended.ensures.ends c.deliver.ensures.says }

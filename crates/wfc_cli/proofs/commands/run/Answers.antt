@@ -1,30 +1,32 @@
-use Rattle.std.proofs.Common.{sym, ap, ◌∙◌, refl}
-use Rattle.wfc_words.specs.RequestView.{RequestView}
-use Rattle.wfc_words.specs.declared.kinds.CommandKind.TheVariants.{Learn, Fill, Domains, Demo, Check, Refute, Upgrade, Race}
-use Rattle.wfc_cli.proofs.EndLemmas.{ends_of, output_asked, put_reply, source_asked}
-use Rattle.wfc_cli.proofs.RacerLemmas.{runners_asked}
+use Rattle.std.proofs.Common.{ap, refl, sym, ◌∙◌}
+use Rattle.wfc_cli.proofs.DeliveryLemmas.{ends_of}
 use Rattle.wfc_cli.proofs.commands.run.Goals as goal
+use Rattle.wfc_reply.proofs.CallerLemmas.{put_reply}
+use Rattle.wfc_run_commands.proofs.CallerLemmas.{explain_asked, runners_asked}
+use Rattle.wfc_task.proofs.CallerLemmas.{command_output, command_source}
+use Rattle.wfc_words.specs.RequestView.{RequestView}
+use Rattle.wfc_words.specs.declared.kinds.CommandKind.TheVariants.{Check, Demo, Domains, Explain, Fill, Learn, Race, Refute, Upgrade}
 
 pub learn-requires : goal.learn-requires
-learn-requires g c = record { source = source_asked c.args.request.now Learn c.requires.in_range (sym (ap (λ (r : RequestView). r.command) c.request.view_is) ∙ c.in-Learn.is) refl }
+learn-requires g c = record { source = command_source c.args.request.now Learn c.requires.in_range (sym (ap (λ (r : RequestView). r.command) c.request.view_is) ∙ c.in-Learn.is) refl }
 
 pub returns-in-Learn : goal.returns-in-Learn
 returns-in-Learn g c = record { ends = ends_of _ c.args.request.now Learn _ _ _ _ _ (sym (ap (λ (r : RequestView). r.command) c.request.view_is) ∙ c.in-Learn.is) (put_reply _ _ _ _ _ _ _ _ c.learn.ensures.ends c.put.ensures.leaves) }
 
 pub fill-requires-clause-source : goal.fill-requires-clause-source
-fill-requires-clause-source g c = source_asked c.args.request.now Fill c.requires.in_range (sym (ap (λ (r : RequestView). r.command) c.request.view_is) ∙ c.in-Fill.is) refl
+fill-requires-clause-source g c = command_source c.args.request.now Fill c.requires.in_range (sym (ap (λ (r : RequestView). r.command) c.request.view_is) ∙ c.in-Fill.is) refl
 
 pub fill-requires-clause-output : goal.fill-requires-clause-output
-fill-requires-clause-output g c = output_asked c.args.request.now Fill c.requires.in_range (sym (ap (λ (r : RequestView). r.command) c.request.view_is) ∙ c.in-Fill.is) refl refl
+fill-requires-clause-output g c = command_output c.args.request.now Fill c.requires.in_range (sym (ap (λ (r : RequestView). r.command) c.request.view_is) ∙ c.in-Fill.is) refl refl
 
 pub returns-in-Fill : goal.returns-in-Fill
 returns-in-Fill g c = record { ends = ends_of _ c.args.request.now Fill _ _ _ _ _ (sym (ap (λ (r : RequestView). r.command) c.request.view_is) ∙ c.in-Fill.is) (put_reply _ _ _ _ _ _ _ _ c.fill.ensures.ends c.put-in-Fill.ensures.leaves) }
 
 pub domains-requires-clause-source : goal.domains-requires-clause-source
-domains-requires-clause-source g c = source_asked c.args.request.now Domains c.requires.in_range (sym (ap (λ (r : RequestView). r.command) c.request.view_is) ∙ c.in-Domains.is) refl
+domains-requires-clause-source g c = command_source c.args.request.now Domains c.requires.in_range (sym (ap (λ (r : RequestView). r.command) c.request.view_is) ∙ c.in-Domains.is) refl
 
 pub domains-requires-clause-output : goal.domains-requires-clause-output
-domains-requires-clause-output g c = output_asked c.args.request.now Domains c.requires.in_range (sym (ap (λ (r : RequestView). r.command) c.request.view_is) ∙ c.in-Domains.is) refl refl
+domains-requires-clause-output g c = command_output c.args.request.now Domains c.requires.in_range (sym (ap (λ (r : RequestView). r.command) c.request.view_is) ∙ c.in-Domains.is) refl refl
 
 pub returns-in-Domains : goal.returns-in-Domains
 returns-in-Domains g c = record { ends = ends_of _ c.args.request.now Domains _ _ _ _ _ (sym (ap (λ (r : RequestView). r.command) c.request.view_is) ∙ c.in-Domains.is) c.domains.ensures.ends }
@@ -33,40 +35,52 @@ pub returns-in-Demo : goal.returns-in-Demo
 returns-in-Demo g c = record { ends = ends_of _ c.args.request.now Demo _ _ _ _ _ (sym (ap (λ (r : RequestView). r.command) c.request.view_is) ∙ c.in-Demo.is) (put_reply _ _ _ _ _ _ _ _ c.demo.ensures.ends c.put-in-Demo.ensures.leaves) }
 
 pub refute-requires-clause-source : goal.refute-requires-clause-source
-refute-requires-clause-source g c = source_asked c.args.request.now Refute c.requires.in_range (sym (ap (λ (r : RequestView). r.command) c.request.view_is) ∙ c.in-Refute.is) refl
+refute-requires-clause-source g c = command_source c.args.request.now Refute c.requires.in_range (sym (ap (λ (r : RequestView). r.command) c.request.view_is) ∙ c.in-Refute.is) refl
 
 pub refute-requires-clause-output : goal.refute-requires-clause-output
-refute-requires-clause-output g c = output_asked c.args.request.now Refute c.requires.in_range (sym (ap (λ (r : RequestView). r.command) c.request.view_is) ∙ c.in-Refute.is) refl refl
+refute-requires-clause-output g c = command_output c.args.request.now Refute c.requires.in_range (sym (ap (λ (r : RequestView). r.command) c.request.view_is) ∙ c.in-Refute.is) refl refl
 
 pub returns-in-Refute : goal.returns-in-Refute
 returns-in-Refute g c = record { ends = ends_of _ c.args.request.now Refute _ _ _ _ _ (sym (ap (λ (r : RequestView). r.command) c.request.view_is) ∙ c.in-Refute.is) c.refute.ensures.ends }
 
 pub check-requires-clause-source : goal.check-requires-clause-source
-check-requires-clause-source g c = source_asked c.args.request.now Check c.requires.in_range (sym (ap (λ (r : RequestView). r.command) c.request.view_is) ∙ c.in-Check.is) refl
+check-requires-clause-source g c = command_source c.args.request.now Check c.requires.in_range (sym (ap (λ (r : RequestView). r.command) c.request.view_is) ∙ c.in-Check.is) refl
 
 pub check-requires-clause-output : goal.check-requires-clause-output
-check-requires-clause-output g c = output_asked c.args.request.now Check c.requires.in_range (sym (ap (λ (r : RequestView). r.command) c.request.view_is) ∙ c.in-Check.is) refl refl
+check-requires-clause-output g c = command_output c.args.request.now Check c.requires.in_range (sym (ap (λ (r : RequestView). r.command) c.request.view_is) ∙ c.in-Check.is) refl refl
 
 pub returns-in-Check : goal.returns-in-Check
 returns-in-Check g c = record { ends = ends_of _ c.args.request.now Check _ _ _ _ _ (sym (ap (λ (r : RequestView). r.command) c.request.view_is) ∙ c.in-Check.is) (put_reply _ _ _ _ _ _ _ _ c.check.ensures.ends c.put-in-Check.ensures.leaves) }
 
 pub upgrade-requires-clause-source : goal.upgrade-requires-clause-source
-upgrade-requires-clause-source g c = source_asked c.args.request.now Upgrade c.requires.in_range (sym (ap (λ (r : RequestView). r.command) c.request.view_is) ∙ c.in-Upgrade.is) refl
+upgrade-requires-clause-source g c = command_source c.args.request.now Upgrade c.requires.in_range (sym (ap (λ (r : RequestView). r.command) c.request.view_is) ∙ c.in-Upgrade.is) refl
 
 pub upgrade-requires-clause-output : goal.upgrade-requires-clause-output
-upgrade-requires-clause-output g c = output_asked c.args.request.now Upgrade c.requires.in_range (sym (ap (λ (r : RequestView). r.command) c.request.view_is) ∙ c.in-Upgrade.is) refl refl
+upgrade-requires-clause-output g c = command_output c.args.request.now Upgrade c.requires.in_range (sym (ap (λ (r : RequestView). r.command) c.request.view_is) ∙ c.in-Upgrade.is) refl refl
 
 pub returns-in-Upgrade : goal.returns-in-Upgrade
 returns-in-Upgrade g c = record { ends = ends_of _ c.args.request.now Upgrade _ _ _ _ _ (sym (ap (λ (r : RequestView). r.command) c.request.view_is) ∙ c.in-Upgrade.is) c.upgrade.ensures.ends }
 
 pub race-requires-clause-source : goal.race-requires-clause-source
-race-requires-clause-source g c = source_asked c.args.request.now Race c.requires.in_range (sym (ap (λ (r : RequestView). r.command) c.request.view_is) ∙ c.in-Race.is) refl
+race-requires-clause-source g c = command_source c.args.request.now Race c.requires.in_range (sym (ap (λ (r : RequestView). r.command) c.request.view_is) ∙ c.in-Race.is) refl
 
 pub race-requires-clause-output : goal.race-requires-clause-output
-race-requires-clause-output g c = output_asked c.args.request.now Race c.requires.in_range (sym (ap (λ (r : RequestView). r.command) c.request.view_is) ∙ c.in-Race.is) refl refl
+race-requires-clause-output g c = command_output c.args.request.now Race c.requires.in_range (sym (ap (λ (r : RequestView). r.command) c.request.view_is) ∙ c.in-Race.is) refl refl
 
 pub race-requires-clause-runners : goal.race-requires-clause-runners
 race-requires-clause-runners g c = runners_asked c.args.request.now c.requires.in_range (sym (ap (λ (r : RequestView). r.command) c.request.view_is) ∙ c.in-Race.is)
 
 pub returns-in-Race : goal.returns-in-Race
 returns-in-Race g c = record { ends = ends_of _ c.args.request.now Race _ _ _ _ _ (sym (ap (λ (r : RequestView). r.command) c.request.view_is) ∙ c.in-Race.is) (put_reply _ _ _ _ _ _ _ _ c.race.ensures.ends c.put-in-Race.ensures.leaves) }
+
+pub explain-requires-clause-source : goal.explain-requires-clause-source
+explain-requires-clause-source g c = command_source c.args.request.now Explain c.requires.in_range (sym (ap (λ (r : RequestView). r.command) c.request.view_is) ∙ c.in-Explain.is) refl
+
+pub explain-requires-clause-output : goal.explain-requires-clause-output
+explain-requires-clause-output g c = command_output c.args.request.now Explain c.requires.in_range (sym (ap (λ (r : RequestView). r.command) c.request.view_is) ∙ c.in-Explain.is) refl refl
+
+pub explain-requires-clause-asked : goal.explain-requires-clause-asked
+explain-requires-clause-asked g c = explain_asked c.args.request.now c.requires.in_range (sym (ap (λ (r : RequestView). r.command) c.request.view_is) ∙ c.in-Explain.is)
+
+pub returns-in-Explain : goal.returns-in-Explain
+returns-in-Explain g c = record { ends = ends_of _ c.args.request.now Explain _ _ _ _ _ (sym (ap (λ (r : RequestView). r.command) c.request.view_is) ∙ c.in-Explain.is) (put_reply _ _ _ _ _ _ _ _ c.explain.ensures.ends c.put-in-Explain.ensures.leaves) }

@@ -1,10 +1,10 @@
 use Rattle.std.proofs.lemmas.Result.{err_from_is_err_and}
+use Rattle.wfc_plan.proofs.CallerLemmas.{goes_done, goes_on, goes_out, step_on, step_out}
+use Rattle.wfc_task.proofs.TaskLemmas.{behind_sampled}
+use Rattle.wfc_task.proofs.files.picture.Goals as goal
+use Rattle.wfc_task.specs.SamplePlans.{sampled_plan}
 use Rattle.wfc_task.specs.Sampled.{sampled_view}
 use Rattle.wfc_task.specs.Steps.{coloured}
-use Rattle.wfc_task.specs.SamplePlans.{sampled_plan}
-use Rattle.wfc_task.proofs.PlanLemmas.{goes_done, goes_on, goes_out}
-use Rattle.wfc_task.proofs.TaskLemmas.{behind_sampled, step_on, step_out}
-use Rattle.wfc_task.proofs.files.picture.Goals as goal
 
 pub returns-in_err-sampled-clause-goes : goal.returns-in_err-sampled-clause-goes
 returns-in_err-sampled-clause-goes g c =

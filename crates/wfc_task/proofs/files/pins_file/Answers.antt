@@ -1,9 +1,9 @@
 use Rattle.std.proofs.lemmas.Result.{err_from_is_err_and}
-use Rattle.wfc_task.specs.declared.fault.Source.TheVariants.{Pins}
-use Rattle.wfc_task.specs.Steps.{pins_in}
-use Rattle.wfc_task.specs.SamplePlans.{file_plan}
-use Rattle.wfc_task.proofs.TaskLemmas.{then_step}
+use Rattle.wfc_plan.proofs.CallerLemmas.{then_step}
+use Rattle.wfc_plan.specs.Files.{file_plan}
+use Rattle.wfc_plan.specs.declared.fault.Source.TheVariants.{Pins}
 use Rattle.wfc_task.proofs.files.pins_file.Goals as goal
+use Rattle.wfc_task.specs.Steps.{pins_in}
 
 pub returns-in_err-lines : goal.returns-in_err-lines
 returns-in_err-lines g c =

@@ -1,8 +1,8 @@
 use Rattle.std.proofs.lemmas.Result.{err_from_is_err_and}
-use Rattle.wfc_task.specs.Steps.{posed}
-use Rattle.wfc_task.specs.SamplePlans.{pins_plan}
-use Rattle.wfc_task.proofs.TaskLemmas.{then_step}
+use Rattle.wfc_plan.proofs.CallerLemmas.{then_step}
 use Rattle.wfc_task.proofs.files.problem.Goals as goal
+use Rattle.wfc_task.specs.SamplePlans.{pins_plan}
+use Rattle.wfc_task.specs.Steps.{posed}
 
 pub returns-in_err-problem-clause-goes : goal.returns-in_err-problem-clause-goes
 returns-in_err-problem-clause-goes g c =

@@ -1,10 +1,10 @@
 use Rattle.std.proofs.lemmas.Result.{err_from_is_err_and}
-use Rattle.wfc_task.specs.Steps.{taught}
-use Rattle.wfc_task.specs.SamplePlans.{picture_plan}
-use Rattle.wfc_task.proofs.PlanLemmas.{goes_done, goes_on, goes_out}
-use Rattle.wfc_task.proofs.TaskLemmas.{behind_picture, step_on, step_out}
-use Rattle.wfc_task.proofs.FillingLemmas.{lesson_of, step_is}
+use Rattle.wfc_plan.proofs.CallerLemmas.{goes_done, goes_on, goes_out, step_is, step_on, step_out}
+use Rattle.wfc_task.proofs.LessonLemmas.{lesson_of}
+use Rattle.wfc_task.proofs.TaskLemmas.{behind_picture}
 use Rattle.wfc_task.proofs.files.sample.Goals as goal
+use Rattle.wfc_task.specs.SamplePlans.{picture_plan}
+use Rattle.wfc_task.specs.Steps.{taught}
 
 pub returns-in_err-kind-clause-goes : goal.returns-in_err-kind-clause-goes
 returns-in_err-kind-clause-goes g c =

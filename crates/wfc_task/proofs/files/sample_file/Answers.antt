@@ -1,11 +1,10 @@
 use Rattle.std.proofs.lemmas.Result.{err_from_is_err_and}
-use Rattle.wfc_task.specs.declared.fault.Source.TheVariants.{Sample}
-use Rattle.wfc_task.specs.Plan.{step}
-use Rattle.wfc_task.specs.Steps.{sampled_in}
-use Rattle.wfc_task.specs.SamplePlans.{file_plan}
-use Rattle.wfc_task.proofs.PlanLemmas.{goes_out}
-use Rattle.wfc_task.proofs.TaskLemmas.{then_step}
+use Rattle.wfc_plan.proofs.CallerLemmas.{goes_out, then_step}
+use Rattle.wfc_plan.specs.Files.{file_plan}
+use Rattle.wfc_plan.specs.Plan.{step}
+use Rattle.wfc_plan.specs.declared.fault.Source.TheVariants.{Sample}
 use Rattle.wfc_task.proofs.files.sample_file.Goals as goal
+use Rattle.wfc_task.specs.Steps.{sampled_in}
 
 pub returns-in_err-bytes-clause-goes : goal.returns-in_err-bytes-clause-goes
 returns-in_err-bytes-clause-goes g c =

@@ -1,8 +1,8 @@
-use Rattle.wfc_task.specs.Posed.{posed_plan}
-use Rattle.wfc_task.specs.Order.{posed_order}
-use Rattle.wfc_task.proofs.OrderLemmas.{made_in_order}
+use Rattle.wfc_plan.proofs.CallerLemmas.{made_in_order}
 use Rattle.wfc_task.proofs.PosedOrderLemmas.{faults_posed}
 use Rattle.wfc_task.proofs.order.posing_refuses_in_order.Goals as goal
+use Rattle.wfc_task.specs.Posed.{posed_plan}
+use Rattle.wfc_task.specs.PosedOrder.{posed_order}
 
 pub returns-clause-refused : goal.returns-clause-refused
 returns-clause-refused c = faults_posed

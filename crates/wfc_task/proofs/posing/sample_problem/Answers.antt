@@ -1,7 +1,7 @@
 use Rattle.std.proofs.lemmas.Result.{err_from_is_err_and}
-use Rattle.wfc_task.specs.SamplePlans.{problem_plan, sample_plan}
-use Rattle.wfc_task.proofs.PlanLemmas.{goes_on, goes_out}
+use Rattle.wfc_plan.proofs.CallerLemmas.{goes_on, goes_out}
 use Rattle.wfc_task.proofs.posing.sample_problem.Goals as goal
+use Rattle.wfc_task.specs.SamplePlans.{problem_plan, sample_plan}
 
 pub returns-in_err-taught : goal.returns-in_err-taught
 returns-in_err-taught g c =

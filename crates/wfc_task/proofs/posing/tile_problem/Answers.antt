@@ -1,8 +1,8 @@
 use Rattle.std.proofs.lemmas.Result.{err_from_is_err_and}
-use Rattle.wfc_task.specs.TilePlans.{tiled_plan, tiles_plan}
-use Rattle.wfc_task.proofs.PlanLemmas.{goes_done, goes_on, goes_out}
+use Rattle.wfc_plan.proofs.CallerLemmas.{goes_done, goes_on, goes_out}
 use Rattle.wfc_task.proofs.PosedLemmas.{behind_tiles, problem_made}
 use Rattle.wfc_task.proofs.posing.tile_problem.Goals as goal
+use Rattle.wfc_task.specs.TilePlans.{tiled_plan, tiles_plan}
 
 pub returns-in_err-tiles : goal.returns-in_err-tiles
 returns-in_err-tiles g c =

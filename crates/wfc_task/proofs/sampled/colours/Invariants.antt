@@ -1,4 +1,4 @@
-use Rattle.std.proofs.Common.{◌≡◌, map, take}
+use Rattle.std.proofs.Common.{map, take, ◌≡◌}
 use Rattle.wfc_picture.specs.declared.symbol.Symbol.TheVariants.{Rgb}
 use Rattle.wfc_task.proofs.sampled.colours.Given as goal
 

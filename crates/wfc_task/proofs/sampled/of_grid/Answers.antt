@@ -1,11 +1,11 @@
-use Rattle.std.proofs.Common.{◌*◌, ◌≤◌, ◌∙◌, ap, subst, sym}
+use Rattle.std.proofs.Common.{ap, subst, sym, ◌*◌, ◌∙◌, ◌≤◌}
 use Rattle.wfc_grid.specs.Grid.{GridView}
 use Rattle.wfc_grid.specs.declared.reading.TheConstants.{MAX_CELLS}
 use Rattle.wfc_picture.specs.declared.symbol.Kind.TheVariants as kinds
-use Rattle.wfc_task.specs.Filling.{IsSampled}
-use Rattle.wfc_task.specs.Sampled.{symbols_of}
-use Rattle.wfc_task.proofs.FillingLemmas.{grid_sampled}
+use Rattle.wfc_task.proofs.LessonLemmas.{grid_sampled}
 use Rattle.wfc_task.proofs.sampled.of_grid.Goals as goal
+use Rattle.wfc_task.specs.Lesson.{IsSampled}
+use Rattle.wfc_task.specs.Sampled.{symbols_of}
 
 pub returns-clause-sampled : goal.returns-clause-sampled
 returns-clause-sampled c =

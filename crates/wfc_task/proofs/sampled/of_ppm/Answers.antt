@@ -1,11 +1,11 @@
-use Rattle.std.proofs.Common.{◌*◌, ◌≤◌, ◌∙◌, ap, subst, sym}
+use Rattle.std.proofs.Common.{ap, subst, sym, ◌*◌, ◌∙◌, ◌≤◌}
 use Rattle.wfc_picture.specs.declared.palette.TheConstants.{MAX_PIXELS}
 use Rattle.wfc_picture.specs.declared.symbol.Kind.TheVariants as kinds
 use Rattle.wfc_ppm.specs.Ppm.{PpmView}
-use Rattle.wfc_task.specs.Filling.{IsSampled}
-use Rattle.wfc_task.specs.Sampled.{colours_of}
-use Rattle.wfc_task.proofs.FillingLemmas.{ppm_sampled}
+use Rattle.wfc_task.proofs.LessonLemmas.{ppm_sampled}
 use Rattle.wfc_task.proofs.sampled.of_ppm.Goals as goal
+use Rattle.wfc_task.specs.Lesson.{IsSampled}
+use Rattle.wfc_task.specs.Sampled.{colours_of}
 
 pub returns-clause-sampled : goal.returns-clause-sampled
 returns-clause-sampled c =

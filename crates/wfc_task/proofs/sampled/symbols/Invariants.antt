@@ -1,4 +1,4 @@
-use Rattle.std.proofs.Common.{◌≡◌, map, take}
+use Rattle.std.proofs.Common.{map, take, ◌≡◌}
 use Rattle.wfc_picture.specs.declared.symbol.Symbol.TheVariants.{Char}
 use Rattle.wfc_task.proofs.sampled.symbols.Given as goal
 

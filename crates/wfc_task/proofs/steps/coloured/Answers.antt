@@ -1,6 +1,6 @@
-use Rattle.wfc_task.specs.Sampled.{sampled_view}
-use Rattle.wfc_task.proofs.FillingLemmas.{numbered_result, sampled_rows, sampled_some}
+use Rattle.wfc_task.proofs.LessonLemmas.{numbered_result, sampled_rows, sampled_some}
 use Rattle.wfc_task.proofs.steps.coloured.Goals as goal
+use Rattle.wfc_task.specs.Sampled.{sampled_view}
 
 pub indexed-requires-clause-rows : goal.indexed-requires-clause-rows
 indexed-requires-clause-rows c = rw c.deref.ensures.value (sampled_rows (sampled_view c.args.sampled.now) c.requires.sampled)

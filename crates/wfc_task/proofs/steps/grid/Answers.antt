@@ -1,4 +1,4 @@
-use Rattle.std.proofs.Common.{◌≡◌, ◌*◌, length, arith}
+use Rattle.std.proofs.Common.{arith, length, ◌*◌, ◌≡◌}
 use Rattle.wfc_task.proofs.steps.grid.Goals as goal
 
 pub returns-in-Ok-clause-few : goal.returns-in-Ok-clause-few

@@ -1,4 +1,4 @@
-use Rattle.wfc_task.proofs.StepLemmas.{made_small}
+use Rattle.wfc_task.proofs.LessonLemmas.{made_small}
 use Rattle.wfc_task.proofs.steps.indexed.Goals as goal
 
 pub returns-in-Ok-clause-small : goal.returns-in-Ok-clause-small

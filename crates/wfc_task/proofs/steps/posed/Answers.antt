@@ -1,9 +1,9 @@
 use Rattle.std.proofs.Common.{subst}
-use Rattle.wfc_words.specs.RequestView.{RequestView}
-use Rattle.wfc_task.specs.Plan.{GivesStep}
-use Rattle.wfc_task.specs.Steps.{posed}
-use Rattle.wfc_task.proofs.FillingLemmas.{posed_result}
+use Rattle.wfc_plan.specs.Plan.{GivesStep}
+use Rattle.wfc_task.proofs.LessonLemmas.{posed_result}
 use Rattle.wfc_task.proofs.steps.posed.Goals as goal
+use Rattle.wfc_task.specs.Steps.{posed}
+use Rattle.wfc_words.specs.RequestView.{RequestView}
 
 pub returns-clause-posed : goal.returns-clause-posed
 returns-clause-posed c =

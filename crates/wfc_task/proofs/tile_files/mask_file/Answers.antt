@@ -1,12 +1,11 @@
 use Rattle.std.proofs.lemmas.Result.{err_from_is_err_and}
-use Rattle.wfc_task.specs.SamplePlans.{file_plan}
-use Rattle.wfc_task.specs.Steps.{grid_in}
-use Rattle.wfc_task.specs.TileSteps.{mask_in}
-use Rattle.wfc_task.specs.declared.fault.Source.TheVariants.{Mask}
-use Rattle.wfc_task.proofs.PlanLemmas.{goes_on, goes_step}
-use Rattle.wfc_task.proofs.TaskLemmas.{step_on}
+use Rattle.wfc_plan.proofs.CallerLemmas.{goes_on, goes_step, step_on}
+use Rattle.wfc_plan.specs.Files.{file_plan}
+use Rattle.wfc_plan.specs.declared.fault.Source.TheVariants.{Mask}
 use Rattle.wfc_task.proofs.TileTaskLemmas.{behind_mask, behind_mask_grid}
 use Rattle.wfc_task.proofs.tile_files.mask_file.Goals as goal
+use Rattle.wfc_task.specs.Steps.{grid_in}
+use Rattle.wfc_task.specs.TileSteps.{mask_in}
 
 pub returns-in_err-mask-clause-goes : goal.returns-in_err-mask-clause-goes
 returns-in_err-mask-clause-goes g c =

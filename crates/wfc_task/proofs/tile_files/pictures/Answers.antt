@@ -1,8 +1,8 @@
-use Rattle.std.proofs.Common.{◌≡◌, suc, ◌+◌, ◌-◌, arith}
+use Rattle.std.proofs.Common.{arith, suc, ◌+◌, ◌-◌, ◌≡◌}
 use Rattle.std.proofs.lemmas.Result.{err_from_is_err_and}
-use Rattle.wfc_task.specs.TilePlans.{next_plan, pictures_plan}
-use Rattle.wfc_task.proofs.PlanLemmas.{goes_on, goes_out}
+use Rattle.wfc_plan.proofs.CallerLemmas.{goes_on, goes_out}
 use Rattle.wfc_task.proofs.tile_files.pictures.Goals as goal
+use Rattle.wfc_task.specs.TilePlans.{next_plan, pictures_plan}
 
 pub returns-in_err-next_picture : goal.returns-in_err-next_picture
 returns-in_err-next_picture g c =

@@ -1,9 +1,9 @@
 use Rattle.std.proofs.Common.{length}
 use Rattle.std.proofs.lemmas.Result.{err_from_is_err_and}
-use Rattle.wfc_tileset.specs.Tiles.{TileSetView}
-use Rattle.wfc_task.specs.TilePlans.{document_plan, pictures_plan}
-use Rattle.wfc_task.proofs.PlanLemmas.{goes_on, goes_out}
+use Rattle.wfc_plan.proofs.CallerLemmas.{goes_on, goes_out}
 use Rattle.wfc_task.proofs.tile_files.tile_set.Goals as goal
+use Rattle.wfc_task.specs.TilePlans.{document_plan, pictures_plan}
+use Rattle.wfc_tileset.specs.Tiles.{TileSetView}
 
 pub returns-in_err-tiles : goal.returns-in_err-tiles
 returns-in_err-tiles g c =

@@ -1,15 +1,14 @@
 use Rattle.std.proofs.lemmas.Result.{err_from_is_err_and}
+use Rattle.wfc_plan.proofs.CallerLemmas.{goes_done, goes_on, goes_out, step_on, step_out}
+use Rattle.wfc_plan.specs.Plan.{Plan, done}
 use Rattle.wfc_problem.specs.Network.{Network}
-use Rattle.wfc_tiled.specs.Mask.{MaskView}
-use Rattle.wfc_task.specs.Plan.{Plan, done}
-use Rattle.wfc_task.specs.SamplePlans.{pins_plan}
-use Rattle.wfc_task.specs.Tiling.{masked}
-use Rattle.wfc_task.specs.TilePlans.{mask_plan}
-use Rattle.wfc_task.specs.TileSteps.{posed_tiles}
-use Rattle.wfc_task.proofs.PlanLemmas.{goes_done, goes_on, goes_out}
-use Rattle.wfc_task.proofs.TaskLemmas.{step_on, step_out}
 use Rattle.wfc_task.proofs.TileTaskLemmas.{behind_masked, behind_pins}
 use Rattle.wfc_task.proofs.tile_files.tiled_problem.Goals as goal
+use Rattle.wfc_task.specs.SamplePlans.{pins_plan}
+use Rattle.wfc_task.specs.TilePlans.{mask_plan}
+use Rattle.wfc_task.specs.TileSteps.{posed_tiles}
+use Rattle.wfc_task.specs.Tiling.{masked}
+use Rattle.wfc_tiled.specs.Mask.{MaskView}
 
 pub returns-in_err-mask-clause-goes : goal.returns-in_err-mask-clause-goes
 returns-in_err-mask-clause-goes g c =

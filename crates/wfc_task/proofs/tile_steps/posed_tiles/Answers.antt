@@ -1,6 +1,6 @@
-use Rattle.wfc_task.specs.Tiling.{masked}
 use Rattle.wfc_task.proofs.TilingLemmas.{tiled_result}
 use Rattle.wfc_task.proofs.tile_steps.posed_tiles.Goals as goal
+use Rattle.wfc_task.specs.Tiling.{masked}
 
 pub returns-in-Ok-clause-tiled : goal.returns-in-Ok-clause-tiled
 returns-in-Ok-clause-tiled c =

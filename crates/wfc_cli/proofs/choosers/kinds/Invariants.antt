@@ -1,7 +1,0 @@
--- The kinds so far.
-use Rattle.std.proofs.Common.{◌≡◌, map, take}
-use Rattle.wfc_cli.specs.Choosers.{kinds_of}
-use Rattle.wfc_cli.proofs.choosers.kinds.Given as goal
-
-abbrev pub invariant-loop-chooser : goal.invariant-loop-chooser
-invariant-loop-chooser g l = l.kinds.items ≡ kinds_of (map (λ chooser. ((goal.Chooser-dyn g (chooser.vtable, chooser.value)).told chooser.value).rule) (take l.chooser-index l.choosers))

@@ -1,5 +1,0 @@
-use Rattle.wfc_cli.proofs.commands.race.answer.Given as goal
-
--- the ledger is that of the blank
-abbrev pub ghosts-raced : goal.ghosts-raced
-ghosts-raced g a = record { name = a.blank.name; parts = a.blank.parts }

@@ -1,0 +1,12 @@
+-- What `fill` comes to with one chooser.
+use Rattle.std.specs.Prelude.{List, Result, [], ◌∷◌}
+use Rattle.wfc_choose.specs.declared.RuleKind.TheVariants.{Fewest}
+use Rattle.wfc_map_commands.specs.FillTask.{FillTask, fill_plan}
+use Rattle.wfc_outside.specs.Folder.{File}
+use Rattle.wfc_plan.specs.Plan.{outcome}
+use Rattle.wfc_plan.specs.declared.fault.Fault.{Fault}
+use Rattle.wfc_words.specs.RequestView.{RequestView}
+
+-- what `fill` comes to with one chooser
+abbrev pub filled : RequestView → List File → Result FillTask Fault
+filled asked files = outcome (fill_plan (Fewest ∷ []) asked) files

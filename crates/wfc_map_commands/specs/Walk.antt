@@ -1,0 +1,36 @@
+-- Where the steps of `domains` have led.
+use Rattle.std.specs.Prelude.{List, [], drop, length, map, take, true, ℕ, ◌++◌, ◌+◌, ◌<◌, ◌∷◌, ◌≡◌}
+use Rattle.wfc_domains.specs.Store.{IsSound, StoreView}
+use Rattle.wfc_map_commands.specs.DomainsAnswer.{after_step, later, shown}
+use Rattle.wfc_pins.specs.declared.steps.Step.{Step}
+use Rattle.wfc_pins.specs.declared.steps.StepLine.{StepLine}
+use Rattle.wfc_problem.specs.Network.{Network}
+use Rattle.wfc_problem.specs.Rounds.{greatest}
+use Rattle.wfc_problem.specs.Sizes.{is_dead}
+use Rattle.wfc_problem.specs.declared.Literal.{Literal}
+use Rattle.wfc_render.specs.Block.{blocks_from}
+
+-- an engine has the first of the literals that stand; the others were assumed while some cell had no value
+pub record IsWalk (v : StoreView) (beside : ℕ) (standing : List Literal) : Type 0 where
+  pub sound : IsSound v
+  pub extra : List Literal
+  pub stands : standing ≡ v.standing ++ extra
+  pub many : length extra ≡ beside
+  pub dead : 0 < beside → is_dead v.problem (greatest v.problem v.standing) ≡ true
+
+-- a step leads from there to there
+abbrev pub WalksTo : StoreView → ℕ → StoreView → ℕ → Step → Type 0
+WalksTo old before new behind step =
+    (standing : List Literal) → IsWalk old before standing
+    → IsWalk new behind (after_step standing step)
+
+-- the literals that stand after steps
+abbrev pub stood : List Literal → List StepLine → List Literal
+stood standing [] = standing
+stood standing (line ∷ lines) = stood (after_step standing line.step) lines
+
+-- the blocks that are still to be put after so many steps
+abbrev pub left_text : Network → ℕ → ℕ → List StepLine → ℕ → List ℕ
+left_text P values cells lines i =
+    blocks_from (i + 1) (map (shown P) (later (stood [] (take i lines)) (drop i lines))) values
+    cells

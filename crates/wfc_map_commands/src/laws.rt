@@ -1,0 +1,132 @@
+//! Laws of the definitions, each a function with no body whose contract is the law. They run nothing.
+
+ghost use Rattle.wfc_plan.specs.Kinds.{HasChoosers};
+ghost use Rattle.std.specs.Prelude.{Err, List, Ok, [], codes, false, true, ◌↔◌, ◌∷◌, ◌≡◌};
+ghost use Rattle.wfc_choose.specs.Pick.{Rule};
+ghost use Rattle.wfc_choose.specs.declared.RuleKind.{RuleKind};
+ghost use Rattle.wfc_choose.specs.declared.RuleKind.TheVariants.{Fewest};
+ghost use Rattle.wfc_map_commands.specs.DemoAnswer.{demo_text};
+ghost use Rattle.wfc_map_commands.specs.DemoTask.{demo, demo_plan};
+ghost use Rattle.wfc_map_commands.specs.Demonstration.{demo_patterns, demo_problem, demo_symbol};
+ghost use Rattle.wfc_map_commands.specs.DomainsAnswer.{standings};
+ghost use Rattle.wfc_map_commands.specs.DomainsGiven.{IsDomainsTask};
+ghost use Rattle.wfc_map_commands.specs.DomainsTask.{domains, domains_plan};
+ghost use Rattle.wfc_map_commands.specs.FillClaims.{FillWork, IsFoundMap};
+ghost use Rattle.wfc_map_commands.specs.FillGiven.{IsFillTask, IsTileFillTask};
+ghost use Rattle.wfc_map_commands.specs.FillTask.{fill, fill_plan, fill_tiles};
+ghost use Rattle.wfc_map_commands.specs.LearnTask.{learn, learn_plan, learn_tiles};
+ghost use Rattle.wfc_model.specs.Raster.{Raster};
+ghost use Rattle.wfc_outside.specs.Folder.{File};
+ghost use Rattle.wfc_outside.specs.declared.whole.ReadFault.TheVariants.{Missing};
+ghost use Rattle.wfc_pattern.specs.Patterns.{PatternsView};
+ghost use Rattle.wfc_picture.specs.declared.symbol.Symbol.{Symbol};
+ghost use Rattle.wfc_picture.specs.declared.symbol.Symbol.TheVariants.{Char};
+ghost use Rattle.wfc_pins.specs.declared.steps.Step.TheVariants.{Assume, Undo};
+ghost use Rattle.wfc_pins.specs.declared.steps.StepLine.{StepLine};
+ghost use Rattle.wfc_plan.specs.Plan.{outcome};
+ghost use Rattle.wfc_plan.specs.declared.fault.Fault.TheVariants.{Refused, Unread};
+ghost use Rattle.wfc_plan.specs.declared.fault.Refusal.TheVariants.{Chooser};
+ghost use Rattle.wfc_plan.specs.declared.fault.Source.TheVariants.{Sample};
+ghost use Rattle.wfc_problem.specs.Network.{Network};
+ghost use Rattle.wfc_problem.specs.declared.Literal.TheVariants.{Is, Not};
+ghost use Rattle.wfc_render.specs.declared.form.Layout.{Layout};
+ghost use Rattle.wfc_task.specs.Given.{IsTaught};
+ghost use Rattle.wfc_task.specs.Maps.{flat_maps};
+ghost use Rattle.wfc_task.specs.Sources.{is_of_windows};
+ghost use Rattle.wfc_task.specs.TileGiven.{IsTileSetOf};
+ghost use Rattle.wfc_tiled.specs.Mask.{MaskView};
+ghost use Rattle.wfc_tileset.specs.Tiles.{TileSetView};
+ghost use Rattle.wfc_words.specs.RequestView.{RequestView};
+
+/// `learn` of a sample comes to these patterns and this palette exactly where the file spells a sample that teaches them.
+pub fn learn_tasks_are_given()
+    ensures task { (asked : RequestView) (files : List File) (patterns : PatternsView)
+        (palette : List Symbol) → is_of_windows asked.source ≡ true →
+        (outcome (learn_plan asked) files ≡ Ok (learn patterns palette))
+        ↔ IsTaught asked files patterns palette }
+{}
+
+/// `learn` of tiles comes to this tile set exactly where the file spells it, with the pictures that it names.
+pub fn learn_tasks_of_tiles_are_given()
+    ensures task { (asked : RequestView) (files : List File) (set : TileSetView) →
+        is_of_windows asked.source ≡ false →
+        (outcome (learn_plan asked) files ≡ Ok (learn_tiles set)) ↔ IsTileSetOf asked files set }
+{}
+
+/// `fill` of a sample comes to this task exactly where a chooser is there, the sample teaches the patterns, the map has the layout,
+/// and the problem is that of the patterns, the output and the pins.
+pub fn fill_tasks_are_given()
+    ensures task { (kinds : List RuleKind) (asked : RequestView) (files : List File)
+        (patterns : PatternsView) (palette : List Symbol) (layout : Layout) (P : Network) →
+        is_of_windows asked.source ≡ true →
+        (outcome (fill_plan kinds asked) files ≡ Ok (fill patterns palette layout P))
+        ↔ IsFillTask kinds asked files patterns palette layout P }
+{}
+
+/// `fill` of tiles comes to this task exactly where a chooser is there, the file spells the tile set, the map has the layout,
+/// and the problem is that of the tile set, the mask, the output and the pins.
+pub fn fill_tasks_of_tiles_are_given()
+    ensures task { (kinds : List RuleKind) (asked : RequestView) (files : List File)
+        (set : TileSetView) (mask : MaskView) (layout : Layout) (P : Network) →
+        is_of_windows asked.source ≡ false →
+        (outcome (fill_plan kinds asked) files ≡ Ok (fill_tiles set mask layout P))
+        ↔ IsTileFillTask kinds asked files set mask layout P }
+{}
+
+/// `domains` comes to this task exactly where the problem is that of the request and the steps are those of the file.
+pub fn domains_tasks_are_given()
+    ensures task { (asked : RequestView) (files : List File) (P : Network) (steps : List StepLine) →
+        (outcome (domains_plan asked) files ≡ Ok (domains P steps))
+        ↔ IsDomainsTask asked files P steps }
+{}
+
+/// `demo` comes to its task wherever a chooser of the fewest values is there, whatever its number and the files are.
+pub fn demo_tasks_are_given()
+    ensures task { (kinds : List RuleKind) (asked : RequestView) (files : List File) →
+        HasChoosers 1 kinds Fewest → outcome (demo_plan kinds asked) files
+        ≡ Ok (demo (demo_patterns asked.number) (demo_problem asked.number)) }
+{}
+
+/// What stands before steps and after each, by example: an undo takes the last literal that stands.
+pub fn standings_by_example()
+    ensures none { standings [] [] ≡ [] ∷ [] }
+    ensures undone { standings []
+        (record { line = 1; step = Assume (Is 0 0) }
+        ∷ record { line = 2; step = Assume (Not 1 2) } ∷ record { line = 5; step = Undo } ∷ [])
+        ≡ [] ∷ (Is 0 0 ∷ []) ∷ (Is 0 0 ∷ Not 1 2 ∷ []) ∷ (Is 0 0 ∷ []) ∷ [] }
+    ensures all_undone { standings (Is 3 7 ∷ [])
+        (record { line = 1; step = Undo } ∷ record { line = 2; step = Assume (Is 0 1) } ∷ [])
+        ≡ (Is 3 7 ∷ []) ∷ [] ∷ (Is 0 1 ∷ []) ∷ [] }
+{}
+
+/// The four lines of a demonstration, by example.
+pub fn demonstrations_by_example()
+    ensures lines { demo_text 9 2116 0 1
+        ≡ codes "patterns 9\ncells 2116\nretractions 0\nstatus 1\n" }
+{}
+
+/// The map in which a run ends is one map.
+pub fn found_maps_are_one()
+    ensures one { (rules : List Rule) (asked : RequestView) (files : List File)
+        (work : FillWork flat_maps rules asked files) (m other : Raster) →
+        IsFoundMap asked work m → IsFoundMap asked work other → m ≡ other }
+{}
+
+/// The pixels of demonstrations, by example.
+pub fn demonstrated_pixels_by_example()
+    ensures down { demo_symbol 11 8 4 ≡ Char 35 }
+    ensures across { demo_symbol 11 7 10 ≡ Char 35 }
+    ensures between { demo_symbol 11 10 8 ≡ Char 46 }
+{}
+
+/// The first faults where nothing is there: a chooser before the sample, and the sample before all else.
+pub fn first_faults()
+    ensures chooser { (asked : RequestView) (files : List File) →
+        outcome (fill_plan [] asked) files ≡ Err (Refused (Chooser asked.rule)) }
+    ensures demo { (asked : RequestView) (files : List File) →
+        outcome (demo_plan [] asked) files ≡ Err (Refused (Chooser Fewest)) }
+    ensures sample { (asked : RequestView) →
+        outcome (learn_plan asked) [] ≡ Err (Unread Sample Missing) }
+    ensures steps { (asked : RequestView) →
+        outcome (domains_plan asked) [] ≡ Err (Unread Sample Missing) }
+{}

@@ -1,0 +1,239 @@
+//! The faults of a task, each with the file that it stands in, and their statuses.
+
+ghost use Rattle.std.specs.Prelude.{◌≡◌};
+ghost use Rattle.wfc_plan.specs.Fault.{build_class, class_status, colours_class, grid_class, learn_class, mask_class, pins_class, ppm_class, stacks_class, steps_class, tiles_class};
+
+use wfc_box::StackFault;
+use wfc_choose::RuleKind;
+use wfc_grid::GridFault;
+use wfc_outside::ReadFault;
+use wfc_pattern::LearnFault;
+use wfc_picture::PaletteFault;
+use wfc_pins::{BuildFault, PinFault, RangeFault, StepFault};
+use wfc_ppm::PpmFault;
+use wfc_render::RenderFault;
+use wfc_tiled::MaskFault;
+use wfc_tileset::TileFault;
+
+/// What a file is to a command.
+#[derive(Clone, Copy, Debug, PartialEq, Eq)]
+pub enum Source {
+    /// What a map is made from: the sample, or the document of a tile set.
+    Sample,
+    Pins,
+    Steps,
+    Refutation,
+    /// The picture of a tile.
+    Picture { tile: u32 },
+    /// The holes of a tile map.
+    Mask,
+}
+
+/// What a step refuses that reads nothing.
+#[derive(Clone, Copy, Debug, PartialEq, Eq)]
+pub enum Refusal {
+    /// No chooser goes by this rule.
+    Chooser { rule: RuleKind },
+    /// A file spells no grid.
+    Grid { source: Source, fault: GridFault },
+    /// A file spells no picture of colours.
+    Ppm { source: Source, fault: PpmFault },
+    /// The sample has no palette.
+    Colours { fault: PaletteFault },
+    /// The sample teaches no patterns.
+    Learn { fault: LearnFault },
+    /// The map has no layout.
+    Render { fault: RenderFault },
+    /// A line of the pins file is at fault.
+    Pins { fault: PinFault },
+    /// There is no problem.
+    Build { fault: BuildFault },
+    /// A line of the steps file is at fault.
+    Steps { fault: StepFault },
+    /// A step isn't in the problem.
+    Range { fault: RangeFault },
+    /// A file that is read in pieces is too long.
+    TooLong { source: Source },
+    /// Memory ran out.
+    NoMemory,
+    /// A document is no tile set, or a picture is none of its tile.
+    Tiles { fault: TileFault },
+    /// A grid is no mask.
+    Mask { fault: MaskFault },
+    /// The stacks of a document are at fault.
+    Stacks { fault: StackFault },
+    /// The cells, the values and the runners of a race, multiplied, are above the limit.
+    RaceTooLarge { product: u64 },
+    /// There are more lines of pins and bans than `explain` takes.
+    TooManyPins { count: u64 },
+}
+
+/// Why a command has no answer.
+#[derive(Clone, Copy, Debug, PartialEq, Eq)]
+pub enum Fault {
+    /// A file wasn't read.
+    Unread { source: Source, fault: ReadFault },
+    /// A step refused what it was given.
+    Refused { refusal: Refusal },
+}
+
+/// What refusals of one status have in common.
+#[derive(Clone, Copy, Debug, PartialEq, Eq)]
+pub enum Class {
+    /// A file, a size or a limit is at fault.
+    Input,
+    /// Memory ran out.
+    Memory,
+    /// A chooser is missing.
+    NoChooser,
+}
+
+impl Refusal {
+    ghost use Rattle.wfc_plan.specs.Fault.{class_of};
+
+    /// Its class.
+    pub fn class(&self) -> Class
+        ensures value { result ≡ class_of self.now }
+    {
+        match self {
+            Refusal::Chooser { .. } => Class::NoChooser,
+            Refusal::Grid { fault, .. } => grid_class(*fault),
+            Refusal::Ppm { fault, .. } => ppm_class(*fault),
+            Refusal::Colours { fault } => colours_class(*fault),
+            Refusal::Learn { fault } => learn_class(*fault),
+            Refusal::Pins { fault } => pins_class(*fault),
+            Refusal::Build { fault } => build_class(*fault),
+            Refusal::Steps { fault } => steps_class(*fault),
+            Refusal::Render { .. }
+            | Refusal::Range { .. }
+            | Refusal::TooLong { .. }
+            | Refusal::RaceTooLarge { .. }
+            | Refusal::TooManyPins { .. } => Class::Input,
+            Refusal::NoMemory => Class::Memory,
+            Refusal::Tiles { fault } => tiles_class(*fault),
+            Refusal::Mask { fault } => mask_class(*fault),
+            Refusal::Stacks { fault } => stacks_class(*fault),
+        }
+    }
+}
+
+fn grid_class(fault: GridFault) -> Class
+    ensures value { result ≡ grid_class fault }
+{
+    match fault {
+        GridFault::NoMemory => Class::Memory,
+        _ => Class::Input,
+    }
+}
+
+fn ppm_class(fault: PpmFault) -> Class
+    ensures value { result ≡ ppm_class fault }
+{
+    match fault {
+        PpmFault::NoMemory => Class::Memory,
+        _ => Class::Input,
+    }
+}
+
+fn colours_class(fault: PaletteFault) -> Class
+    ensures value { result ≡ colours_class fault }
+{
+    match fault {
+        PaletteFault::NoMemory => Class::Memory,
+        _ => Class::Input,
+    }
+}
+
+fn learn_class(fault: LearnFault) -> Class
+    ensures value { result ≡ learn_class fault }
+{
+    match fault {
+        LearnFault::NoMemory => Class::Memory,
+        _ => Class::Input,
+    }
+}
+
+fn pins_class(fault: PinFault) -> Class
+    ensures value { result ≡ pins_class fault }
+{
+    match fault {
+        PinFault::NoMemory => Class::Memory,
+        _ => Class::Input,
+    }
+}
+
+fn build_class(fault: BuildFault) -> Class
+    ensures value { result ≡ build_class fault }
+{
+    match fault {
+        BuildFault::NoMemory => Class::Memory,
+        _ => Class::Input,
+    }
+}
+
+fn steps_class(fault: StepFault) -> Class
+    ensures value { result ≡ steps_class fault }
+{
+    match fault {
+        StepFault::NoMemory => Class::Memory,
+        _ => Class::Input,
+    }
+}
+
+fn tiles_class(fault: TileFault) -> Class
+    ensures value { result ≡ tiles_class fault }
+{
+    match fault {
+        TileFault::NoMemory => Class::Memory,
+        _ => Class::Input,
+    }
+}
+
+fn mask_class(fault: MaskFault) -> Class
+    ensures value { result ≡ mask_class fault }
+{
+    match fault {
+        MaskFault::NoMemory => Class::Memory,
+        _ => Class::Input,
+    }
+}
+
+fn stacks_class(fault: StackFault) -> Class
+    ensures value { result ≡ stacks_class fault }
+{
+    match fault {
+        StackFault::NoMemory => Class::Memory,
+        _ => Class::Input,
+    }
+}
+
+impl Class {
+    /// The exit status.
+    pub fn status(self) -> u8
+        ensures value { result ≡ class_status self }
+    {
+        match self {
+            Class::Input => 4,
+            Class::Memory => 6,
+            Class::NoChooser => 7,
+        }
+    }
+}
+
+impl Fault {
+    ghost use Rattle.wfc_plan.specs.Fault.{status_of};
+
+    /// The exit status.
+    pub fn status(&self) -> u8
+        ensures value { result ≡ status_of self.now }
+    {
+        match self {
+            Fault::Unread { fault, .. } => match fault {
+                ReadFault::Missing | ReadFault::Failed => 5,
+                ReadFault::TooLong => 4,
+                ReadFault::NoMemory => 6,
+            },
+            Fault::Refused { refusal } => refusal.class().status(),
+        }
+    }
+}

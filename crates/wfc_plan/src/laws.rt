@@ -1,0 +1,63 @@
+//! Laws of the definitions, each a function with no body whose contract is the law. They run nothing.
+
+ghost use Rattle.std.specs.Prelude.{Err, Ok, Some, [], ℕ, ◌∷◌, ◌≡◌, ◌⊎◌};
+ghost use Rattle.wfc_choose.specs.declared.RuleKind.TheVariants.{Fewest, Ranked, Scanline};
+ghost use Rattle.wfc_outside.specs.declared.whole.ReadFault.TheVariants.{Failed, Missing, TooLong};
+ghost use Rattle.wfc_plan.specs.Fault.{status_of};
+ghost use Rattle.wfc_plan.specs.Kinds.{HasChoosers, enough};
+ghost use Rattle.wfc_plan.specs.Order.{AreInOrder, IsFirstFault};
+ghost use Rattle.wfc_plan.specs.Plan.{done, most_bytes, read};
+ghost use Rattle.wfc_plan.specs.Reaching.{Reaches};
+ghost use Rattle.wfc_plan.specs.declared.fault.Fault.{Fault};
+ghost use Rattle.wfc_plan.specs.declared.fault.Fault.TheVariants.{Refused, Unread};
+ghost use Rattle.wfc_plan.specs.declared.fault.Refusal.TheVariants as refusals;
+ghost use Rattle.wfc_plan.specs.declared.fault.Source.TheVariants.{Pins, Sample};
+
+/// How many choosers are enough, by example.
+pub fn choosers_are_counted_by_example()
+    ensures one { enough 1 (Scanline ∷ Fewest ∷ Fewest ∷ []) Fewest ≡ Ok tt }
+    ensures two { enough 2 (Fewest ∷ Scanline ∷ Fewest ∷ []) Fewest ≡ Ok tt }
+    ensures three { enough 3 (Fewest ∷ Scanline ∷ Fewest ∷ []) Fewest
+        ≡ Err (refusals.Chooser Fewest) }
+    ensures other { enough 1 (Scanline ∷ Fewest ∷ []) Ranked ≡ Err (refusals.Chooser Ranked) }
+    ensures there { HasChoosers 1 (Fewest ∷ Scanline ∷ []) Scanline }
+    ensures lacking { HasChoosers 2 (Fewest ∷ Scanline ∷ []) Scanline → ⊥ }
+{}
+
+/// The status of a fault of each class, by example.
+pub fn faults_have_statuses()
+    ensures missing { status_of (Unread Pins Missing) ≡ 5 }
+    ensures failed { status_of (Unread Pins Failed) ≡ 5 }
+    ensures long { status_of (Unread Pins TooLong) ≡ 4 }
+    ensures chooser { status_of (Refused (refusals.Chooser Fewest)) ≡ 7 }
+    ensures memory { status_of (Refused refusals.NoMemory) ≡ 6 }
+    ensures limit { status_of (Refused (refusals.RaceTooLarge 8388609)) ≡ 4 }
+    ensures many { status_of (Refused (refusals.TooManyPins 65)) ≡ 4 }
+{}
+
+/// The first fault of some stages is that of the first at fault, by example.
+pub fn first_faults_by_example()
+    ensures first { (fault : Fault) →
+        IsFirstFault ((λ f. f ≡ Unread Pins Missing) ∷ (λ f. f ≡ Unread Sample Missing) ∷ []) fault
+        → fault ≡ Unread Pins Missing }
+    ensures second { IsFirstFault ((λ f. ⊥) ∷ (λ f. f ≡ Unread Sample Missing) ∷ [])
+        (Unread Sample Missing) }
+    ensures none { AreInOrder ((λ f. ⊥) ∷ (λ f. ⊥) ∷ []) }
+    ensures some { AreInOrder ((λ f. ⊥) ∷ (λ f. f ≡ Unread Sample Missing) ∷ []) → ⊥ }
+{}
+
+/// Which file a plan comes to, by example: the second of two files where the folder has the first, and else the first alone.
+pub fn files_are_reached_by_example()
+    ensures first { Reaches {T = ℕ}
+        (read Sample (97 ∷ []) most_bytes (λ a. read Pins (98 ∷ []) most_bytes (λ b. done 0)))
+        (record { contents = Some []; faults = λ name. 0 }) Sample (97 ∷ []) }
+    ensures second { Reaches {T = ℕ}
+        (read Sample (97 ∷ []) most_bytes (λ a. read Pins (98 ∷ []) most_bytes (λ b. done 0)))
+        (record {
+          contents = Some (record { name = 97 ∷ []; bytes = 7 ∷ [] } ∷ []);
+          faults = λ name. 0;
+        }) Pins (98 ∷ []) }
+    ensures hidden { Reaches {T = ℕ}
+        (read Sample (97 ∷ []) most_bytes (λ a. read Pins (98 ∷ []) most_bytes (λ b. done 0)))
+        (record { contents = Some []; faults = λ name. 0 }) Pins (98 ∷ []) → ⊥ }
+{}

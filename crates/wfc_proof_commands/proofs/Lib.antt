@@ -1,0 +1,14 @@
+pub mod CheckingLemmas
+pub mod RefuteOrderLemmas
+pub mod CheckOrderLemmas
+pub mod UpgradeOrderLemmas
+pub mod RefutingLemmas
+pub mod UpgradingLemmas
+pub mod CheckLemmas
+pub mod ShapeLemmas
+pub mod RefuteEndLemmas
+pub mod RefuteLemmas
+pub mod UpgradeLemmas
+pub mod CallerLemmas
+pub mod ProofKindLemmas
+pub mod FlatLemmas

@@ -1,0 +1,63 @@
+//! Laws of the definitions, each a function with no body whose contract is the law. They run nothing.
+
+ghost use Rattle.std.specs.Prelude.{List, Ok, Option, [], ℕ, ◌↔◌, ◌∷◌, ◌≡◌};
+ghost use Rattle.wfc_check.specs.declared.fault.CheckFault.{CheckFault};
+ghost use Rattle.wfc_choose.specs.declared.RuleKind.{RuleKind};
+ghost use Rattle.wfc_outside.specs.Folder.{File};
+ghost use Rattle.wfc_plan.specs.Plan.{outcome};
+ghost use Rattle.wfc_problem.specs.Network.{Network};
+ghost use Rattle.wfc_proof.specs.declared.Line.TheVariants.{Empty, End, Remove, Span, Try};
+ghost use Rattle.wfc_proof.specs.declared.heads.Format.TheVariants.{One, Two};
+ghost use Rattle.wfc_proof_commands.specs.Checking.{flat_proofs};
+ghost use Rattle.wfc_proof_commands.specs.CheckGiven.{IsCheckTask};
+ghost use Rattle.wfc_proof_commands.specs.CheckTask.{check, check_plan};
+ghost use Rattle.wfc_reply.specs.Outcomes.{refute_status};
+ghost use Rattle.wfc_proof_commands.specs.RefuteGiven.{IsRefuteTask};
+ghost use Rattle.wfc_proof_commands.specs.RefuteTask.{refute, refute_plan};
+ghost use Rattle.wfc_reply.specs.Outcomes.{refute_verdict};
+ghost use Rattle.wfc_reply.specs.RunText.{lines_in, written_format};
+ghost use Rattle.wfc_proof_commands.specs.UpgradeGiven.{IsUpgradeTask};
+ghost use Rattle.wfc_proof_commands.specs.UpgradeTask.{upgrade, upgrade_plan};
+ghost use Rattle.wfc_reply.specs.Reply.{verdict_status};
+ghost use Rattle.wfc_reply.specs.declared.reply.Verdict.TheVariants as verdicts;
+ghost use Rattle.wfc_search.specs.declared.Outcome.TheVariants as outcomes;
+ghost use Rattle.wfc_words.specs.RequestView.{RequestView};
+
+/// `refute` comes to this task exactly where a chooser is there and the problem is that of the request.
+pub fn refute_tasks_are_given()
+    ensures task { (kinds : List RuleKind) (asked : RequestView) (files : List File) (P : Network) →
+        (outcome (refute_plan flat_proofs kinds asked) files ≡ Ok (refute P))
+        ↔ IsRefuteTask flat_proofs kinds asked files P }
+{}
+
+/// `upgrade` comes to this task exactly where the problem is that of the request, and the file of the refutation has these bytes.
+pub fn upgrade_tasks_are_given()
+    ensures task { (asked : RequestView) (files : List File) (P : Network) (bytes : List ℕ) →
+        (outcome (upgrade_plan asked) files ≡ Ok (upgrade P bytes))
+        ↔ IsUpgradeTask asked files P bytes }
+{}
+
+/// `check` comes to this task exactly where the problem is that of the request, and this is what the file of the refutation is
+/// answered.
+pub fn check_tasks_are_given()
+    ensures task { (asked : RequestView) (files : List File) (found : Option CheckFault) →
+        (outcome (check_plan flat_proofs asked) files ≡ Ok (check found))
+        ↔ IsCheckTask flat_proofs asked files found }
+{}
+
+/// What `refute` writes and how it ends, by example: removals of one cell and direction whose values follow are one line of format 2.
+pub fn refutations_by_example()
+    ensures one { written_format 1 ≡ One }
+    ensures two { written_format 2 ≡ Two }
+    ensures plain { lines_in One (Remove 0 0 2 ∷ Remove 0 1 2 ∷ Empty 0 ∷ [])
+        ≡ Remove 0 0 2 ∷ Remove 0 1 2 ∷ Empty 0 ∷ [] }
+    ensures joined { lines_in Two
+        (Try 1 3 ∷ Remove 0 0 2 ∷ Remove 0 1 2 ∷ Remove 0 2 1 ∷ Remove 4 3 1 ∷ Remove 4 5 1
+        ∷ Empty 0 ∷ End ∷ [])
+        ≡ Try 1 3 ∷ Span 0 0 1 2 ∷ Span 0 2 2 1 ∷ Span 4 3 3 1 ∷ Span 4 5 5 1 ∷ Empty 0 ∷ End ∷ [] }
+    ensures map { verdict_status (refute_verdict 7 outcomes.Map) ≡ 1 }
+    ensures no_map { verdict_status (refute_verdict 7 outcomes.NoMap) ≡ 0 }
+    ensures spent { refute_verdict 7 outcomes.Spent ≡ verdicts.Spent 7 }
+    ensures statuses { (refute_status outcomes.NoMap ≡ 0) × (refute_status outcomes.Map ≡ 1)
+        × (refute_status outcomes.Spent ≡ 2) }
+{}

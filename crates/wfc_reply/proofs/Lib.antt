@@ -1,0 +1,13 @@
+pub mod CameLemmas
+pub mod CutLemmas
+pub mod EndLemmas
+pub mod EndingLemmas
+pub mod OutcomeLemmas
+pub mod TakingLemmas
+pub mod VerdictLemmas
+pub mod CallerLemmas
+pub mod RunTextLemmas
+pub mod JournalLemmas
+pub mod PuttingLemmas
+pub mod ToldRunLemmas
+pub mod FrontLemmas

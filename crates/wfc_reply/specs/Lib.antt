@@ -1,0 +1,14 @@
+pub mod Ends
+pub mod Outcomes
+pub mod Asking
+pub mod Call
+pub mod Choosers
+pub mod Command
+pub mod CutClaims
+pub mod Ending
+pub mod FileNames
+pub mod Reply
+pub mod ReplyView
+pub mod RunEnds
+pub mod RunText
+pub mod Putting

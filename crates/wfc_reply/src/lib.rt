@@ -1,0 +1,12 @@
+//! What a call of the program is asked for, and what a command replies: its answer with a verdict, or a fault; and the
+//! choosers that it takes.
+#![tactic(auto)]
+
+mod choosers;
+pub mod laws;
+mod putting;
+mod reply;
+
+pub use choosers::{first_many, first_of, kinds};
+pub use putting::{RunWriting, put_run};
+pub use reply::{Answer, Stop, Verdict};

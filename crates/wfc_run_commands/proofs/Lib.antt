@@ -1,0 +1,12 @@
+pub mod RacingLemmas
+pub mod MakingLemmas
+pub mod OfKindLemmas
+pub mod RaceOrderLemmas
+pub mod RacePromiseLemmas
+pub mod RacerLemmas
+pub mod CallerLemmas
+pub mod ExplainGivenLemmas
+pub mod ExplainOrderLemmas
+pub mod ExplainMapLemmas
+pub mod ExplainPromiseLemmas
+pub mod ExplainRuleLemmas

@@ -1,0 +1,13 @@
+pub mod RaceGiven
+pub mod RaceTask
+pub mod RaceClaims
+pub mod RaceCommand
+pub mod Races
+pub mod Racing
+pub mod RaceOrder
+pub mod ExplainTask
+pub mod ExplainOrder
+pub mod ExplainGiven
+pub mod ExplainAnswer
+pub mod ExplainCommand
+pub mod ExplainClaims

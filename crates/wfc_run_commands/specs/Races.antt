@@ -1,0 +1,29 @@
+-- A race of seeds, and how the code holds its end.
+use Rattle.std.specs.List.{slice_get}
+use Rattle.std.specs.Prelude.{List, Some, [], ℕ, ⊤, ◌+◌, ◌∷◌, ◌≡◌}
+use Rattle.wfc_choose.specs.Pick.{Rule}
+use Rattle.wfc_problem.specs.Network.{Network}
+use Rattle.wfc_race.specs.Racers.{Racer, entered}
+use Rattle.wfc_race.specs.Rounds.{round_end_of}
+use Rattle.wfc_race.specs.declared.RaceEnd.{RaceEnd}
+use Rattle.wfc_race.specs.declared.RaceEnd.TheVariants as end
+use Rattle.wfc_runs.specs.Words.{words_of_seed}
+use Rattle.wfc_run_commands.specs.declared.races.Raced.{Raced}
+use Rattle.wfc_run_commands.specs.declared.races.Raced.TheVariants as raced
+
+-- one runner for each of these rules, with the words of a seed, of the next one, and so on
+abbrev pub entrants : List Rule → ℕ → ℕ → List Racer
+entrants [] budget seed = []
+entrants (rule ∷ rules) budget seed = entered rule budget (words_of_seed seed) ∷ entrants rules budget (seed + 1)
+
+-- what is answered of an end: who is named, and how many retractions it made
+abbrev pub AnswersTo : RaceEnd → List Racer → Raced → Type 0
+AnswersTo (end.Map who) now (raced.Map runner retractions) = (runner ≡ who) × ((r : Racer) × (slice_get now who ≡ Some r) × (r.retractions ≡ retractions))
+AnswersTo (end.NoMap who) now (raced.NoMap runner retractions) = (runner ≡ who) × ((r : Racer) × (slice_get now who ≡ Some r) × (r.retractions ≡ retractions))
+AnswersTo end.AllSpent now raced.AllSpent = ⊤
+AnswersTo _ now _ = ⊥
+
+-- in rounds the race of these rules, with the words of a seed and those that follow it, ended so
+abbrev pub IsRaced : Network → List Rule → ℕ → ℕ → ℕ → Raced → Type 0
+IsRaced P rules budget seed quantum answer =
+    (end : RaceEnd) × (now : List Racer) × (round_end_of P (entrants rules budget seed) quantum ≡ Some (end, now)) × AnswersTo end now answer

@@ -1,0 +1,253 @@
+//! The command `explain`: which lines of the pins file are to blame.
+
+ghost use Rattle.std.specs.Prelude.{All, IfOk, OnOk, Some, length, map, ◌+◌, ◌++◌, ◌<◌, ◌≡◌, ◌≤◌};
+ghost use Rattle.std.specs.List.{flat_map};
+ghost use Rattle.wfc_choose.specs.Pick.{Rule};
+ghost use Rattle.wfc_explain.specs.Blame.{IsTrueExplained};
+ghost use Rattle.wfc_explain.specs.declared.explained.Kept.{Kept};
+ghost use Rattle.wfc_plan.specs.Kinds.{HasChoosers};
+ghost use Rattle.wfc_reply.specs.Choosers.{first_rule, kinds_of};
+ghost use Rattle.wfc_reply.specs.Ends.{Ends, EndsBy};
+ghost use Rattle.wfc_reply.specs.ReplyView.{answer_view, reply_view};
+ghost use Rattle.wfc_run_commands.specs.ExplainAnswer.{AreLines, answer_to, core_text, explain_answer, explanation_by, kept_line, mark_word};
+ghost use Rattle.wfc_run_commands.specs.ExplainGiven.{IsExplainAsked};
+ghost use Rattle.wfc_run_commands.specs.ExplainCommand.{ExplainAnswers, explain_command};
+ghost use Rattle.wfc_run_commands.specs.ExplainTask.{explain_plan_by, explain_sample_plan, explain_tiles_plan, line_numbers};
+ghost use Rattle.wfc_explain.specs.Trials.{explanation_of};
+ghost use Rattle.wfc_runs.specs.Alike.{HaveRule, PickAlike};
+ghost use Rattle.wfc_search.specs.declared.TheConstants.{MAX_BUDGET};
+ghost use Rattle.wfc_runs.specs.Words.{words_of_seed};
+ghost use Rattle.wfc_task.specs.Asked.{AskedBy, IsOutputAsked, IsSampleAsked, IsSourceAsked};
+
+use crate::explaining::{EXPLAIN_CHOOSERS, lines, sample_pins, tile_pins};
+use std::alloc::Global;
+use std::marker::Brand;
+use std::sync::ledger::{Blank, Ledger};
+use wfc_choose::Chooser;
+use wfc_domains::Steps;
+use wfc_explain::{Explained, Kept, Mark, PinnedProblem, explain as explanation};
+use wfc_outside::{Folder, NoMemory};
+use wfc_pins::PinLine;
+use wfc_plan::{Fault, enough};
+use wfc_reply::{Answer, Verdict, first_many, kinds};
+use wfc_task::{mask, sample, tile_set};
+use wfc_text::push_number;
+use wfc_words::{Request, SourceModel};
+
+/// Reads the files, leaves out the lines of the pins file in turn, and answers those that stay.
+pub fn explain<F: Folder>(
+    alloc: Global,
+    request: &Request,
+    choosers: Vec<Box<dyn Chooser>>,
+    folder: &mut F,
+) -> Result<Answer, Fault>
+    requires source { IsSourceAsked request.now }
+    requires output { IsOutputAsked request.now }
+    requires asked { IsExplainAsked request.now }
+    ensures ends { EndsBy explain_command (map (λ chooser. (told chooser).rule) choosers.items)
+        request.now (F.seen folder.old) (F.seen folder.new) (reply_view result) }
+{
+    let kinds = kinds(alloc, &choosers)?;
+    enough(EXPLAIN_CHOOSERS, &kinds, request.rule)?;
+    explain_by(alloc, request.source, request, choosers, folder)
+}
+
+/// The same for a map that is made of this, where there are enough choosers.
+fn explain_by<F: Folder>(
+    alloc: Global,
+    source: SourceModel,
+    request: &Request,
+    choosers: Vec<Box<dyn Chooser>>,
+    folder: &mut F,
+) -> Result<Answer, Fault>
+    requires source { AskedBy source request.now }
+    requires output { IsOutputAsked request.now }
+    requires asked { IsExplainAsked request.now }
+    requires choosers { HasChoosers EXPLAIN_CHOOSERS
+        (kinds_of (map (λ chooser. (told chooser).rule) choosers.items)) request.now.rule }
+    ensures ends { Ends (explain_plan_by source request.now)
+        (ExplainAnswers (map (λ chooser. (told chooser).rule) choosers.items) request.now)
+        (F.seen folder.old) (F.seen folder.new) (reply_view result) }
+{
+    match source {
+        SourceModel::Overlap { .. } => explain_sample(alloc, request, choosers, folder),
+        SourceModel::Tiles => explain_tiles(alloc, request, choosers, folder),
+    }
+}
+
+/// The same for a map of a sample's windows.
+fn explain_sample<F: Folder>(
+    alloc: Global,
+    request: &Request,
+    choosers: Vec<Box<dyn Chooser>>,
+    folder: &mut F,
+) -> Result<Answer, Fault>
+    requires sample { IsSampleAsked request.now }
+    requires output { IsOutputAsked request.now }
+    requires asked { IsExplainAsked request.now }
+    requires choosers { HasChoosers EXPLAIN_CHOOSERS
+        (kinds_of (map (λ chooser. (told chooser).rule) choosers.items)) request.now.rule }
+    ensures ends { Ends (explain_sample_plan request.now)
+        (ExplainAnswers (map (λ chooser. (told chooser).rule) choosers.items) request.now)
+        (F.seen folder.old) (F.seen folder.new) (reply_view result) }
+{
+    let taught = sample(alloc, request, folder)?;
+    let lines = lines(alloc, request, folder)?;
+    let pins = sample_pins(alloc, request, &taught, &lines)?;
+    let answer = answer(alloc, request, choosers, &pins, &lines)?;
+    Ok(answer)
+}
+
+/// The same for a map of tiles.
+fn explain_tiles<F: Folder>(
+    alloc: Global,
+    request: &Request,
+    choosers: Vec<Box<dyn Chooser>>,
+    folder: &mut F,
+) -> Result<Answer, Fault>
+    requires output { IsOutputAsked request.now }
+    requires asked { IsExplainAsked request.now }
+    requires choosers { HasChoosers EXPLAIN_CHOOSERS
+        (kinds_of (map (λ chooser. (told chooser).rule) choosers.items)) request.now.rule }
+    ensures ends { Ends (explain_tiles_plan request.now)
+        (ExplainAnswers (map (λ chooser. (told chooser).rule) choosers.items) request.now)
+        (F.seen folder.old) (F.seen folder.new) (reply_view result) }
+{
+    let tiles = tile_set(alloc, request, folder)?;
+    let lines = lines(alloc, request, folder)?;
+    let mask = mask(alloc, request, folder)?;
+    let pins = tile_pins(alloc, request, &tiles, &mask, &lines)?;
+    let answer = answer(alloc, request, choosers, &pins, &lines)?;
+    Ok(answer)
+}
+
+/// The answer over a problem whose lines can be left out; these are the lines in their file.
+fn answer<M: PinnedProblem>(
+    alloc: Global,
+    request: &Request,
+    choosers: Vec<Box<dyn Chooser>>,
+    pinned: &M,
+    lines: &[PinLine],
+) -> Result<Answer, NoMemory>
+    requires asked { IsExplainAsked request.now }
+    requires choosers { HasChoosers EXPLAIN_CHOOSERS
+        (kinds_of (map (λ chooser. (told chooser).rule) choosers.items)) request.now.rule }
+    requires few { length lines.now + 1 ≤ EXPLAIN_CHOOSERS }
+    requires each_line { (M.seen pinned.now).lines ≡ length lines.now }
+    ensures answers { IfOk result (λ answer. explain_answer request.now (line_numbers lines.now)
+        (explanation_by (first_rule request.now.rule (map (λ chooser. (told chooser).rule)
+        choosers.items)) request.now (M.seen pinned.now)) ≡ Some (answer_view answer)) }
+{
+    let many = pinned.lines() + 1;
+    let taken = first_many(alloc, choosers, request.rule, many)?;
+    let said = said::<M, Brand>(alloc, request, pinned, taken, Blank::new(1))?;
+    told_in(alloc, request, lines, &said)
+}
+
+/// Leaves the lines out in turn, with these choosers; the steps are counted in a ledger of its own.
+fn said<M: PinnedProblem, L: Ledger>(
+    alloc: Global,
+    request: &Request,
+    pinned: &M,
+    choosers: Vec<Box<dyn Chooser>>,
+    blank: Blank,
+) -> Result<Explained, NoMemory>
+    requires name { blank.name ≡ L.name }
+    requires parts { blank.parts ≡ L.parts }
+    requires some_part { 0 < blank.parts }
+    requires choosers { length choosers.items ≡ (M.seen pinned.now).lines + 1 }
+    requires alike { PickAlike (map (λ chooser. (told chooser).rule) choosers.items) }
+    requires budget { request.now.budget ≤ MAX_BUDGET }
+    ensures exact { (rule : Rule) → HaveRule (map (λ chooser. (told chooser).rule) choosers.items)
+        rule → IfOk result (λ said. said ≡ explanation_of (M.seen pinned.now) rule
+        request.now.budget (words_of_seed request.now.seed)) }
+    ensures blamed { IfOk result (IsTrueExplained (M.seen pinned.now)) }
+{
+    let mut steps = Steps::<L>::new(blank);
+    explanation(
+        alloc,
+        pinned,
+        choosers,
+        request.seed,
+        request.budget,
+        &mut steps,
+    )
+}
+
+/// The answer to an explanation.
+fn told_in(
+    alloc: Global,
+    request: &Request,
+    lines: &[PinLine],
+    said: &Explained,
+) -> Result<Answer, NoMemory>
+    requires inside { AreLines (length lines.now) said.now }
+    ensures answers { IfOk result (λ answer.
+        answer_view answer ≡ answer_to request.now (line_numbers lines.now) said.now) }
+{
+    match said {
+        Explained::Core(core) => Ok(Answer {
+            verdict: Verdict::Done,
+            text: Some(core_text(alloc, lines, core.list())?),
+        }),
+        Explained::MapExists => Ok(Answer {
+            verdict: Verdict::MapExists,
+            text: None,
+        }),
+        Explained::Spent => Ok(Answer {
+            verdict: Verdict::Spent {
+                budget: request.budget,
+            },
+            text: None,
+        }),
+    }
+}
+
+/// The text of a core: how many lines are kept, and a line for each.
+fn core_text(alloc: Global, lines: &[PinLine], core: &[Kept]) -> Result<Vec<u8>, NoMemory>
+    requires inside { All (λ (kept : Kept). kept.index < length lines.now) core.now }
+    ensures text { IfOk result (λ text. text.items ≡ core_text (line_numbers lines.now) core.now) }
+{
+    let mut text = Vec::new(alloc);
+    text.extend_from_slice(b"core ")?;
+    push_number(&mut text, core.len() as u64)?;
+    text.push(b'\n')?;
+    push_all(&mut text, lines, core)?;
+    Ok(text)
+}
+
+/// Writes the lines of all kept lines behind the text.
+fn push_all(text: &mut Vec<u8>, lines: &[PinLine], core: &[Kept]) -> Result<(), NoMemory>
+    requires inside { All (λ (kept : Kept). kept.index < length lines.now) core.now }
+    ensures pushed { OnOk result (text.new.items
+        ≡ text.old.items ++ flat_map (kept_line (line_numbers lines.now)) core.now) }
+{
+    for kept in core {
+        push_kept(text, lines, kept)?;
+    }
+    Ok(())
+}
+
+/// Writes the line of a kept line behind the text.
+fn push_kept(text: &mut Vec<u8>, lines: &[PinLine], kept: &Kept) -> Result<(), NoMemory>
+    requires inside { kept.now.index < length lines.now }
+    ensures pushed { OnOk result (text.new.items
+        ≡ text.old.items ++ kept_line (line_numbers lines.now) kept.now) }
+{
+    let pinned = &lines[kept.index as usize];
+    text.extend_from_slice(mark_word(kept.mark))?;
+    text.push(b' ')?;
+    push_number(text, u64::from(pinned.line))?;
+    text.push(b'\n')?;
+    Ok(())
+}
+
+/// The word for a mark.
+fn mark_word(mark: Mark) -> &'static [u8]
+    ensures value { result.now ≡ mark_word mark }
+{
+    match mark {
+        Mark::Needed => b"needed",
+        Mark::Undecided => b"undecided",
+    }
+}

@@ -1,6 +1,0 @@
-use Rattle.std.proofs.Common.{inl, inr, sym}
-use Rattle.wfc_task.proofs.CountLemmas.{few_steps}
-use Rattle.wfc_task.proofs.steps.steps_in.Goals as goal
-
-pub returns-in-Ok-clause-few : goal.returns-in-Ok-clause-few
-returns-in-Ok-clause-few c = elim c.in-Ok.ensures.exact [ inl is ↦ few_steps c.args.bytes.now c.in-Ok.steps.items (sym is) | inr is ↦ absurd (cc) ]
