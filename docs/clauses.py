@@ -5,9 +5,9 @@
 
 A row of a table with the columns Call and Clause names calls, as `wfc_grid::read`, and in the next column the clauses of each, those of one
 call parted by ',' and those of the next behind ';'. A row with the column Clause alone names clauses of wfc_cli::run, or a call of
-its own. A clause is there where a function of that name, in a file of crates/NAME/src, has a line 'ensures CLAUSE'. `fill.legal` names a
-field: it is there where the definition that the clause `fill` begins with is a record with that field, or names one in its body, in a
-file of crates/*/specs.
+its own. A clause is there where a function of that name, in a file of crates/NAME/src, has a line 'ensures CLAUSE'. A part of a clause is
+there where the definition that the clause begins with is a record with that field, or names one in its body, in a file of crates/*/specs;
+a part of a part, as `fill.legal`, where the field's type is such a definition again. A part is named without its clause.
 Status 0 where all are there, else 1 with a line for each that is not.
 """
 import glob
@@ -37,24 +37,33 @@ def clauses_of(crate):
 
 
 def definitions():
-    """The records of all specs with their fields, and the other definitions with the names in their bodies."""
+    """The records of all specs, each with the definition that each of its fields begins with, and the other definitions with the names in
+    their bodies."""
     records, bodies = {}, {}
     for path in glob.glob(f"{ROOT}/crates/*/specs/*.antt"):
         text = open(path, encoding="utf-8").read()
         for head in re.finditer(r"^pub record (\w+)(?:.|\n)*? where\n((?:  .*\n)+)", text, re.M):
-            records[head.group(1)] = set(re.findall(r"^  pub (\w+) :", head.group(2), re.M))
+            records[head.group(1)] = dict(re.findall(r"^  pub (\w+) : (\w*)", head.group(2), re.M))
         for head in re.finditer(r"^abbrev pub (\w+) :(?:.|\n)*?\n\1 [^=]*=\s*(.*(?:\n    .*)*)", text, re.M):
             bodies[head.group(1)] = re.findall(r"\w+", head.group(2))
     return records, bodies
 
 
+def part(name, field, records, bodies):
+    """The definition that a field begins with, of the record of this name or of one that its body names; None where there is no such field."""
+    for each in [name] + bodies.get(name, []):
+        if field in records.get(each, {}):
+            return records[each][field]
+    return None
+
+
 def is_there(word, found, records, bodies):
-    """Whether a call with these clauses has the clause, or the field of what a clause promises."""
-    clause, _, field = word.partition(".")
-    if clause not in found or not field:
-        return clause in found
-    name = found[clause]
-    return any(field in records.get(each, ()) for each in [name] + bodies.get(name, []))
+    """Whether a call with these clauses has the clause, or the part of one."""
+    first, *fields = word.split(".")
+    names = [found[first]] if first in found else [part(name, first, records, bodies) for name in found.values()]
+    for field in fields:
+        names = [part(name, field, records, bodies) for name in names if name is not None]
+    return any(name is not None for name in names) or (first in found and not fields)
 
 
 def rows(path):
