@@ -3,6 +3,7 @@
 #![tactic(auto)]
 
 mod flags;
+pub mod laws;
 mod lists;
 mod mark;
 mod problem;

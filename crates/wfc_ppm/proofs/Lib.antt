@@ -1,5 +1,6 @@
 pub mod CallerLemmas
 pub mod FaultLemmas
+pub mod FaultPlaceLemmas
 pub mod FieldLemmas
 pub mod FrontLemmas
 pub mod GapLemmas
@@ -11,4 +12,6 @@ pub mod PlainLemmas
 pub mod PlainPixelLemmas
 pub mod PpmLemmas
 pub mod RawLemmas
+pub mod StandingFaultLemmas
+pub mod WholeHeadLemmas
 pub mod WritingLemmas

@@ -1,5 +1,6 @@
 -- The front of a picture's text: what stands before the samples, and what can still become it.
-use Rattle.std.specs.Prelude.{◌≡◌, ℕ, ◌<◌, List, [], ◌∷◌, ◌++◌, codes}
+use Rattle.std.specs.Prelude.{◌≡◌, ℕ, ◌+◌, ◌<◌, List, [], ◌∷◌, ◌++◌, codes, drop, length}
+use Rattle.wfc_ppm.specs.Field.{digits_of}
 use Rattle.wfc_ppm.specs.Spelling.{IsField, IsSeparator, IsSpace}
 use Rattle.wfc_ppm.specs.declared.reading.Form.{Form}
 use Rattle.wfc_ppm.specs.declared.reading.Form.TheVariants.{Raw, Plain}
@@ -34,3 +35,7 @@ pub record IsWholeHead (form : Form) (bytes : List ℕ) : Type 0 where
 -- the bytes can be continued to all that stands before samples
 abbrev pub StartsHead : Form → List ℕ → Type 0
 StartsHead form bytes = (rest : List ℕ) × IsWholeHead form (bytes ++ rest)
+
+-- the place behind the digits that stand at a place
+abbrev pub digits_end : List ℕ → ℕ → ℕ
+digits_end text at = at + length (digits_of (drop at text))

@@ -1,9 +1,9 @@
 //! Laws of the definitions, each a function with no body whose contract is the law. They run nothing.
 
-ghost use Rattle.std.specs.Prelude.{◌≡◌, ◌↔◌, ℕ, ◌*◌, ◌<◌, ◌≤◌, List, [], ◌∷◌, ◌++◌, All, None, Some, codes, drop, length, take, Ok, Err};
+ghost use Rattle.std.specs.Prelude.{◌≡◌, ◌↔◌, ℕ, ◌+◌, ◌*◌, ◌<◌, ◌≤◌, List, [], ◌∷◌, ◌++◌, All, None, Some, codes, drop, length, take, Ok, Err};
 ghost use Rattle.wfc_picture.specs.declared.palette.TheConstants.{MAX_PIXELS};
 ghost use Rattle.wfc_ppm.specs.Fault.{form_of, header_fault, pairs_of};
-ghost use Rattle.wfc_ppm.specs.Front.{IsHeadEnd, IsWholeHead, StartsHead};
+ghost use Rattle.wfc_ppm.specs.Front.{IsHeadEnd, IsWholeHead, StartsHead, digits_end};
 ghost use Rattle.wfc_ppm.specs.declared.reading.Form.{Form};
 ghost use Rattle.wfc_ppm.specs.declared.reading.Form.TheVariants.{Raw, Plain};
 ghost use Rattle.wfc_ppm.specs.Ppm.{PpmView, p6_text, p3_text, raw_bytes};
@@ -70,6 +70,18 @@ pub fn heads_go_on_before_a_fault()
     ensures whole { (form : Form) (text : List ℕ) → form_of text ≡ Some form
         → header_fault form (length text) (drop 2 text) ≡ None
         → (front : List ℕ) × (rest : List ℕ) × (text ≡ front ++ rest) × IsWholeHead form front }
+{}
+
+/// Behind a fault of the header no header goes on: the bytes up to it can't be continued to one, nor to a picture. Where digits
+/// stand there, as those of a side of 0, this is said of all of them and the byte behind them, since more digits could follow.
+pub fn no_head_goes_on_behind_a_fault()
+    ensures heads { (form : Form) (text : List ℕ) (at : ℕ) → digits_end text at < length text
+        → header_fault form (length text) (drop 2 text) ≡ Some (Header at) → StartsHead form (take (digits_end text at + 1) text) → ⊥ }
+    ensures pictures { (form : Form) (text : List ℕ) (at : ℕ) → form_of text ≡ Some form → digits_end text at < length text
+        → header_fault form (length text) (drop 2 text) ≡ Some (Header at)
+        → (rest : List ℕ) (ppm : PpmView) → SpellsPpm (take (digits_end text at + 1) text ++ rest) ppm → ⊥ }
+    ensures here { digits_end (codes "P6 1 1x 0 ") 6 ≡ 6 }
+    ensures zeros { digits_end (codes "P6 1 00 x") 5 ≡ 7 }
 {}
 
 /// A head is whole with any maxval; a raw one ends with a byte of whitespace, and one in decimal with whitespace or comments.

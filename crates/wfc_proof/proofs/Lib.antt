@@ -3,6 +3,7 @@ pub mod Forests
 pub mod Joins
 pub mod Least
 pub mod Nodes
+pub mod OnlyJoins
 pub mod Sound
 pub mod Told
 pub mod Waiting

@@ -1,3 +1,4 @@
+pub mod Joins
 pub mod Journal
 pub mod Proof
 pub mod Lines

@@ -10,14 +10,13 @@ ghost use Rattle.wfc_problem.specs.Rounds.{pairs, depth_of};
 ghost use Rattle.wfc_proof.specs.Checker.{line_steps, node_fault};
 ghost use Rattle.wfc_proof.specs.Checker.Point.{going, closed, ended};
 ghost use Rattle.wfc_proof.specs.Lines.{Spells, spelled};
-ghost use Rattle.wfc_proof.specs.Proof.{Proof, Closes, FollowsFrom, StopsThere, is_left_off, Node, nodes, IsRemoval, IsSplit};
+ghost use Rattle.wfc_proof.specs.Proof.{Proof, Closes, FollowsFrom, StopsThere, is_left_off, nodes, IsRemoval, IsSplit};
 ghost use Rattle.wfc_proof.specs.Proof.Node.{removes, splits, empties};
 ghost use Rattle.wfc_proof.specs.Proof.Proof.{empty, remove, split, left_off};
 ghost use Rattle.wfc_proof.specs.Small.{wide, dead, from_base};
-ghost use Rattle.wfc_proof.specs.Spans.{AreWithOneMore, IsSpanning, as_span, in_spans, join_on, nothing_joined, one_span, spans_of};
+ghost use Rattle.wfc_proof.specs.Spans.{AreWithOneMore, IsSpanning, in_spans, join_on, nothing_joined, spans_of};
 ghost use Rattle.wfc_proof.specs.Telling.{IsAt, IsCut, begun, journal_of, read_text, refused_lines, text_of};
 ghost use Rattle.std.specs.Borrow.{GName};
-ghost use Rattle.std.specs.List.{AllByRecursion};
 ghost use Rattle.wfc_outside.specs.Sink.{IsFaultAfterFront, SinkView, after_bytes};
 ghost use Rattle.wfc_proof.specs.Text.{line_text, line_of, line_2_of, IsOfFormat1, IsOfFormat2};
 ghost use Rattle.wfc_proof.specs.Upgrade.{upgraded_text};
@@ -30,7 +29,7 @@ ghost use Rattle.wfc_proof.specs.declared.heads.Shape.{Shape};
 ghost use Rattle.wfc_proof.specs.declared.text.LineFault.TheVariants.{BadLine};
 ghost use Rattle.wfc_proof.specs.declared.Reject.TheVariants.{NotStanding, HasSupport, NoNeighbour, NotEmpty, AfterEnd};
 ghost use Rattle.wfc_proof.specs.declared.Reject.TheVariants.{IndexRange, NotClosed, OnlyValue};
-ghost use Rattle.wfc_proof.specs.Journal.{JournalView, Target, quiet, IsWhole, counted_as, after_line, after_lines, IsRefused, IsCutOff};
+ghost use Rattle.wfc_proof.specs.Journal.{Target, quiet, IsWhole, counted_as, after_line, after_lines, IsRefused, IsCutOff};
 ghost use Rattle.wfc_proof.specs.declared.Line.{Line};
 ghost use Rattle.wfc_proof.specs.declared.Line.TheVariants.{Remove, Span, Try, Empty, End, Found, Out};
 
@@ -137,17 +136,6 @@ pub fn few_branches_wait()
     ensures few { (P : Network) → IsProblem P → (lines : List Line) (E : Test) (waiting : List Test) →
         line_steps P (going (in_base P) []) lines ≡ Ok (going E waiting) →
         Within E (in_base P) × (pairs P E + length waiting ≤ depth_of P) }
-{}
-
-/// Lines whose removals are joined into spans spell the same nodes. No two that stand side by side could still be joined,
-/// and no removal is left that is no span. One more line stands behind them, or goes into the last.
-pub fn joined_lines_spell()
-    ensures spell { (lines : List Line) → AllByRecursion IsWhole lines → spelled (in_spans lines) ≡ spelled lines }
-    ensures apart { (lines front back : List Line) (a b : Line) → in_spans lines ≡ front ++ a ∷ b ∷ back →
-        one_span (as_span a) (as_span b) ≡ None }
-    ensures spans { (lines : List Line) → map as_span (in_spans lines) ≡ in_spans lines }
-    ensures more { (lines : List Line) (line : Line) →
-        AreWithOneMore (in_spans lines) (as_span line) (in_spans (lines ++ line ∷ [])) }
 {}
 
 // ---- texts
@@ -273,18 +261,6 @@ pub fn texts_are_read()
         ≡ record { before = codes "t 4 5\ncells 12 values 3\n"; lines = []; part = [] } }
     ensures whole { (format : Format) (bytes : List ℕ) → let read = read_text format bytes in
         read.before ++ (text_of read.lines ++ read.part) ≡ bytes }
-{}
-
-/// Removals are joined into spans as they are told: of another cell, another direction or a value that doesn't follow, or
-/// with another line between, they are apart, and a span that is told is joined as its removals are.
-pub fn spans_by_example()
-    ensures joined { in_spans (Remove 1 4 2 ∷ Remove 1 5 2 ∷ Span 1 6 7 2 ∷ []) ≡ Span 1 4 7 2 ∷ [] }
-    ensures another_cell { in_spans (Remove 1 4 2 ∷ Remove 2 5 2 ∷ []) ≡ Span 1 4 4 2 ∷ Span 2 5 5 2 ∷ [] }
-    ensures another_direction { in_spans (Remove 1 4 2 ∷ Remove 1 5 3 ∷ []) ≡ Span 1 4 4 2 ∷ Span 1 5 5 3 ∷ [] }
-    ensures a_gap { in_spans (Remove 1 4 2 ∷ Remove 1 6 2 ∷ []) ≡ Span 1 4 4 2 ∷ Span 1 6 6 2 ∷ [] }
-    ensures backwards { in_spans (Remove 1 5 2 ∷ Remove 1 4 2 ∷ []) ≡ Span 1 5 5 2 ∷ Span 1 4 4 2 ∷ [] }
-    ensures between { in_spans (Remove 1 4 2 ∷ Try 1 5 ∷ Remove 1 5 2 ∷ Empty 1 ∷ Found ∷ [])
-        ≡ Span 1 4 4 2 ∷ Try 1 5 ∷ Span 1 5 5 2 ∷ Empty 1 ∷ Found ∷ [] }
 {}
 
 /// One line more stands behind the lines, or makes the last of them longer.

@@ -12,6 +12,7 @@ mod gathered;
 mod heads;
 mod journals;
 pub mod laws;
+pub mod span_laws;
 mod spans;
 mod text;
 mod upgrading;

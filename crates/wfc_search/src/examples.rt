@@ -9,6 +9,7 @@ ghost use Rattle.wfc_problem.specs.Rounds.{greatest, depth_of};
 ghost use Rattle.wfc_problem.specs.declared.Literal.TheVariants.{Is, Not};
 ghost use Rattle.wfc_proof.specs.declared.Line.TheVariants.{Remove, Try, Empty, End, Found, Out};
 ghost use Rattle.wfc_search.specs.Between.{Cuts, IsBetween, ways_left, work_left};
+ghost use Rattle.wfc_search.specs.Last.{choice_in};
 ghost use Rattle.wfc_search.specs.Run.{last_choice, most_turns, outcome_of};
 ghost use Rattle.wfc_search.specs.Search.{draws_after, outcome_after};
 ghost use Rattle.wfc_search.specs.Small.{pair, ring, twos, scanline, summary};
@@ -32,6 +33,14 @@ pub fn last_choices()
     ensures last { last_choice (Is 1 0 ∷ Not 1 2 ∷ Is 5 1 ∷ Not 0 2 ∷ Not 4 3 ∷ [])
         ≡ Some (record { before = Is 1 0 ∷ Not 1 2 ∷ []; cell = 1; value = 5 }) }
     ensures none { last_choice (Not 1 2 ∷ Not 4 3 ∷ []) ≡ None }
+{}
+
+/// A choice by its place in the list is a choice by what stands before it.
+pub fn choices_by_their_places()
+    ensures some { choice_in (Is 1 0 ∷ Not 1 2 ∷ Is 5 1 ∷ Not 0 2 ∷ [])
+        (Some (record { at = 2; cell = 1; value = 5 }))
+        ≡ Some (record { before = Is 1 0 ∷ Not 1 2 ∷ []; cell = 1; value = 5 }) }
+    ensures none { choice_in (Is 1 0 ∷ []) None ≡ None }
 {}
 
 /// A pair of cells that differ has a map, in which a word of 2 draws value 1 of weight 3 first. A ring of three cells

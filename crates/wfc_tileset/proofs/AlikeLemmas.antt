@@ -1,6 +1,5 @@
 -- Tiles that name pictures as the first one does.
-use Rattle.std.proofs.Common.{◌≡◌, ◌<◌, ℕ, Bool, true, false, not, List, [], ◌∷◌, ◌++◌, length, Option, None, Some, All, refl, arith, if◌then◌else◌}
-use Rattle.std.specs.Prelude.{IsSome}
+use Rattle.std.proofs.Common.{◌≡◌, ℕ, Bool, true, false, not, List, [], ◌∷◌, ◌++◌, Option, None, Some, refl, arith, if◌then◌else◌}
 use Rattle.std.proofs.lemmas.List.Elements.{All-push}
 use Rattle.wfc_tileset.specs.Document.{fits_first, is_ppm_name, same_kind}
 use Rattle.wfc_tileset.specs.Tiles.{TileView}

@@ -1,5 +1,5 @@
 -- One tile or one pair of a document after another.
-use Rattle.std.proofs.Common.{◌≡◌, ℕ, List, [], ◌∷◌, ◌++◌, length, Result, Ok, Err, ap, ◌∙◌, inl, inr, Option, Some, None, refl, sym, Bool, position, arith}
+use Rattle.std.proofs.Common.{◌≡◌, ℕ, List, [], ◌∷◌, ◌++◌, length, Result, Ok, Err, ◌∙◌, inl, inr, Some, None, sym, Bool, position, arith}
 use Rattle.std.specs.Prelude.{IsUtf8}
 use Rattle.std.specs.Option.{ok_or}
 use Rattle.std.specs.Str.{is_utf8}

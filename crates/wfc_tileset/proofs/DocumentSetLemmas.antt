@@ -26,12 +26,12 @@ use Rattle.wfc_tileset.proofs.DocumentLemmas.{pair_in, tile_in}
 use Rattle.wfc_tileset.proofs.NameLemmas.{place_inside}
 
 -- what two steps came to
-then_parts : {A B : Type 0} (first : Result A TileFault) (next : A → Result B TileFault) (b : B) → and_then first next ≡ Ok b → (a : A) × (first ≡ Ok a) × (next a ≡ Ok b)
+pub then_parts : {A B : Type 0} (first : Result A TileFault) (next : A → Result B TileFault) (b : B) → and_then first next ≡ Ok b → (a : A) × (first ≡ Ok a) × (next a ≡ Ok b)
 then_parts (Ok a) next b is = (a, refl, is)
 then_parts (Err fault) next b is = absurd (cc)
 
 -- what was there
-there : {A E : Type 0} (found : Option A) (fault : E) (a : A) → ok_or found fault ≡ Ok a → found ≡ Some a
+pub there : {A E : Type 0} (found : Option A) (fault : E) (a : A) → ok_or found fault ≡ Ok a → found ≡ Some a
 there (Some x) fault a is = let same : x ≡ a = cc in ap Some same
 there None fault a is = absurd (cc)
 
@@ -61,16 +61,16 @@ record IsNext (before : List TileView) (tile : TileView) : Type 0 where
   weighed : IsWeighed tile
   alike : fits_first before tile.picture ≡ true
 
-abbrev behind_picture : List TileView → List ℕ → Class → ℕ → Option (List ℕ) → Result TileView TileFault
+abbrev pub behind_picture : List TileView → List ℕ → Class → ℕ → Option (List ℕ) → Result TileView TileFault
 behind_picture before name class weight picture = if fits_first before picture then Ok (tile_with name class weight picture) else Err (fault.MixedKinds (length before))
 
-abbrev behind_weight : List TileView → Members → List ℕ → Class → ℕ → Result TileView TileFault
+abbrev pub behind_weight : List TileView → Members → List ℕ → Class → ℕ → Result TileView TileFault
 behind_weight before ms name class weight = and_then (picture_in (length before) (get_member (codes "picture") ms)) (behind_picture before name class weight)
 
-abbrev behind_class : List TileView → Members → List ℕ → Class → Result TileView TileFault
+abbrev pub behind_class : List TileView → Members → List ℕ → Class → Result TileView TileFault
 behind_class before ms name class = and_then (weight_in (length before) (get_member (codes "weight") ms)) (behind_weight before ms name class)
 
-abbrev behind_name : List TileView → Members → List ℕ → Result TileView TileFault
+abbrev pub behind_name : List TileView → Members → List ℕ → Result TileView TileFault
 behind_name before ms name = and_then (class_in (length before) (get_member (codes "class") ms)) (behind_class before ms name)
 
 fits_next : (before : List TileView) (name : List ℕ) (class : Class) (weight : ℕ) (picture : Option (List ℕ)) (tile : TileView) → (1 ≤ weight) × (weight ≤ 1000000) → behind_picture before name class weight picture ≡ Ok tile → IsNext before tile
@@ -123,7 +123,7 @@ some_read (item d ds) tiles is =
     let rest = tiles_read ds (first.0 ∷ []) tiles (one_more [] first.0 none_read first.1) first.2 in
     (rest.0, rest.1)
 
-few_kept : (tiles kept : List TileView) → few_variants tiles ≡ Ok kept → (tiles ≡ kept) × (variant_total tiles ≤ MAX_VARIANTS)
+pub few_kept : (tiles kept : List TileView) → few_variants tiles ≡ Ok kept → (tiles ≡ kept) × (variant_total tiles ≤ MAX_VARIANTS)
 few_kept tiles kept is = by_test (nat_le (variant_total tiles) MAX_VARIANTS) refl is
   where
     by_test : (b : Bool) → nat_le (variant_total tiles) MAX_VARIANTS ≡ b → (if b then Ok tiles else Err (fault.TooManyVariants (variant_total tiles))) ≡ Ok kept → (tiles ≡ kept) × (variant_total tiles ≤ MAX_VARIANTS)
@@ -132,7 +132,7 @@ few_kept tiles kept is = by_test (nat_le (variant_total tiles) MAX_VARIANTS) ref
 
 -- ---- pairs
 
-turn_low : (rest : List ℕ) (turn : ℕ) → turn_of rest ≡ Some turn → turn < 8
+pub turn_low : (rest : List ℕ) (turn : ℕ) → turn_of rest ≡ Some turn → turn < 8
 turn_low [] turn is = let none : 0 ≡ turn = cc in omega (arith, none)
 turn_low (blank ∷ []) turn is = absurd (cc)
 turn_low (blank ∷ digit ∷ []) turn is = by_tests (nat_le 48 digit) (nat_le digit 55) refl refl is
@@ -146,7 +146,7 @@ turn_low (blank ∷ digit ∷ []) turn is = by_tests (nat_le 48 digit) (nat_le d
     by_tests false high low _ is = absurd (cc)
 turn_low (blank ∷ digit ∷ more ∷ rest) turn is = absurd (cc)
 
-abbrev behind_place : List ℕ → ℕ → ℕ → Result End TileFault
+abbrev pub behind_place : List ℕ → ℕ → ℕ → Result End TileFault
 behind_place text pair tile = and_then (ok_or (turn_of (drop (name_length text) text)) (fault.BadTurn pair)) (λ turn. Ok (end_with tile turn))
 
 end_read : (tiles : List TileView) (pair : ℕ) (text : List ℕ) (end : End) → end_from tiles pair text ≡ Ok end → IsEnd tiles end
@@ -160,7 +160,7 @@ end_read tiles pair text end is =
       turn_in = turn_low (drop (name_length text) text) turn.0 (there (turn_of (drop (name_length text) text)) (fault.BadTurn pair) turn.0 turn.1);
     })
 
-abbrev behind_left : List TileView → ℕ → Members → End → Result Pair TileFault
+abbrev pub behind_left : List TileView → ℕ → Members → End → Result Pair TileFault
 behind_left tiles pair ms left = and_then (end_in tiles pair key.Right (get_member (codes "right") ms)) (λ right. Ok (pair_with left right))
 
 end_of_read : (tiles : List TileView) (pair : ℕ) (which : Key) (d : Option Data) (end : End) → end_in tiles pair which d ≡ Ok end → IsEnd tiles end
@@ -186,16 +186,16 @@ pairs_read tiles (item d ds) before pairs read is =
 
 -- ---- the document
 
-abbrev behind_tiles : Items → List TileView → Result TileSetView TileFault
+abbrev pub behind_tiles : Items → List TileView → Result TileSetView TileFault
 behind_tiles pairs tiles = and_then (pairs_from tiles [] pairs) (λ pairs. Ok (set_with tiles pairs))
 
-abbrev behind_arrays : Items → Items → Result TileSetView TileFault
+abbrev pub behind_arrays : Items → Items → Result TileSetView TileFault
 behind_arrays tiles pairs = and_then (and_then (some_tiles tiles) few_variants) (behind_tiles pairs)
 
-abbrev behind_tile_items : Members → Items → Result TileSetView TileFault
+abbrev pub behind_tile_items : Members → Items → Result TileSetView TileFault
 behind_tile_items ms tiles = and_then (elements_in key.Pair (get_member (codes "pair") ms)) (behind_arrays tiles)
 
-set_read : (ms : Members) (set : TileSetView) → set_from ms ≡ Ok set → IsTileSet set
+pub set_read : (ms : Members) (set : TileSetView) → set_from ms ≡ Ok set → IsTileSet set
 set_read ms set is =
     let tile_items = then_parts (elements_in key.Tile (get_member (codes "tile") ms)) (behind_tile_items ms) set is in
     let pair_items = then_parts (elements_in key.Pair (get_member (codes "pair") ms)) (behind_arrays tile_items.0) set tile_items.2 in

@@ -1,17 +1,17 @@
 -- The pictures of a tile set: one more, and what is known of them all.
-use Rattle.std.proofs.Common.{◌≡◌, ℕ, zero, suc, ◌+◌, ◌<◌, ◌≤◌, Bool, true, false, not, List, [], ◌∷◌, ◌++◌, length, get_or, Option, None, Some, Result, Ok, Err, ◌⊎◌, inl, inr, refl, sym, subst, ap, ◌∙◌, arith, length-append, if◌then◌else◌}
-use Rattle.std.specs.Prelude.{◌==◌, IsSome, All}
-use Rattle.std.proofs.lemmas.Bool.{cases_lt, eqb-true}
+use Rattle.std.proofs.Common.{◌≡◌, ℕ, zero, suc, ◌<◌, Bool, true, false, not, List, [], ◌∷◌, ◌++◌, length, Option, None, Some, Result, Ok, Err, inl, refl, sym, ap, ◌∙◌, arith, length-append, if◌then◌else◌}
+use Rattle.std.specs.Prelude.{◌==◌, IsSome}
+use Rattle.std.proofs.lemmas.Bool.{eqb-true}
 use Rattle.std.proofs.lemmas.List.Elements.{All-push}
 use Rattle.wfc_outside.specs.Gives.{Gives, result_map}
 use Rattle.wfc_picture.specs.declared.symbol.Kind.{Kind}
 use Rattle.wfc_picture.specs.declared.symbol.Kind.TheVariants as kinds
 use Rattle.wfc_tileset.specs.declared.fault.TileFault.{TileFault}
 use Rattle.wfc_tileset.specs.declared.fault.TileFault.TheVariants as fault
-use Rattle.wfc_tileset.specs.Document.{and_then, fits_first, same_kind}
+use Rattle.wfc_tileset.specs.Document.{and_then}
 use Rattle.wfc_tileset.specs.Pictures.{ArePictures, IsDrawn, IsPicture, IsPictureOf, fitting, fitting_first, kind_of, next_name, one_kind, picture_for, picture_name, picture_of, side_of, some_picture, with_picture}
 use Rattle.wfc_tileset.specs.Tiles.{PictureView, TileView, TileSetView, tile_at}
-use Rattle.wfc_tileset.specs.TileSets.{AreAlike, IsClosed}
+use Rattle.wfc_tileset.specs.TileSets.{IsClosed}
 
 -- ---- a picture that is as the first
 

@@ -11,3 +11,5 @@ pub mod AlikeLemmas
 pub mod PictureLemmas
 pub mod DrawnLemmas
 pub mod PairLemmas
+pub mod SaysPairLemmas
+pub mod SaysLemmas

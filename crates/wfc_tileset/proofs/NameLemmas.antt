@@ -1,5 +1,5 @@
 -- Where names first stand, one tile after another, and that they end where a character begins.
-use Rattle.std.proofs.Common.{◌≡◌, ℕ, zero, suc, ◌+◌, ◌<◌, ◌≤◌, Bool, true, false, not, cond, ltb, List, [], ◌∷◌, ◌++◌, length, get_or, position, Option, None, Some, String, BTreeMap, refl, sym, subst, ap, ◌∙◌, arith, inl, inr, length-append, ◌||◌, if◌then◌else◌}
+use Rattle.std.proofs.Common.{◌≡◌, ℕ, suc, ◌+◌, ◌<◌, ◌≤◌, Bool, true, false, not, cond, ltb, List, [], ◌∷◌, ◌++◌, length, position, Option, None, Some, String, BTreeMap, refl, sym, ap, ◌∙◌, arith, inl, inr, length-append, ◌||◌, if◌then◌else◌}
 use Rattle.std.specs.Prelude.{◌==◌, IfSome}
 use Rattle.std.specs.Str.{IsCharBoundary}
 use Rattle.std.specs.BTreeMap.{IsEmpty, get_by_text}

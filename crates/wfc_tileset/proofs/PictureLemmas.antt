@@ -1,12 +1,11 @@
 -- Pictures of tiles: what files make, and what stands in their columns and rows.
-use Rattle.std.proofs.Common.{◌≡◌, ℕ, ◌+◌, ◌*◌, ◌<◌, Bool, true, List, length, get_or, map, sym, ap, ◌∙◌, arith}
+use Rattle.std.proofs.Common.{◌≡◌, ℕ, ◌+◌, ◌*◌, ◌<◌, true, length, map, sym, ap, ◌∙◌, arith}
 use Rattle.std.proofs.lemmas.Bool.{and_parts, eqb-true, leb-true}
 use Rattle.std.proofs.lemmas.List.{length-map}
 use Rattle.std.proofs.lemmas.List.Elements.{All-map}
 use Rattle.std.proofs.lemmas.Nat.{mul-add-lt}
 use Rattle.wfc_grid.specs.Grid.{GridView, IsGrid}
 use Rattle.wfc_picture.specs.declared.symbol.Kind.TheVariants as kinds
-use Rattle.wfc_picture.specs.declared.symbol.Symbol.{Symbol}
 use Rattle.wfc_picture.specs.declared.symbol.Symbol.TheVariants.{Char, Rgb}
 use Rattle.wfc_ppm.specs.Ppm.{PpmView, IsPpm}
 use Rattle.wfc_tileset.specs.declared.picture.TheConstants.{MAX_TILE_SIDE}

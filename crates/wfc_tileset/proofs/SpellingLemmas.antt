@@ -1,5 +1,5 @@
 -- Which words spell which variants.
-use Rattle.std.proofs.Common.{◌≡◌, ℕ, zero, suc, ◌+◌, ◌<◌, ◌≤◌, Bool, true, false, List, [], ◌∷◌, ◌++◌, length, take, drop, None, Some, inl, inr, refl, sym, subst, ap, ◌∙◌, arith, length-append, lit≤}
+use Rattle.std.proofs.Common.{◌≡◌, ℕ, zero, suc, ◌+◌, ◌<◌, ◌≤◌, false, List, [], ◌∷◌, ◌++◌, length, take, drop, None, Some, inl, inr, sym, ap, ◌∙◌, arith, length-append, lit≤}
 use Rattle.std.specs.Str.{bytes_eq}
 use Rattle.std.proofs.lemmas.Bool.{cases_Bool, cases_lt}
 use Rattle.std.proofs.lemmas.Slice.Eq.{bytes_eq-Decides}
@@ -9,7 +9,7 @@ use Rattle.wfc_symmetry.specs.Class.{variant_count}
 use Rattle.wfc_symmetry.specs.declared.class.Class.{Class}
 use Rattle.wfc_symmetry.specs.declared.class.Class.TheVariants.{X, I, L, T, F, Slash}
 use Rattle.wfc_tileset.specs.Tiles.{TileView, Variant, tile_at, variants, variant_total, variant_at, variant_of, spelling, Spells}
-use Rattle.wfc_tileset.specs.Numbers.{first_of, number_of, IsNamed, IsVariant}
+use Rattle.wfc_tileset.specs.Numbers.{first_of, number_of, IsNamed}
 use Rattle.wfc_tileset.proofs.VariantLemmas.{first-suc, length-variants_from, number_below, number-variant, variant-number, variant_there}
 
 -- a tile has at most eight variants

@@ -1,6 +1,9 @@
 -- Small documents for laws.
-use Rattle.std.specs.Prelude.{ℕ, List, [], ◌∷◌, codes, ℤ, pos}
-use Rattle.toml.specs.Data.{Data, string, integer, boolean, array, table, Items, no_items, item, Members, no_members, member}
+use Rattle.std.specs.Prelude.{ℕ, List, [], ◌∷◌, codes, pos, None}
+use Rattle.wfc_symmetry.specs.declared.class.Class.TheVariants.{F, T}
+use Rattle.wfc_tileset.specs.Document.{tile_with}
+use Rattle.wfc_tileset.specs.Tiles.{TileView}
+use Rattle.toml.specs.Data.{Data, string, integer, array, table, Items, no_items, item, Members, no_members, member}
 
 -- a tile with a name and a class
 abbrev pub tile_data : List ℕ → List ℕ → Data
@@ -33,3 +36,13 @@ tiles_f_t = tile_data (codes "f") (codes "F") ∷ tile_data (codes "t") (codes "
 
 abbrev pub with_pair : List ℕ → List ℕ → Members
 with_pair left right = document_of tiles_f_t (pair_data left right ∷ [])
+
+-- the table of a tile with a weight
+abbrev pub table_of_tile : List ℕ → List ℕ → ℕ → Members
+table_of_tile name class weight =
+    member (codes "class") (string class)
+    (member (codes "name") (string name) (member (codes "weight") (integer (pos weight)) no_members))
+
+-- tiles without symmetry and a junction
+abbrev pub two_tiles : List TileView
+two_tiles = tile_with (codes "f") F 1 None ∷ tile_with (codes "t") T 1 None ∷ []

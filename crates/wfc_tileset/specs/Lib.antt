@@ -1,6 +1,7 @@
 pub mod Tiles
 pub mod Allowed
 pub mod Numbers
+pub mod Says
 pub mod TileSets
 pub mod Samples
 pub mod Document

@@ -1,5 +1,5 @@
 -- Names of tiles, each with the number of the first tile that has it.
-use Rattle.std.specs.Prelude.{◌≡◌, ℕ, List, Option, None, Some, String, if◌then◌else◌}
+use Rattle.std.specs.Prelude.{◌≡◌, ℕ, List, None, Some, String, if◌then◌else◌}
 use Rattle.std.specs.BTreeMap.{BTreeMap, get_by_text}
 use Rattle.std.specs.List.{position}
 use Rattle.std.specs.Option.{option_or}

@@ -17,7 +17,7 @@ use Rattle.wfc_tileset.specs.declared.fault.TileFault.TheVariants as fault
 use Rattle.wfc_tileset.specs.declared.picture.TheConstants.{MAX_TILE_SIDE}
 use Rattle.wfc_tileset.specs.Document.{and_then, is_ppm_name}
 use Rattle.wfc_tileset.specs.Shown.{is_of_kind}
-use Rattle.wfc_tileset.specs.Tiles.{PictureView, TileView, TileSetView, tile_at, variant_at}
+use Rattle.wfc_tileset.specs.Tiles.{PictureView, TileSetView, tile_at, variant_at}
 
 -- a picture of a tile is square with a side of 1 to 64, and shows what its kind can show
 pub record IsPicture (picture : PictureView) : Type 0 where

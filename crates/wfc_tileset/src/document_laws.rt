@@ -1,14 +1,15 @@
 //! Laws of documents, each a function with no body whose contract is the law. They run nothing.
 
-ghost use Rattle.std.specs.Prelude.{◌≡◌, List, [], ◌∷◌, map, replicate, codes, pos, negsuc, true, false, Some, None, Ok, Err};
-ghost use Rattle.toml.specs.Data.{string, integer, boolean, array, table, no_members, member};
+ghost use Rattle.std.specs.Prelude.{◌≡◌, ℕ, List, [], ◌∷◌, map, replicate, codes, pos, negsuc, true, false, Some, None, Ok, Err};
+ghost use Rattle.toml.specs.Data.{Members, string, integer, boolean, array, table, no_members, member};
 ghost use Rattle.wfc_symmetry.specs.declared.class.Class.TheVariants.{X, I, L, T, F, Slash};
 ghost use Rattle.wfc_tileset.specs.declared.fault.Place.TheVariants as place;
 ghost use Rattle.wfc_tileset.specs.declared.fault.Key.TheVariants as key;
 ghost use Rattle.wfc_tileset.specs.declared.fault.TileFault.TheVariants as fault;
 ghost use Rattle.wfc_tileset.specs.Tiles.{TileView, TileSetView, IsWeighed, variant_total};
-ghost use Rattle.wfc_tileset.specs.Document.{set_from, class_of, weight_of, is_name, is_name_byte, same_kind, few_variants, tile_with, set_with, pair_with, end_with};
-ghost use Rattle.wfc_tileset.specs.Documents.{tile_data, drawn_data, pair_data, document_of, items_of, tiles_f_t, with_pair};
+ghost use Rattle.wfc_tileset.specs.Document.{parsed, set_from, set_of, class_of, weight_of, is_name, is_name_byte, same_kind, few_variants, tile_with, set_with, pair_with, end_with};
+ghost use Rattle.wfc_tileset.specs.Says.{AreNamedBehind, SaysEnd, SaysSet, SaysTile};
+ghost use Rattle.wfc_tileset.specs.Documents.{two_tiles, table_of_tile, tile_data, drawn_data, pair_data, document_of, items_of, tiles_f_t, with_pair};
 
 use crate::document::MAX_ELEMENTS;
 use crate::{HOLE, MAX_DOCUMENT_BYTES, MAX_VARIANTS};
@@ -111,4 +112,23 @@ pub fn words_of_tiles()
     ensures classes { map class_of (codes "X" ∷ codes "I" ∷ codes "L" ∷ codes "T" ∷ codes "F"
         ∷ (92 ∷ []) ∷ codes "x" ∷ codes "XX" ∷ [] ∷ [])
         ≡ Some X ∷ Some I ∷ Some L ∷ Some T ∷ Some F ∷ Some Slash ∷ None ∷ None ∷ None ∷ [] }
+{}
+
+/// A tile set that is read is one that the document says, key by key.
+pub fn read_sets_are_said()
+    ensures said { (bytes : List ℕ) (set : TileSetView) → set_of bytes ≡ Ok set
+        → (ms : Members) × (parsed bytes ≡ Ok ms) × SaysSet ms set }
+{}
+
+/// What is said of a tile and of an end of a pair, and what is not: a weight that is not the table's, an action of another
+/// digit, a tile of another name.
+pub fn said_by_example()
+    ensures weight { SaysTile (table_of_tile (codes "a") (codes "T") 70) (tile_with (codes "a") T 1 None) → ⊥ }
+    ensures class { SaysTile (table_of_tile (codes "a") (codes "T") 70) (tile_with (codes "a") F 70 None) → ⊥ }
+    ensures turn { SaysEnd two_tiles (codes "t 3") (end_with 1 3) }
+    ensures no_turn { SaysEnd two_tiles (codes "f") (end_with 0 0) }
+    ensures other_turn { SaysEnd two_tiles (codes "t 3") (end_with 1 2) → ⊥ }
+    ensures other_tile { SaysEnd two_tiles (codes "t 3") (end_with 0 3) → ⊥ }
+    ensures past { SaysEnd two_tiles (codes "t 8") (end_with 1 8) → ⊥ }
+    ensures named_twice { AreNamedBehind [] (tile_with (codes "a") T 1 None ∷ tile_with (codes "a") F 2 None ∷ []) → ⊥ }
 {}

@@ -1,6 +1,6 @@
 use Rattle.std.proofs.Common.{◌≡◌, ℕ, ◌∙◌, List, Some, sym, subst, ap}
 use Rattle.wfc_tileset.specs.Tiles.{TileView, TileSetView, Spells, variant_of}
-use Rattle.wfc_tileset.specs.Numbers.{IsNamed, number_of}
+use Rattle.wfc_tileset.specs.Numbers.{IsNamed}
 use Rattle.wfc_tileset.proofs.SpellingLemmas.{spelled, no_parts, no_tile, none_before, first_variant, no_variant}
 use Rattle.wfc_tileset.proofs.TileSet.find.Goals as goal
 
