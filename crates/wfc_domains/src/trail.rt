@@ -12,24 +12,17 @@ use std::marker::Model;
 use wfc_outside::NoMemory;
 use wfc_problem::Problem;
 
-/// The most bytes that a log takes where it keeps earlier removals as numbers: twelve and four for each removal that
-/// there is room for, and two for each cell.
-const MOST_BYTES: u64 = 100_663_296;
-
 /// What was removed, in order. The removals of the last level can be read as a list. Those of earlier levels are kept as
-/// numbers, so that less of the memory is ever written; where all numbers beside a whole list would be more than
-/// `MOST_BYTES`, the list keeps them too. It takes its memory where it is made.
+/// numbers, so that less of the memory is ever written. It takes its memory where it is made.
 #[derive(Drop)]
 pub struct Trail {
     room: usize,
-    numbered: bool,
     older: Older,
-    earlier: usize,
     list: Vec<Removal>,
 }
 
 impl Model for Trail {
-    ghost use Rattle.std.specs.Prelude.{◌+◌, ◌++◌, length};
+    ghost use Rattle.std.specs.Prelude.{◌++◌, length};
     ghost use Rattle.wfc_domains.specs.Log.{Log};
     ghost use Rattle.wfc_domains.specs.Recent.{IsKept};
 
@@ -38,7 +31,7 @@ impl Model for Trail {
     ghost view = { λ a. record {
       room = a.room;
       extent = a.older.extent;
-      start = length a.older.removals + a.earlier;
+      start = length a.older.removals;
       removals = a.older.removals ++ a.list.items;
     } };
 
@@ -61,14 +54,9 @@ impl Trail {
           removals = [];
         }) }
     {
-        let most = MOST_BYTES.saturating_sub(2 * u64::from(problem.cells())) / 16;
-        let numbered = room as u64 <= most;
-        let numbers = if numbered { room } else { 0 };
         Ok(Trail {
             room,
-            numbered,
-            older: Older::new(alloc, problem, domains, numbers)?,
-            earlier: 0,
+            older: Older::new(alloc, problem, domains, room)?,
             list: Vec::with_capacity(alloc, room)?,
         })
     }
@@ -97,7 +85,7 @@ impl Trail {
     pub fn last(&self) -> &[Removal]
         ensures value { result.now ≡ drop self.now.start self.now.removals }
     {
-        &self.list[self.earlier..]
+        &self.list
     }
 
     /// One more, of the last level.
@@ -121,9 +109,7 @@ impl Trail {
           removals = self.new.removals;
         } }
     {
-        let last = self.list.pop();
-        self.earlier = self.earlier.min(self.list.len());
-        match last {
+        match self.list.pop() {
             Some(removal) => removal,
             None => self.older.pop(),
         }
@@ -133,11 +119,7 @@ impl Trail {
     pub fn begin(&mut self)
         ensures begun { self.new ≡ record self.old { start = length self.old.removals } }
     {
-        if self.numbered {
-            move_to(&mut self.older, &mut self.list);
-        } else {
-            self.earlier = self.list.len();
-        }
+        move_to(&mut self.older, &mut self.list);
     }
 
     /// Goes back to a level that began with so many removals.
@@ -145,12 +127,8 @@ impl Trail {
         requires within { start ≤ length self.old.removals }
         ensures reopened { self.new ≡ record self.old { start = start } }
     {
-        if self.numbered {
-            move_to(&mut self.older, &mut self.list);
-            move_from(&mut self.older, start, &mut self.list);
-            self.list.reverse();
-        } else {
-            self.earlier = start;
-        }
+        move_to(&mut self.older, &mut self.list);
+        move_from(&mut self.older, start, &mut self.list);
+        self.list.reverse();
     }
 }

@@ -10,14 +10,12 @@ invariant_of-self c =
     let h = c.self.invariant in
     let e = a.older.extent in
     let xs = a.older.removals in
-    let ys = c.pop-last.new.self.items in
-    let split = ap (λ zs. xs ++ zs) c.pop-last.ensures.items ∙ sym (append_assoc xs ys _) in
+    let ys = c.pop.new.self.items in
+    let split = ap (λ zs. xs ++ zs) c.pop.ensures.items ∙ sym (append_assoc xs ys _) in
     record {
-      fits = omega (arith, h.fits, c.pop-last.ensures.len);
-      list_room = omega (arith, h.list_room, c.pop-last.ensures.capacity);
-      earlier_in = omega (arith, c.min-self-inside.ensures);
-      as_numbers = λ e. let n = h.as_numbers e in (n.0, omega (arith, n.1, c.min-self-inside.ensures));
-      as_list = h.as_list;
+      fits = omega (arith, h.fits, c.pop.ensures.len);
+      list_room = omega (arith, h.list_room, c.pop.ensures.capacity);
+      number_room = h.number_room;
       logged = (logged-split e e.sizes (xs ++ ys) _ (subst (AreLogged e e.sizes) split h.logged)).0;
     }
 
@@ -26,20 +24,18 @@ invariant_of-self-in-None c =
     let a = c.self.inside in
     let h = c.self.invariant in
     let e = a.older.extent in
-    let new = c.pop.new.self in
-    let r = c.pop.result in
-    let told = c.pop.ensures in
-    let none = nil_from_length c.pop-last.new.self.items (omega (arith, c.in-None.ensures.cases.1, c.pop-last.new.self.ok.0)) in
+    let new = c.pop-in-None.new.self in
+    let r = c.pop-in-None.result in
+    let told = c.pop-in-None.ensures in
+    let none = nil_from_length c.pop.new.self.items (omega (arith, c.in-None.ensures.cases.1, c.pop.new.self.ok.0)) in
     let extent = ap (λ z. z.extent) told.same in
     let whole = subst (λ xs. AreLogged e e.sizes (xs ++ a.list.items)) told.last h.logged in
     let split = append_assoc new.removals (r ∷ []) a.list.items in
     let front = (logged-split e e.sizes new.removals (r ∷ a.list.items) (subst (AreLogged e e.sizes) split whole)).0 in
-    let Q : Extent → Type 0 = λ x. AreLogged x x.sizes (new.removals ++ c.pop-last.new.self.items) in
+    let Q : Extent → Type 0 = λ x. AreLogged x x.sizes (new.removals ++ c.pop.new.self.items) in
     record {
       fits = omega (arith, h.fits, ap length told.last, length-append new.removals (r ∷ []), c.in-None.ensures.cases.1);
-      list_room = omega (arith, h.list_room, c.pop-last.ensures.capacity);
-      earlier_in = omega (arith, c.min-self-inside.ensures);
-      as_numbers = λ e. let n = h.as_numbers e in (omega (arith, n.0, ap (λ z. z.room) told.same), omega (arith, n.1, c.min-self-inside.ensures));
-      as_list = λ e. absurd (omega (arith, ap length (h.as_list e), ap length told.last, length-append new.removals (r ∷ [])));
+      list_room = omega (arith, h.list_room, c.pop.ensures.capacity);
+      number_room = omega (arith, h.number_room, ap (λ z. z.room) told.same);
       logged = subst Q (sym extent) (subst (AreLogged e e.sizes) (sym (ap (λ ys. new.removals ++ ys) none ∙ append-nil new.removals)) front);
     }

@@ -17,8 +17,6 @@ invariant_of-self c =
     record {
       fits = omega (arith, room, c.push_reserved.ensures.len, length-append xs ys, a.list.ok.0);
       list_room = omega (arith, h.list_room, c.push_reserved.ensures.capacity);
-      earlier_in = omega (arith, h.earlier_in, c.push_reserved.ensures.len);
-      as_numbers = h.as_numbers;
-      as_list = h.as_list;
+      number_room = h.number_room;
       logged = subst (AreLogged e e.sizes) more (logged-push e e.sizes (xs ++ ys) c.args.removal h.logged logged);
     }
