@@ -1,6 +1,6 @@
 -- The parts of the longer lines on checks, one behind another.
 use Rattle.std.proofs.Common.{◌≡◌, ℕ, List, [], ◌++◌, codes, decimal, ap, sym, ◌∙◌, append_assoc}
-use Rattle.wfc_lines.specs.Check.{options_text, rejected_text}
+use Rattle.wfc_lines.specs.Check.{rejected_text}
 use Rattle.wfc_lines.specs.Line.{about, line}
 
 -- a refusal that names a value

@@ -16,3 +16,4 @@ pub mod Tiles
 pub mod Race
 pub mod Stacks
 pub mod Explain
+pub mod Grow

@@ -5,7 +5,7 @@ ghost use Rattle.wfc_outside.specs.Sink.{Puts};
 ghost use Rattle.wfc_lines.specs.Line.{line};
 ghost use Rattle.wfc_lines.specs.Command.{text_of_chooser, text_of_command, text_of_value};
 
-use crate::line::plain;
+use crate::line::{plain, put};
 use crate::outcome::no_memory;
 use wfc_choose::RuleKind;
 use wfc_outside::{Sink, SinkFault};
@@ -17,32 +17,17 @@ pub fn command<E: Sink>(err: &mut E, fault: CommandFault) -> Result<(), SinkFaul
 {
     match fault {
         CommandFault::Refused => plain(err, "command refused"),
-        CommandFault::Value { name } => plain(err, value_text(name)),
+        CommandFault::Value { name } => value(err, name),
         CommandFault::NoMemory => no_memory(err),
     }
 }
 
-/// The text of a value that isn't in its range.
-fn value_text(name: ValueName) -> &'static str
-    ensures value { result.now ≡ text_of_value name }
+/// Puts which value isn't in its range.
+fn value<E: Sink>(err: &mut E, name: ValueName) -> Result<(), SinkFault>
+    ensures told { Puts (E.seen err.old) (E.seen err.new) (line (text_of_value name)) result }
 {
-    match name {
-        ValueName::Model => "command value MODEL",
-        ValueName::Width => "command value WIDTH",
-        ValueName::Height => "command value HEIGHT",
-        ValueName::Symmetry => "command value symmetry",
-        ValueName::Seed => "command value seed",
-        ValueName::Budget => "command value budget",
-        ValueName::Rule => "command value rule",
-        ValueName::Form => "command value form",
-        ValueName::Number => "command value NUMBER",
-        ValueName::Format => "command value format",
-        ValueName::Mask => "command value mask",
-        ValueName::Seeds => "command value seeds",
-        ValueName::Quantum => "command value quantum",
-        ValueName::Block => "command value block",
-        ValueName::Depth => "command value DEPTH",
-    }
+    let word = name.word().as_bytes();
+    put(err, &[b"wfc: command value ", word, b"\n"])
 }
 
 /// Puts that no chooser has the rule that is asked for.

@@ -11,6 +11,7 @@ ghost use Rattle.wfc_lines.specs.Check.{text_of_check};
 ghost use Rattle.wfc_proof.specs.declared.Reject.TheVariants as rejects;
 ghost use Rattle.wfc_lines.specs.Command.{text_of_chooser, text_of_command};
 ghost use Rattle.wfc_lines.specs.Grid.{text_of_grid};
+ghost use Rattle.wfc_lines.specs.Grow.{text_of_many_blocks, text_of_stuck};
 ghost use Rattle.wfc_lines.specs.Learn.{text_of_learn};
 ghost use Rattle.wfc_lines.specs.Line.{line};
 ghost use Rattle.wfc_lines.specs.Mask.{text_of_mask, text_of_mask_grid};
@@ -60,6 +61,8 @@ pub fn texts_of_commands_by_example()
     ensures block { text_of_command (commands.Value names.Block) ≡ codes "command value block" }
     ensures depth { text_of_command (commands.Value names.Depth) ≡ codes "command value DEPTH" }
     ensures race { text_of_race 2500 ≡ codes "race TooLarge product=2500" }
+    ensures blocks { text_of_many_blocks 81 ≡ codes "grow TooManyBlocks count=81" }
+    ensures stuck { text_of_stuck 12 7 ≡ codes "grow stuck x=12 y=7" }
     ensures memory { text_of_command commands.NoMemory ≡ no_memory_text }
     ensures chooser { text_of_chooser rules.Ranked ≡ codes "chooser missing rule=ranked" }
     ensures missing { text_of_reading reads.Missing (codes "a") ≡ codes "device Missing file=a" }

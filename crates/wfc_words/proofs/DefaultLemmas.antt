@@ -8,10 +8,11 @@ use Rattle.clap.specs.Walk.{Row, Text}
 use Rattle.wfc_choose.specs.declared.RuleKind.TheVariants.{Fewest}
 use Rattle.wfc_words.specs.Commands.{Word, choice, command_named, command_row, demand, flag, is_required_word, is_word, needed, requires_word, takes_word, word_text}
 use Rattle.wfc_words.specs.Defaults.{HoldsDefaults}
-use Rattle.wfc_words.specs.Named.{form_named, number_in, rule_asked, source_of}
+use Rattle.wfc_words.specs.Named.{form_named, model_asked, number_in, rule_asked}
 use Rattle.wfc_words.specs.Numbers.{NumberRange, block_range, budget_range, depth_range, format_range, height_range, number_range, quantum_range, seed_range, seeds_range, symmetry_range, width_range}
 use Rattle.wfc_words.specs.Request.{has_flag, matches_by, request_by, request_found, request_of, request_with}
 use Rattle.wfc_words.specs.RequestView.{RequestView}
+use Rattle.wfc_words.specs.ValueWords.{word_of}
 use Rattle.wfc_words.specs.Values.{number_value, value_in, values_of}
 use Rattle.wfc_words.specs.declared.fault.CommandFault.TheVariants.{Refused}
 use Rattle.wfc_words.specs.declared.fault.ValueName.{ValueName}
@@ -65,8 +66,8 @@ value_in-absent name read absent value kind word rows lacks is =
 
 module _ (kind : CommandKind) (rows : List Row) (values : Values) (read : AreRead kind rows values) where
   -- a number whose word the command doesn't have
-  number-absent : (range : NumberRange) (n : ℕ) → number_value kind rows range ≡ Ok n → takes_word kind range.word ≡ false → n ≡ range.absent
-  number-absent range n is lacks = value_in-absent range.name (number_in range.least range.most) range.absent n kind range.word rows lacks is
+  number-absent : (range : NumberRange) (n : ℕ) → number_value kind rows range ≡ Ok n → takes_word kind (word_of range.name) ≡ false → n ≡ range.absent
+  number-absent range n is lacks = value_in-absent range.name (number_in range.least range.most) range.absent n kind (word_of range.name) rows lacks is
 
   has_flag-absent : (name : Text) → takes_word kind name ≡ false → has_flag kind name rows ≡ false
   has_flag-absent name lacks = ap (λ text. option_map_or (λ t. bytes_eq t (codes "true")) text false) (word_text-absent kind name rows lacks)
@@ -74,7 +75,7 @@ module _ (kind : CommandKind) (rows : List Row) (values : Values) (read : AreRea
   pub holds_defaults : HoldsDefaults (request_with kind rows values)
   holds_defaults = record {
     file = λ lacks. ap (λ (text : Option Text). unwrap_or text []) (word_text-absent kind (codes "FILE") rows lacks);
-    source = λ lacks. value_in-absent names.Model source_of (Overlap 0) values.map.source kind (codes "MODEL") rows lacks read.map.source;
+    source = λ lacks. value_in-absent names.Model (model_asked kind) (Overlap 0) values.map.source kind (word_of names.Model) rows lacks read.map.source;
     width = number-absent width_range values.map.width read.map.width;
     height = number-absent height_range values.map.height read.map.height;
     symmetry = number-absent symmetry_range values.map.symmetry read.map.symmetry;
@@ -85,11 +86,11 @@ module _ (kind : CommandKind) (rows : List Row) (values : Values) (read : AreRea
     refutation = word_text-absent kind (codes "REFUTATION") rows;
     seed = number-absent seed_range values.run.seed read.run.seed;
     budget = number-absent budget_range values.run.budget read.run.budget;
-    rule = λ lacks. value_in-absent names.Rule (rule_asked kind) Fewest values.run.rule kind (codes "rule") rows lacks read.run.rule;
-    form = λ lacks. value_in-absent names.Form form_named None values.writing.form kind (codes "form") rows lacks read.writing.form;
+    rule = λ lacks. value_in-absent names.Rule (rule_asked kind) Fewest values.run.rule kind (word_of names.Rule) rows lacks read.run.rule;
+    form = λ lacks. value_in-absent names.Form form_named None values.writing.form kind (word_of names.Form) rows lacks read.writing.form;
     number = number-absent number_range values.writing.number read.writing.number;
     format = number-absent format_range values.writing.format read.writing.format;
-    mask = word_text-absent kind (codes "mask") rows;
+    mask = word_text-absent kind (word_of names.Mask) rows;
     seeds = number-absent (seeds_range values.run.seed) values.race.seeds read.race.seeds;
     quantum = number-absent quantum_range values.race.quantum read.race.quantum;
     block = number-absent (block_range values.map.source) values.space.block read.space.block;

@@ -1,5 +1,6 @@
 pub mod DefaultLemmas
 pub mod MatchLemmas
+pub mod NamedLemmas
 pub mod RangeLemmas
 pub mod SimpleLemmas
 pub mod TableLemmas

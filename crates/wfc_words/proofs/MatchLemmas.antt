@@ -15,7 +15,7 @@ use Rattle.wfc_words.specs.Request.{fault_by, matches_by, unless_refused}
 use Rattle.wfc_words.specs.declared.fault.CommandFault.{CommandFault}
 use Rattle.wfc_words.specs.declared.fault.CommandFault.TheVariants.{NoMemory, Refused}
 use Rattle.wfc_words.specs.declared.kinds.CommandKind.{CommandKind}
-use Rattle.wfc_words.specs.declared.kinds.CommandKind.TheVariants.{Learn, Fill, Domains, Refute, Check, Upgrade, Demo, Race, Explain}
+use Rattle.wfc_words.specs.declared.kinds.CommandKind.TheVariants.{Learn, Fill, Domains, Refute, Check, Upgrade, Demo, Race, Explain, Grow, BoxFill, BoxRefute, BoxCheck}
 
 -- every command of the table is simple
 pub commands_are_simple : (kind : CommandKind) → is_simple (app_of_command (command_row kind)) ≡ true
@@ -28,6 +28,10 @@ commands_are_simple Upgrade = refl
 commands_are_simple Demo = refl
 commands_are_simple Race = refl
 commands_are_simple Explain = refl
+commands_are_simple Grow = refl
+commands_are_simple BoxFill = refl
+commands_are_simple BoxRefute = refl
+commands_are_simple BoxCheck = refl
 
 -- and no word of it has a rule on another
 pub commands_are_free : (kind : CommandKind) → is_simple_and_free (app_of_command (command_row kind)) ≡ true
@@ -40,6 +44,10 @@ commands_are_free Upgrade = refl
 commands_are_free Demo = refl
 commands_are_free Race = refl
 commands_are_free Explain = refl
+commands_are_free Grow = refl
+commands_are_free BoxFill = refl
+commands_are_free BoxRefute = refl
+commands_are_free BoxCheck = refl
 
 -- the name of a command names it
 pub commands_are_named : (kind : CommandKind) → command_named (command_row kind).name ≡ Some kind
@@ -52,6 +60,10 @@ commands_are_named Upgrade = refl
 commands_are_named Demo = refl
 commands_are_named Race = refl
 commands_are_named Explain = refl
+commands_are_named Grow = refl
+commands_are_named BoxFill = refl
+commands_are_named BoxRefute = refl
+commands_are_named BoxCheck = refl
 
 -- a fault in place of what was found
 abbrev pub err : {X : Type 0} → CommandFault → Result X CommandFault

@@ -18,7 +18,8 @@ use Rattle.wfc_words.specs.declared.kinds.CommandKind.{CommandKind}
 use Rattle.wfc_words.specs.declared.kinds.SourceModel.{SourceModel}
 use Rattle.wfc_words.specs.declared.kinds.SourceModel.TheVariants.{Overlap, Tiles}
 use Rattle.wfc_words.specs.declared.values.Values.{Values}
-use Rattle.wfc_words.proofs.ValueLemmas.{number-most, number-least, number-required, model-required, rule-plain, before, AreRead, values-read, word_text-required}
+use Rattle.wfc_words.proofs.NamedLemmas.{model-plain, model-required, rule-plain}
+use Rattle.wfc_words.proofs.ValueLemmas.{number-most, number-least, number-required, before, AreRead, values-read, word_text-required}
 
 -- ---- the ranges of the groups
 
@@ -45,6 +46,7 @@ module _ (kind : CommandKind) (rows : List Row) (values : Values) (read : AreRea
   map-in_range : IsMapInRange given
   map-in_range = record {
     model = model-required kind rows values.map.source read.map.source;
+    untiled = model-plain kind rows values.map.source read.map.source;
     some_width = number-required kind rows width_range values.map.width read.map.width;
     width_limit = number-most kind rows width_range values.map.width read.map.width (leb-true 0 4096 refl);
     some_height = number-required kind rows height_range values.map.height read.map.height;

@@ -13,7 +13,7 @@ use Rattle.clap.specs.declared.builder.command.Command.TheOpen.{Command-F}
 use Rattle.clap.specs.declared.builder.command.Command.TheViews.{out-Command as fields_of}
 use Rattle.wfc_words.specs.Commands.{Word, app_of_command, app_with, bare_app, rule_of_word}
 use Rattle.wfc_words.specs.Rows.{group_view, row_view, word_view}
-use Rattle.wfc_words.specs.declared.commands.Argument.{Argument}
+use Rattle.wfc_words.specs.declared.groups.Argument.{Argument}
 use Rattle.wfc_words.specs.declared.commands.CommandRow.{CommandRow}
 
 -- words behind words

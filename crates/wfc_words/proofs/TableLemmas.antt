@@ -5,7 +5,7 @@ use Rattle.std.specs.List.{list_any}
 use Rattle.clap.proofs.WalkLemmas.{list_any-map}
 use Rattle.wfc_words.specs.Commands.{Word}
 use Rattle.wfc_words.specs.Rows.{group_view, some_word, word_view}
-use Rattle.wfc_words.specs.declared.commands.Argument.{Argument}
+use Rattle.wfc_words.specs.declared.groups.Argument.{Argument}
 
 -- some word of some group passes the test
 pub list_any_groups : (test : Word → Bool) (groups : List (Bor (List Argument)))

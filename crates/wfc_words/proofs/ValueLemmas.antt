@@ -1,21 +1,17 @@
--- What is known of values that were read: numbers by their rows, the model, the rule, and groups of values.
-use Rattle.std.proofs.Common.{◌≡◌, ◌≢◌, ◌≤◌, ◌&&◌, ℕ, Bool, true, false, cond, ap, subst, refl, arith, List, [], ◌∷◌, Option, None, Some, Result, Ok, Err, codes, nat_le, IfOk}
+-- What is known of values that were read: numbers by their rows, and groups of values.
+use Rattle.std.proofs.Common.{◌≡◌, ◌≤◌, ◌&&◌, ℕ, Bool, true, false, cond, ap, subst, refl, arith, List, [], ◌∷◌, Option, None, Some, Result, Ok, Err, nat_le, IfOk}
 use Rattle.std.specs.Prelude.{is_some, position, unwrap_or}
-use Rattle.std.specs.Option.{option_map}
 use Rattle.std.specs.Result.{result_ok}
-use Rattle.std.specs.Str.{bytes_eq}
 use Rattle.std.specs.Str.Parse.{digits_value}
 use Rattle.std.proofs.lemmas.Bool.{leb-true}
 use Rattle.clap.specs.Walk.{Row, Text, first_of}
-use Rattle.wfc_choose.specs.declared.RuleKind.{RuleKind}
-use Rattle.wfc_choose.specs.declared.RuleKind.TheVariants as rules
 use Rattle.wfc_text.specs.Number.{is_other, number_of, unless_at, within}
 use Rattle.wfc_text.specs.declared.numeral.NumberFault.{NumberFault}
 use Rattle.wfc_text.specs.declared.numeral.NumberFault.TheVariants.{OutOfRange}
 use Rattle.wfc_words.specs.Commands.{requires_word, word_text}
-use Rattle.wfc_words.specs.InRange.{IsModel}
-use Rattle.wfc_words.specs.Named.{is_rankable, number_in, rule_asked, rule_named, source_of, unranked}
+use Rattle.wfc_words.specs.Named.{number_in}
 use Rattle.wfc_words.specs.Numbers.{NumberRange, block_range, budget_range, depth_range, format_range, height_range, number_range, quantum_range, seed_range, seeds_range, symmetry_range, width_range}
+use Rattle.wfc_words.specs.ValueWords.{word_of}
 use Rattle.wfc_words.specs.Values.{form_value, in_range, is_sample, map_values, model_value, number_value, race_values, rule_value, run_values, space_values, unless_masked, value_in, values_of, with_value, writing_values}
 use Rattle.wfc_words.specs.declared.fault.CommandFault.{CommandFault}
 use Rattle.wfc_words.specs.declared.fault.CommandFault.TheVariants.{Value}
@@ -23,7 +19,6 @@ use Rattle.wfc_words.specs.declared.fault.ValueName.{ValueName}
 use Rattle.wfc_words.specs.declared.fault.ValueName.TheVariants as names
 use Rattle.wfc_words.specs.declared.kinds.CommandKind.{CommandKind}
 use Rattle.wfc_words.specs.declared.kinds.SourceModel.{SourceModel}
-use Rattle.wfc_words.specs.declared.kinds.SourceModel.TheVariants.{Overlap, Tiles}
 use Rattle.wfc_words.specs.declared.values.MapValues.{MapValues}
 use Rattle.wfc_words.specs.declared.values.RaceValues.{RaceValues}
 use Rattle.wfc_words.specs.declared.values.RunValues.{RunValues}
@@ -54,11 +49,11 @@ number_of-range (byte ∷ bytes) least most n is = go (position is_other (byte �
     go (Some at) e = let bad : ⊥ = cc in absurd bad
 
 -- a value that was read is what the text says
-in_range-some : {X : Type 0} (name : ValueName) (read : Option X) (value : X) → in_range name read ≡ Ok value → read ≡ Some value
+pub in_range-some : {X : Type 0} (name : ValueName) (read : Option X) (value : X) → in_range name read ≡ Ok value → read ≡ Some value
 in_range-some name (Some x) value is = let same : x ≡ value = cc in ap Some same
 in_range-some name None value is = let bad : ⊥ = cc in absurd bad
 
-number_in-range : (least most n : ℕ) (text : Text) → number_in least most text ≡ Some n → (least ≤ n) × (n ≤ most)
+pub number_in-range : (least most n : ℕ) (text : Text) → number_in least most text ≡ Some n → (least ≤ n) × (n ≤ most)
 number_in-range least most n text is = go (number_of text least most) refl is
   where
     go : (r : Result ℕ NumberFault) → number_of text least most ≡ r → result_ok r ≡ Some n → (least ≤ n) × (n ≤ most)
@@ -85,49 +80,15 @@ word_text-required kind word rows requires = rw requires refl
 -- a row of the table, and the number that was read by it
 module _ (kind : CommandKind) (rows : List Row) (range : NumberRange) (n : ℕ) (is : number_value kind rows range ≡ Ok n) where
   pub number-most : range.absent ≤ range.most → n ≤ range.most
-  number-most limit = most-in range.name range.least range.most range.absent n (word_text kind range.word rows) limit is
+  number-most limit = most-in range.name range.least range.most range.absent n (word_text kind (word_of range.name) rows) limit is
 
   pub number-least : range.least ≤ range.absent → range.least ≤ n
-  number-least some = least-in range.name range.least range.most range.absent n (word_text kind range.word rows) some is
+  number-least some = least-in range.name range.least range.most range.absent n (word_text kind (word_of range.name) rows) some is
 
-  pub number-required : requires_word kind range.word ≡ true → range.least ≤ n
+  pub number-required : requires_word kind (word_of range.name) ≡ true → range.least ≤ n
   number-required requires =
-      (number-given range.name range.least range.most range.absent n (unwrap_or (first_of range.word rows) [])
-      (subst (λ text. value_in range.name (number_in range.least range.most) range.absent text ≡ Ok n) (word_text-required kind range.word rows requires) is)).0
-
--- ---- the model and the rule
-
-source_of-model : (text : Text) (source : SourceModel) → source_of text ≡ Some source → IsModel source
-source_of-model text source is = go (bytes_eq text (codes "tiles")) (number_in 1 6 text) refl is
-  where
-    go : (tiles : Bool) (read : Option ℕ) → number_in 1 6 text ≡ read → cond tiles (Some Tiles) (option_map (λ n. Overlap n) read) ≡ Some source → IsModel source
-    go true read was e = let same : Tiles ≡ source = cc in subst IsModel same tt
-    go false None was e = let bad : ⊥ = cc in absurd bad
-    go false (Some n) was e = let same : Overlap n ≡ source = cc in subst IsModel same (number_in-range 1 6 n text was)
-
-pub model-required : (kind : CommandKind) (rows : List Row) (source : SourceModel) → model_value kind rows ≡ Ok source
-    → requires_word kind (codes "MODEL") ≡ true → IsModel source
-model-required kind rows source is requires =
-    let text = unwrap_or (first_of (codes "MODEL") rows) [] in
-    let given : value_in names.Model source_of (Overlap 0) (Some text) ≡ Ok source
-    = subst (λ (text : Option Text). value_in names.Model source_of (Overlap 0) text ≡ Ok source) (word_text-required kind (codes "MODEL") rows requires) is in
-    source_of-model text source (in_range-some names.Model (source_of text) source given)
-
--- a rule that is read for runs without ranks doesn't go by ranks
-unranked-plain : (read : Option RuleKind) (rule : RuleKind) → unranked read ≡ Some rule → rule ≢ rules.Ranked
-unranked-plain None rule is ranked = cc
-unranked-plain (Some rules.Ranked) rule is ranked = cc
-unranked-plain (Some rules.Scanline) rule is ranked = cc
-unranked-plain (Some rules.Fewest) rule is ranked = cc
-
-pub rule-plain : (kind : CommandKind) (rows : List Row) (rule : RuleKind) → rule_value kind rows ≡ Ok rule → is_rankable kind ≡ false → rule ≢ rules.Ranked
-rule-plain kind rows rule is plain = by_text (word_text kind (codes "rule") rows) is
-  where
-    by_text : (text : Option Text) → value_in names.Rule (rule_asked kind) rules.Fewest text ≡ Ok rule → rule ≢ rules.Ranked
-    by_text None e ranked = cc
-    by_text (Some text) e ranked =
-        let named : cond (is_rankable kind) (rule_named text) (unranked (rule_named text)) ≡ Some rule = in_range-some names.Rule (rule_asked kind text) rule e in
-        unranked-plain (rule_named text) rule (subst (λ ranks. cond ranks (rule_named text) (unranked (rule_named text)) ≡ Some rule) plain named) ranked
+      (number-given range.name range.least range.most range.absent n (unwrap_or (first_of (word_of range.name) rows) [])
+      (subst (λ text. value_in range.name (number_in range.least range.most) range.absent text ≡ Ok n) (word_text-required kind (word_of range.name) rows requires) is)).0
 
 -- ---- groups of values
 
@@ -172,7 +133,7 @@ module _ (kind : CommandKind) (rows : List Row) where
     pub format : number_value kind rows format_range ≡ Ok values.format
 
   unless_masked-same : (source : SourceModel) (values given : WritingValues) → unless_masked kind rows source values ≡ Ok given → values ≡ given
-  unless_masked-same source values given is = go (is_sample source && is_some (word_text kind (codes "mask") rows)) is
+  unless_masked-same source values given is = go (is_sample source && is_some (word_text kind (word_of names.Mask) rows)) is
     where
       go : (refused : Bool) → cond refused (Err (Value names.Mask)) (Ok values) ≡ Ok given → values ≡ given
       go true e = let bad : ⊥ = cc in absurd bad

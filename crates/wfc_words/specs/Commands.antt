@@ -5,8 +5,10 @@ use Rattle.std.specs.Str.{bytes_eq}
 use Rattle.clap.specs.Walk.{Row, Rule, Text, first_of}
 use Rattle.clap.specs.Simple.{App, new_rule, new_shape}
 use Rattle.clap.specs.declared.builder.action.ArgAction.TheVariants.{Set, SetTrue}
+use Rattle.wfc_words.specs.ValueWords.{word_of}
+use Rattle.wfc_words.specs.declared.fault.ValueName.TheVariants as names
 use Rattle.wfc_words.specs.declared.kinds.CommandKind.{CommandKind}
-use Rattle.wfc_words.specs.declared.kinds.CommandKind.TheVariants.{Learn, Fill, Domains, Refute, Check, Upgrade, Demo, Race, Explain}
+use Rattle.wfc_words.specs.declared.kinds.CommandKind.TheVariants.{Learn, Fill, Domains, Refute, Check, Upgrade, Demo, Race, Explain, Grow, BoxFill, BoxRefute, BoxCheck}
 
 -- a word behind a command's name: a text that must be there, an option with one text, one that must be there, or a flag
 pub data Word : Type 0 where
@@ -28,11 +30,15 @@ file_words = needed (codes "FILE") ∷ []
 
 -- the side of a window of a sample, or that the file is a tile set
 abbrev pub model_words : List Word
-model_words = needed (codes "MODEL") ∷ []
+model_words = needed (word_of names.Model) ∷ []
 
 -- the sides of the map
 abbrev pub side_words : List Word
-side_words = needed (codes "WIDTH") ∷ needed (codes "HEIGHT") ∷ []
+side_words = needed (word_of names.Width) ∷ needed (word_of names.Height) ∷ []
+
+-- the layers of a box
+abbrev pub layer_words : List Word
+layer_words = needed (word_of names.Depth) ∷ []
 
 -- the file of a refutation that is read
 abbrev pub refutation_words : List Word
@@ -40,7 +46,7 @@ refutation_words = needed (codes "REFUTATION") ∷ []
 
 -- how windows are taken from a sample
 abbrev pub sample_words : List Word
-sample_words = choice (codes "symmetry") ∷ flag (codes "wrap-in") ∷ []
+sample_words = choice (word_of names.Symmetry) ∷ flag (codes "wrap-in") ∷ []
 
 -- whether the map goes on over its edges
 abbrev pub edge_words : List Word
@@ -56,7 +62,7 @@ demanded_pin_words = demand (codes "pins") ∷ []
 
 -- the file of a tile map's holes
 abbrev pub mask_words : List Word
-mask_words = choice (codes "mask") ∷ []
+mask_words = choice (word_of names.Mask) ∷ []
 
 -- the file of steps
 abbrev pub step_words : List Word
@@ -64,23 +70,27 @@ step_words = choice (codes "steps") ∷ []
 
 -- how a run goes
 abbrev pub run_words : List Word
-run_words = choice (codes "seed") ∷ choice (codes "budget") ∷ choice (codes "rule") ∷ []
+run_words = choice (word_of names.Seed) ∷ choice (word_of names.Budget) ∷ choice (word_of names.Rule) ∷ []
 
 -- the form of a written map
 abbrev pub form_words : List Word
-form_words = choice (codes "form") ∷ []
+form_words = choice (word_of names.Form) ∷ []
 
 -- the format of a written refutation
 abbrev pub format_words : List Word
-format_words = choice (codes "format") ∷ []
+format_words = choice (word_of names.Format) ∷ []
 
 -- the number of a demonstration
 abbrev pub number_words : List Word
-number_words = needed (codes "NUMBER") ∷ []
+number_words = needed (word_of names.Number) ∷ []
 
 -- how many seeds race, and by how many turns
 abbrev pub race_words : List Word
-race_words = demand (codes "seeds") ∷ choice (codes "quantum") ∷ []
+race_words = demand (word_of names.Seeds) ∷ choice (word_of names.Quantum) ∷ []
+
+-- the side of a block of a large map
+abbrev pub block_words : List Word
+block_words = choice (word_of names.Block) ∷ []
 
 -- ---- the table
 
@@ -107,6 +117,14 @@ command_row Race = row (codes "race")
 command_row Explain = row (codes "explain")
     (file_words ∷ model_words ∷ side_words ∷ sample_words ∷ edge_words ∷ demanded_pin_words ∷ mask_words
     ∷ run_words ∷ [])
+command_row Grow = row (codes "grow")
+    (file_words ∷ model_words ∷ side_words ∷ sample_words ∷ pin_words ∷ run_words ∷ form_words ∷ block_words ∷ [])
+command_row BoxFill = row (codes "box-fill")
+    (file_words ∷ side_words ∷ layer_words ∷ edge_words ∷ pin_words ∷ run_words ∷ form_words ∷ [])
+command_row BoxRefute = row (codes "box-refute")
+    (file_words ∷ side_words ∷ layer_words ∷ edge_words ∷ pin_words ∷ run_words ∷ format_words ∷ [])
+command_row BoxCheck = row (codes "box-check")
+    (file_words ∷ side_words ∷ layer_words ∷ refutation_words ∷ edge_words ∷ pin_words ∷ [])
 
 -- all words of a command, group by group
 abbrev pub command_words : Command → List Word
@@ -114,7 +132,8 @@ command_words command = flat_map (λ group. group) command.groups
 
 -- all commands
 abbrev pub commands : List CommandKind
-commands = Learn ∷ Fill ∷ Domains ∷ Refute ∷ Check ∷ Upgrade ∷ Demo ∷ Race ∷ Explain ∷ []
+commands = Learn ∷ Fill ∷ Domains ∷ Refute ∷ Check ∷ Upgrade ∷ Demo ∷ Race ∷ Explain
+    ∷ Grow ∷ BoxFill ∷ BoxRefute ∷ BoxCheck ∷ []
 
 -- the command that a word names
 abbrev pub command_named : Text → Option CommandKind

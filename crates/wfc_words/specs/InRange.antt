@@ -2,9 +2,11 @@
 use Rattle.std.specs.Prelude.{◌≡◌, ◌≢◌, ◌+◌, ◌≤◌, true, false, codes, IsSome}
 use Rattle.wfc_choose.specs.declared.RuleKind.TheVariants.{Ranked}
 use Rattle.wfc_words.specs.Commands.{requires_word}
-use Rattle.wfc_words.specs.Named.{is_rankable}
+use Rattle.wfc_words.specs.Named.{is_rankable, takes_tiles}
 use Rattle.wfc_words.specs.Numbers.{least_block}
 use Rattle.wfc_words.specs.RequestView.{RequestView}
+use Rattle.wfc_words.specs.ValueWords.{word_of}
+use Rattle.wfc_words.specs.declared.fault.ValueName.TheVariants as names
 use Rattle.wfc_words.specs.declared.kinds.SourceModel.{SourceModel}
 use Rattle.wfc_words.specs.declared.kinds.SourceModel.TheVariants.{Overlap, Tiles}
 
@@ -13,12 +15,14 @@ abbrev pub IsModel : SourceModel → Type 0
 IsModel (Overlap n) = (1 ≤ n) × (n ≤ 6)
 IsModel Tiles = Unit {0}
 
--- the model and the sides are those of a command that has them, and one image at least counts
+-- the model and the sides are those of a command that has them, the model is one that its map may have, and one image at
+-- least counts
 pub record IsMapInRange (asked : RequestView) : Type 0 where
-  pub model : requires_word asked.command (codes "MODEL") ≡ true → IsModel asked.source
-  pub some_width : requires_word asked.command (codes "WIDTH") ≡ true → 1 ≤ asked.width
+  pub model : requires_word asked.command (word_of names.Model) ≡ true → IsModel asked.source
+  pub untiled : takes_tiles asked.command ≡ false → asked.source ≢ Tiles
+  pub some_width : requires_word asked.command (word_of names.Width) ≡ true → 1 ≤ asked.width
   pub width_limit : asked.width ≤ 4096
-  pub some_height : requires_word asked.command (codes "HEIGHT") ≡ true → 1 ≤ asked.height
+  pub some_height : requires_word asked.command (word_of names.Height) ≡ true → 1 ≤ asked.height
   pub height_limit : asked.height ≤ 4096
   pub some_image : 1 ≤ asked.symmetry
   pub eight_images : asked.symmetry ≤ 8
@@ -37,7 +41,7 @@ pub record IsWritingInRange (asked : RequestView) : Type 0 where
 
 -- the seeds of a race all fit 64 bits
 pub record IsRaceInRange (asked : RequestView) : Type 0 where
-  pub some_seeds : requires_word asked.command (codes "seeds") ≡ true → 1 ≤ asked.seeds
+  pub some_seeds : requires_word asked.command (word_of names.Seeds) ≡ true → 1 ≤ asked.seeds
   pub eight_seeds : asked.seeds ≤ 8
   pub seeds_fit : asked.seed + asked.seeds ≤ 18446744073709551616
   pub some_quantum : 1 ≤ asked.quantum
@@ -45,9 +49,9 @@ pub record IsRaceInRange (asked : RequestView) : Type 0 where
 
 -- a block holds a window, and a box has a layer
 pub record IsSpaceInRange (asked : RequestView) : Type 0 where
-  pub some_block : requires_word asked.command (codes "MODEL") ≡ true → least_block asked.source ≤ asked.block
+  pub some_block : requires_word asked.command (word_of names.Model) ≡ true → least_block asked.source ≤ asked.block
   pub block_limit : asked.block ≤ 4096
-  pub some_depth : requires_word asked.command (codes "DEPTH") ≡ true → 1 ≤ asked.depth
+  pub some_depth : requires_word asked.command (word_of names.Depth) ≡ true → 1 ≤ asked.depth
   pub depth_limit : asked.depth ≤ 256
 
 -- each value is in its range, and a file of pins that must be there is there

@@ -6,4 +6,6 @@ pub mod Numbers
 pub mod Request
 pub mod RequestView
 pub mod Rows
+pub mod Usage
+pub mod ValueWords
 pub mod Values

@@ -10,7 +10,7 @@ use Rattle.wfc_choose.specs.declared.RuleKind.TheVariants as rules
 use Rattle.wfc_render.specs.declared.form.Form.{Form}
 use Rattle.wfc_render.specs.declared.form.Form.TheVariants as forms
 use Rattle.wfc_words.specs.declared.kinds.CommandKind.{CommandKind}
-use Rattle.wfc_words.specs.declared.kinds.CommandKind.TheVariants.{Explain, Race}
+use Rattle.wfc_words.specs.declared.kinds.CommandKind.TheVariants.{Explain, Grow, Race}
 use Rattle.wfc_words.specs.declared.kinds.SourceModel.{SourceModel}
 use Rattle.wfc_words.specs.declared.kinds.SourceModel.TheVariants.{Overlap, Tiles}
 
@@ -21,6 +21,20 @@ number_in least most text = result_ok (number_of text least most)
 -- the model: the side of a window, or the word `tiles`
 abbrev pub source_of : Text → Option SourceModel
 source_of text = if bytes_eq text (codes "tiles") then Some Tiles else option_map (λ n. Overlap n) (number_in 1 6 text)
+
+-- whether the command's map may be made of tiles; one that grows block by block is made of windows
+abbrev pub takes_tiles : CommandKind → Bool
+takes_tiles Grow = false
+takes_tiles _ = true
+
+-- the model, if it isn't that of tiles
+abbrev pub untiled : Option SourceModel → Option SourceModel
+untiled (Some Tiles) = None
+untiled source = source
+
+-- the model that a text says, of those that the command's map may have
+abbrev pub model_asked : CommandKind → Text → Option SourceModel
+model_asked kind text = if takes_tiles kind then source_of text else untiled (source_of text)
 
 -- the rule that a text names
 abbrev pub rule_named : Text → Option RuleKind
@@ -35,6 +49,7 @@ rule_named text =
 abbrev pub is_rankable : CommandKind → Bool
 is_rankable Race = false
 is_rankable Explain = false
+is_rankable Grow = false
 is_rankable _ = true
 
 -- the rule, if it doesn't go by ranks

@@ -1,44 +1,42 @@
 -- The table of the numbers among the words, in the order in which they are read.
-use Rattle.std.specs.Prelude.{ℕ, ◌+◌, ◌-◌, min, codes}
-use Rattle.clap.specs.Walk.{Text}
+use Rattle.std.specs.Prelude.{ℕ, ◌+◌, ◌-◌, min}
 use Rattle.wfc_words.specs.declared.fault.ValueName.{ValueName}
 use Rattle.wfc_words.specs.declared.fault.ValueName.TheVariants as names
 use Rattle.wfc_words.specs.declared.kinds.SourceModel.{SourceModel}
 use Rattle.wfc_words.specs.declared.kinds.SourceModel.TheVariants.{Overlap, Tiles}
 
--- a number among the words: the value's name, its word, the least and the greatest number, and what stands for it where
--- the words have none
+-- a number among the words: the value's name, the least and the greatest number, and what stands for it where the words
+-- have none
 pub record NumberRange : Type 0 where
   pub name : ValueName
-  pub word : Text
   pub least : ℕ
   pub most : ℕ
   pub absent : ℕ
 
 -- a row of the table
-abbrev range : ValueName → Text → ℕ → ℕ → ℕ → NumberRange
-range name word least most absent = record { name = name; word = word; least = least; most = most; absent = absent }
+abbrev range : ValueName → ℕ → ℕ → ℕ → NumberRange
+range name least most absent = record { name = name; least = least; most = most; absent = absent }
 
 abbrev pub width_range : NumberRange
-width_range = range names.Width (codes "WIDTH") 1 4096 0
+width_range = range names.Width 1 4096 0
 
 abbrev pub height_range : NumberRange
-height_range = range names.Height (codes "HEIGHT") 1 4096 0
+height_range = range names.Height 1 4096 0
 
 abbrev pub symmetry_range : NumberRange
-symmetry_range = range names.Symmetry (codes "symmetry") 1 8 1
+symmetry_range = range names.Symmetry 1 8 1
 
 abbrev pub seed_range : NumberRange
-seed_range = range names.Seed (codes "seed") 0 18446744073709551615 0
+seed_range = range names.Seed 0 18446744073709551615 0
 
 abbrev pub budget_range : NumberRange
-budget_range = range names.Budget (codes "budget") 0 1000000000 1000000
+budget_range = range names.Budget 0 1000000000 1000000
 
 abbrev pub number_range : NumberRange
-number_range = range names.Number (codes "NUMBER") 0 1000000 0
+number_range = range names.Number 0 1000000 0
 
 abbrev pub format_range : NumberRange
-format_range = range names.Format (codes "format") 1 2 2
+format_range = range names.Format 1 2 2
 
 -- as many seeds as there are from this one on, at most eight
 abbrev pub seeds_from : ℕ → ℕ
@@ -46,10 +44,10 @@ seeds_from seed = min 7 (18446744073709551615 - seed) + 1
 
 -- the seeds of a race, of which the first is this one
 abbrev pub seeds_range : ℕ → NumberRange
-seeds_range seed = range names.Seeds (codes "seeds") 1 (seeds_from seed) 0
+seeds_range seed = range names.Seeds 1 (seeds_from seed) 0
 
 abbrev pub quantum_range : NumberRange
-quantum_range = range names.Quantum (codes "quantum") 1 1000000 1
+quantum_range = range names.Quantum 1 1000000 1
 
 -- the least side of a block: a block holds a window
 abbrev pub least_block : SourceModel → ℕ
@@ -58,7 +56,7 @@ least_block Tiles = 1
 
 -- the side of a block of a map of this source
 abbrev pub block_range : SourceModel → NumberRange
-block_range source = range names.Block (codes "block") (least_block source) 4096 512
+block_range source = range names.Block (least_block source) 4096 512
 
 abbrev pub depth_range : NumberRange
-depth_range = range names.Depth (codes "DEPTH") 1 256 0
+depth_range = range names.Depth 1 256 0

@@ -13,9 +13,11 @@ use Rattle.clap.specs.declared.error.kind.ErrorKind.{ErrorKind}
 use Rattle.clap.specs.declared.error.kind.ErrorKind.TheVariants.{OutOfMemory}
 use Rattle.wfc_words.specs.Commands.{app_of_command, command_named, command_row, word_text}
 use Rattle.wfc_words.specs.RequestView.{RequestView}
+use Rattle.wfc_words.specs.ValueWords.{word_of}
 use Rattle.wfc_words.specs.Values.{values_of, with_value}
 use Rattle.wfc_words.specs.declared.fault.CommandFault.{CommandFault}
 use Rattle.wfc_words.specs.declared.fault.CommandFault.TheVariants.{NoMemory, Refused}
+use Rattle.wfc_words.specs.declared.fault.ValueName.TheVariants as names
 use Rattle.wfc_words.specs.declared.kinds.CommandKind.{CommandKind}
 use Rattle.wfc_words.specs.declared.values.Values.{Values}
 
@@ -63,7 +65,7 @@ request_with kind rows values = record {
   form = values.writing.form;
   number = values.writing.number;
   format = values.writing.format;
-  mask = word_text kind (codes "mask") rows;
+  mask = word_text kind (word_of names.Mask) rows;
   seeds = values.race.seeds;
   quantum = values.race.quantum;
   block = values.space.block;

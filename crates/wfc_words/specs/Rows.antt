@@ -3,8 +3,8 @@ use Rattle.std.specs.Prelude.{Bool, List, map}
 use Rattle.std.specs.List.{list_any}
 use Rattle.wfc_words.specs.Commands.{Command, Word, needed, choice, demand, flag}
 use Rattle.wfc_words.specs.Numbers.{NumberRange}
-use Rattle.wfc_words.specs.declared.commands.Argument.{Argument}
-use Rattle.wfc_words.specs.declared.commands.Argument.TheVariants.{Required, Choice, Demand, Flag}
+use Rattle.wfc_words.specs.declared.groups.Argument.{Argument}
+use Rattle.wfc_words.specs.declared.groups.Argument.TheVariants.{Required, Choice, Demand, Flag}
 use Rattle.wfc_words.specs.declared.commands.CommandRow.{CommandRow}
 use Rattle.wfc_words.specs.declared.numbers.NumberRow.{NumberRow}
 
@@ -27,6 +27,6 @@ some_word test arguments = list_any (λ argument. test (word_view argument)) arg
 abbrev pub row_view : CommandRow → Command
 row_view row = record { name = row.name.now; groups = map (λ group. group_view group.now) row.groups.now }
 
--- a number's row without where its word lies
+-- a number's row
 abbrev pub range_view : NumberRow → NumberRange
-range_view row = record { name = row.name; word = row.word.now; least = row.least; most = row.most; absent = row.absent }
+range_view row = record { name = row.name; least = row.least; most = row.most; absent = row.absent }

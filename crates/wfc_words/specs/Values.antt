@@ -1,12 +1,13 @@
 -- The values among the words, each in its range, read by groups in the order of their names.
-use Rattle.std.specs.Prelude.{ℕ, Bool, true, false, ◌&&◌, List, Option, None, Some, Result, Ok, Err, is_some, codes, if◌then◌else◌}
+use Rattle.std.specs.Prelude.{ℕ, Bool, true, false, ◌&&◌, List, Option, None, Some, Result, Ok, Err, is_some, if◌then◌else◌}
 use Rattle.clap.specs.Walk.{Row, Text}
 use Rattle.wfc_choose.specs.declared.RuleKind.{RuleKind}
 use Rattle.wfc_choose.specs.declared.RuleKind.TheVariants.{Fewest}
 use Rattle.wfc_render.specs.declared.form.Form.{Form}
 use Rattle.wfc_words.specs.Commands.{word_text}
-use Rattle.wfc_words.specs.Named.{form_named, number_in, rule_asked, source_of}
+use Rattle.wfc_words.specs.Named.{form_named, model_asked, number_in, rule_asked}
 use Rattle.wfc_words.specs.Numbers.{NumberRange, block_range, budget_range, depth_range, format_range, height_range, number_range, quantum_range, seed_range, seeds_range, symmetry_range, width_range}
+use Rattle.wfc_words.specs.ValueWords.{word_of}
 use Rattle.wfc_words.specs.declared.fault.CommandFault.{CommandFault}
 use Rattle.wfc_words.specs.declared.fault.CommandFault.TheVariants.{Value}
 use Rattle.wfc_words.specs.declared.fault.ValueName.{ValueName}
@@ -35,19 +36,19 @@ value_in name read absent (Some text) = in_range name (read text)
 
 -- a number of the table
 abbrev pub number_value : CommandKind → List Row → NumberRange → Result ℕ CommandFault
-number_value kind rows range = value_in range.name (number_in range.least range.most) range.absent (word_text kind range.word rows)
+number_value kind rows range = value_in range.name (number_in range.least range.most) range.absent (word_text kind (word_of range.name) rows)
 
 -- the model
 abbrev pub model_value : CommandKind → List Row → Result SourceModel CommandFault
-model_value kind rows = value_in names.Model source_of (Overlap 0) (word_text kind (codes "MODEL") rows)
+model_value kind rows = value_in names.Model (model_asked kind) (Overlap 0) (word_text kind (word_of names.Model) rows)
 
 -- the rule
 abbrev pub rule_value : CommandKind → List Row → Result RuleKind CommandFault
-rule_value kind rows = value_in names.Rule (rule_asked kind) Fewest (word_text kind (codes "rule") rows)
+rule_value kind rows = value_in names.Rule (rule_asked kind) Fewest (word_text kind (word_of names.Rule) rows)
 
 -- the form that is asked for, if any is
 abbrev pub form_value : CommandKind → List Row → Result (Option Form) CommandFault
-form_value kind rows = value_in names.Form form_named None (word_text kind (codes "form") rows)
+form_value kind rows = value_in names.Form form_named None (word_text kind (word_of names.Form) rows)
 
 -- ---- groups of values, and all of them
 
@@ -81,7 +82,7 @@ is_sample Tiles = false
 -- the same, where there is no mask or the source isn't a sample: a mask is for tile maps alone
 abbrev pub unless_masked : {X : Type 0} → CommandKind → List Row → SourceModel → X → Result X CommandFault
 unless_masked kind rows source value =
-    if is_sample source && is_some (word_text kind (codes "mask") rows) then Err (Value names.Mask) else Ok value
+    if is_sample source && is_some (word_text kind (word_of names.Mask) rows) then Err (Value names.Mask) else Ok value
 
 -- what is written, and how; behind it the mask, which is a name and is at fault by the source alone
 abbrev pub writing_values : CommandKind → List Row → SourceModel → Result WritingValues CommandFault

@@ -3,47 +3,14 @@
 ghost use Rattle.std.specs.Prelude.{◌≡◌, find};
 ghost use Rattle.std.specs.List.{list_any};
 ghost use Rattle.std.specs.Str.{bytes_eq};
-ghost use Rattle.wfc_words.specs.Commands.{command_named, command_row, is_required, is_required_word, is_word, requires_word, takes_word, word_name};
-ghost use Rattle.wfc_words.specs.Rows.{row_view, some_word, word_view};
+ghost use Rattle.wfc_words.specs.Commands.{command_named, command_row, is_required_word, is_word, requires_word, takes_word};
+ghost use Rattle.wfc_words.specs.Rows.{row_view, some_word};
 
+use crate::groups::{
+    Argument, BLOCK, DEMANDED_PINS, EDGES, FILE, FORM, FORMAT, LAYERS, MASK, MODEL, NUMBER, PINS,
+    RACE, REFUTATION, RUN, SAMPLE, SIDES, STEPS,
+};
 use crate::kinds::CommandKind;
-
-/// A word behind a command's name.
-#[derive(Clone, Copy)]
-pub(crate) enum Argument<'a> {
-    /// A text that must be there, at its place.
-    Required(&'a str),
-    /// `--name TEXT` or `--name=TEXT`, once or not at all.
-    Choice(&'a str),
-    /// `--name TEXT` or `--name=TEXT`, once.
-    Demand(&'a str),
-    /// `--name`, once or not at all.
-    Flag(&'a str),
-}
-
-impl<'a> Argument<'a> {
-    /// The name of the word.
-    fn name(self) -> &'a str
-        ensures value { result.now ≡ word_name (word_view self.entry) }
-    {
-        match self {
-            Argument::Required(name) => name,
-            Argument::Choice(name) => name,
-            Argument::Demand(name) => name,
-            Argument::Flag(name) => name,
-        }
-    }
-
-    /// Whether words without it are refused.
-    fn is_required(self) -> bool
-        ensures value { result ≡ is_required (word_view self.entry) }
-    {
-        match self {
-            Argument::Required(_) | Argument::Demand(_) => true,
-            Argument::Choice(_) | Argument::Flag(_) => false,
-        }
-    }
-}
 
 /// A command's name, and its words by groups that commands share.
 #[derive(Clone, Copy)]
@@ -51,55 +18,6 @@ pub(crate) struct CommandRow<'a> {
     pub(crate) name: &'a str,
     pub(crate) groups: &'a [&'a [Argument<'a>]],
 }
-
-/// The file that a map is made from.
-const FILE: &[Argument<'static>] = &[Argument::Required("FILE")];
-
-/// The side of a window of a sample, or that the file is a tile set.
-const MODEL: &[Argument<'static>] = &[Argument::Required("MODEL")];
-
-/// The sides of the map.
-const SIDES: &[Argument<'static>] = &[Argument::Required("WIDTH"), Argument::Required("HEIGHT")];
-
-/// The file of a refutation that is read.
-const REFUTATION: &[Argument<'static>] = &[Argument::Required("REFUTATION")];
-
-/// How windows are taken from a sample.
-const SAMPLE: &[Argument<'static>] = &[Argument::Choice("symmetry"), Argument::Flag("wrap-in")];
-
-/// Whether the map goes on over its edges.
-const EDGES: &[Argument<'static>] = &[Argument::Flag("wrap-out")];
-
-/// The file of pins.
-const PINS: &[Argument<'static>] = &[Argument::Choice("pins")];
-
-/// The file of pins, which must be there.
-const DEMANDED_PINS: &[Argument<'static>] = &[Argument::Demand("pins")];
-
-/// The file of a tile map's holes.
-const MASK: &[Argument<'static>] = &[Argument::Choice("mask")];
-
-/// The file of steps.
-const STEPS: &[Argument<'static>] = &[Argument::Choice("steps")];
-
-/// How a run goes.
-const RUN: &[Argument<'static>] = &[
-    Argument::Choice("seed"),
-    Argument::Choice("budget"),
-    Argument::Choice("rule"),
-];
-
-/// The form of a written map.
-const FORM: &[Argument<'static>] = &[Argument::Choice("form")];
-
-/// The format of a written refutation.
-const FORMAT: &[Argument<'static>] = &[Argument::Choice("format")];
-
-/// The number of a demonstration.
-const NUMBER: &[Argument<'static>] = &[Argument::Required("NUMBER")];
-
-/// How many seeds race, and by how many turns.
-const RACE: &[Argument<'static>] = &[Argument::Demand("seeds"), Argument::Choice("quantum")];
 
 /// The row of a command.
 pub(crate) fn row(kind: CommandKind) -> CommandRow<'static>
@@ -115,6 +33,10 @@ pub(crate) fn row(kind: CommandKind) -> CommandRow<'static>
         CommandKind::Demo => DEMO_ROW,
         CommandKind::Race => RACE_ROW,
         CommandKind::Explain => EXPLAIN_ROW,
+        CommandKind::Grow => GROW_ROW,
+        CommandKind::BoxFill => BOX_FILL_ROW,
+        CommandKind::BoxRefute => BOX_REFUTE_ROW,
+        CommandKind::BoxCheck => BOX_CHECK_ROW,
     }
 }
 
@@ -168,8 +90,28 @@ const EXPLAIN_ROW: CommandRow<'static> = CommandRow {
     groups: &[FILE, MODEL, SIDES, SAMPLE, EDGES, DEMANDED_PINS, MASK, RUN],
 };
 
+const GROW_ROW: CommandRow<'static> = CommandRow {
+    name: "grow",
+    groups: &[FILE, MODEL, SIDES, SAMPLE, PINS, RUN, FORM, BLOCK],
+};
+
+const BOX_FILL_ROW: CommandRow<'static> = CommandRow {
+    name: "box-fill",
+    groups: &[FILE, SIDES, LAYERS, EDGES, PINS, RUN, FORM],
+};
+
+const BOX_REFUTE_ROW: CommandRow<'static> = CommandRow {
+    name: "box-refute",
+    groups: &[FILE, SIDES, LAYERS, EDGES, PINS, RUN, FORMAT],
+};
+
+const BOX_CHECK_ROW: CommandRow<'static> = CommandRow {
+    name: "box-check",
+    groups: &[FILE, SIDES, LAYERS, REFUTATION, EDGES, PINS],
+};
+
 /// All commands.
-const COMMANDS: [CommandKind; 9] = [
+const COMMANDS: [CommandKind; 13] = [
     CommandKind::Learn,
     CommandKind::Fill,
     CommandKind::Domains,
@@ -179,6 +121,10 @@ const COMMANDS: [CommandKind; 9] = [
     CommandKind::Demo,
     CommandKind::Race,
     CommandKind::Explain,
+    CommandKind::Grow,
+    CommandKind::BoxFill,
+    CommandKind::BoxRefute,
+    CommandKind::BoxCheck,
 ];
 
 /// The command that a word names.

@@ -1,6 +1,8 @@
 //! Why words are no request.
 ghost use Rattle.std.specs.Prelude.{◌≡◌};
+ghost use Rattle.wfc_words.specs.ValueWords.{word_of};
 
+use crate::texts;
 use std::alloc::{AllocError, AllocFailed};
 use thiserror::Error;
 
@@ -22,6 +24,31 @@ pub enum ValueName {
     Quantum,
     Block,
     Depth,
+}
+
+impl ValueName {
+    /// The word of the value, as the user writes it.
+    pub fn word(self) -> &'static str
+        ensures value { result.now ≡ word_of self }
+    {
+        match self {
+            ValueName::Model => texts::MODEL,
+            ValueName::Width => texts::WIDTH,
+            ValueName::Height => texts::HEIGHT,
+            ValueName::Symmetry => texts::SYMMETRY,
+            ValueName::Seed => texts::SEED,
+            ValueName::Budget => texts::BUDGET,
+            ValueName::Rule => texts::RULE,
+            ValueName::Form => texts::FORM,
+            ValueName::Number => texts::NUMBER,
+            ValueName::Format => texts::FORMAT,
+            ValueName::Mask => texts::MASK,
+            ValueName::Seeds => texts::SEEDS,
+            ValueName::Quantum => texts::QUANTUM,
+            ValueName::Block => texts::BLOCK,
+            ValueName::Depth => texts::DEPTH,
+        }
+    }
 }
 
 /// Why the words are no request.

@@ -12,6 +12,10 @@ pub enum CommandKind {
     Demo,
     Race,
     Explain,
+    Grow,
+    BoxFill,
+    BoxRefute,
+    BoxCheck,
 }
 
 /// What a map is made of.

@@ -5,12 +5,14 @@
 mod asked;
 mod commands;
 mod fault;
+mod groups;
 mod kinds;
 pub mod laws;
 mod named;
 mod numbers;
 mod reading;
 mod simple;
+mod texts;
 mod values;
 
 pub use asked::Request;

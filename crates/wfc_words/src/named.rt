@@ -1,15 +1,42 @@
 //! The values that are no numbers, by their texts.
 
 ghost use Rattle.std.specs.Prelude.{◌≡◌};
-ghost use Rattle.wfc_words.specs.Named.{form_named, is_rankable, rule_asked, rule_named, source_of, unranked};
+ghost use Rattle.wfc_words.specs.Named.{form_named, is_rankable, model_asked, rule_asked, rule_named, source_of, takes_tiles, unranked, untiled};
 
 use crate::kinds::{CommandKind, SourceModel};
 use wfc_choose::RuleKind;
 use wfc_render::Form;
 use wfc_text::number;
 
+/// The model that a text says, of those that the command's map may have.
+pub(crate) fn model_asked(kind: CommandKind, text: &str) -> Option<SourceModel>
+    ensures value { result ≡ model_asked kind text.now }
+{
+    if takes_tiles(kind) {
+        return source_of(text);
+    }
+    untiled(source_of(text))
+}
+
+/// Whether the command's map may be made of tiles.
+fn takes_tiles(kind: CommandKind) -> bool
+    ensures value { result ≡ takes_tiles kind }
+{
+    !matches!(kind, CommandKind::Grow)
+}
+
+/// The model, if it isn't that of tiles.
+fn untiled(source: Option<SourceModel>) -> Option<SourceModel>
+    ensures value { result ≡ untiled source }
+{
+    match source {
+        Some(SourceModel::Tiles) => None,
+        _ => source,
+    }
+}
+
 /// The model: the side of a window, or the word `tiles`.
-pub(crate) fn source_of(text: &str) -> Option<SourceModel>
+fn source_of(text: &str) -> Option<SourceModel>
     ensures value { result ≡ source_of text.now }
 {
     if text == "tiles" {
@@ -35,7 +62,10 @@ pub(crate) fn rule_asked(kind: CommandKind, text: &str) -> Option<RuleKind>
 fn is_rankable(kind: CommandKind) -> bool
     ensures value { result ≡ is_rankable kind }
 {
-    !matches!(kind, CommandKind::Race | CommandKind::Explain)
+    !matches!(
+        kind,
+        CommandKind::Race | CommandKind::Explain | CommandKind::Grow
+    )
 }
 
 /// The rule, if it doesn't go by ranks.

@@ -7,96 +7,85 @@ ghost use Rattle.wfc_words.specs.Rows.{range_view};
 use crate::fault::ValueName;
 use crate::kinds::SourceModel;
 
-/// A number among the words: its name, its word, its range, and what stands for it where the words have none.
+/// A number among the words: its name, its range, and what stands for it where the words have none.
 #[derive(Clone, Copy)]
-pub(crate) struct NumberRow<'a> {
+pub(crate) struct NumberRow {
     pub(crate) name: ValueName,
-    pub(crate) word: &'a str,
     pub(crate) least: u64,
     pub(crate) most: u64,
     pub(crate) absent: u64,
 }
 
-pub(crate) const WIDTH: NumberRow<'static> = NumberRow {
+pub(crate) const WIDTH: NumberRow = NumberRow {
     name: ValueName::Width,
-    word: "WIDTH",
     least: 1,
     most: 4096,
     absent: 0,
 };
 
-pub(crate) const HEIGHT: NumberRow<'static> = NumberRow {
+pub(crate) const HEIGHT: NumberRow = NumberRow {
     name: ValueName::Height,
-    word: "HEIGHT",
     least: 1,
     most: 4096,
     absent: 0,
 };
 
-pub(crate) const SYMMETRY: NumberRow<'static> = NumberRow {
+pub(crate) const SYMMETRY: NumberRow = NumberRow {
     name: ValueName::Symmetry,
-    word: "symmetry",
     least: 1,
     most: 8,
     absent: 1,
 };
 
-pub(crate) const SEED: NumberRow<'static> = NumberRow {
+pub(crate) const SEED: NumberRow = NumberRow {
     name: ValueName::Seed,
-    word: "seed",
     least: 0,
     most: u64::MAX,
     absent: 0,
 };
 
-pub(crate) const BUDGET: NumberRow<'static> = NumberRow {
+pub(crate) const BUDGET: NumberRow = NumberRow {
     name: ValueName::Budget,
-    word: "budget",
     least: 0,
     most: 1_000_000_000,
     absent: 1_000_000,
 };
 
-pub(crate) const NUMBER: NumberRow<'static> = NumberRow {
+pub(crate) const NUMBER: NumberRow = NumberRow {
     name: ValueName::Number,
-    word: "NUMBER",
     least: 0,
     most: 1_000_000,
     absent: 0,
 };
 
-pub(crate) const FORMAT: NumberRow<'static> = NumberRow {
+pub(crate) const FORMAT: NumberRow = NumberRow {
     name: ValueName::Format,
-    word: "format",
     least: 1,
     most: 2,
     absent: 2,
 };
 
-pub(crate) const QUANTUM: NumberRow<'static> = NumberRow {
+pub(crate) const QUANTUM: NumberRow = NumberRow {
     name: ValueName::Quantum,
-    word: "quantum",
     least: 1,
     most: 1_000_000,
     absent: 1,
 };
 
-pub(crate) const DEPTH: NumberRow<'static> = NumberRow {
+pub(crate) const DEPTH: NumberRow = NumberRow {
     name: ValueName::Depth,
-    word: "DEPTH",
     least: 1,
     most: 256,
     absent: 0,
 };
 
 /// How many seeds race, of which the first is this one: each fits 64 bits.
-pub(crate) fn seeds(seed: u64) -> NumberRow<'static>
+pub(crate) fn seeds(seed: u64) -> NumberRow
     ensures row { range_view result ≡ seeds_range seed }
     ensures limit { result.most ≤ 8 }
 {
     NumberRow {
         name: ValueName::Seeds,
-        word: "seeds",
         least: 1,
         most: (u64::MAX - seed).min(7) + 1,
         absent: 0,
@@ -104,13 +93,12 @@ pub(crate) fn seeds(seed: u64) -> NumberRow<'static>
 }
 
 /// The side of a block of a map of this source: a block holds a window.
-pub(crate) fn block(source: SourceModel) -> NumberRow<'static>
+pub(crate) fn block(source: SourceModel) -> NumberRow
     ensures row { range_view result ≡ block_range source }
     ensures limit { result.most ≡ 4096 }
 {
     NumberRow {
         name: ValueName::Block,
-        word: "block",
         least: least_block(source),
         most: 4096,
         absent: 512,

@@ -14,6 +14,7 @@ use crate::commands::named;
 use crate::fault::CommandFault;
 use crate::kinds::CommandKind;
 use crate::simple::{flag, matches, text};
+use crate::texts;
 use crate::values::{Values, values_among};
 use clap::ArgMatches;
 use std::alloc::{AllocError, Global};
@@ -69,11 +70,11 @@ fn with_texts(
     ensures ok { IfOk result (λ request.
         request ≡ request_with kind (rows_of (found_of found.now)) values) }
 {
-    let file = String::from_str(alloc, text(kind, found, "FILE").unwrap_or(""))?;
-    let pins = copied(alloc, text(kind, found, "pins"))?;
-    let steps = copied(alloc, text(kind, found, "steps"))?;
-    let refutation = copied(alloc, text(kind, found, "REFUTATION"))?;
-    let mask = copied(alloc, text(kind, found, "mask"))?;
+    let file = String::from_str(alloc, text(kind, found, texts::FILE).unwrap_or(""))?;
+    let pins = copied(alloc, text(kind, found, texts::PINS))?;
+    let steps = copied(alloc, text(kind, found, texts::STEPS))?;
+    let refutation = copied(alloc, text(kind, found, texts::REFUTATION))?;
+    let mask = copied(alloc, text(kind, found, texts::MASK))?;
     Ok(Request {
         command: kind,
         file,
@@ -81,8 +82,8 @@ fn with_texts(
         width: values.map.width,
         height: values.map.height,
         symmetry: values.map.symmetry,
-        wrap_in: flag(kind, found, "wrap-in"),
-        wrap_out: flag(kind, found, "wrap-out"),
+        wrap_in: flag(kind, found, texts::WRAP_IN),
+        wrap_out: flag(kind, found, texts::WRAP_OUT),
         pins,
         steps,
         refutation,

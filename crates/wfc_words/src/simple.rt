@@ -11,8 +11,9 @@ ghost use Rattle.wfc_words.specs.Commands.{app_of_command, app_with, rule_of_wor
 ghost use Rattle.wfc_words.specs.Request.{fault_by, has_flag, matches_by, texts};
 ghost use Rattle.wfc_words.specs.Rows.{group_view, row_view, word_view};
 
-use crate::commands::{Argument, CommandRow, requires_it, row, takes};
+use crate::commands::{CommandRow, requires_it, row, takes};
 use crate::fault::CommandFault;
+use crate::groups::Argument;
 use crate::kinds::CommandKind;
 use clap::error::ErrorKind;
 use clap::{Arg, ArgAction, ArgMatches, Command, Error};

@@ -8,7 +8,7 @@ ghost use Rattle.wfc_words.specs.Values.{form_value, map_values, model_value, nu
 
 use crate::fault::{CommandFault, ValueName};
 use crate::kinds::{CommandKind, SourceModel};
-use crate::named::{form_named, rule_asked, source_of};
+use crate::named::{form_named, model_asked, rule_asked};
 use crate::numbers::{
     BUDGET, DEPTH, FORMAT, HEIGHT, NUMBER, NumberRow, QUANTUM, SEED, SYMMETRY, WIDTH, block, seeds,
 };
@@ -143,7 +143,7 @@ fn unless_masked(
 ) -> Result<WritingValues, CommandFault>
     ensures exact { result ≡ unless_masked kind (rows_of (found_of matches.now)) source values }
 {
-    match (source, text(kind, matches, "mask")) {
+    match (source, text(kind, matches, ValueName::Mask.word())) {
         (SourceModel::Overlap { .. }, Some(_)) => Err(CommandFault::Value {
             name: ValueName::Mask,
         }),
@@ -185,14 +185,14 @@ fn space_among(
 fn number_among(
     kind: CommandKind,
     matches: &ArgMatches<'_>,
-    row: NumberRow<'_>,
+    row: NumberRow,
 ) -> Result<u64, CommandFault>
     requires absent_in { row.absent ≤ row.most }
     ensures exact { result
-        ≡ number_value kind (rows_of (found_of matches.now)) (range_view row.entry) }
-    ensures in_range { IfOk result (λ n. n ≤ row.entry.most) }
+        ≡ number_value kind (rows_of (found_of matches.now)) (range_view row) }
+    ensures in_range { IfOk result (λ n. n ≤ row.most) }
 {
-    match text(kind, matches, row.word) {
+    match text(kind, matches, row.name.word()) {
         None => Ok(row.absent),
         Some(text) => match number(text.as_bytes(), row.least, row.most) {
             Ok(n) => Ok(n),
@@ -204,9 +204,9 @@ fn number_among(
 fn model_among(kind: CommandKind, matches: &ArgMatches<'_>) -> Result<SourceModel, CommandFault>
     ensures exact { result ≡ model_value kind (rows_of (found_of matches.now)) }
 {
-    match text(kind, matches, "MODEL") {
+    match text(kind, matches, ValueName::Model.word()) {
         None => Ok(SourceModel::Overlap { n: 0 }),
-        Some(text) => source_of(text).ok_or(CommandFault::Value {
+        Some(text) => model_asked(kind, text).ok_or(CommandFault::Value {
             name: ValueName::Model,
         }),
     }
@@ -215,7 +215,7 @@ fn model_among(kind: CommandKind, matches: &ArgMatches<'_>) -> Result<SourceMode
 fn rule_among(kind: CommandKind, matches: &ArgMatches<'_>) -> Result<RuleKind, CommandFault>
     ensures exact { result ≡ rule_value kind (rows_of (found_of matches.now)) }
 {
-    match text(kind, matches, "rule") {
+    match text(kind, matches, ValueName::Rule.word()) {
         None => Ok(RuleKind::Fewest),
         Some(text) => rule_asked(kind, text).ok_or(CommandFault::Value {
             name: ValueName::Rule,
@@ -226,7 +226,7 @@ fn rule_among(kind: CommandKind, matches: &ArgMatches<'_>) -> Result<RuleKind, C
 fn form_among(kind: CommandKind, matches: &ArgMatches<'_>) -> Result<Option<Form>, CommandFault>
     ensures exact { result ≡ form_value kind (rows_of (found_of matches.now)) }
 {
-    match text(kind, matches, "form") {
+    match text(kind, matches, ValueName::Form.word()) {
         None => Ok(None),
         Some(text) => form_named(text).ok_or(CommandFault::Value {
             name: ValueName::Form,

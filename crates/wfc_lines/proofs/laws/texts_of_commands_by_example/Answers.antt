@@ -9,3 +9,11 @@ returns-clause-budget c = refl
 pub returns-clause-race : goal.returns-clause-race
 unfolding digits
 returns-clause-race c = refl
+
+pub returns-clause-blocks : goal.returns-clause-blocks
+unfolding digits
+returns-clause-blocks c = refl
+
+pub returns-clause-stuck : goal.returns-clause-stuck
+unfolding digits
+returns-clause-stuck c = refl

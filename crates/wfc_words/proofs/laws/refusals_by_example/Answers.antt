@@ -1,7 +1,0 @@
-use Rattle.std.proofs.Common.{refl}
-use Rattle.clap.proofs.OnLiterals.{clap_on_literals}
-use Rattle.wfc_words.proofs.laws.refusals_by_example.Goals as goal
-
-pub returns : goal.returns
-unfolding clap_on_literals
-returns c = record { nothing = refl; unknown = refl; few = refl; many = refl; other = refl; flag_twice = refl; option_twice = refl; option_missing = refl; pins_missing = refl; required_twice = refl; help = refl }
