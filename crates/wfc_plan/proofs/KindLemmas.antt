@@ -1,5 +1,5 @@
 -- How many choosers of a kind there are, and what a plan does that looks for some.
-use Rattle.std.proofs.Common.{Bool, Err, List, Ok, Result, ap, arith, false, if◌then◌else◌, inl, nat_le, refl, sym, true, ℕ, ◌<◌, ◌∙◌, ◌↔◌, ◌≡◌}
+use Rattle.std.proofs.Common.{Bool, Err, List, Ok, Result, ap, arith, false, if◌then◌else◌, inl, nat_le, refl, sym, true, ℕ, ◌∙◌, ◌↔◌, ◌≡◌}
 use Rattle.std.proofs.lemmas.Bool.Decides.{nat_tests}
 use Rattle.wfc_choose.specs.declared.RuleKind.{RuleKind}
 use Rattle.wfc_outside.specs.Folder.{File, FolderView}
@@ -9,7 +9,6 @@ use Rattle.wfc_plan.specs.Kinds.{HasChoosers, count_kinds, enough}
 use Rattle.wfc_plan.specs.Plan.{Goes, Plan, and_then, outcome, step}
 use Rattle.wfc_plan.specs.Stages.{IsChooserFault}
 use Rattle.wfc_plan.specs.declared.fault.Fault.{Fault}
-use Rattle.wfc_plan.specs.declared.fault.Fault.TheVariants.{Refused}
 use Rattle.wfc_plan.specs.declared.fault.Refusal.TheVariants as refusals
 
 -- the step comes to something exactly where so many are there

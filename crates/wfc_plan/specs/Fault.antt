@@ -21,7 +21,7 @@ use Rattle.wfc_plan.specs.declared.fault.Class.TheVariants.{Input, Memory, NoCho
 use Rattle.wfc_plan.specs.declared.fault.Fault.{Fault}
 use Rattle.wfc_plan.specs.declared.fault.Fault.TheVariants.{Refused, Unread}
 use Rattle.wfc_plan.specs.declared.fault.Refusal.{Refusal}
-use Rattle.wfc_plan.specs.declared.fault.Refusal.TheVariants.{Build, Chooser, Colours, Grid, Learn, Mask, NoMemory, Pins, Ppm, RaceTooLarge, Range, Render, Stacks, Steps, Tiles, TooLong, TooManyPins}
+use Rattle.wfc_plan.specs.declared.fault.Refusal.TheVariants.{Build, Chooser, Colours, Grid, Learn, Mask, NoMemory, Pins, Ppm, RaceTooLarge, Range, Render, Stacks, Steps, Tiles, TooLong, TooManyBlocks, TooManyPins}
 use Rattle.wfc_ppm.specs.declared.reading.PpmFault.{PpmFault}
 use Rattle.wfc_ppm.specs.declared.reading.PpmFault.TheVariants as ppms
 use Rattle.wfc_tiled.specs.declared.reading.MaskFault.{MaskFault}
@@ -89,6 +89,7 @@ class_of (Mask fault) = mask_class fault
 class_of (Stacks fault) = stacks_class fault
 class_of (RaceTooLarge product) = Input
 class_of (TooManyPins count) = Input
+class_of (TooManyBlocks count) = Input
 
 -- the exit status of a class
 abbrev pub class_status : Class → ℕ

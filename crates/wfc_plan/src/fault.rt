@@ -66,6 +66,8 @@ pub enum Refusal {
     RaceTooLarge { product: u64 },
     /// There are more lines of pins and bans than `explain` takes.
     TooManyPins { count: u64 },
+    /// A map would be grown in more blocks than `grow` makes.
+    TooManyBlocks { count: u64 },
 }
 
 /// Why a command has no answer.
@@ -108,7 +110,8 @@ impl Refusal {
             | Refusal::Range { .. }
             | Refusal::TooLong { .. }
             | Refusal::RaceTooLarge { .. }
-            | Refusal::TooManyPins { .. } => Class::Input,
+            | Refusal::TooManyPins { .. }
+            | Refusal::TooManyBlocks { .. } => Class::Input,
             Refusal::NoMemory => Class::Memory,
             Refusal::Tiles { fault } => tiles_class(*fault),
             Refusal::Mask { fault } => mask_class(*fault),

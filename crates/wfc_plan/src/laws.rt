@@ -1,16 +1,19 @@
 //! Laws of the definitions, each a function with no body whose contract is the law. They run nothing.
 
-ghost use Rattle.std.specs.Prelude.{Err, Ok, Some, [], ℕ, ◌∷◌, ◌≡◌, ◌⊎◌};
+ghost use Rattle.std.specs.Prelude.{Err, List, Ok, Some, [], length, ℕ, ◌∷◌, ◌≡◌, ◌⊎◌};
 ghost use Rattle.wfc_choose.specs.declared.RuleKind.TheVariants.{Fewest, Ranked, Scanline};
+ghost use Rattle.wfc_outside.specs.Folder.{File, file_of};
 ghost use Rattle.wfc_outside.specs.declared.whole.ReadFault.TheVariants.{Failed, Missing, TooLong};
 ghost use Rattle.wfc_plan.specs.Fault.{status_of};
+ghost use Rattle.wfc_plan.specs.Files.{file_plan};
 ghost use Rattle.wfc_plan.specs.Kinds.{HasChoosers, enough};
 ghost use Rattle.wfc_plan.specs.Order.{AreInOrder, IsFirstFault};
-ghost use Rattle.wfc_plan.specs.Plan.{done, most_bytes, read};
+ghost use Rattle.wfc_plan.specs.Plan.{done, most_bytes, outcome, read};
 ghost use Rattle.wfc_plan.specs.Reaching.{Reaches};
 ghost use Rattle.wfc_plan.specs.declared.fault.Fault.{Fault};
 ghost use Rattle.wfc_plan.specs.declared.fault.Fault.TheVariants.{Refused, Unread};
 ghost use Rattle.wfc_plan.specs.declared.fault.Refusal.TheVariants as refusals;
+ghost use Rattle.wfc_plan.specs.declared.fault.Source.{Source};
 ghost use Rattle.wfc_plan.specs.declared.fault.Source.TheVariants.{Pins, Sample};
 
 /// How many choosers are enough, by example.
@@ -33,6 +36,7 @@ pub fn faults_have_statuses()
     ensures memory { status_of (Refused refusals.NoMemory) ≡ 6 }
     ensures limit { status_of (Refused (refusals.RaceTooLarge 8388609)) ≡ 4 }
     ensures many { status_of (Refused (refusals.TooManyPins 65)) ≡ 4 }
+    ensures blocks { status_of (Refused (refusals.TooManyBlocks 65)) ≡ 4 }
 {}
 
 /// The first fault of some stages is that of the first at fault, by example.
@@ -60,4 +64,13 @@ pub fn files_are_reached_by_example()
     ensures hidden { Reaches {T = ℕ}
         (read Sample (97 ∷ []) most_bytes (λ a. read Pins (98 ∷ []) most_bytes (λ b. done 0)))
         (record { contents = Some []; faults = λ name. 0 }) Pins (98 ∷ []) → ⊥ }
+{}
+
+/// A file that is read whole has at most 16,777,216 bytes, whatever it is read for; one with a byte more is too long.
+pub fn files_have_a_limit()
+    ensures bytes { most_bytes ≡ Some 16777216 }
+    ensures most { (files : List File) (source : Source) (name bytes : List ℕ) → file_of files name ≡ Some bytes
+        → length bytes ≡ 16777216 → outcome (file_plan source name) files ≡ Ok bytes }
+    ensures more { (files : List File) (source : Source) (name bytes : List ℕ) → file_of files name ≡ Some bytes
+        → length bytes ≡ 16777217 → outcome (file_plan source name) files ≡ Err (Unread source TooLong) }
 {}

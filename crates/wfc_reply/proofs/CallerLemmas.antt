@@ -5,6 +5,7 @@ pub use Rattle.wfc_reply.proofs.EndLemmas.{ends_answered, ends_by, ends_exhauste
 pub use Rattle.wfc_reply.proofs.EndingLemmas.{EndsSo, IsEnding, as_asked, as_no, as_spent, front_taken}
 pub use Rattle.wfc_reply.proofs.OutcomeLemmas.{chosen_end, ran_by, refuted_status, verdict_outcome}
 pub use Rattle.wfc_reply.proofs.TakingLemmas.{first_taken, length-first_rules, length-of_kind, many_taken}
+pub use Rattle.wfc_reply.proofs.FirstLemmas.{HasFirst, IsTakenFirst, has_first, kinds_same, plain_kind, taken_first}
 pub use Rattle.wfc_reply.proofs.VerdictLemmas.{answer_apart, fault_apart, five_apart, verdict_apart}
 pub use Rattle.wfc_reply.proofs.RunTextLemmas.{run_single, run_text}
 pub use Rattle.wfc_reply.proofs.ToldRunLemmas.{run_is_proof, run_none, run_spent, store_problem}

@@ -11,3 +11,4 @@ pub mod JournalLemmas
 pub mod PuttingLemmas
 pub mod ToldRunLemmas
 pub mod FrontLemmas
+pub mod FirstLemmas

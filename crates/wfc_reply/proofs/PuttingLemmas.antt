@@ -1,19 +1,22 @@
 -- What the head and the lines of a run leave in the sink.
 use Rattle.rand_core.specs.Stream.{Stream}
-use Rattle.std.proofs.Common.{List, [], ap, arith, inl, inr, length, length-append, refl, subst, sym, take, take_at, ℕ, ◌++◌, ◌+◌, ◌<◌, ◌≤◌, ◌∙◌, ◌≡◌}
+use Rattle.std.proofs.Common.{Err, List, Ok, Result, [], ap, arith, inl, inr, length, length-append, refl, subst, sym, take, take_at, ℕ, ◌++◌, ◌+◌, ◌<◌, ◌≤◌, ◌∙◌, ◌≡◌, ◌≢◌}
 use Rattle.std.proofs.Math.Seq.{take-append-add}
 use Rattle.wfc_choose.specs.Pick.{Rule}
 use Rattle.wfc_outside.proofs.CallerLemmas.{after_bytes-append, fault_on}
 use Rattle.wfc_outside.specs.Sink.{IsFaultAfterFront, SinkView, after_bytes}
+use Rattle.wfc_plan.specs.declared.fault.Fault.{Fault}
 use Rattle.wfc_problem.specs.Network.{Network}
 use Rattle.wfc_proof.specs.Telling.{text_of}
 use Rattle.wfc_proof.specs.declared.Line.{Line}
 use Rattle.wfc_proof.specs.declared.heads.Format.{Format}
 use Rattle.wfc_proof.specs.declared.heads.Format.TheVariants.{One, Two}
 use Rattle.wfc_reply.proofs.JournalLemmas.{store_at}
-use Rattle.wfc_reply.specs.Putting.{CutsFrom, CutsWriting, IsBrokenOff, PutsFrom, PutsWriting}
+use Rattle.wfc_reply.specs.Putting.{CutsFrom, CutsWriting, IsBrokenOff, PutsBehind, PutsFrom, PutsOrStops, PutsWriting}
 use Rattle.wfc_reply.specs.RunText.{IsBegunBy, IsToldBy, lines_in, writing_head, writing_text, written_format}
 use Rattle.wfc_reply.specs.declared.putting.RunWriting.{RunWriting}
+use Rattle.wfc_reply.specs.declared.reply.Stop.{Stop}
+use Rattle.wfc_reply.specs.declared.reply.Stop.TheVariants.{Cut, Unanswered}
 use Rattle.wfc_runs.specs.Words.{words_of_seed}
 use Rattle.wfc_search.specs.Run.{State, start}
 use Rattle.wfc_search.specs.Search.{IsReady, SearchView, state_at}
@@ -92,3 +95,10 @@ head_cut rule writing P s words old new begins fault =
       broken = broken_head (written_format writing.format) (length (writing_head writing P)) (length (writing_text writing P (take 0 lines)));
       fault = subst (λ (xs : List ℕ). IsFaultAfterFront old new xs) (sym (take_at (writing_head writing P) (text_of (lines_in (written_format writing.format) (take 0 lines))) (length (writing_head writing P)) refl)) fault;
     }
+
+-- behind another text
+pub behind_text : (first : List ℕ) (rule : Rule) (writing : RunWriting) (P : Network) (old mid new : SinkView) (result : Result Outcome Stop) → mid ≡ after_bytes old first
+    → ((fault : Fault) → result ≢ Err (Unanswered fault)) → PutsOrStops rule writing P mid new result → PutsBehind first rule writing P old new result
+behind_text first rule writing P old mid new (Ok outcome) put answered puts = record { mid = mid; put = put; puts = puts }
+behind_text first rule writing P old mid new (Err Cut) put answered cuts = inr (record { mid = mid; put = put; cuts = cuts })
+behind_text first rule writing P old mid new (Err (Unanswered fault)) put answered short = absurd (answered fault refl)

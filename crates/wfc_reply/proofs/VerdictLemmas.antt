@@ -1,11 +1,11 @@
 -- Which statuses are those of answers, and which those of faults.
-use Rattle.std.proofs.Common.{arith, inl, inr, subst, ℕ, ◌≡◌, ◌≤◌}
+use Rattle.std.proofs.Common.{arith, inl, inr, refl, subst, ℕ, ◌≡◌, ◌≤◌}
 use Rattle.wfc_plan.proofs.CallerLemmas.{fault_between}
 use Rattle.wfc_plan.specs.Fault.{status_of}
 use Rattle.wfc_plan.specs.declared.fault.Fault.{Fault}
 use Rattle.wfc_reply.specs.Reply.{HasAnswer, verdict_status}
 use Rattle.wfc_reply.specs.declared.reply.Verdict.{Verdict}
-use Rattle.wfc_reply.specs.declared.reply.Verdict.TheVariants.{Dead, Done, MapExists, NoMap, Spent, Unaccepted}
+use Rattle.wfc_reply.specs.declared.reply.Verdict.TheVariants.{Dead, Done, MapExists, NoMap, Spent, Stuck, Unaccepted}
 
 -- each verdict has the status of an answer
 pub verdict_answers : (verdict : Verdict) → HasAnswer (verdict_status verdict)
@@ -15,6 +15,7 @@ verdict_answers (Spent budget) = inl (omega arith)
 verdict_answers Dead = inl (omega arith)
 verdict_answers MapExists = inl (omega arith)
 verdict_answers (Unaccepted fault) = inl (omega arith)
+verdict_answers (Stuck x y) = inr refl
 
 -- which is none from 3 to 7
 pub answer_apart : (k : ℕ) → HasAnswer k → 3 ≤ k → k ≤ 7 → ⊥

@@ -81,3 +81,23 @@ abbrev pub PutsOrStops : Rule → RunWriting → Network → SinkView → SinkVi
 PutsOrStops rule writing P old new (Ok outcome) = PutsWriting rule writing P outcome old new
 PutsOrStops rule writing P old new (Err Cut) = CutsWriting rule writing P old new
 PutsOrStops rule writing P old new (Err (Unanswered fault)) = (status_of fault ≡ 6) × (new ≡ old)
+
+-- first this text was put, and then the head and the lines of the run
+pub record PutsFirst (first : List ℕ) (rule : Rule) (writing : RunWriting) (P : Network) (outcome : Outcome)
+    (old new : SinkView) : Type 0 where
+  pub mid : SinkView
+  pub put : mid ≡ after_bytes old first
+  pub puts : PutsWriting rule writing P outcome mid new
+
+-- or a fault came behind it
+pub record CutsBehind (first : List ℕ) (rule : Rule) (writing : RunWriting) (P : Network) (old new : SinkView) : Type 0 where
+  pub mid : SinkView
+  pub put : mid ≡ after_bytes old first
+  pub cuts : CutsWriting rule writing P mid new
+
+-- they were put, were cut off in the first text or behind it, or memory ran out before them
+abbrev pub PutsBehind : List ℕ → Rule → RunWriting → Network → SinkView → SinkView → Result Outcome Stop → Type 0
+PutsBehind first rule writing P old new (Ok outcome) = PutsFirst first rule writing P outcome old new
+PutsBehind first rule writing P old new (Err Cut) =
+    IsFaultAfterFront old new first ⊎ CutsBehind first rule writing P old new
+PutsBehind first rule writing P old new (Err (Unanswered fault)) = (status_of fault ≡ 6) × (new ≡ old)

@@ -1,13 +1,14 @@
 -- What a command replies, its status, and what of it the sink of the answer takes.
 use Rattle.std.specs.Prelude.{Bool, List, None, Option, Result, Some, false, true, ℕ, ◌≡◌, ◌≤◌, ◌⊎◌}
 use Rattle.wfc_lines.specs.Check.{text_of_check}
+use Rattle.wfc_lines.specs.Grow.{text_of_stuck}
 use Rattle.wfc_lines.specs.Outcome.{map_exists_text, no_domains_text, no_map_text, text_of_budget}
 use Rattle.wfc_outside.specs.Sink.{IsFaultAfterFront, SinkView, after_bytes, after_finish}
 use Rattle.wfc_plan.specs.declared.fault.Fault.{Fault}
 use Rattle.wfc_plan.specs.declared.fault.Source.TheVariants as source
 use Rattle.wfc_reply.specs.FileNames.{name_of}
 use Rattle.wfc_reply.specs.declared.reply.Verdict.{Verdict}
-use Rattle.wfc_reply.specs.declared.reply.Verdict.TheVariants.{Dead, Done, MapExists, NoMap, Spent, Unaccepted}
+use Rattle.wfc_reply.specs.declared.reply.Verdict.TheVariants.{Dead, Done, MapExists, NoMap, Spent, Stuck, Unaccepted}
 use Rattle.wfc_words.specs.RequestView.{RequestView}
 
 -- an answer: how the command ended, and the text that it writes, if it writes any; where it isn't
@@ -34,6 +35,7 @@ verdict_status (Spent budget) = 2
 verdict_status Dead = 1
 verdict_status MapExists = 1
 verdict_status (Unaccepted fault) = 1
+verdict_status (Stuck x y) = 8
 
 -- a status of an answer: 0, 1 and 2, and 8; a fault has one from 3 to 7
 abbrev pub HasAnswer : ℕ → Type 0
@@ -51,6 +53,7 @@ verdict_text asked (Spent budget) = Some (text_of_budget budget)
 verdict_text asked Dead = Some no_domains_text
 verdict_text asked MapExists = Some map_exists_text
 verdict_text asked (Unaccepted fault) = Some (text_of_check fault (name_of asked source.Refutation))
+verdict_text asked (Stuck x y) = Some (text_of_stuck x y)
 
 -- the sink took the whole text and was finished, or there is none and it is as before
 abbrev pub Takes : Option (List ℕ) → SinkView → SinkView → Type 0

@@ -23,6 +23,7 @@ pub fn statuses_are()
     ensures dead { verdict_status verdicts.Dead ≡ 1 }
     ensures exists { verdict_status verdicts.MapExists ≡ 1 }
     ensures budget { verdict_status (verdicts.Spent 1000) ≡ 2 }
+    ensures stuck { verdict_status (verdicts.Stuck 12 7) ≡ 8 }
     ensures spent_answers { HasAnswer 2 }
     ensures eight_answers { HasAnswer 8 }
     ensures three_is_none { HasAnswer 3 → ⊥ }

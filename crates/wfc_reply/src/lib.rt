@@ -2,11 +2,13 @@
 //! choosers that it takes.
 #![tactic(auto)]
 
+mod behind;
 mod choosers;
 pub mod laws;
 mod putting;
 mod reply;
 
+pub use behind::put_run_behind;
 pub use choosers::{first_many, first_of, kinds};
 pub use putting::{RunWriting, put_run};
 pub use reply::{Answer, Stop, Verdict};

@@ -1,12 +1,14 @@
 //! The head and the lines of a run, put while it is made.
 
-ghost use Rattle.std.specs.Prelude.{IfOk, OnErr, OnOk, [], ◌<◌, ◌≡◌, ◌≤◌};
+ghost use Rattle.std.specs.Prelude.{Err, IfOk, OnErr, OnOk, [], ◌<◌, ◌≡◌, ◌≢◌, ◌≤◌};
 ghost use Rattle.wfc_outside.specs.Sink.{Puts};
+ghost use Rattle.wfc_plan.specs.declared.fault.Fault.{Fault};
 ghost use Rattle.wfc_proof.specs.Heads.{head_2_text, head_text};
 ghost use Rattle.wfc_proof.specs.Telling.{IsBare};
 ghost use Rattle.wfc_proof.specs.declared.heads.Format.TheVariants.{One, Two};
 ghost use Rattle.wfc_reply.specs.Putting.{CutsFrom, PutsFrom, PutsOrStops};
 ghost use Rattle.wfc_reply.specs.RunText.{writing_head, written_format};
+ghost use Rattle.wfc_reply.specs.declared.reply.Stop.TheVariants.{Unanswered};
 ghost use Rattle.wfc_runs.specs.Views.{search_view};
 ghost use Rattle.wfc_runs.specs.Words.{words_of_seed};
 ghost use Rattle.wfc_search.specs.Search.{IsGoing, IsReady};
@@ -57,8 +59,8 @@ pub fn put_run<O: Sink, L: Ledger>(
     put_search::<O, L>(writing, problem, &mut search, out, blank)
 }
 
-/// Puts the head and the lines of a search that has made no turn.
-fn put_search<O: Sink, L: Ledger>(
+/// Puts the head and the lines of a search that has made no turn. It takes no memory.
+pub(crate) fn put_search<O: Sink, L: Ledger>(
     writing: RunWriting,
     problem: &Problem,
     search: &mut Search<'_, Ac4<'_>>,
@@ -79,6 +81,7 @@ fn put_search<O: Sink, L: Ledger>(
     ensures puts { PutsOrStops
         ((⟦<dyn Chooser as Chooser>⟧ search.old.chooser.vtable).told search.old.chooser.value).rule
         writing problem.now (O.seen out.old) (O.seen out.new) result }
+    ensures answered { (fault : Fault) → result ≢ Err (Unanswered fault) }
 {
     put_head(out, writing, problem)?;
     match put_seeded::<O, L>(writing.format, writing.seed, search, out, blank) {

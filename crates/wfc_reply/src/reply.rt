@@ -22,6 +22,8 @@ pub enum Verdict {
     MapExists,
     /// The text of a file is no refutation, for this fault.
     Unaccepted { fault: CheckFault },
+    /// No map fills the block that begins in this column and row of a larger one, in pixels.
+    Stuck { x: u32, y: u32 },
 }
 
 /// The answer of a command.
@@ -87,6 +89,7 @@ impl Verdict {
             Verdict::Done => 0,
             Verdict::NoMap | Verdict::Dead | Verdict::MapExists | Verdict::Unaccepted { .. } => 1,
             Verdict::Spent { .. } => 2,
+            Verdict::Stuck { .. } => 8,
         }
     }
 }

@@ -28,7 +28,7 @@ use Rattle.wfc_plan.specs.declared.fault.Fault.{Fault}
 use Rattle.wfc_plan.specs.declared.fault.Refusal.{Refusal}
 use Rattle.wfc_plan.specs.declared.fault.Refusal.TheVariants as refusals
 use Rattle.wfc_plan.specs.declared.fault.Source.TheVariants.{Pins, Sample}
-use Rattle.wfc_ppm.proofs.CallerLemmas.{read-picture}
+use Rattle.wfc_ppm.proofs.CallerLemmas.{read-picture, read-spelled}
 use Rattle.wfc_ppm.specs.Ppm.{PpmView}
 use Rattle.wfc_ppm.specs.Reading.{ppm_of}
 use Rattle.wfc_ppm.specs.declared.reading.PpmFault.{PpmFault}
@@ -58,7 +58,7 @@ ppm_shown : (bytes : List ℕ) (sampled : SampledView) → shown_in true bytes �
 ppm_shown bytes sampled is = by_ppm (ppm_of bytes) refl is
   where
     by_ppm : (read : Result PpmView PpmFault) → ppm_of bytes ≡ read → result_map of_ppm (or_refuse (refusals.Ppm Sample) read) ≡ Ok sampled → ShowsPpm bytes sampled
-    by_ppm (Ok ppm) was is = record { ppm = ppm; read = was; shows = let same : of_ppm ppm ≡ sampled = cc (is) in sym same }
+    by_ppm (Ok ppm) was is = record { ppm = ppm; read = was; spelled = λ numbers. (read-spelled bytes ppm numbers was).0; small = (read-picture bytes ppm was).1; shows = let same : of_ppm ppm ≡ sampled = cc (is) in sym same }
     by_ppm (Err fault) was is = absurd (cc (is))
 
 shown_given : (picture : Bool) (bytes : List ℕ) (sampled : SampledView) → shown_in picture bytes ≡ Ok sampled → Shows picture bytes sampled

@@ -96,6 +96,7 @@ grid_sampled grid is_grid small =
       height = grid.height;
       filled = record { some_column = is_grid.filled.some_column; some_row = is_grid.filled.some_row; as_many = many };
       small = omega (arith, many, small);
+      maxval = omega arith;
       symbols = All-map (λ symbol. IsTrue (is_of_kind kinds.Grid symbol)) (λ byte. Char byte) grid.bytes is_grid.printable;
     }
 
@@ -107,6 +108,7 @@ ppm_sampled ppm is_ppm small =
       height = ppm.height;
       filled = record { some_column = is_ppm.filled.some_column; some_row = is_ppm.filled.some_row; as_many = many };
       small = omega (arith, many, small);
+      maxval = is_ppm.small_maxval;
       symbols = All-map (λ symbol. IsTrue (is_of_kind (kinds.Ppm ppm.maxval) symbol)) (λ colour. Rgb colour) ppm.pixels is_ppm.samples;
     }
 
@@ -133,6 +135,7 @@ numbered_sample sampled made shows is =
     subst (λ (made : Raster × List Symbol). IsNumbered sampled.kind made.0 made.1) (sym same) (record {
       raster = (IsSized-raster_of sampled.width (length symbols / sampled.width) (numbered symbols) filled).raster;
       shown = record {
+        maxval = shows.maxval;
         symbols = All-unrepeated same_symbol (λ symbol. IsTrue (is_of_kind sampled.kind symbol)) symbols shows.symbols;
         some_symbol = some_unrepeated same_symbol symbols (sampled_some sampled shows);
       };

@@ -1,6 +1,8 @@
 pub mod LessonLemmas
 pub mod GivenLemmas
 pub mod PictureLemmas
+pub mod LayoutLemmas
+pub mod LearnedLemmas
 pub mod PosedLemmas
 pub mod PosedOrderLemmas
 pub mod RequestLemmas

@@ -25,7 +25,7 @@ follows_parts (read source name limit more) next before after value (inl goes_on
 follows_parts (read source name limit more) next before after value (inr unread) = absurd (cc (unread.2))
 
 -- what a step came to
-step_follows : {T : Type 0} (wanted : Result T Refusal) (before after : FolderView) (value : T) → Follows (step wanted) before after (Ok value) → wanted ≡ Ok value
+pub step_follows : {T : Type 0} (wanted : Result T Refusal) (before after : FolderView) (value : T) → Follows (step wanted) before after (Ok value) → wanted ≡ Ok value
 step_follows (Ok x) before after value follows = let same : x ≡ value = cc (follows.1) in ap (λ v. let r : Result _ _ = Ok v in r) same
 step_follows (Err refusal) before after value follows = absurd (cc (follows.1))
 

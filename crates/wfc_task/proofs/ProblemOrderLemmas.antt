@@ -2,7 +2,6 @@
 use Rattle.std.proofs.Common.{Bool, Err, List, None, Ok, Option, Result, Some, [], ap, arith, false, if◌then◌else◌, inl, inr, nat_lt, refl, sym, true, ℕ, ◌<◌, ◌||◌, ◌∷◌, ◌≡◌, ◌⊎◌}
 use Rattle.std.proofs.lemmas.Bool.Decides.{nat_tests}
 use Rattle.std.specs.Prelude.{◌↔◌}
-use Rattle.wfc_model.specs.Legal.{Pin}
 use Rattle.wfc_outside.specs.Folder.{File}
 use Rattle.wfc_outside.specs.Gives.{result_map}
 use Rattle.wfc_overlap.specs.Bridge.{pairs}

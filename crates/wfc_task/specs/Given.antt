@@ -1,5 +1,5 @@
 -- Tasks over files that are told, in the subject's words.
-use Rattle.std.specs.Prelude.{Bool, List, None, Ok, Option, Some, [], false, true, ℕ, ◌*◌, ◌≡◌, ◌≤◌}
+use Rattle.std.specs.Prelude.{All, Bool, List, None, Ok, Option, Some, [], false, true, ℕ, ◌*◌, ◌<◌, ◌≡◌, ◌≤◌}
 use Rattle.wfc_grid.specs.Grid.{GridView}
 use Rattle.wfc_grid.specs.Spelling.{SpellsGrid}
 use Rattle.wfc_model.specs.Legal.{Pin}
@@ -18,6 +18,7 @@ use Rattle.wfc_pins.specs.Pins.{pins_of}
 use Rattle.wfc_plan.specs.Files.{IsFile}
 use Rattle.wfc_ppm.specs.Ppm.{PpmView}
 use Rattle.wfc_ppm.specs.Reading.{ppm_of}
+use Rattle.wfc_ppm.specs.Spelling.{SpellsPpm}
 use Rattle.wfc_problem.specs.Network.{Network}
 use Rattle.wfc_task.specs.Sampled.{SampledView, of_grid, of_ppm}
 use Rattle.wfc_task.specs.Sources.{is_picture_name, side_of}
@@ -30,10 +31,12 @@ pub record ShowsGrid (bytes : List ℕ) (sampled : SampledView) : Type 0 where
   pub small : grid.width * grid.height ≤ 1048576
   pub shows : sampled ≡ of_grid grid
 
--- the bytes are read as a picture of colours that shows this
+-- the bytes are read as a picture of colours, within the limit of a picture, that shows this; numbers below 256 spell it
 pub record ShowsPpm (bytes : List ℕ) (sampled : SampledView) : Type 0 where
   pub ppm : PpmView
   pub read : ppm_of bytes ≡ Ok ppm
+  pub spelled : All (λ byte. byte < 256) bytes → SpellsPpm bytes ppm
+  pub small : ppm.width * ppm.height ≤ 1048576
   pub shows : sampled ≡ of_ppm ppm
 
 -- the bytes show this, as a picture of colours or as a grid

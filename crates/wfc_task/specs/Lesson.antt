@@ -8,13 +8,14 @@ use Rattle.wfc_picture.specs.declared.palette.TheConstants.{MAX_PIXELS}
 use Rattle.wfc_picture.specs.declared.symbol.Kind.{Kind}
 use Rattle.wfc_picture.specs.declared.symbol.Symbol.{Symbol}
 use Rattle.wfc_problem.specs.Network.{IsProblem, Network}
-use Rattle.wfc_render.specs.Map.{is_of_kind}
+use Rattle.wfc_render.specs.Map.{is_of_kind, maxval_of}
 use Rattle.wfc_task.specs.Sampled.{SampledView}
 use Rattle.wfc_task.specs.declared.lesson.Taught.{Taught}
 use Rattle.wfc_words.specs.RequestView.{RequestView}
 
--- the symbols of a palette are some that a sample of this kind can show
+-- the symbols of a palette are some that a sample of this kind can show, whose greatest sample fits two bytes
 pub record IsShown (kind : Kind) (palette : List Symbol) : Type 0 where
+  pub maxval : maxval_of kind ≤ 65535
   pub symbols : All (λ symbol. IsTrue (is_of_kind kind symbol)) palette
   pub some_symbol : 0 < length palette
 
@@ -23,6 +24,7 @@ pub record IsSampled (sampled : SampledView) : Type 0 where
   pub height : ℕ
   pub filled : IsFilled sampled.width height sampled.symbols
   pub small : length sampled.symbols ≤ MAX_PIXELS
+  pub maxval : maxval_of sampled.kind ≤ 65535
   pub symbols : All (λ symbol. IsTrue (is_of_kind sampled.kind symbol)) sampled.symbols
 
 -- the numbers of a picture are those of a palette that a sample of this kind can show

@@ -1,5 +1,5 @@
 -- Small requests, whose files have several faults at once.
-use Rattle.std.specs.Prelude.{List, None, Ok, Option, Some, [], codes, ℕ, ◌∷◌, ◌≡◌}
+use Rattle.std.specs.Prelude.{List, None, Ok, Option, Some, [], codes, length, ℕ, ◌∷◌, ◌≡◌}
 use Rattle.wfc_outside.specs.Folder.{File, file_of}
 use Rattle.wfc_render.specs.Layout.{layout_of}
 use Rattle.wfc_render.specs.declared.form.Form.{Form}
@@ -60,3 +60,9 @@ sample_asked n form = asked_of (Overlap n) (Some form)
 -- a map of a tile set, in the form of its kind
 abbrev pub tiles_asked : RequestView
 tiles_asked = asked_of Tiles None
+
+-- the file of this name has a byte more than a file may have
+pub record IsLong (files : List File) (name : List ℕ) : Type 0 where
+  pub bytes : List ℕ
+  pub there : file_of files name ≡ Some bytes
+  pub long : length bytes ≡ 16777217

@@ -1,4 +1,4 @@
-use Rattle.std.proofs.Common.{inl, inr, refl, ◌≡◌}
+use Rattle.std.proofs.Common.{inl, inr, refl}
 use Rattle.wfc_plan.proofs.laws.first_faults_by_example.Goals as goal
 use Rattle.wfc_plan.specs.declared.fault.Fault.TheVariants.{Unread}
 use Rattle.wfc_plan.specs.declared.fault.Source.TheVariants.{Pins, Sample}

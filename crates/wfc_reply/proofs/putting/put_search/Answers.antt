@@ -18,6 +18,7 @@ returns-in_err-put_head g c =
             unmade = c.requires.retractions;
             seed = refl;
           }) c.in_err-put_head.ensures.put);
+      answered = λ fault. rw (p.1, p.2) (λ is. absurd (cc (is)));
     }
 
 pub returns-in-Ok : goal.returns-in-Ok
@@ -32,6 +33,7 @@ returns-in-Ok g c = record {
         unmade = c.requires.retractions;
         seed = refl;
       }) c.in_ok-put_head.ensures.put c.in-Ok.ensures.put;
+  answered = λ fault is. absurd (cc (is));
 }
 
 pub returns-in-Err : goal.returns-in-Err
@@ -46,4 +48,5 @@ returns-in-Err g c = record {
         unmade = c.requires.retractions;
         seed = refl;
       }) c.in_ok-put_head.ensures.put c.in-Err.ensures.cut;
+  answered = λ fault is. absurd (cc (is));
 }
