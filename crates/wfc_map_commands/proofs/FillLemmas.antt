@@ -1,10 +1,10 @@
 -- What `fill` has to know before it paints and writes a map.
-use Rattle.std.proofs.Common.{Bool, Err, List, None, Ok, Option, Result, Some, [], ap, arith, false, get_or, if◌then◌else◌, inl, inr, length, map, nat_lt, refl, subst, sym, true, ℕ, ◌*◌, ◌<◌, ◌∙◌, ◌∷◌, ◌≡◌, ◌⊎◌}
+use Rattle.std.proofs.Common.{Bool, List, None, Option, Some, [], ap, arith, get_or, inl, inr, length, map, refl, subst, sym, ℕ, ◌*◌, ◌<◌, ◌∙◌, ◌≡◌, ◌⊎◌}
 use Rattle.std.proofs.lemmas.Bool.{cases_lt}
 use Rattle.std.proofs.lemmas.List.{get_or_default, get_or_past}
-use Rattle.std.proofs.lemmas.List.Elements.{All-append, All-map}
+use Rattle.std.proofs.lemmas.List.Elements.{All-map}
 use Rattle.std.proofs.lemmas.List.FromFn.{length-map-range_with_len, length-range_with_len}
-use Rattle.std.specs.List.{concat, list_any, range_with_len}
+use Rattle.std.specs.List.{range_with_len}
 use Rattle.std.specs.Prelude.{All, IsTrue, slice_index}
 use Rattle.wfc_map_commands.specs.Filling.{IsFilling, IsTileFilling}
 use Rattle.wfc_map_commands.specs.declared.filling.Filling.{Filling}
@@ -17,21 +17,17 @@ use Rattle.wfc_overlap.specs.Sample.{Output, problem_of_sample}
 use Rattle.wfc_pattern.specs.Patterns.{IsPatterns, PatternsView, window_at}
 use Rattle.wfc_picture.specs.declared.symbol.Kind.{Kind}
 use Rattle.wfc_picture.specs.declared.symbol.Kind.TheVariants as kinds
-use Rattle.wfc_plan.specs.Plan.{or_refuse}
+use Rattle.wfc_plan.proofs.CallerLemmas.{unrefused}
 use Rattle.wfc_plan.specs.declared.fault.Refusal.TheVariants.{Render}
 use Rattle.wfc_problem.proofs.CallerLemmas.{base_inside}
 use Rattle.wfc_problem.specs.Assignment.{IsLegalAssignment}
 use Rattle.wfc_problem.specs.Network.{IsProblem, Network, values}
 use Rattle.wfc_render.proofs.CallerLemmas.{written_tiles}
-use Rattle.wfc_render.specs.Layout.{IsLayout, form_for, forms_of, layout_in, layout_of, pixels_of, same_form}
+use Rattle.wfc_render.specs.Layout.{layout_of}
 use Rattle.wfc_render.specs.Map.{IsWritten, is_of_kind}
 use Rattle.wfc_render.specs.Tiled.{IsTiled, IsVariantOrHole}
-use Rattle.wfc_render.specs.declared.form.Form.{Form}
-use Rattle.wfc_render.specs.declared.form.Form.TheVariants as form
 use Rattle.wfc_render.specs.declared.form.Layout.{Layout}
-use Rattle.wfc_render.specs.declared.form.RenderFault.{RenderFault}
-use Rattle.wfc_render.specs.declared.form.RenderFault.TheVariants as fault
-use Rattle.wfc_render.specs.declared.layouts.TheConstants.{MAX_MAP_PIXELS}
+use Rattle.wfc_task.proofs.CallerLemmas.{IsLaidOut, each_joined, laid_out}
 use Rattle.wfc_task.specs.Asked.{IsOutputAsked}
 use Rattle.wfc_task.specs.Maps.{output_of}
 use Rattle.wfc_task.specs.Tiling.{masked}
@@ -41,61 +37,6 @@ use Rattle.wfc_tiled.specs.Tiles.{problem_of_tiles}
 use Rattle.wfc_tileset.specs.Pictures.{IsPictured, kind_of, picture_name, side_of}
 use Rattle.wfc_tileset.specs.Tiles.{TileSetView, tile_at, variant_at, variant_total}
 use Rattle.wfc_words.specs.RequestView.{RequestView}
-
--- ---- the layout
-
--- what the layout of a map is
-pub record IsLaidOut (kind : Kind) (width height side : ℕ) (l : Layout) : Type 0 where
-  pub layout : IsLayout l
-  pub same_kind : l.kind ≡ kind
-  pub width_is : l.width ≡ width
-  pub height_is : l.height ≡ height
-  pub side_is : l.side ≡ side
-
--- a form that a kind has can be asked for again
-form_again : (kind : Kind) (asked : Option Form) (form : Form) → form_for kind asked ≡ Some form → form_for kind (Some form) ≡ Some form
-form_again kinds.Grid None form.Grid is = refl
-form_again kinds.Grid None form.Cells is = refl
-form_again kinds.Grid None form.P6 is = absurd (cc)
-form_again kinds.Grid None form.P3 is = absurd (cc)
-form_again (kinds.Ppm maxval) None form.P6 is = refl
-form_again (kinds.Ppm maxval) None form.P3 is = refl
-form_again (kinds.Ppm maxval) None form.Cells is = refl
-form_again (kinds.Ppm maxval) None form.Grid is = absurd (cc)
-form_again kinds.Plain None form.Cells is = refl
-form_again kinds.Plain None form.Grid is = absurd (cc)
-form_again kinds.Plain None form.P6 is = absurd (cc)
-form_again kinds.Plain None form.P3 is = absurd (cc)
-form_again kind (Some wanted) form is = by_test (list_any (same_form wanted) (forms_of kind)) is
-  where
-    by_test : (there : Bool) → (if there then Some wanted else None) ≡ Some form → form_for kind (Some form) ≡ Some form
-    by_test true same = let one : wanted ≡ form = cc (same) in ap (form_for kind) (ap (λ f. let form : Option Form = Some f in form) (sym one)) ∙ is
-    by_test false same = absurd (cc)
-
--- a layout that is answered
-laid_out : (kind : Kind) (asked : Option Form) (width height side : ℕ) (l : Layout) → layout_of kind asked width height side ≡ Ok l → IsLaidOut kind width height side l
-laid_out kind asked width height side l is = by_form (form_for kind asked) refl is
-  where
-    made : Form → Layout
-    made form = record { kind = kind; form = form; width = width; height = height; side = side }
-
-    by_size : (form : Form) (large : Bool) → form_for kind (Some form) ≡ Some form → nat_lt MAX_MAP_PIXELS (pixels_of width height side) ≡ large
-        → (if large then Err (fault.TooLarge (pixels_of width height side)) else Ok (made form)) ≡ Ok l → IsLaidOut kind width height side l
-    by_size form true again large is = absurd (cc (is))
-    by_size form false again small is =
-        let same : made form ≡ l = cc (is) in
-        let is_layout : IsLayout (made form)
-        = ap (λ f. layout_in kind f width height side) again ∙ ap (λ b. if b then Err (fault.TooLarge (pixels_of width height side)) else Ok (made form)) small in
-        subst (λ l. IsLaidOut kind width height side l) same (record { layout = is_layout; same_kind = refl; width_is = refl; height_is = refl; side_is = refl })
-
-    by_form : (form : Option Form) → form_for kind asked ≡ form → layout_in kind form width height side ≡ Ok l → IsLaidOut kind width height side l
-    by_form None was is = absurd (cc (is))
-    by_form (Some form) was is = by_size form (nat_lt MAX_MAP_PIXELS (pixels_of width height side)) (form_again kind asked form was) refl is
-
--- what isn't refused is a layout
-laid_is : (result : Result Layout RenderFault) (l : Layout) → or_refuse Render result ≡ Ok l → result ≡ Ok l
-laid_is (Ok made) l is = cc (is)
-laid_is (Err fault) l is = absurd (cc (is))
 
 -- ---- numbers below a limit
 
@@ -112,11 +53,6 @@ small_window limit patterns p small = elim (cases_lt p (length patterns.windows)
   | inl inside ↦ small p [] inside
   | inr past ↦ subst (λ (w : List ℕ). All (λ n. n < limit) w) (sym (get_or_past patterns.windows p [] past)) (λ k d inside. absurd (omega arith))
 ]
-
--- what holds of each of several lists holds of them joined
-each_joined : (P : ℕ → Type 0) (F : ℕ → List ℕ) → ((y : ℕ) → All P (F y)) → (ys : List ℕ) → All P (concat (map F ys))
-each_joined P F each [] = λ k d inside. absurd (omega arith)
-each_joined P F each (y ∷ ys) = All-append P (F y) (concat (map F ys)) (each y) (each_joined P F each ys)
 
 -- the numbers of a painted picture are those of its windows
 painted_small : (limit : ℕ) (patterns : PatternsView) (output : Output) (a : List ℕ) → 0 < limit → All (λ window. All (λ n. n < limit) window) patterns.windows
@@ -149,7 +85,7 @@ pub picture_written : (asked : RequestView) (task : Filling) (a : List ℕ) (m :
     → IsWritten task.layout task.palette m
 picture_written asked task a m output filling is =
     let laid : IsLaidOut filling.kind asked.width asked.height 1 task.layout
-    = laid_out filling.kind asked.form asked.width asked.height 1 task.layout (laid_is (layout_of filling.kind asked.form asked.width asked.height 1) task.layout filling.layout) in
+    = laid_out filling.kind asked.form asked.width asked.height 1 task.layout (unrefused Render (layout_of filling.kind asked.form asked.width asked.height 1) task.layout filling.layout) in
     subst (λ m. IsWritten task.layout task.palette m) (sym is) (record {
       answered = laid.layout;
       pixels = laid.side_is;
@@ -225,7 +161,7 @@ tiles_written asked task kind a m output filling problem kind_is complete legal 
     let mask = masked asked task.mask in
     let tiled = filling.tiled in
     let laid = laid_out (kind_of set.pictures) asked.form asked.width asked.height (side_of set.pictures) task.layout
-    (laid_is (layout_of (kind_of set.pictures) asked.form asked.width asked.height (side_of set.pictures)) task.layout filling.layout) in
+    (unrefused Render (layout_of (kind_of set.pictures) asked.form asked.width asked.height (side_of set.pictures)) task.layout filling.layout) in
     let filled : IsFilled mask.width mask.height (numbers_of_cells mask a) = record {
       some_column = omega (arith, output.some_width, tiled.same_width);
       some_row = omega (arith, output.some_height, tiled.same_height);

@@ -9,13 +9,12 @@ use Rattle.wfc_plan.specs.Fault.{status_of}
 use Rattle.wfc_plan.specs.Plan.{Goes}
 use Rattle.wfc_plan.specs.declared.fault.Fault.{Fault}
 use Rattle.wfc_problem.specs.Network.{Network}
-use Rattle.wfc_proof.specs.Telling.{begun}
 use Rattle.wfc_proof_commands.specs.ProofKind.{ProofKind}
 use Rattle.wfc_proof_commands.specs.RefuteCommand.{RefuteAnswers, refutes}
 use Rattle.wfc_proof_commands.specs.RefuteTask.{RefuteTask, refute_plan}
 use Rattle.wfc_proof_commands.specs.RefuteTask as tasks
 use Rattle.wfc_proof_commands.specs.Refuting.{RefutesBy, refutation_text, writing_of}
-use Rattle.wfc_reply.proofs.CallerLemmas.{put_cut, put_none, put_short, put_whole, whole}
+use Rattle.wfc_reply.proofs.CallerLemmas.{put_cut, put_none, put_short, put_whole}
 use Rattle.wfc_reply.specs.Choosers.{first_rule, kinds_of}
 use Rattle.wfc_reply.specs.Ending.{EndsAs}
 use Rattle.wfc_reply.specs.Outcomes.{refute_verdict}

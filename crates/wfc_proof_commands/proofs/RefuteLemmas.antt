@@ -7,8 +7,6 @@ use Rattle.wfc_outside.proofs.CallerLemmas.{fault_out}
 use Rattle.wfc_outside.specs.Folder.{File}
 use Rattle.wfc_outside.specs.Sink.{IsFaultAfterFront}
 use Rattle.wfc_problem.specs.Network.{Network}
-use Rattle.wfc_proof.specs.Telling.{begun}
-use Rattle.wfc_proof.specs.declared.Line.{Line}
 use Rattle.wfc_proof_commands.proofs.ProofKindLemmas.{IsProofKind}
 use Rattle.wfc_proof_commands.proofs.RefutingLemmas.{refute_given}
 use Rattle.wfc_proof_commands.specs.ProofKind.{ProofKind}

@@ -3,6 +3,7 @@ use Rattle.std.specs.Prelude.{Err, List, None, Ok, Option, Result, Some, [], fal
 use Rattle.wfc_check.specs.Text.{checked}
 use Rattle.wfc_check.specs.declared.fault.CheckFault.{CheckFault}
 use Rattle.wfc_check.specs.declared.fault.CheckFault.TheVariants as faults
+use Rattle.wfc_outside.specs.declared.whole.ReadFault.{ReadFault}
 use Rattle.wfc_outside.specs.declared.whole.ReadFault.TheVariants as reading
 use Rattle.wfc_plan.specs.Plan.{Plan, read, step}
 use Rattle.wfc_plan.specs.declared.fault.Fault.{Fault}
@@ -48,18 +49,33 @@ shape_of asked = shape_by asked.source asked
 abbrev pub flat_proofs : ProofKind
 flat_proofs = record { maps = flat_maps; plan = posed_plan; order = posed_order; shape_of = shape_of }
 
--- an answer to a text: no fault, or the fault of a line; a text that is too long is refused
+-- what a fault of a check is of: of the text, which is an answer, of its length, of the file that isn't read, or want of memory
+pub data CheckCause : Type 0 where
+  text_fault : CheckCause
+  length_fault : CheckCause
+  file_fault : ReadFault → CheckCause
+  memory_fault : CheckCause
+
+abbrev pub check_cause : CheckFault → CheckCause
+check_cause (faults.Rejected line reject) = text_fault
+check_cause (faults.BadLine line) = text_fault
+check_cause (faults.HeaderDiffers cells values) = text_fault
+check_cause faults.NotEnded = text_fault
+check_cause faults.Missing = file_fault reading.Missing
+check_cause faults.Failed = file_fault reading.Failed
+check_cause faults.TooLong = length_fault
+check_cause faults.NoMemory = memory_fault
+check_cause (faults.OptionsDiffer found) = text_fault
+
+-- a text that is too long is refused, and any other fault of a text is the answer to it
+abbrev pub verdict_by : CheckFault → CheckCause → Result (Option CheckFault) Refusal
+verdict_by fault length_fault = Err (refusals.TooLong Refutation)
+verdict_by fault _ = Ok (Some fault)
+
+-- an answer to a text: no fault, or the fault of a line
 abbrev pub verdict_in : Result (Unit {0}) CheckFault → Result (Option CheckFault) Refusal
 verdict_in (Ok done) = Ok None
-verdict_in (Err (faults.Rejected line reject)) = Ok (Some (faults.Rejected line reject))
-verdict_in (Err (faults.BadLine line)) = Ok (Some (faults.BadLine line))
-verdict_in (Err (faults.HeaderDiffers cells values)) = Ok (Some (faults.HeaderDiffers cells values))
-verdict_in (Err faults.NotEnded) = Ok (Some faults.NotEnded)
-verdict_in (Err faults.Missing) = Ok (Some faults.Missing)
-verdict_in (Err faults.Failed) = Ok (Some faults.Failed)
-verdict_in (Err faults.TooLong) = Err (refusals.TooLong Refutation)
-verdict_in (Err faults.NoMemory) = Ok (Some faults.NoMemory)
-verdict_in (Err (faults.OptionsDiffer found)) = Ok (Some (faults.OptionsDiffer found))
+verdict_in (Err fault) = verdict_by fault (check_cause fault)
 
 -- what the text of a refutation is answered, for a problem and a shape
 abbrev pub judged : Shape → Network → List ℕ → Result (Option CheckFault) Refusal
@@ -73,15 +89,14 @@ refutation_name asked = unwrap_or asked.refutation []
 abbrev pub refutation_plan : Shape → RequestView → Network → Plan (Option CheckFault)
 refutation_plan shape asked P = read Refutation (refutation_name asked) None (λ text. step (judged shape P text))
 
--- the answer to a file, as a task's: a file that isn't read is a fault of the task
+-- a file that isn't read is a fault of the task, and so is want of memory
+abbrev pub found_by : CheckFault → CheckCause → Result (Option CheckFault) Fault
+found_by fault text_fault = Ok (Some fault)
+found_by fault length_fault = Err (Refused (refusals.TooLong Refutation))
+found_by fault (file_fault why) = Err (Unread Refutation why)
+found_by fault memory_fault = Err (Refused refusals.NoMemory)
+
+-- the answer to a file, as a task's
 abbrev pub found_in : Result (Unit {0}) CheckFault → Result (Option CheckFault) Fault
 found_in (Ok done) = Ok None
-found_in (Err (faults.Rejected line reject)) = Ok (Some (faults.Rejected line reject))
-found_in (Err (faults.BadLine line)) = Ok (Some (faults.BadLine line))
-found_in (Err (faults.HeaderDiffers cells values)) = Ok (Some (faults.HeaderDiffers cells values))
-found_in (Err faults.NotEnded) = Ok (Some faults.NotEnded)
-found_in (Err faults.Missing) = Err (Unread Refutation reading.Missing)
-found_in (Err faults.Failed) = Err (Unread Refutation reading.Failed)
-found_in (Err faults.TooLong) = Err (Refused (refusals.TooLong Refutation))
-found_in (Err faults.NoMemory) = Err (Refused refusals.NoMemory)
-found_in (Err (faults.OptionsDiffer found)) = Ok (Some (faults.OptionsDiffer found))
+found_in (Err fault) = found_by fault (check_cause fault)

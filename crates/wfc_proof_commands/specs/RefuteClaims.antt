@@ -21,7 +21,6 @@ use Rattle.wfc_search.specs.Proved.{HasCounts}
 use Rattle.wfc_search.specs.Run.{start}
 use Rattle.wfc_search.specs.Volume.{volume_of}
 use Rattle.wfc_search.specs.declared.Outcome.{Outcome}
-use Rattle.wfc_search.specs.declared.Outcome.TheVariants as outcome
 use Rattle.wfc_words.specs.RequestView.{RequestView}
 use Rattle.wfc_words.specs.declared.kinds.CommandKind.TheVariants as commands
 

@@ -12,7 +12,6 @@ use Rattle.wfc_reply.specs.declared.putting.RunWriting.{RunWriting}
 use Rattle.wfc_runs.specs.Words.{words_of_seed}
 use Rattle.wfc_search.specs.Run.{start}
 use Rattle.wfc_search.specs.declared.Outcome.{Outcome}
-use Rattle.wfc_search.specs.declared.Outcome.TheVariants as outcome
 use Rattle.wfc_words.specs.RequestView.{RequestView}
 
 -- how the run of a request is made, and how its lines are written

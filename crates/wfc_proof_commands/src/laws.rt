@@ -1,19 +1,25 @@
 //! Laws of the definitions, each a function with no body whose contract is the law. They run nothing.
 
-ghost use Rattle.std.specs.Prelude.{List, Ok, Option, [], ℕ, ◌↔◌, ◌∷◌, ◌≡◌};
+ghost use Rattle.std.specs.Prelude.{Err, List, None, Ok, Option, Some, [], ℕ, ◌↔◌, ◌∷◌, ◌≡◌};
 ghost use Rattle.wfc_check.specs.declared.fault.CheckFault.{CheckFault};
+ghost use Rattle.wfc_check.specs.declared.fault.CheckFault.TheVariants as faults;
 ghost use Rattle.wfc_choose.specs.declared.RuleKind.{RuleKind};
 ghost use Rattle.wfc_outside.specs.Folder.{File};
+ghost use Rattle.wfc_outside.specs.declared.whole.ReadFault.TheVariants.{Failed, Missing};
 ghost use Rattle.wfc_plan.specs.Plan.{outcome};
+ghost use Rattle.wfc_plan.specs.declared.fault.Fault.{Fault};
+ghost use Rattle.wfc_plan.specs.declared.fault.Fault.TheVariants.{Refused, Unread};
+ghost use Rattle.wfc_plan.specs.declared.fault.Refusal.TheVariants as refusals;
+ghost use Rattle.wfc_plan.specs.declared.fault.Source.TheVariants.{Refutation};
 ghost use Rattle.wfc_problem.specs.Network.{Network};
 ghost use Rattle.wfc_proof.specs.declared.Line.TheVariants.{Empty, End, Remove, Span, Try};
 ghost use Rattle.wfc_proof.specs.declared.heads.Format.TheVariants.{One, Two};
-ghost use Rattle.wfc_proof_commands.specs.Checking.{flat_proofs};
+ghost use Rattle.wfc_proof_commands.specs.Checking.{flat_proofs, found_in, verdict_in};
 ghost use Rattle.wfc_proof_commands.specs.CheckGiven.{IsCheckTask};
-ghost use Rattle.wfc_proof_commands.specs.CheckTask.{check, check_plan};
+ghost use Rattle.wfc_proof_commands.specs.CheckTask.{check, check_made, check_plan};
 ghost use Rattle.wfc_reply.specs.Outcomes.{refute_status};
 ghost use Rattle.wfc_proof_commands.specs.RefuteGiven.{IsRefuteTask};
-ghost use Rattle.wfc_proof_commands.specs.RefuteTask.{refute, refute_plan};
+ghost use Rattle.wfc_proof_commands.specs.RefuteTask.{refute, refute_made, refute_plan};
 ghost use Rattle.wfc_reply.specs.Outcomes.{refute_verdict};
 ghost use Rattle.wfc_reply.specs.RunText.{lines_in, written_format};
 ghost use Rattle.wfc_proof_commands.specs.UpgradeGiven.{IsUpgradeTask};
@@ -60,4 +66,25 @@ pub fn refutations_by_example()
     ensures spent { refute_verdict 7 outcomes.Spent ≡ verdicts.Spent 7 }
     ensures statuses { (refute_status outcomes.NoMap ≡ 0) × (refute_status outcomes.Map ≡ 1)
         × (refute_status outcomes.Spent ≡ 2) }
+{}
+
+/// What a fault of a check comes to as a task's, and as the answer to a text: a fault of the text is an answer, one of the file or
+/// of memory is a fault of the task, and a text that is too long is refused.
+pub fn faults_of_checks_by_example()
+    ensures none { found_in (Ok tt) ≡ Ok None }
+    ensures text { found_in (Err (faults.BadLine 3)) ≡ Ok (Some (faults.BadLine 3)) }
+    ensures length { found_in (Err faults.TooLong) ≡ Err (Refused (refusals.TooLong Refutation)) }
+    ensures file { found_in (Err faults.Missing) ≡ Err (Unread Refutation Missing) }
+    ensures device { found_in (Err faults.Failed) ≡ Err (Unread Refutation Failed) }
+    ensures memory { found_in (Err faults.NoMemory) ≡ Err (Refused refusals.NoMemory) }
+    ensures answer { verdict_in (Err (faults.BadLine 3)) ≡ Ok (Some (faults.BadLine 3)) }
+    ensures refused { verdict_in (Err faults.TooLong) ≡ Err (refusals.TooLong Refutation) }
+{}
+
+/// A task is made of what its call answers, and a fault is the call's.
+pub fn tasks_are_made_of_answers()
+    ensures check { (found : Option CheckFault) → check_made (Ok found) ≡ Ok (check found) }
+    ensures check_fault { (fault : Fault) → check_made (Err fault) ≡ Err fault }
+    ensures refute { (P : Network) → refute_made (Ok P) ≡ Ok (refute P) }
+    ensures refute_fault { (fault : Fault) → refute_made (Err fault) ≡ Err fault }
 {}

@@ -1,7 +1,7 @@
 -- What `explain` comes to.
-use Rattle.std.proofs.Common.{Bool, Err, List, Ok, Result, ap, cond, false, inl, inr, length, nat_lt, refl, subst, sym, true, ℕ, ◌||◌, ◌∙◌, ◌≡◌, ◌≤◌}
-use Rattle.std.specs.Prelude.{IfOk}
+use Rattle.std.proofs.Common.{Bool, Err, List, Ok, Result, ap, cond, false, inl, inr, length, nat_lt, refl, subst, sym, true, ◌||◌, ◌∙◌, ◌≡◌, ◌≤◌}
 use Rattle.std.proofs.lemmas.Bool.{ltb-false, or_parts}
+use Rattle.std.specs.Prelude.{IfOk}
 use Rattle.wfc_choose.specs.declared.RuleKind.{RuleKind}
 use Rattle.wfc_explain.proofs.ProblemLemmas.{sample_as_many, tiles_as_many}
 use Rattle.wfc_explain.specs.Problems.{SamplePins, TilesPins, pinned_sample, pinned_tiles, sample_pins, tiles_pins}

@@ -1,6 +1,5 @@
 -- Legal maps of the lines kept, and legal assignments of their problem, are each other's.
-use Rattle.std.proofs.Common.{Bool, List, ap, arith, length, refl, ℕ, ◌<◌, ◌≡◌, ◌≤◌}
-use Rattle.std.specs.Prelude.{All}
+use Rattle.std.proofs.Common.{Bool, List, ap, arith, length, refl, ◌<◌, ◌≤◌}
 use Rattle.wfc_explain.proofs.KeptLemmas.{All-kept, as_many}
 use Rattle.wfc_explain.proofs.ProblemLemmas.{sample_is_pinned, tiles_are_pinned}
 use Rattle.wfc_explain.specs.Blame.{HasMap}

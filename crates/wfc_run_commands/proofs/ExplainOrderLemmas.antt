@@ -3,7 +3,7 @@ use Rattle.std.proofs.Common.{Bool, Err, List, Ok, Result, [], ap, arith, cond, 
 use Rattle.std.proofs.lemmas.Bool.Decides.{nat_tests}
 use Rattle.std.specs.Prelude.{◌↔◌}
 use Rattle.wfc_choose.specs.declared.RuleKind.{RuleKind}
-use Rattle.wfc_explain.specs.Problems.{SamplePins, TilesPins, pinned_sample, pinned_tiles}
+use Rattle.wfc_explain.specs.Problems.{SamplePins, TilesPins, pinned_sample}
 use Rattle.wfc_model.specs.Legal.{Pin}
 use Rattle.wfc_outside.specs.Folder.{File}
 use Rattle.wfc_outside.specs.Gives.{result_map}

@@ -10,3 +10,5 @@ pub mod ExplainOrderLemmas
 pub mod ExplainMapLemmas
 pub mod ExplainPromiseLemmas
 pub mod ExplainRuleLemmas
+pub mod ExplainTaskLemmas
+pub mod ExplainGoesLemmas

@@ -9,8 +9,8 @@ use Rattle.wfc_race.specs.Racers.{Racer, entered}
 use Rattle.wfc_race.specs.Rounds.{round_end_of}
 use Rattle.wfc_race.specs.Seen.{IsRunner, Seen, racer_of, racers_of}
 use Rattle.wfc_race.specs.declared.RaceEnd.{RaceEnd}
-use Rattle.wfc_runs.specs.Words.{words_of_seed}
 use Rattle.wfc_run_commands.specs.Races.{entrants}
+use Rattle.wfc_runs.specs.Words.{words_of_seed}
 
 -- the next of the entrants, and the rules behind it
 pub record IsNext (rules : List Rule) (budget seed made : ℕ) (rule : Rule) (rest : List Rule) : Type 0 where

@@ -3,21 +3,9 @@ use Rattle.std.proofs.Common.{Bool, List, Some, [], ap, false, if◌then◌else�
 use Rattle.std.specs.List.{slice_get}
 use Rattle.wfc_choose.specs.Pick.{Rule}
 use Rattle.wfc_choose.specs.declared.RuleKind.{RuleKind}
-use Rattle.wfc_choose.specs.declared.RuleKind.TheVariants.{Fewest, Ranked, Scanline}
 use Rattle.wfc_plan.specs.Kinds.{same_rule}
+use Rattle.wfc_reply.proofs.CallerLemmas.{kinds_same}
 use Rattle.wfc_reply.specs.Choosers.{first_rule, first_rules, of_kind}
-
--- one kind by the test is one
-pub kinds_same : (kind other : RuleKind) → same_rule kind other ≡ true → other ≡ kind
-kinds_same Scanline Scanline is = refl
-kinds_same Fewest Fewest is = refl
-kinds_same Ranked Ranked is = refl
-kinds_same Scanline Fewest is = absurd (cc (is))
-kinds_same Scanline Ranked is = absurd (cc (is))
-kinds_same Fewest Scanline is = absurd (cc (is))
-kinds_same Fewest Ranked is = absurd (cc (is))
-kinds_same Ranked Scanline is = absurd (cc (is))
-kinds_same Ranked Fewest is = absurd (cc (is))
 
 -- what is taken of a list stands in it
 taken_there : {X : Type 0} (n : ℕ) (xs : List X) (i : ℕ) (x : X) → slice_get (take n xs) i ≡ Some x → slice_get xs i ≡ Some x

@@ -13,28 +13,29 @@ use Rattle.wfc_race.specs.Racers.{Racer}
 use Rattle.wfc_race.specs.Rounds.{rounds_of}
 use Rattle.wfc_race.specs.declared.RaceEnd.{RaceEnd}
 use Rattle.wfc_race.specs.declared.RaceEnd.TheVariants as end
-use Rattle.wfc_reply.proofs.CallerLemmas.{AnswersOnly, CameTo, EndsSo, HasAnswered, IsEnding, as_asked, as_no, as_spent, cut, cuts_text, five_apart, length-first_rules, none, whole}
+use Rattle.wfc_reply.proofs.CallerLemmas.{AnswersOnly, CameTo, EndsSo, HasAnswered, IsEnding, as_asked, as_no, as_spent, came_with, cuts_text, length-first_rules, plain_kind}
 use Rattle.wfc_reply.specs.Asking.{IsCommand}
 use Rattle.wfc_reply.specs.Call.{Call}
 use Rattle.wfc_reply.specs.Choosers.{kinds_of}
 use Rattle.wfc_reply.specs.CutClaims.{CutsText}
-use Rattle.wfc_reply.specs.Reply.{Answered, Takes, TakesWhole, verdict_status}
+use Rattle.wfc_reply.specs.Reply.{Answered, TakesWhole, verdict_status}
 use Rattle.wfc_reply.specs.RunEnds.{end_by}
-use Rattle.wfc_runs.specs.Words.{words_of_seed}
 use Rattle.wfc_run_commands.proofs.MakingLemmas.{length-entrants}
 use Rattle.wfc_run_commands.proofs.OfKindLemmas.{runner_is}
-use Rattle.wfc_runs.proofs.CallerLemmas.{plain_runs}
 use Rattle.wfc_run_commands.proofs.RacerLemmas.{as_many, entrant_at, handed, inside, runners_asked}
 use Rattle.wfc_run_commands.proofs.RacingLemmas.{race_given}
-use Rattle.wfc_run_commands.specs.RaceClaims.{RacePromise, HasNoRacedMap, HasRacedMap, IsAsRace, IsAsRunner, IsNeverAllSpent, IsOwnRun, IsRaceText, IsRacedMap, NamesRun, RaceWork}
+use Rattle.wfc_run_commands.specs.RaceClaims.{HasNoRacedMap, HasRacedMap, IsAsRace, IsAsRunner, IsNeverAllSpent, IsOwnRun, IsRaceText, IsRacedMap, NamesRun, RacePromise, RaceWork}
 use Rattle.wfc_run_commands.specs.RaceCommand.{RaceAnswers, race_command}
 use Rattle.wfc_run_commands.specs.Races.{entrants}
 use Rattle.wfc_run_commands.specs.Racing.{race_answer, race_end, race_status, race_text, race_verdict, retractions_in, runners_of}
+use Rattle.wfc_runs.proofs.CallerLemmas.{plain_runs}
+use Rattle.wfc_runs.specs.Words.{words_of_seed}
 use Rattle.wfc_search.specs.Volume.{volume_of}
 use Rattle.wfc_search.specs.declared.Outcome.{Outcome}
 use Rattle.wfc_search.specs.declared.Outcome.TheVariants as outcome
 use Rattle.wfc_task.proofs.CallerLemmas.{IsBridged, TakesSides, command_bridged, no_legal}
 use Rattle.wfc_words.proofs.RangeLemmas.{asked-in_range}
+use Rattle.wfc_words.specs.Named.{is_rankable}
 use Rattle.wfc_words.specs.RequestView.{RequestView}
 use Rattle.wfc_words.specs.declared.kinds.CommandKind.TheVariants as commands
 
@@ -69,21 +70,15 @@ front : (rules : List Rule) (asked : RequestView) (P : Network) (ended : RaceEnd
 front rules asked P ended now ends = within P (entered_by rules asked) (rounds_of P (entered_by rules asked) asked.quantum) ended now ends
 
 pub is_as_race : (call : Call) (asked : RequestView) (files : List File) → CameTo race_command call asked files → IsAsRace call asked files
-is_as_race call asked files came low = by_end came
-  where
-    by_end : CameTo race_command call asked files
-        → (work : RaceWork call.rules asked files) × (ended : RaceEnd × List Racer) × (race_end call.rules asked work.P ≡ Some ended)
-        × (call.status ≡ race_status ended.0) × Takes (race_text asked ended) call.before.out call.after.out
-    by_end (whole answered has same takes) =
-        let raced = race_answered call.rules asked files answered has in (
-          raced.work,
-          raced.ended,
-          raced.ends,
-          same ∙ ap (λ (a : Answered). verdict_status a.verdict) raced.is ∙ verdict_raced asked.budget raced.ended.0,
-          subst (λ (a : Answered). TakesWhole a.whole a.text call.before.out call.after.out) raced.is takes,
-        )
-    by_end (cut answered has five front) = absurd (five_apart call.status five low)
-    by_end (none high same) = absurd (high low)
+is_as_race call asked files came low =
+    let with = came_with race_command call asked files came low in
+    let raced = race_answered call.rules asked files with.answered with.has in (
+      raced.work,
+      raced.ended,
+      raced.ends,
+      with.same_status ∙ ap (λ (a : Answered). verdict_status a.verdict) raced.is ∙ verdict_raced asked.budget raced.ended.0,
+      subst (λ (a : Answered). TakesWhole a.whole a.text call.before.out call.after.out) raced.is with.taken,
+    )
 
 -- ---- what an end means
 
@@ -147,7 +142,7 @@ is_never_all_spent call asked files is came two =
     by_end work (end.Map who) now ends same = absurd (omega (arith, same, two))
     by_end work (end.NoMap who) now ends same = absurd (omega (arith, same, two))
 
--- the runner that an end names ends alone as the race does
+-- the runner that an end names ends alone as the race does, and as `fill` with its seed, since no race goes by ranks
 pub is_as_runner : (call : Call) (asked : RequestView) (files : List File) → IsCommand commands.Race call asked files → IsAsRunner call asked files
 is_as_runner call asked files is work ended ends = by_end ended.0 ended.1 ends
   where
@@ -160,13 +155,15 @@ is_as_runner call asked files is work ended ends = by_end ended.0 ended.1 ends
         let alone = named_end work.P (known call asked files is work).problem (entered_by call.rules asked) now rounds sort who at.0 asked.budget (words_of_seed (asked.seed + who)) r o ends at.1.1 here out in
         let words = words_of_seed (asked.seed + who) in
         let found = runner_is asked.rule call.rules asked.seeds who at.0 at.1.0 in
+        let range = asked-in_range call.words asked is.given.spelled in
+        let plain = plain_kind asked.rule (range.run.unranked (ap is_rankable is.command_is)) in
         record {
           rule = at.0;
           there = at.1.0;
           state = _;
           ends = alone.1;
           same = sym (ap retractions_in here);
-          as_fill = λ plain. ap (λ (r : Option Rule). end_by r work.P asked.budget (asked.seed + who)) found.chosen_is ∙ plain_runs work.P found.first at.0 asked.rule asked.budget words found.first_is found.is plain ∙ alone.1;
+          as_fill = ap (λ (r : Option Rule). end_by r work.P asked.budget (asked.seed + who)) found.chosen_is ∙ plain_runs work.P found.first at.0 asked.rule asked.budget words found.first_is found.is plain ∙ alone.1;
         }
 
     by_end : (sort : RaceEnd) (now : List Racer) → race_end call.rules asked work.P ≡ Some (sort, now) → NamesRun call.rules asked work.P (sort, now)

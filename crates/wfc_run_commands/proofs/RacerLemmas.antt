@@ -1,6 +1,5 @@
 -- The runners of `race`, and what its code says of their race.
-use Rattle.std.proofs.Common.{All, List, Some, [], ap, arith, codes, length, map, refl, subst, suc, sym, true, zero, ℕ, ◌+◌, ◌-◌, ◌<◌, ◌∙◌, ◌∷◌, ◌≡◌, ◌≤◌}
-use Rattle.std.proofs.lemmas.List.{length-map}
+use Rattle.std.proofs.Common.{All, List, Some, [], ap, arith, codes, length, refl, subst, suc, sym, true, zero, ℕ, ◌+◌, ◌<◌, ◌∙◌, ◌∷◌, ◌≡◌, ◌≤◌}
 use Rattle.std.proofs.lemmas.List.Elements.{All-cons, All-nil}
 use Rattle.std.specs.List.{slice_get}
 use Rattle.std.specs.Prelude.{Err, IfOk, Ok, Result}
@@ -16,7 +15,6 @@ use Rattle.wfc_race.specs.declared.RaceEnd.{RaceEnd}
 use Rattle.wfc_race.specs.declared.RaceEnd.TheVariants as end
 use Rattle.wfc_reply.specs.Reply.{Answered}
 use Rattle.wfc_reply.specs.ReplyView.{answer_view}
-use Rattle.wfc_runs.specs.Words.{words_of_seed}
 use Rattle.wfc_reply.specs.declared.reply.Answer.{Answer}
 use Rattle.wfc_reply.specs.declared.reply.Verdict.TheVariants.{Done, NoMap}
 use Rattle.wfc_run_commands.proofs.MakingLemmas.{length-entrants}
@@ -24,6 +22,7 @@ use Rattle.wfc_run_commands.specs.Races.{AnswersTo, IsRaced, entrants}
 use Rattle.wfc_run_commands.specs.Racing.{IsRaceAsked, IsSeedIn, race_answer, race_end, race_line, raced_answer, retractions_in, runners_of}
 use Rattle.wfc_run_commands.specs.declared.races.Raced.{Raced}
 use Rattle.wfc_run_commands.specs.declared.races.Raced.TheVariants as raced
+use Rattle.wfc_runs.specs.Words.{words_of_seed}
 use Rattle.wfc_words.specs.Commands.{requires_word}
 use Rattle.wfc_words.specs.InRange.{IsInRange}
 use Rattle.wfc_words.specs.RequestView.{RequestView}

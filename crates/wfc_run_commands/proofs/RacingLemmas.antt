@@ -2,7 +2,7 @@
 use Rattle.std.proofs.Common.{List, Ok, ◌∙◌, ◌≡◌}
 use Rattle.wfc_choose.specs.declared.RuleKind.{RuleKind}
 use Rattle.wfc_outside.specs.Folder.{File}
-use Rattle.wfc_plan.proofs.CallerLemmas.{choosers_given, given_choosers, done_is, ok_step, outcome_on, outcome_parts, step_ok, unless_above, within_limit}
+use Rattle.wfc_plan.proofs.CallerLemmas.{choosers_given, done_is, given_choosers, ok_step, outcome_on, outcome_parts, step_ok, unless_above, within_limit}
 use Rattle.wfc_plan.specs.Kinds.{enough}
 use Rattle.wfc_plan.specs.Plan.{Plan, and_then, done, outcome, step}
 use Rattle.wfc_problem.specs.Network.{Network}

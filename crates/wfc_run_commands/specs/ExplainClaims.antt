@@ -56,7 +56,9 @@ IsKeptBy (Overlap n) asked files P of keep m =
 IsKeptBy Tiles asked files P of keep m =
     IsLegalTileMap of.set of.mask asked.wrap_out (kept_of keep of.problem.pins) m
 
-abbrev pub IsMapWith : {rules : List Rule} {files : List File} (asked : RequestView) → ExplainWork rules asked files → List Bool → Raster → Type 0
+-- so it is with the map of a request for `explain`
+abbrev pub IsMapWith : {rules : List Rule} {files : List File} (asked : RequestView)
+    → ExplainWork rules asked files → List Bool → Raster → Type 0
 IsMapWith {files = files} asked work keep m = IsKeptBy asked.source asked files work.task.P work.task.posed keep m
 
 -- the lines of a core are to blame: they rise and are lines of the file, alone they admit no map, and without one that is

@@ -14,10 +14,9 @@ use Rattle.wfc_reply.specs.Choosers.{kinds_of}
 use Rattle.wfc_reply.specs.CutClaims.{CutsText}
 use Rattle.wfc_reply.specs.Reply.{HasAnswer, Takes}
 use Rattle.wfc_reply.specs.RunEnds.{end_of}
-use Rattle.wfc_runs.specs.Words.{words_of_seed}
 use Rattle.wfc_run_commands.specs.RaceGiven.{IsRaceTask}
-use Rattle.wfc_runs.specs.Alike.{IsPlain}
 use Rattle.wfc_run_commands.specs.Racing.{race_end, race_status, race_text, retractions_in, runners_of}
+use Rattle.wfc_runs.specs.Words.{words_of_seed}
 use Rattle.wfc_search.specs.Run.{State, outcome_of}
 use Rattle.wfc_search.specs.Volume.{volume_of}
 use Rattle.wfc_search.specs.declared.Outcome.{Outcome}
@@ -46,15 +45,15 @@ IsAsRace call asked files =
     × (race_end call.rules asked work.P ≡ Some ended)
     × (call.status ≡ race_status ended.0) × Takes (race_text asked ended) call.before.out call.after.out
 
--- the run of the runner in this place, with its own seed, ends so, after so many retractions; by a rule that doesn't go by
--- ranks it is the run of `fill` with that seed
+-- the run of the runner in this place, with its own seed, ends so, after so many retractions; it is the run of `fill` with
+-- that seed
 pub record IsOwnRun (rules : List Rule) (asked : RequestView) (P : Network) (who : ℕ) (o : Outcome) (retractions : ℕ) : Type 0 where
   pub rule : Rule
   pub there : slice_get (runners_of rules asked) who ≡ Some rule
   pub state : State
   pub ends : outcome_of P rule asked.budget (words_of_seed (asked.seed + who)) ≡ Some (o, state)
   pub same : state.retractions ≡ retractions
-  pub as_fill : IsPlain asked.rule → end_of rules asked.rule P asked.budget (asked.seed + who) ≡ Some (o, state)
+  pub as_fill : end_of rules asked.rule P asked.budget (asked.seed + who) ≡ Some (o, state)
 
 -- the run of the runner that an end names ends as the race does
 abbrev pub NamesRun : List Rule → RequestView → Network → RaceEnd × List Racer → Type 0

@@ -7,23 +7,28 @@ use Rattle.wfc_race.specs.Racers.{Racer, entered}
 use Rattle.wfc_race.specs.Rounds.{round_end_of}
 use Rattle.wfc_race.specs.declared.RaceEnd.{RaceEnd}
 use Rattle.wfc_race.specs.declared.RaceEnd.TheVariants as end
-use Rattle.wfc_runs.specs.Words.{words_of_seed}
 use Rattle.wfc_run_commands.specs.declared.races.Raced.{Raced}
 use Rattle.wfc_run_commands.specs.declared.races.Raced.TheVariants as raced
+use Rattle.wfc_runs.specs.Words.{words_of_seed}
 
 -- one runner for each of these rules, with the words of a seed, of the next one, and so on
 abbrev pub entrants : List Rule → ℕ → ℕ → List Racer
 entrants [] budget seed = []
 entrants (rule ∷ rules) budget seed = entered rule budget (words_of_seed seed) ∷ entrants rules budget (seed + 1)
 
+-- the runner in this place of the runners at the end has made so many retractions
+abbrev pub IsRacerWith : List Racer → ℕ → ℕ → Type 0
+IsRacerWith now who retractions = (r : Racer) × (slice_get now who ≡ Some r) × (r.retractions ≡ retractions)
+
 -- what is answered of an end: who is named, and how many retractions it made
 abbrev pub AnswersTo : RaceEnd → List Racer → Raced → Type 0
-AnswersTo (end.Map who) now (raced.Map runner retractions) = (runner ≡ who) × ((r : Racer) × (slice_get now who ≡ Some r) × (r.retractions ≡ retractions))
-AnswersTo (end.NoMap who) now (raced.NoMap runner retractions) = (runner ≡ who) × ((r : Racer) × (slice_get now who ≡ Some r) × (r.retractions ≡ retractions))
+AnswersTo (end.Map who) now (raced.Map runner retractions) = (runner ≡ who) × IsRacerWith now who retractions
+AnswersTo (end.NoMap who) now (raced.NoMap runner retractions) = (runner ≡ who) × IsRacerWith now who retractions
 AnswersTo end.AllSpent now raced.AllSpent = ⊤
 AnswersTo _ now _ = ⊥
 
 -- in rounds the race of these rules, with the words of a seed and those that follow it, ended so
 abbrev pub IsRaced : Network → List Rule → ℕ → ℕ → ℕ → Raced → Type 0
 IsRaced P rules budget seed quantum answer =
-    (end : RaceEnd) × (now : List Racer) × (round_end_of P (entrants rules budget seed) quantum ≡ Some (end, now)) × AnswersTo end now answer
+    (end : RaceEnd) × (now : List Racer)
+    × (round_end_of P (entrants rules budget seed) quantum ≡ Some (end, now)) × AnswersTo end now answer

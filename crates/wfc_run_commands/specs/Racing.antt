@@ -1,6 +1,6 @@
 -- Which runners `race` has, how their race ends, and what is answered of it.
 use Rattle.std.specs.List.{slice_get}
-use Rattle.std.specs.Prelude.{List, None, Option, Some, codes, decimal, take, true, ℕ, ⊤, ◌++◌, ◌+◌, ◌≤◌}
+use Rattle.std.specs.Prelude.{List, None, Option, Some, codes, decimal, true, ℕ, ⊤, ◌++◌, ◌+◌, ◌≤◌}
 use Rattle.wfc_choose.specs.Pick.{Rule}
 use Rattle.wfc_problem.specs.Network.{Network}
 use Rattle.wfc_race.specs.Racers.{Racer}

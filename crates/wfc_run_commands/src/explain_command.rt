@@ -1,22 +1,22 @@
 //! The command `explain`: which lines of the pins file are to blame.
 
-ghost use Rattle.std.specs.Prelude.{All, IfOk, OnOk, Some, length, map, ◌+◌, ◌++◌, ◌<◌, ◌≡◌, ◌≤◌};
 ghost use Rattle.std.specs.List.{flat_map};
+ghost use Rattle.std.specs.Prelude.{All, IfOk, OnOk, Some, length, map, ◌++◌, ◌+◌, ◌<◌, ◌≡◌, ◌≤◌};
 ghost use Rattle.wfc_choose.specs.Pick.{Rule};
 ghost use Rattle.wfc_explain.specs.Blame.{IsTrueExplained};
+ghost use Rattle.wfc_explain.specs.Trials.{explanation_of};
 ghost use Rattle.wfc_explain.specs.declared.explained.Kept.{Kept};
 ghost use Rattle.wfc_plan.specs.Kinds.{HasChoosers};
 ghost use Rattle.wfc_reply.specs.Choosers.{first_rule, kinds_of};
 ghost use Rattle.wfc_reply.specs.Ends.{Ends, EndsBy};
 ghost use Rattle.wfc_reply.specs.ReplyView.{answer_view, reply_view};
 ghost use Rattle.wfc_run_commands.specs.ExplainAnswer.{AreLines, answer_to, core_text, explain_answer, explanation_by, kept_line, mark_word};
-ghost use Rattle.wfc_run_commands.specs.ExplainGiven.{IsExplainAsked};
 ghost use Rattle.wfc_run_commands.specs.ExplainCommand.{ExplainAnswers, explain_command};
+ghost use Rattle.wfc_run_commands.specs.ExplainGiven.{IsExplainAsked};
 ghost use Rattle.wfc_run_commands.specs.ExplainTask.{explain_plan_by, explain_sample_plan, explain_tiles_plan, line_numbers};
-ghost use Rattle.wfc_explain.specs.Trials.{explanation_of};
 ghost use Rattle.wfc_runs.specs.Alike.{HaveRule, PickAlike};
-ghost use Rattle.wfc_search.specs.declared.TheConstants.{MAX_BUDGET};
 ghost use Rattle.wfc_runs.specs.Words.{words_of_seed};
+ghost use Rattle.wfc_search.specs.declared.TheConstants.{MAX_BUDGET};
 ghost use Rattle.wfc_task.specs.Asked.{AskedBy, IsOutputAsked, IsSampleAsked, IsSourceAsked};
 
 use crate::explaining::{EXPLAIN_CHOOSERS, lines, sample_pins, tile_pins};

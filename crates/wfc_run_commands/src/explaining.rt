@@ -3,7 +3,7 @@
 ghost use Rattle.std.specs.Prelude.{IfOk, OnOk, length, ◌≡◌, ◌≤◌};
 ghost use Rattle.wfc_explain.specs.Problems.{tiles_pins};
 ghost use Rattle.wfc_outside.specs.Gives.{Gives, result_map};
-ghost use Rattle.wfc_plan.specs.Plan.{Goes, GivesStep};
+ghost use Rattle.wfc_plan.specs.Plan.{GivesStep, Goes};
 ghost use Rattle.wfc_run_commands.specs.ExplainTask.{few_lines, lines_plan, pins_of_sample, pins_of_tiles};
 ghost use Rattle.wfc_task.specs.Asked.{IsOutputAsked};
 ghost use Rattle.wfc_task.specs.Tiling.{HasSides, masked};

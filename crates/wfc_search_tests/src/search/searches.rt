@@ -7,8 +7,8 @@ ghost use Rattle.wfc_search.specs.Search.{IsGoing, IsReady};
 ghost use Rattle.wfc_search.specs.Shown.{shown};
 
 use super::expecting::Expecting;
-use super::problems::{grid, ring};
 use super::words::Words;
+use crate::problems::{grid, ring};
 use std::alloc::Global;
 use std::marker::Brand;
 use std::process::Abort;

@@ -1,6 +1,6 @@
 //! Volumes by hand.
 
-use super::problems::grid;
+use crate::problems::grid;
 use std::alloc::Global;
 use std::process::Abort;
 use std::test::Fail;

@@ -1,8 +1,8 @@
-use Rattle.std.proofs.Common.{List, ap, arith, map, subst, sym, ◌+◌, ◌∙◌, ◌≡◌, ◌≤◌}
+use Rattle.std.proofs.Common.{List, ap, arith, map, subst, sym, ◌+◌, ◌∙◌, ◌≤◌}
 use Rattle.wfc_choose.specs.Pick.{Rule}
-use Rattle.wfc_reply.proofs.CallerLemmas.{many_taken}
+use Rattle.wfc_reply.proofs.CallerLemmas.{has_first, many_taken}
 use Rattle.wfc_reply.specs.Choosers.{first_rules}
-use Rattle.wfc_run_commands.proofs.ExplainRuleLemmas.{explained_answers, fewer_choosers, has_first, lines_in}
+use Rattle.wfc_run_commands.proofs.ExplainRuleLemmas.{explained_answers, fewer_choosers, lines_in}
 use Rattle.wfc_run_commands.proofs.explain_command.answer.Goals as goal
 use Rattle.wfc_run_commands.specs.ExplainTask.{line_numbers}
 use Rattle.wfc_run_commands.specs.declared.explaining.TheConstants.{EXPLAIN_CHOOSERS}

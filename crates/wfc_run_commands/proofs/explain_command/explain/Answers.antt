@@ -1,9 +1,8 @@
-use Rattle.std.proofs.Common.{ap, inl, refl, subst, ◌∙◌}
+use Rattle.std.proofs.Common.{ap, inl, refl, ◌∙◌}
 use Rattle.std.proofs.lemmas.Result.{err_from_is_err_and}
 use Rattle.wfc_plan.proofs.CallerLemmas.{behind_choosers, step_out}
 use Rattle.wfc_plan.specs.Kinds.{enough}
 use Rattle.wfc_reply.proofs.CallerLemmas.{ends_fault, ends_short, ends_with}
-use Rattle.wfc_reply.specs.Ends.{Ends}
 use Rattle.wfc_run_commands.proofs.explain_command.explain.Goals as goal
 use Rattle.wfc_run_commands.specs.ExplainCommand.{ExplainAnswers}
 use Rattle.wfc_run_commands.specs.ExplainTask.{explain_plan, explain_plan_by}

@@ -1,4 +1,4 @@
-use Rattle.std.proofs.Common.{ap, inl, subst, ◌∙◌, ◌≤◌}
+use Rattle.std.proofs.Common.{ap, inl, subst, ◌∙◌}
 use Rattle.std.proofs.lemmas.Result.{err_from_is_err_and}
 use Rattle.wfc_plan.proofs.CallerLemmas.{goes_done, goes_on, goes_out, step_on, step_out}
 use Rattle.wfc_plan.specs.Kinds.{HasChoosers, enough}

@@ -2,7 +2,7 @@
 
 ghost use Rattle.std.specs.Prelude.{◌≡◌, ◌<◌};
 
-use super::problems::{grid, ring};
+use crate::problems::{grid, ring};
 use rand_core::Rng;
 use std::alloc::Global;
 use std::marker::Brand;

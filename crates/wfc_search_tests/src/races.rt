@@ -5,7 +5,7 @@ ghost use Rattle.wfc_race.specs.Race.{IsRacing};
 ghost use Rattle.wfc_race.specs.Seen.{AreRunners, IsRunner, racers_of, seen, seens};
 ghost use Rattle.wfc_runs.specs.Words.{words_of};
 
-use super::problems::{grid, ring};
+use crate::problems::{grid, ring};
 use rand_pcg::Pcg64;
 use std::alloc::Global;
 use std::marker::Brand;

@@ -1,4 +1,4 @@
-use Rattle.wfc_race_tests.proofs.races.rings_end.Given as goal
+use Rattle.wfc_search_tests.proofs.races.maps_are_found.Given as goal
 
 -- the ledger is that of the blank
 abbrev pub ghosts-race_ends : goal.ghosts-race_ends

@@ -3,7 +3,7 @@ use Rattle.std.proofs.lemmas.List.Elements.{All-cons, All-nil}
 use Rattle.wfc_race.specs.Seen.{Seen, seen}
 use Rattle.wfc_race.proofs.CallerLemmas.{two_runners}
 use Rattle.wfc_runs.specs.Words.{words_of}
-use Rattle.wfc_race_tests.proofs.races.race_of_two.Goals as goal
+use Rattle.wfc_search_tests.proofs.races.race_of_two.Goals as goal
 
 -- neither of two has an outcome
 two_free : {X : Type 0} (f : X → Seen) (x y : X) → (f x).search.course.outcome ≡ None → (f y).search.course.outcome ≡ None → All (λ z. (f z).search.course.outcome ≡ None) (x ∷ y ∷ [])

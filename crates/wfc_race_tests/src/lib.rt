@@ -1,9 +1,0 @@
-//! Tests of runs with the words of a seed, and of races, in a crate of their own over the libraries.
-#![tactic(auto)]
-
-#[cfg(test)]
-mod problems;
-#[cfg(test)]
-mod races;
-#[cfg(test)]
-mod runs;
