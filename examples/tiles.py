@@ -20,6 +20,36 @@ DUNGEON = [
     ("fork", "T", 1, ["   ", ":::", " : "]),
 ]
 
+# On the ground a yard, trees, and walls with gates and towers; above them battlements, turrets, keeps and roofs, and the sky.
+CASTLE = [
+    ("yard", "X", 6, ["...", "...", "..."]),
+    ("tree", "X", 1, ["...", ".%.", "..."]),
+    ("wall", "I", 3, [".#.", ".#.", ".#."]),
+    ("gate", "I", 1, [".#.", ".:.", ".#."]),
+    ("tower", "L", 8, [".#.", ".@#", "..."]),
+    ("sky", "X", 6, ["   ", "   ", "   "]),
+    ("rampart", "I", 3, [" = ", " = ", " = "]),
+    ("turret", "L", 8, [" = ", " @=", "   "]),
+    ("keep", "X", 2, ["   ", " @ ", "   "]),
+    ("roof", "X", 1, ["   ", " ^ ", "   "]),
+]
+
+# Which tile of the castle stands on which.
+STOREYS = [
+    ("yard", "sky"),
+    ("tree", "sky"),
+    ("wall", "rampart"),
+    ("gate", "rampart"),
+    ("tower", "turret"),
+    ("rampart", "sky"),
+    ("turret", "keep"),
+    ("turret", "roof"),
+    ("keep", "keep"),
+    ("keep", "roof"),
+    ("roof", "sky"),
+    ("sky", "sky"),
+]
+
 # The same, with the rows of each picture one behind another.
 ROADS = [
     (
@@ -98,7 +128,7 @@ COLOURS = {
 }
 
 # Names of tiles that never stand side by side.
-APART = {("corner", "corner"), ("house", "house"), ("turn", "turn")}
+APART = {("corner", "corner"), ("gate", "gate"), ("house", "house"), ("turn", "turn")}
 
 # The side of a tile of the coast, in pixels.
 SIDE = 8
@@ -212,17 +242,21 @@ def word(tile, action):
     return f"{tile[0]} {action}" if action else tile[0]
 
 
-def write(name, about, tiles, ending, bytes_of):
+def write(name, about, tiles, ending, bytes_of, stacks=()):
     """Writes the pictures of a set into its folder, and its document, which names them as seen from the top folder."""
     folder = HERE / name
     folder.mkdir(exist_ok=True)
-    lines = [f"# {about} Written by tiles.py.", "", "tile = ["]
+    where = "# The pictures are looked for from the folder where the program runs: the top of the repository."
+    lines = [f"# {about} Written by tiles.py.", where, "", "tile = ["]
     for title, kind, weight, rows in tiles:
         (folder / (title + ending)).write_bytes(bytes_of(rows))
         picture = f"examples/{name}/{title}{ending}"
         lines.append(f"    {{ name = '{title}', class = '{kind}', weight = {weight}, picture = '{picture}' }},")
     lines += ["]", "", "pair = ["]
     lines += [f"    {{ left = '{left}', right = '{right}' }}," for left, right in pairs(tiles)]
+    if stacks:
+        lines += ["]", "", "stack = ["]
+        lines += [f"    {{ lower = '{lower}', upper = '{upper}' }}," for lower, upper in stacks]
     lines += ["]", ""]
     (HERE / (name + ".toml")).write_text("\n".join(lines))
 
@@ -241,6 +275,7 @@ def ppm(rows):
 if __name__ == "__main__":
     roads = [(*tile[:3], tile[3].split()) for tile in ROADS]
     write("dungeon", "Rooms with doors, and corridors between them.", DUNGEON, ".txt", grid)
+    write("castle", "A castle, storey upon storey.", CASTLE, ".txt", grid, STOREYS)
     write("roads", "Roads between houses, and rivers with bridges.", roads, ".ppm", ppm)
     write("coast", "The sea, meadows and woods.", coast(), ".ppm", ppm)
     (HERE / "coast.mask").write_bytes(grid(globe()))

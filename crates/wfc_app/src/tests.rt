@@ -2,8 +2,10 @@
 
 ghost use Rattle.std.specs.Prelude.{◌≤◌};
 
+mod boxes;
 mod cores;
 mod devices;
+mod growths;
 mod hostile;
 mod proofs;
 mod rows;
@@ -83,6 +85,7 @@ pub fn folder_of(alloc: Global, piece: usize) -> Result<MemoryFolder, AllocError
     let mut folder = MemoryFolder::new(alloc, piece);
     add_all(alloc, &mut folder, &FILES)?;
     add_all(alloc, &mut folder, &tiles::FILES)?;
+    add_all(alloc, &mut folder, &boxes::FILES)?;
     Ok(folder)
 }
 

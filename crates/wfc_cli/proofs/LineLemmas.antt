@@ -4,13 +4,16 @@ use Rattle.wfc_cli.proofs.AnswerLemmas.{answered_task}
 use Rattle.wfc_cli.proofs.MemoryLemmas.{memory_text}
 use Rattle.wfc_cli.proofs.TheoremLemmas.{file_fault}
 use Rattle.wfc_cli.proofs.ToldLemmas.{FaultOf, command_between, cut_counted, fault_from, of_plan, of_task, refused_status, told_reply}
+use Rattle.wfc_box_commands.proofs.CallerLemmas.{box_check_ends, box_fill_ends, box_refute_ends}
 use Rattle.wfc_cli.specs.Answer.{AnswersAsked, IsAnswer, IsAnswerTo, IsRefusedCall}
 use Rattle.wfc_cli.specs.Commands.{Answers, asked_command, command_of, plan_of}
 use Rattle.wfc_cli.specs.Delivery.{Delivers, IsTold, Tells, said_of}
 use Rattle.wfc_cli.specs.ErrorLine.{fault_text}
 use Rattle.wfc_cli.specs.LineClaims.{IsApartFromErr, TellsReason, TellsStatus, TellsWords, says_fault, says_file, says_no, says_out, says_short, says_spent}
+use Rattle.wfc_grow_command.proofs.CallerLemmas.{grow_ends}
 use Rattle.wfc_lines.specs.Check.{text_of_check}
 use Rattle.wfc_lines.specs.Command.{text_of_command}
+use Rattle.wfc_lines.specs.Grow.{text_of_stuck}
 use Rattle.wfc_lines.specs.Outcome.{map_exists_text, no_domains_text, no_map_text, no_memory_text, out_failed_text, text_of_budget}
 use Rattle.wfc_map_commands.proofs.CallerLemmas.{demo_ends, domains_ends, fill_ends, learn_ends}
 use Rattle.wfc_outside.specs.Folder.{File}
@@ -51,6 +54,10 @@ ends_so commands.Check = check_ends
 ends_so commands.Upgrade = upgrade_ends
 ends_so commands.Race = race_ends
 ends_so commands.Explain = explain_ends
+ends_so commands.Grow = grow_ends
+ends_so commands.BoxFill = box_fill_ends
+ends_so commands.BoxRefute = box_refute_ends
+ends_so commands.BoxCheck = box_check_ends
 
 -- ---- the line of each status
 
@@ -62,6 +69,7 @@ told_nothing asked (verdict.Spent budget) old new nought told = absurd (omega (a
 told_nothing asked verdict.Dead old new nought told = absurd (omega (arith, nought))
 told_nothing asked verdict.MapExists old new nought told = absurd (omega (arith, nought))
 told_nothing asked (verdict.Unaccepted fault) old new nought told = absurd (omega (arith, nought))
+told_nothing asked (verdict.Stuck x y) old new nought told = absurd (omega (arith, nought))
 
 told_line : (asked : RequestView) (said : Verdict) (old new : SinkView) → verdict_status said ≢ 0 → Tells (verdict_text asked said) old new → (text : List ℕ) × IsTold text old new
 told_line asked verdict.Done old new some told = absurd (some refl)
@@ -70,6 +78,7 @@ told_line asked (verdict.Spent budget) old new some told = (text_of_budget budge
 told_line asked verdict.Dead old new some told = (no_domains_text, told)
 told_line asked verdict.MapExists old new some told = (map_exists_text, told)
 told_line asked (verdict.Unaccepted fault) old new some told = (text_of_check fault (name_of asked source.Refutation), told)
+told_line asked (verdict.Stuck x y) old new some told = (text_of_stuck x y, told)
 
 -- words that are no request
 told_words : (fault : CommandFault) (call : Call) → IsRefusedCall fault call → TellsWords fault call

@@ -168,3 +168,4 @@ memory_text asked (Refused (refused.Mask fault)) six = mask_memory fault (name_o
 memory_text asked (Refused (refused.Stacks fault)) six = stacks_memory fault asked.file six
 memory_text asked (Refused (refused.RaceTooLarge product)) six = absurd (omega (arith, six))
 memory_text asked (Refused (refused.TooManyPins count)) six = absurd (omega (arith, six))
+memory_text asked (Refused (refused.TooManyBlocks count)) six = absurd (omega (arith, six))

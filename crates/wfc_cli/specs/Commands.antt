@@ -1,6 +1,9 @@
 -- The commands.
 use Rattle.std.specs.Prelude.{List, Result}
+use Rattle.wfc_box_commands.specs.BoxFillCommand.{box_fill_command}
+use Rattle.wfc_box_commands.specs.BoxProofCommands.{box_check_command, box_refute_command}
 use Rattle.wfc_choose.specs.Pick.{Rule}
+use Rattle.wfc_grow_command.specs.GrowCommand.{grow_command}
 use Rattle.wfc_map_commands.specs.DemoCommand.{demo_command}
 use Rattle.wfc_map_commands.specs.DomainsCommand.{domains_command}
 use Rattle.wfc_map_commands.specs.FillCommand.{fill_command}
@@ -31,6 +34,10 @@ command_of commands.Check = check_command
 command_of commands.Upgrade = upgrade_command
 command_of commands.Race = race_command
 command_of commands.Explain = explain_command
+command_of commands.Grow = grow_command
+command_of commands.BoxFill = box_fill_command
+command_of commands.BoxRefute = box_refute_command
+command_of commands.BoxCheck = box_check_command
 
 -- the command of a request
 abbrev pub asked_command : RequestView → Command

@@ -4,6 +4,7 @@ use Rattle.wfc_grid.specs.declared.reading.GridFault.{GridFault}
 use Rattle.wfc_lines.specs.Build.{text_of_build}
 use Rattle.wfc_lines.specs.Command.{text_of_chooser}
 use Rattle.wfc_lines.specs.Grid.{text_of_grid}
+use Rattle.wfc_lines.specs.Grow.{text_of_many_blocks}
 use Rattle.wfc_lines.specs.Learn.{text_of_learn}
 use Rattle.wfc_lines.specs.Mask.{text_of_mask, text_of_mask_grid}
 use Rattle.wfc_lines.specs.Outcome.{no_memory_text}
@@ -72,6 +73,7 @@ refusal_text asked (refused.Mask fault) = text_of_mask fault (name_of asked sour
 refusal_text asked (refused.Stacks fault) = text_of_stacks fault (name_of asked source.Sample)
 refusal_text asked (refused.RaceTooLarge product) = text_of_race product
 refusal_text asked (refused.TooManyPins count) = text_of_many_pins count (name_of asked source.Pins)
+refusal_text asked (refused.TooManyBlocks count) = text_of_many_blocks count
 
 -- the text of a fault; a file is named as the words do
 abbrev pub fault_text : RequestView → Fault → List ℕ

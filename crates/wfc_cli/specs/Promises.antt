@@ -1,7 +1,9 @@
 -- What a call of the program promises: the main theorem.
+use Rattle.wfc_box_commands.specs.BoxClaims.{BoxCheckPromises, BoxFillPromises, BoxRefutePromises}
 use Rattle.wfc_cli.specs.Answer.{IsAnswer}
 use Rattle.wfc_cli.specs.LineClaims.{IsApartFromErr, TellsStatus}
 use Rattle.wfc_cli.specs.Theorem.{CountsFaults, HasDeviceFault, HasFirstFault, HasRefusedWords, IsComplete, IsRefusedFirst, KeepsOut, RefusesWords}
+use Rattle.wfc_grow_command.specs.GrowClaims.{GrowPromises}
 use Rattle.wfc_map_commands.specs.DemoClaims.{DemoPromises}
 use Rattle.wfc_map_commands.specs.DomainsClaims.{DomainsPromises}
 use Rattle.wfc_map_commands.specs.FillClaims.{FillPromises}
@@ -55,3 +57,11 @@ pub record KeepsPromises (call : Call) : Type 0 where
   pub race : RacePromises call
   -- `explain` writes lines of the pins file that are to blame for it that there is no map
   pub explain : ExplainPromises call
+  -- `grow` writes legal maps alone, block by block, and of a block that is stuck a proof that its pins admit no map
+  pub grow : GrowPromises call
+  -- `box-fill` writes legal boxes alone, each that of its run, and says 'no map' only where there is none
+  pub box_fill : BoxFillPromises call
+  -- `box-refute` writes what its run tells: without a box a proof that there is none
+  pub box_refute : BoxRefutePromises call
+  -- `box-check` accepts exactly the refutations of the box asked for
+  pub box_check : BoxCheckPromises call

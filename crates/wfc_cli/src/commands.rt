@@ -7,7 +7,9 @@ ghost use Rattle.wfc_words.specs.InRange.{IsInRange};
 
 use crate::deliver::put;
 use std::alloc::Global;
+use wfc_box_commands::{box_check, box_fill, box_refute};
 use wfc_choose::Chooser;
+use wfc_grow_command::grow;
 use wfc_map_commands::{demo, domains, fill, learn};
 use wfc_outside::{Folder, Sink};
 use wfc_proof_commands::{check, refute, upgrade};
@@ -38,5 +40,9 @@ pub(crate) fn run<F: Folder, O: Sink>(
         CommandKind::Upgrade => upgrade(alloc, request, folder, out),
         CommandKind::Race => put(out, race(alloc, request, choosers, folder)),
         CommandKind::Explain => put(out, explain(alloc, request, choosers, folder)),
+        CommandKind::Grow => grow(alloc, request, choosers, folder, out),
+        CommandKind::BoxFill => put(out, box_fill(alloc, request, choosers, folder)),
+        CommandKind::BoxRefute => box_refute(alloc, request, choosers, folder, out),
+        CommandKind::BoxCheck => put(out, box_check(alloc, request, folder)),
     }
 }

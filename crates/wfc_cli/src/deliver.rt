@@ -7,7 +7,7 @@ ghost use Rattle.wfc_reply.specs.Reply.{verdict_text};
 ghost use Rattle.wfc_reply.specs.ReplyView.{reply_view};
 
 use crate::lines::{name, tell_fault};
-use wfc_lines::{budget_spent, check, command, map_exists, no_domains, no_map, out_failed};
+use wfc_lines::{budget_spent, check, command, map_exists, no_domains, no_map, out_failed, stuck};
 use wfc_outside::{Sink, write_all};
 use wfc_plan::{Fault, Source};
 use wfc_reply::{Answer, Stop, Verdict};
@@ -68,5 +68,6 @@ fn tell_verdict<E: Sink>(err: &mut E, request: &Request, verdict: Verdict)
         Verdict::Dead => no_domains(err),
         Verdict::MapExists => map_exists(err),
         Verdict::Unaccepted { fault } => check(err, &fault, name(request, Source::Refutation)),
+        Verdict::Stuck { x, y } => stuck(err, x, y),
     };
 }

@@ -1,9 +1,12 @@
 //! Laws of the definitions, each a function with no body whose contract is the law. They run nothing.
 
 ghost use Rattle.std.specs.Prelude.{Err, List, None, Ok, Some, [], codes, false, ◌↔◌, ◌≡◌};
+ghost use Rattle.wfc_box_commands.specs.BoxFillTask.{box_fill_plan};
+ghost use Rattle.wfc_box_commands.specs.BoxProofs.{box_proofs};
 ghost use Rattle.wfc_choose.specs.declared.RuleKind.{RuleKind};
 ghost use Rattle.wfc_cli.specs.Commands.{command_of};
 ghost use Rattle.wfc_cli.specs.Delivery.{Tells};
+ghost use Rattle.wfc_grow_command.specs.GrowTask.{grow_plan};
 ghost use Rattle.wfc_lines.specs.Outcome.{no_map_text};
 ghost use Rattle.wfc_map_commands.specs.DemoTask.{demo_plan};
 ghost use Rattle.wfc_map_commands.specs.DomainsTask.{domains_plan};
@@ -68,6 +71,14 @@ pub fn commands_are_of_their_kinds()
         (command_of commands.Race).plan kinds asked ≡ race_plan kinds asked }
     ensures explain { (kinds : List RuleKind) (asked : RequestView) →
         (command_of commands.Explain).plan kinds asked ≡ explain_plan kinds asked }
+    ensures grow { (kinds : List RuleKind) (asked : RequestView) →
+        (command_of commands.Grow).plan kinds asked ≡ grow_plan kinds asked }
+    ensures box_fill { (kinds : List RuleKind) (asked : RequestView) →
+        (command_of commands.BoxFill).plan kinds asked ≡ box_fill_plan kinds asked }
+    ensures box_refute { (kinds : List RuleKind) (asked : RequestView) →
+        (command_of commands.BoxRefute).plan kinds asked ≡ refute_plan box_proofs kinds asked }
+    ensures box_check { (kinds : List RuleKind) (asked : RequestView) →
+        (command_of commands.BoxCheck).plan kinds asked ≡ check_plan box_proofs asked }
     ensures own_budget { (asked : RequestView) → (command_of commands.Demo).budget asked ≡ 1000 }
     ensures budget { (asked : RequestView) →
         (command_of commands.Refute).budget asked ≡ asked.budget }

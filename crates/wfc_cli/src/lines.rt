@@ -8,8 +8,8 @@ ghost use Rattle.wfc_reply.specs.FileNames.{name_of};
 
 use wfc_grid::GridFault;
 use wfc_lines::{
-    build, chooser, grid, learn, many_pins, mask, mask_grid, no_memory, palette, pins, ppm, race,
-    range, reading, render, stack, steps, tiles,
+    build, chooser, grid, learn, many_blocks, many_pins, mask, mask_grid, no_memory, palette, pins,
+    ppm, race, range, reading, render, stack, steps, tiles,
 };
 use wfc_outside::{ReadFault, Sink, SinkFault};
 use wfc_plan::{Fault, Refusal, Source};
@@ -112,5 +112,6 @@ fn tell_refusal<E: Sink>(err: &mut E, request: &Request, refusal: Refusal) -> Re
         Refusal::Stacks { fault } => stack(err, fault, name(request, Source::Sample)),
         Refusal::RaceTooLarge { product } => race(err, product),
         Refusal::TooManyPins { count } => many_pins(err, count, name(request, Source::Pins)),
+        Refusal::TooManyBlocks { count } => many_blocks(err, count),
     }
 }

@@ -1,5 +1,6 @@
 //! Tasks by tables: what they come to, and their first faults.
 
+mod boxes;
 mod tiles;
 
 ghost use Rattle.std.specs.Bool.{OnTrue};
@@ -237,8 +238,10 @@ fn task(
         CommandKind::Refute => refute(alloc, request, folder),
         CommandKind::Upgrade => upgrade(alloc, request, folder),
         CommandKind::Check => check(alloc, request, folder),
-        // The problem of `explain` is posed as that of a race; what it answers are rows of the program.
-        CommandKind::Race | CommandKind::Explain => race(alloc, request, folder),
+        CommandKind::Race => race(alloc, request, folder),
+        // The problems of `explain` and `grow` are posed as that of a race, and what they answer are rows of the program;
+        // boxes have a module of their own.
+        _ => race(alloc, request, folder),
     }
 }
 

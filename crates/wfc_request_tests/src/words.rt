@@ -1,11 +1,10 @@
-//! Words read by tables.
+//! Words read by tables: those that are no request, and behind them the requests of others.
+
+mod requests;
 
 use std::alloc::{AllocError, Global};
 use std::process::Abort;
-use std::test::Fail;
-use wfc_choose::RuleKind;
-use wfc_render::Form;
-use wfc_words::{CommandFault, CommandKind, Request, SourceModel, ValueName, request};
+use wfc_words::{CommandFault, Request, ValueName, request};
 
 /// The words of a text, parted by blanks; a word `''` is an empty one.
 fn words(alloc: Global, text: &str) -> Result<Vec<String>, AllocError> {
@@ -23,7 +22,7 @@ fn read(alloc: Global, text: &str) -> Result<Request, CommandFault> {
 }
 
 /// Words that are no command.
-static REFUSED: [&str; 27] = [
+static REFUSED: [&str; 34] = [
     "''",
     "paint chk.txt",
     "Fill chk.txt 2 2 2",
@@ -51,10 +50,17 @@ static REFUSED: [&str; 27] = [
     "demo",
     "demo 1 2",
     "demo 1 --seed 2",
+    "grow chk.txt 2 2",
+    "grow chk.txt 2 2 2 --wrap-out",
+    "grow chk.txt 2 2 2 --mask m.txt",
+    "box-fill a.toml tiles 2 2 2",
+    "box-fill a.toml 2 2 2 --wrap-in",
+    "box-refute a.toml 2 2 2 --form cells",
+    "box-check a.toml 2 2 2",
 ];
 
 /// Words with a value out of its range.
-static VALUES: [(&str, ValueName); 20] = [
+static VALUES: [(&str, ValueName); 28] = [
     ("fill chk.txt 7 2 2", ValueName::Model),
     ("fill chk.txt 0 0 0", ValueName::Model),
     ("fill chk.txt tile 2 2", ValueName::Model),
@@ -81,15 +87,17 @@ static VALUES: [(&str, ValueName); 20] = [
     ("refute chk.txt 2 2 2 --format 3", ValueName::Format),
     ("fill chk.txt 2 3 1 --mask m.txt", ValueName::Mask),
     ("check chk.txt 2 3 1 r.txt --mask=", ValueName::Mask),
-];
-
-/// Words of the same map of tiles, one line for each command.
-static MASKS: [&str; 5] = [
-    "fill a.toml tiles 3 4 --pins p.txt --mask m.txt",
-    "domains a.toml tiles 3 4 --mask=m.txt --pins=p.txt",
-    "refute --mask m.txt a.toml tiles 3 4 --pins p.txt",
-    "check a.toml tiles 3 4 r.txt --mask m.txt --pins p.txt",
-    "upgrade a.toml tiles 3 --pins p.txt 4 --mask m.txt r.txt",
+    ("grow a.toml tiles 2 2", ValueName::Model),
+    (
+        "grow chk.txt 2 2 2 --rule ranked --block 1",
+        ValueName::Rule,
+    ),
+    ("grow chk.txt 2 2 2 --block 1", ValueName::Block),
+    ("grow chk.txt 6 2 2 --block 4097", ValueName::Block),
+    ("box-fill a.toml 2 2 257", ValueName::Depth),
+    ("box-fill a.toml 2 4097 257", ValueName::Height),
+    ("box-refute a.toml 2 2 0", ValueName::Depth),
+    ("box-check a.toml 2 2 x r.txt", ValueName::Depth),
 ];
 
 /// The words of a text have this fault.
@@ -114,131 +122,4 @@ fn names_values(rt: HostRuntime) {
     for (text, name) in &VALUES {
         refuses(&rt, text, CommandFault::Value { name: *name });
     }
-}
-
-/// The sample and the map of `reads_fill`.
-fn has_windows(rt: &impl Abort, asked: &Request) {
-    assert!(rt; asked.command == CommandKind::Fill && asked.file() == "chk.txt");
-    assert!(rt; asked.source == SourceModel::Overlap { n: 6 });
-    assert!(rt; asked.width == 4096 && asked.height == 1 && asked.symmetry == 8);
-}
-
-/// The run and the form of `reads_fill`.
-fn has_run(rt: &impl Abort, asked: &Request) {
-    assert!(rt; asked.seed == 3 && asked.budget == 0 && asked.rule == RuleKind::Ranked);
-    assert!(rt; asked.form == Some(Form::P3) && asked.number == 0 && asked.format == 2);
-}
-
-/// The edges and the files of `reads_fill`.
-fn has_files(rt: &impl Abort, asked: &Request) {
-    assert!(rt; asked.wrap_in && asked.wrap_out && asked.pins() == Some(""));
-    assert!(rt; asked.steps().is_none() && asked.refutation().is_none() && asked.mask().is_none());
-}
-
-#[test]
-fn reads_fill(rt: HostRuntime) -> Result<(), Fail> {
-    let text =
-        "fill --seed=3 chk.txt 006 --budget 0 4096 1 --symmetry 8 --wrap-in --wrap-out --pins= --rule ranked --form p3";
-    let asked = read(rt.alloc(), text)?;
-    has_windows(&rt, &asked);
-    has_run(&rt, &asked);
-    has_files(&rt, &asked);
-    Ok(())
-}
-
-#[test]
-fn reads_learn(rt: HostRuntime) -> Result<(), Fail> {
-    let plain = read(rt.alloc(), "learn - tiles")?;
-    assert!(rt;
-        plain.command == CommandKind::Learn
-            && plain.file() == "-"
-            && plain.source == SourceModel::Tiles
-    );
-    Ok(())
-}
-
-#[test]
-fn reads_domains(rt: HostRuntime) -> Result<(), Fail> {
-    let steps = read(rt.alloc(), "domains -- --a 2 3 4")?;
-    assert!(rt;
-        steps.file() == "--a" && steps.steps().is_none() && steps.width == 3 && steps.height == 4
-    );
-    Ok(())
-}
-
-#[test]
-fn reads_steps(rt: HostRuntime) -> Result<(), Fail> {
-    let steps = read(rt.alloc(), "domains a tiles 3 4 --steps s")?;
-    assert!(rt; steps.steps() == Some("s") && steps.mask().is_none() && !steps.wrap_in);
-    Ok(())
-}
-
-#[test]
-fn reads_refute(rt: HostRuntime) -> Result<(), Fail> {
-    let refuted = read(
-        rt.alloc(),
-        "refute a 2 3 4 --seed 18446744073709551615 --format 1",
-    )?;
-    assert!(rt;
-        refuted.seed == u64::MAX && refuted.format == 1 && refuted.rule == RuleKind::Fewest
-    );
-    Ok(())
-}
-
-#[test]
-fn reads_check(rt: HostRuntime) -> Result<(), Fail> {
-    let checked = read(rt.alloc(), "check a 2 3 4 r")?;
-    assert!(rt;
-        checked.refutation() == Some("r") && checked.budget == 1_000_000 && checked.symmetry == 1
-    );
-    Ok(())
-}
-
-#[test]
-fn reads_upgrade(rt: HostRuntime) -> Result<(), Fail> {
-    let upgraded = read(rt.alloc(), "upgrade a 2 3 4 r")?;
-    assert!(rt; upgraded.command == CommandKind::Upgrade && upgraded.form.is_none());
-    Ok(())
-}
-
-#[test]
-fn reads_demo(rt: HostRuntime) -> Result<(), Fail> {
-    let shown = read(rt.alloc(), "demo 0001000000")?;
-    assert!(rt;
-        shown.number == 1_000_000
-            && shown.file() == ""
-            && shown.source == SourceModel::Overlap { n: 0 }
-    );
-    Ok(())
-}
-
-/// A text asks for the map of tiles with these pins and this mask.
-fn reads_mask(rt: &(impl Abort + AllocGlobal), text: &str) -> Result<(), Fail> {
-    let asked = read(rt.alloc(), text)?;
-    has_tiles(rt, text, &asked);
-    has_mask(rt, text, &asked);
-    Ok(())
-}
-
-/// The map of tiles of `MASKS`.
-fn has_tiles(rt: &impl Abort, text: &str, asked: &Request) {
-    let of_tiles = asked.source == SourceModel::Tiles && asked.file() == "a.toml";
-    assert!(rt;
-        of_tiles && asked.width == 3 && asked.height == 4,
-        "of {text:?}"
-    );
-}
-
-/// The pins and the mask of `MASKS`.
-fn has_mask(rt: &impl Abort, text: &str, asked: &Request) {
-    let pinned = asked.pins() == Some("p.txt");
-    assert!(rt; pinned && asked.mask() == Some("m.txt"), "of {text:?}");
-}
-
-#[test]
-fn reads_masks(rt: HostRuntime) -> Result<(), Fail> {
-    for text in &MASKS {
-        reads_mask(&rt, text)?;
-    }
-    Ok(())
 }

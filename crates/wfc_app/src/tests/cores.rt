@@ -169,7 +169,11 @@ fn text_of(
 }
 
 /// The files of the tests, with this pins file and this refutation.
-fn folder_with(alloc: Global, pins: Vec<u8>, refutation: &[u8]) -> Result<MemoryFolder, Fail> {
+pub(super) fn folder_with(
+    alloc: Global,
+    pins: Vec<u8>,
+    refutation: &[u8],
+) -> Result<MemoryFolder, Fail> {
     let mut folder = folder_of(alloc, 4000)?;
     folder.add(String::from_str(alloc, "lines")?, pins)?;
     folder.add(

@@ -1,11 +1,13 @@
 use Rattle.std.proofs.Common.{ap, refl, sym, ◌∙◌}
+use Rattle.wfc_box_commands.proofs.CallerLemmas.{command_frame}
 use Rattle.wfc_cli.proofs.DeliveryLemmas.{ends_of}
 use Rattle.wfc_cli.proofs.commands.run.Goals as goal
+use Rattle.wfc_grow_command.proofs.CallerLemmas.{grow_asked}
 use Rattle.wfc_reply.proofs.CallerLemmas.{put_reply}
 use Rattle.wfc_run_commands.proofs.CallerLemmas.{explain_asked, runners_asked}
 use Rattle.wfc_task.proofs.CallerLemmas.{command_output, command_source}
 use Rattle.wfc_words.specs.RequestView.{RequestView}
-use Rattle.wfc_words.specs.declared.kinds.CommandKind.TheVariants.{Check, Demo, Domains, Explain, Fill, Learn, Race, Refute, Upgrade}
+use Rattle.wfc_words.specs.declared.kinds.CommandKind.TheVariants.{BoxCheck, BoxFill, BoxRefute, Check, Demo, Domains, Explain, Fill, Grow, Learn, Race, Refute, Upgrade}
 
 pub learn-requires : goal.learn-requires
 learn-requires g c = record { source = command_source c.args.request.now Learn c.requires.in_range (sym (ap (λ (r : RequestView). r.command) c.request.view_is) ∙ c.in-Learn.is) refl }
@@ -84,3 +86,36 @@ explain-requires-clause-asked g c = explain_asked c.args.request.now c.requires.
 
 pub returns-in-Explain : goal.returns-in-Explain
 returns-in-Explain g c = record { ends = ends_of _ c.args.request.now Explain _ _ _ _ _ (sym (ap (λ (r : RequestView). r.command) c.request.view_is) ∙ c.in-Explain.is) (put_reply _ _ _ _ _ _ _ _ c.explain.ensures.ends c.put-in-Explain.ensures.leaves) }
+
+pub grow-requires-clause-output : goal.grow-requires-clause-output
+grow-requires-clause-output g c = command_output c.args.request.now Grow c.requires.in_range (sym (ap (λ (r : RequestView). r.command) c.request.view_is) ∙ c.in-Grow.is) refl refl
+
+pub grow-requires-clause-asked : goal.grow-requires-clause-asked
+grow-requires-clause-asked g c = grow_asked c.args.request.now c.requires.in_range (sym (ap (λ (r : RequestView). r.command) c.request.view_is) ∙ c.in-Grow.is)
+
+pub returns-in-Grow : goal.returns-in-Grow
+returns-in-Grow g c = record { ends = ends_of _ c.args.request.now Grow _ _ _ _ _ (sym (ap (λ (r : RequestView). r.command) c.request.view_is) ∙ c.in-Grow.is) c.grow.ensures.ends }
+
+pub box_fill-requires : goal.box_fill-requires
+box_fill-requires g c = record {
+  frame = command_frame BoxFill c.args.request.now (record { width = refl; height = refl; depth = refl }) c.requires.in_range (sym (ap (λ (r : RequestView). r.command) c.request.view_is) ∙ c.in-BoxFill.is);
+}
+
+pub returns-in-BoxFill : goal.returns-in-BoxFill
+returns-in-BoxFill g c = record { ends = ends_of _ c.args.request.now BoxFill _ _ _ _ _ (sym (ap (λ (r : RequestView). r.command) c.request.view_is) ∙ c.in-BoxFill.is) (put_reply _ _ _ _ _ _ _ _ c.box_fill.ensures.ends c.put-in-BoxFill.ensures.leaves) }
+
+pub box_refute-requires : goal.box_refute-requires
+box_refute-requires g c = record {
+  frame = command_frame BoxRefute c.args.request.now (record { width = refl; height = refl; depth = refl }) c.requires.in_range (sym (ap (λ (r : RequestView). r.command) c.request.view_is) ∙ c.in-BoxRefute.is);
+}
+
+pub returns-in-BoxRefute : goal.returns-in-BoxRefute
+returns-in-BoxRefute g c = record { ends = ends_of _ c.args.request.now BoxRefute _ _ _ _ _ (sym (ap (λ (r : RequestView). r.command) c.request.view_is) ∙ c.in-BoxRefute.is) c.box_refute.ensures.ends }
+
+pub box_check-requires : goal.box_check-requires
+box_check-requires g c = record {
+  frame = command_frame BoxCheck c.args.request.now (record { width = refl; height = refl; depth = refl }) c.requires.in_range (sym (ap (λ (r : RequestView). r.command) c.request.view_is) ∙ c.in-BoxCheck.is);
+}
+
+pub returns-in-BoxCheck : goal.returns-in-BoxCheck
+returns-in-BoxCheck g c = record { ends = ends_of _ c.args.request.now BoxCheck _ _ _ _ _ (sym (ap (λ (r : RequestView). r.command) c.request.view_is) ∙ c.in-BoxCheck.is) (put_reply _ _ _ _ _ _ _ _ c.box_check.ensures.ends c.put-in-BoxCheck.ensures.leaves) }

@@ -1,7 +1,9 @@
 use Rattle.std.proofs.Common.{List}
+use Rattle.wfc_box_commands.proofs.CallerLemmas.{faults_box_check, faults_box_fill, faults_box_refute}
 use Rattle.wfc_choose.specs.declared.RuleKind.{RuleKind}
 use Rattle.wfc_cli.proofs.laws.commands_refuse_in_order.Goals as goal
 use Rattle.wfc_cli.specs.Commands.{command_of}
+use Rattle.wfc_grow_command.proofs.CallerLemmas.{faults_grow}
 use Rattle.wfc_map_commands.proofs.CallerLemmas.{faults_demo, faults_domains, faults_fill, faults_learn}
 use Rattle.wfc_outside.specs.Folder.{File}
 use Rattle.wfc_plan.proofs.CallerLemmas.{Faults, made_in_order}
@@ -24,6 +26,10 @@ faults_of commands.Check kinds asked files = faults_check asked files
 faults_of commands.Upgrade kinds asked files = faults_upgrade asked files
 faults_of commands.Race kinds asked files = faults_race kinds asked files
 faults_of commands.Explain kinds asked files = faults_explain kinds asked files
+faults_of commands.Grow kinds asked files = faults_grow kinds asked files
+faults_of commands.BoxFill kinds asked files = faults_box_fill kinds asked files
+faults_of commands.BoxRefute kinds asked files = faults_box_refute kinds asked files
+faults_of commands.BoxCheck kinds asked files = faults_box_check asked files
 
 pub returns-clause-refused : goal.returns-clause-refused
 returns-clause-refused c = faults_of

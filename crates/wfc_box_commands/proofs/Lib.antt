@@ -1,0 +1,9 @@
+pub mod BoxPlanLemmas
+pub mod BoxGivenLemmas
+pub mod BoxFillGivenLemmas
+pub mod BoxOrderLemmas
+pub mod BoxKindLemmas
+pub mod BoxPromiseLemmas
+pub mod BoxTextLemmas
+pub mod BoxCallLemmas
+pub mod CallerLemmas

@@ -1,0 +1,15 @@
+pub mod BoxSteps
+pub mod BoxPlans
+pub mod BoxGiven
+pub mod BoxStages
+pub mod BoxOrder
+pub mod BoxMaps
+pub mod BoxProofs
+pub mod BoxFillGiven
+pub mod BoxFillTask
+pub mod BoxFilling
+pub mod BoxFillAnswer
+pub mod BoxFillCommand
+pub mod BoxClaims
+pub mod BoxProofCommands
+pub mod Small

@@ -1,0 +1,10 @@
+pub mod GrowAskedLemmas
+pub mod GrowGivenLemmas
+pub mod GrowOrderLemmas
+pub mod GrowingLemmas
+pub mod GrowEndLemmas
+pub mod StuckProblemLemmas
+pub mod GrowWorkLemmas
+pub mod GrowStuckLemmas
+pub mod GrowPromiseLemmas
+pub mod CallerLemmas

@@ -1,0 +1,169 @@
+-- What `grow` promises, in the words of its subject.
+use Rattle.std.specs.Prelude.{Contains, List, Ok, Some, false, ℕ, ◌+◌, ◌++◌, ◌≡◌, ◌≤◌, ◌⊎◌}
+use Rattle.wfc_blocks.specs.Blocks.{blocks_of}
+use Rattle.wfc_blocks.specs.Canvas.{Canvas}
+use Rattle.wfc_blocks.specs.Growth.{problem_of_block}
+use Rattle.wfc_blocks.specs.Grown.{terms_with}
+use Rattle.wfc_blocks.specs.StuckView.{StuckView}
+use Rattle.wfc_blocks.specs.declared.block.Block.{Block}
+use Rattle.wfc_blocks.specs.declared.grown.Grown.{Grown}
+use Rattle.wfc_blocks.specs.declared.grown.Grown.TheVariants as grown
+use Rattle.wfc_choose.specs.Pick.{Rule}
+use Rattle.wfc_grow_command.specs.GrowAnswer.{IsProblemOfStuck, IsGrowthBy, stuck_start, stuck_run_text}
+use Rattle.wfc_grow_command.specs.GrowGiven.{IsGrowTask}
+use Rattle.wfc_grow_command.specs.GrowTask.{GrowTask, area_asked}
+use Rattle.wfc_grow_command.specs.StuckText.{block_shape, stuck_text}
+use Rattle.wfc_model.specs.Legal.{IsLegalPicture, Pin, Rules}
+use Rattle.wfc_model.specs.Raster.{Raster}
+use Rattle.wfc_outside.specs.Folder.{File}
+use Rattle.wfc_outside.specs.Sink.{SinkView, after_bytes, after_finish}
+use Rattle.wfc_overlap.specs.Built.{pins_in, texts_of}
+use Rattle.wfc_problem.specs.Network.{Network}
+use Rattle.wfc_proof.specs.ProofText.{IsProofText}
+use Rattle.wfc_proof.specs.declared.Line.{Line}
+use Rattle.wfc_render.specs.Map.{map_text}
+use Rattle.wfc_reply.specs.Asking.{Promises}
+use Rattle.wfc_reply.specs.Call.{Call}
+use Rattle.wfc_reply.specs.Choosers.{first_rule, kinds_of}
+use Rattle.wfc_reply.specs.CutClaims.{CutsText}
+use Rattle.wfc_reply.specs.Reply.{HasAnswer}
+use Rattle.wfc_reply.specs.RunText.{IsFrontOfText, IsToldBy}
+use Rattle.wfc_search.specs.Volume.{volume_of}
+use Rattle.wfc_search.specs.declared.Outcome.TheVariants as outcome
+use Rattle.wfc_task.specs.Sources.{side_of}
+use Rattle.wfc_words.specs.RequestView.{RequestView}
+use Rattle.wfc_words.specs.declared.kinds.CommandKind.TheVariants as commands
+
+-- what `grow` works on over these files, and the rule that it goes by
+pub record GrowWork (rules : List Rule) (asked : RequestView) (files : List File) : Type 0 where
+  pub task : GrowTask
+  pub given : IsGrowTask (kinds_of rules) asked files task
+  pub rule : Rule
+  pub first : first_rule asked.rule rules ≡ Some rule
+
+-- how windows are taken from the sample and compared with those of the map, which doesn't wrap
+abbrev pub grow_rules : RequestView → Rules
+grow_rules asked =
+    record { n = side_of asked.source; symmetry = asked.symmetry; wrap_in = asked.wrap_in; wrap_out = false }
+
+-- the growth of this work ends so
+abbrev pub GrowsTo : {rules : List Rule} {files : List File} (asked : RequestView) → GrowWork rules asked files → Grown → Type 0
+GrowsTo asked work made = IsGrowthBy asked work.task work.rule made
+
+-- the map is one of the whole size, whose windows are all learned from the sample, and all pins and bans hold
+abbrev pub IsGrownMap : {rules : List Rule} {files : List File} (asked : RequestView) → GrowWork rules asked files → Raster → Type 0
+IsGrownMap asked work m =
+    IsLegalPicture work.given.sample.picture (grow_rules asked) work.given.pins asked.width asked.height m
+
+-- the text of a map of this work
+abbrev pub text_of_grown : {rules : List Rule} {files : List File} (asked : RequestView) → GrowWork rules asked files → Raster → List ℕ
+text_of_grown asked work m = map_text work.task.layout work.task.palette m
+
+-- status 0 of `grow`: the whole text of a legal map was written, and finished
+abbrev pub WritesGrownMap : Call → RequestView → List File → Type 0
+WritesGrownMap call asked files =
+    call.status ≡ 0
+    → (work : GrowWork call.rules asked files) × (m : Raster) × IsGrownMap asked work m
+    × (call.after.out ≡ after_finish (after_bytes call.before.out (text_of_grown asked work m)))
+
+-- the block is one of the map's, and its lines of pins, as they are written, mean pins that no map of it holds
+pub record IsStuckBlock {rules : List Rule} {files : List File} (asked : RequestView) (work : GrowWork rules asked files)
+    (stuck : StuckView) : Type 0 where
+  pub among : Contains (blocks_of work.task.patterns.n (area_asked asked)) stuck.block
+  pub pins : List Pin
+  pub meant : pins_in (texts_of work.task.palette) stuck.block.width stuck.block.height stuck.pins ≡ Ok pins
+  pub none : (m : Raster) → IsLegalPicture work.given.sample.picture (grow_rules asked) pins stuck.block.width
+      stuck.block.height m → ⊥
+
+-- a refutation of the problem that these lines make of the block, with the block's shape, which is what `check` accepts
+pub record IsStuckProof {rules : List Rule} {files : List File} (asked : RequestView) (work : GrowWork rules asked files)
+    (stuck : StuckView) (proof : List ℕ) : Type 0 where
+  pub P : Network
+  pub problem : IsProblemOfStuck work.task stuck P
+  pub refutes : IsProofText P (block_shape asked stuck.block) proof
+
+-- the text of a stuck block and this refutation were written, and finished
+abbrev pub WritesBehind : Call → StuckView → List ℕ → Type 0
+WritesBehind call stuck proof =
+    call.after.out ≡ after_finish (after_bytes call.before.out (stuck_text stuck ++ proof))
+
+-- status 8 of `grow`: the block that is named is stuck
+abbrev pub WritesStuckBlock : Call → RequestView → List File → Type 0
+WritesStuckBlock call asked files =
+    call.status ≡ 8
+    → (work : GrowWork call.rules asked files) × (stuck : StuckView) × IsStuckBlock asked work stuck
+    × (proof : List ℕ) × WritesBehind call stuck proof
+
+-- status 8 of `grow`: behind its pins stands a refutation of it
+abbrev pub WritesStuckProof : Call → RequestView → List File → Type 0
+WritesStuckProof call asked files =
+    call.status ≡ 8
+    → (work : GrowWork call.rules asked files) × (stuck : StuckView) × (proof : List ℕ)
+    × IsStuckProof asked work stuck proof × WritesBehind call stuck proof
+
+-- the lines that the run of a stuck block tells were written behind its pins
+pub record WritesStuckRun {rules : List Rule} {files : List File} (asked : RequestView) (work : GrowWork rules asked files)
+    (stuck : StuckView) (before after : SinkView) : Type 0 where
+  pub P : Network
+  pub problem : IsProblemOfStuck work.task stuck P
+  pub lines : List Line
+  pub told : IsToldBy work.rule asked.budget P (stuck_start asked stuck) outcome.NoMap lines
+  pub written : after ≡ after_finish (after_bytes before (stuck_run_text asked stuck P lines))
+
+-- what was written is that of this end of growth, and the status is its own
+abbrev pub WritesGrown : {rules : List Rule} {files : List File} (asked : RequestView) → GrowWork rules asked files → Call → Grown → Type 0
+WritesGrown asked work call (grown.Map m) =
+    (call.status ≡ 0) × (call.after.out ≡ after_finish (after_bytes call.before.out (text_of_grown asked work m)))
+WritesGrown asked work call (grown.Stuck stuck) =
+    (call.status ≡ 8) × WritesStuckRun asked work stuck call.before.out call.after.out
+WritesGrown asked work call grown.Spent = (call.status ≡ 2) × (call.after.out ≡ call.before.out)
+
+-- statuses 0, 2 and 8 of `grow`: its growth by the rule, the budget of each block and the seed asked for sets every block,
+-- is spent, or is stuck at one, in this order, and what is written is what that gives
+abbrev pub IsAsGrown : Call → RequestView → List File → Type 0
+IsAsGrown call asked files =
+    HasAnswer call.status
+    → (work : GrowWork call.rules asked files) × (made : Grown) × GrowsTo asked work made × WritesGrown asked work call made
+
+-- with status 2 of `grow` the budget is below the volume of the problem of some block
+abbrev pub IsSpentBelow : Call → RequestView → List File → Type 0
+IsSpentBelow call asked files =
+    call.status ≡ 2
+    → (work : GrowWork call.rules asked files) × (block : Block) × (canvas : Canvas)
+    × Contains (blocks_of work.task.patterns.n (area_asked asked)) block
+    × (asked.budget + 1 ≤ volume_of (problem_of_block
+    (terms_with work.task.patterns work.rule asked.budget asked.seed work.given.pins) canvas block))
+
+-- the text of an end of growth: that of its map; or the block and its pins, alone or with a front of the text of a run of
+-- the block's problem behind them
+abbrev pub IsTextOfGrown : {rules : List Rule} {files : List File} (asked : RequestView) → GrowWork rules asked files → Grown → List ℕ → Type 0
+IsTextOfGrown asked work (grown.Map m) text = text ≡ text_of_grown asked work m
+IsTextOfGrown asked work (grown.Stuck stuck) text =
+    (text ≡ stuck_text stuck)
+    ⊎ ((P : Network) × IsProblemOfStuck work.task stuck P × (run : List ℕ)
+    × IsFrontOfText P (block_shape asked stuck.block) run × (text ≡ stuck_text stuck ++ run))
+IsTextOfGrown asked work grown.Spent text = ⊥
+
+-- it is the text of the growth of this work
+abbrev pub IsGrowText : List Rule → RequestView → List File → List ℕ → Type 0
+IsGrowText rules asked files text =
+    (work : GrowWork rules asked files) × (made : Grown) × GrowsTo asked work made × IsTextOfGrown asked work made text
+
+-- what a call promises of a request for `grow`
+pub record GrowPromise (call : Call) (asked : RequestView) (files : List File) : Type 0 where
+  -- with status 0 a legal map of the whole size was written
+  pub legal : WritesGrownMap call asked files
+  -- with status 8 the block that is written admits no map with the pins that are written
+  pub stuck : WritesStuckBlock call asked files
+  -- and behind these pins stands a refutation of it
+  pub refuted : WritesStuckProof call asked files
+  -- the status and what is written are those of the defined growth
+  pub as_grown : IsAsGrown call asked files
+  -- a budget that was spent is below the volume of the problem of a block
+  pub spent : IsSpentBelow call asked files
+  -- with status 5 nothing was written, or a front of the text of the growth
+  pub front : CutsText (IsGrowText call.rules) call asked files
+
+-- this, of each request over told files
+abbrev pub GrowPromises : Call → Type 0
+GrowPromises call = Promises commands.Grow GrowPromise call

@@ -1,0 +1,80 @@
+//! Laws of the definitions, each a function with no body whose contract is the law. They run nothing.
+
+ghost use Rattle.std.specs.Prelude.{List, Ok, [], codes, false, true, ◌++◌, ◌↔◌, ◌∷◌, ◌≡◌};
+ghost use Rattle.wfc_blocks.specs.Blocks.{area_with};
+ghost use Rattle.wfc_blocks.specs.Small.{block_with};
+ghost use Rattle.wfc_blocks.specs.declared.grown.GrowFault.TheVariants as faults;
+ghost use Rattle.wfc_choose.specs.declared.RuleKind.{RuleKind};
+ghost use Rattle.wfc_grow_command.specs.GrowAnswer.{stuck_verdict};
+ghost use Rattle.wfc_grow_command.specs.GrowClaims.{grow_rules};
+ghost use Rattle.wfc_grow_command.specs.GrowGiven.{IsGrowTask};
+ghost use Rattle.wfc_grow_command.specs.GrowTask.{GrowTask, area_asked, grow_plan, grow_refusal};
+ghost use Rattle.wfc_grow_command.specs.StuckText.{block_writing, pin_text, stuck_text};
+ghost use Rattle.wfc_grow_command.specs.declared.growing.TheConstants.{GROW_CHOOSERS};
+ghost use Rattle.wfc_outside.specs.Folder.{File};
+ghost use Rattle.wfc_pins.specs.Pins.{pins_of};
+ghost use Rattle.wfc_pins.specs.declared.fault.BuildFault.TheVariants as builds;
+ghost use Rattle.wfc_plan.specs.Plan.{outcome};
+ghost use Rattle.wfc_plan.specs.declared.fault.Refusal.TheVariants as refusals;
+ghost use Rattle.wfc_render.specs.declared.form.Form.TheVariants.{P6};
+ghost use Rattle.wfc_reply.specs.declared.reply.Verdict.TheVariants as verdicts;
+ghost use Rattle.wfc_task.specs.Small.{sample_asked};
+ghost use Rattle.wfc_words.specs.RequestView.{RequestView};
+
+/// `grow` comes to this task exactly where a chooser is there for each block that a map may have and one more, the sample,
+/// the layout and the lines of pins are those of the request, and the map can be grown.
+pub fn grow_tasks_are_given()
+    ensures task { (kinds : List RuleKind) (asked : RequestView) (files : List File)
+        (task : GrowTask) → (outcome (grow_plan kinds asked) files ≡ Ok task)
+        ↔ IsGrowTask kinds asked files task }
+    ensures choosers { GROW_CHOOSERS ≡ 65 }
+{}
+
+/// The refusals of growth: too many blocks have their own, and the others are those of a problem.
+pub fn growth_is_refused_so()
+    ensures side { grow_refusal faults.SizeBelowN ≡ refusals.Build builds.SizeBelowN }
+    ensures blocks { grow_refusal (faults.TooManyBlocks 81) ≡ refusals.TooManyBlocks 81 }
+    ensures pairs { grow_refusal (faults.TooLarge 9) ≡ refusals.Build (builds.TooLarge 9) }
+    ensures outside { grow_refusal (faults.PinOutside 3) ≡ refusals.Build (builds.PinOutside 3) }
+    ensures symbol { grow_refusal (faults.UnknownSymbol 4)
+        ≡ refusals.Build (builds.UnknownSymbol 4) }
+    ensures memory { grow_refusal faults.NoMemory ≡ refusals.NoMemory }
+{}
+
+/// What is asked for: the sides of the map and of its blocks, and windows of the sample on a map that doesn't wrap.
+pub fn growth_is_asked_so()
+    ensures area { area_asked (record (sample_asked 2 P6) { width = 7; height = 5; block = 3 })
+        ≡ area_with 7 5 3 }
+    ensures rules { grow_rules (record (sample_asked 2 P6) { symmetry = 8; wrap_in = true })
+        ≡ record { n = 2; symmetry = 8; wrap_in = true; wrap_out = false } }
+{}
+
+/// What is written of a stuck block, by example: its lines are those of a pins file.
+pub fn stuck_blocks_are_written_so()
+    ensures text { stuck_text (record {
+      block = block_with 5 12 7 3 4;
+      pins = record { line = 0; keep = true; x = 1; y = 10; symbol = codes "a" }
+          ∷ record { line = 6; keep = false; x = 2; y = 0; symbol = codes "1,2,3" } ∷ [];
+    }) ≡ codes "stuck 12 7 3 4 pins 2\npin 1 10 a\nban 2 0 1,2,3\n" }
+    ensures read { pins_of (pin_text (record { line = 0; keep = true; x = 1; y = 10; symbol = codes "a" })
+        ++ pin_text (record { line = 6; keep = false; x = 2; y = 0; symbol = codes "b" }))
+        ≡ Ok (record { line = 1; keep = true; x = 1; y = 10; symbol = codes "a" }
+        ∷ record { line = 2; keep = false; x = 2; y = 0; symbol = codes "b" } ∷ []) }
+    ensures verdict { stuck_verdict (record { block = block_with 5 12 7 3 4; pins = [] })
+        ≡ verdicts.Stuck 12 7 }
+    ensures writing { block_writing (record (sample_asked 2 P6) { seed = 100; budget = 9; symmetry = 8 })
+        (block_with 5 12 7 3 4) ≡ record {
+          format = 2;
+          shape = record {
+            n = 2;
+            width = 3;
+            height = 4;
+            depth = 1;
+            symmetry = 8;
+            wrap_in = false;
+            wrap_out = false;
+          };
+          budget = 9;
+          seed = 105;
+        } }
+{}
