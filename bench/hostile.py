@@ -12,8 +12,13 @@ allocations  each request for memory is refused in turn, and then it and all beh
              and refuses the requests; cc builds it.
 memory       the program under a limit of its address space (ulimit -v), at twenty sizes from the least at which it starts to one at
              which it answers.
+writings     each writing to the output fails in turn; and each takes few bytes.
+readings     each reading of a file fails in turn; and each gives few bytes.
+changes      a file is cut, written over, exchanged, removed, or grows while it is read (bench/failing.py, bench/devices.c).
 devices      full, closed and missing devices; names that are no files.
 limits       each limit of docs/commands.md and docs/formats.md at its last value and one past it.
+
+Of commands that PROGRAM lacks it says so, and leaves their cases out.
 
 --only WORD runs the cases whose name has the word. --slow adds the refutations at the limit of their length, which take 4.3 GB of disk and
 ten minutes each at most. What needs another user is left out where the script doesn't run as root. Each case is one line; the last line counts
@@ -33,6 +38,7 @@ import time
 
 sys.path.insert(0, os.path.dirname(os.path.abspath(__file__)))
 import bench  # noqa: E402  the windows of a map, as the reference has them
+import failing  # noqa: E402
 
 HERE = os.path.dirname(os.path.abspath(__file__))
 ROOT = os.path.dirname(HERE)
@@ -55,6 +61,13 @@ SMALL = {
     "corner.toml": "[[tile]]\nname = 'corner'\nclass = 'L'\npicture = 'corner.txt'\n[[pair]]\nleft = 'corner 1'\nright = 'corner 2'\n",
     "corner.txt": "#.\n..\n",
     "corner.pins": "pin 0 0 corner/1\npin 1 0 corner/2\n",
+    "clash.pins": "pin 0 0 corner/1\nban 1 0 corner/2\n",
+    "three.pins": "pin 0 0 a\npin 0 0 b\npin 2 2 a\n",
+    "tower.toml": "[[tile]]\nname = 'line'\nclass = 'I'\n[[pair]]\nleft = 'line 0'\nright = 'line 0'\n[[stack]]\nlower = 'line 0'\nupper = 'line 1'\n",
+    "cube.toml": "[[tile]]\nname = 't0'\nclass = 'X'\n[[pair]]\nleft = 't0'\nright = 't0'\n[[stack]]\nlower = 't0'\nupper = 't0'\n",
+    "tower.pins": "pin 0 0 0 line/0\n",
+    "last_clash.pins": "ban 8 8 a\nban 8 8 b\n",
+    "box.ref": "wfc-refutation 1\ncells 4 values 2\nr 0 1 2\nr 2 1 2\nr 0 0 4\nx 0\nq\n",
 }
 STEPS = (
     "step 0\n0: 0 1\n1: 0 1\n2: 0 1\nstep 1\n0: 0\n1: 1\n2: 0\nstep 2\ndead\n"
@@ -74,6 +87,17 @@ class Bench:
         os.chmod(self.program, 0o755)
         os.chmod(folder, 0o755)
         self.right = self.wrong = 0
+        self.lacking = set()
+
+    def has(self, line):
+        """Whether the program has the command of a line: it refuses the word of one that it lacks, and no other word of the line."""
+        return line.split()[0] not in self.lacking
+
+    def probe(self):
+        for command, line in PROBES.items():
+            if self.run(line.split())[2] == b"wfc: command refused\n":
+                self.lacking.add(command)
+                print(f"lacks  {command}: its cases are left out", flush=True)
 
     def wants(self, name):
         return not self.only or self.only in name
@@ -119,7 +143,7 @@ class Bench:
 
     def check(self, name, line, status, out="", err="", **how):
         """One case: the words of a line, and what comes of it. An `out` that is no text is a test of the bytes."""
-        if not self.wants(name):
+        if not self.wants(name) or (isinstance(line, str) and not self.has(line)):
             return
         words = line.split() if isinstance(line, str) else line
         begun = time.monotonic()
@@ -158,15 +182,56 @@ def is_town(out):
     return all(window in known for window in bench.windows(rows, 3, False))
 
 
+STUCK = b"stuck 1 0 2 2 pins 2\npin 0 0 b\npin 0 1 a\nwfc-refutation 2\ncells 1 values 1\nfor 2 2 2 1 1 0 0\nx 0\nq\n"
+TOWER = b"layer 0\n0\nlayer 1\n1\nlayer 2\n0\n"
+
+
+class Row:
+    """A line with what it answers where nothing fails."""
+
+    def __init__(self, name, line, is_right, status=0, err=b"", reads=True):
+        self.name, self.line, self.is_right, self.status, self.err, self.reads = name, line, is_right, status, err, reads
+
+    def is_right_whole(self, got):
+        return got[0] == self.status and self.is_right(got[1]) and got[2] == self.err
+
+
+def exactly(text):
+    return lambda out: out == text
+
+
 ROWS = [
-    ("a grid", "fill chk.txt 2 2 2", lambda out: out == b"ab\nba\n"),
-    ("domains", "domains chk.txt 2 4 2 --wrap-in --steps two.steps", lambda out: out == STEPS.encode()),
-    ("a town", FILL_TOWN, is_town),
-    ("tiles", "fill corner.toml tiles 2 1 --pins corner.pins", lambda out: out == b"....\n#..#\n"),
-    ("a refutation", "refute chk.txt 2 3 2 --format 1", lambda out: out == PROOF.encode()),
-    ("a check", "check chk.txt 2 3 2 one.ref", lambda out: out == b"accepted\n"),
-    ("learning", "learn chk.txt 2 --wrap-in", lambda out: out.startswith(b"overlap 2\ncolours 2\n0 a\n1 b\npatterns 2\n")),
+    Row("a grid", "fill chk.txt 2 2 2", exactly(b"ab\nba\n")),
+    Row("domains", "domains chk.txt 2 4 2 --wrap-in --steps two.steps", exactly(STEPS.encode())),
+    Row("a town", FILL_TOWN, is_town),
+    Row("tiles", "fill corner.toml tiles 2 1 --pins corner.pins", exactly(b"....\n#..#\n")),
+    Row("a refutation", "refute chk.txt 2 3 2 --format 1", exactly(PROOF.encode())),
+    Row("a journal", "refute chk.txt 2 2 2", lambda out: out.endswith(b"\ns\n"), 1, b"wfc: map exists\n"),
+    Row("a check", "check chk.txt 2 3 2 one.ref", exactly(b"accepted\n")),
+    Row("an upgrade", "upgrade chk.txt 2 3 2 one.ref", exactly(b"wfc-refutation 2\ncells 2 values 1\nfor 2 3 2 1 1 0 0\nr 0 0 0 2\nx 0\nq\n")),
+    Row("learning", "learn chk.txt 2 --wrap-in", lambda out: out.startswith(b"overlap 2\ncolours 2\n0 a\n1 b\npatterns 2\n")),
+    Row("a demonstration", "demo 0", exactly(b"patterns 9\ncells 2116\nretractions 0\nstatus 0\n"), reads=False),
+    Row("a race", "race chk.txt 2 2 2 --seeds 2", exactly(b"seed 0 retractions 0 map\n")),
+    Row("a race of eight", FILL_TOWN.replace("fill", "race") + " --seeds 8", lambda out: out.startswith(b"seed ") and out.endswith(b" retractions 0 map\n")),
+    Row("a race of tiles", "race corner.toml tiles 2 1 --pins corner.pins --seeds 3 --quantum 9", exactly(b"seed 0 retractions 0 map\n")),
+    Row("a race without a map", "race chk.txt 2 3 2 --seeds 2", exactly(b"seed 0 retractions 0 no map\n"), 1, b"wfc: no map\n"),
+    Row("a core", "explain chk.txt 2 3 3 --wrap-in --pins three.pins", exactly(b"core 2\nneeded 2\nneeded 3\n")),
+    Row("a core of tiles", "explain corner.toml tiles 2 1 --pins clash.pins", exactly(b"core 2\nneeded 1\nneeded 2\n")),
+    Row("a grown map", "grow chk.txt 2 4 4 --wrap-in --block 3 --seed 1", lambda out: out.split() in ([b"abab", b"baba"] * 2, [b"baba", b"abab"] * 2)),
+    Row("a stuck block", "grow chk.txt 2 3 2 --block 2", exactly(STUCK), 8, b"wfc: grow stuck x=1 y=0\n"),
+    Row("a grown town", FILL_TOWN.replace("fill", "grow") + " --block 20", is_town),
+    Row("a box", "box-fill tower.toml 1 1 3 --pins tower.pins", exactly(TOWER)),
+    Row("a refutation of a box", "box-refute tower.toml 2 1 2", lambda out: out.startswith(b"wfc-refutation 2\ncells 4 values 2\nfor 0 2 1 2 1 0 0\n") and out.endswith(b"q\n")),
+    Row("a check of a box", "box-check tower.toml 2 1 2 box.ref", exactly(b"accepted\n")),
 ]
+PROBES = {
+    "race": "race chk.txt 2 2 2 --seeds 2",
+    "explain": "explain chk.txt 2 2 2 --pins three.pins",
+    "grow": "grow chk.txt 2 2 2",
+    "box-fill": "box-fill tower.toml 1 1 1",
+    "box-refute": "box-refute tower.toml 1 1 1",
+    "box-check": "box-check tower.toml 1 1 1 one.ref",
+}
 
 
 def run_refused(it, library, words, at, on):
@@ -184,16 +249,20 @@ def run_refused(it, library, words, at, on):
     return got, int(asked or b"0")
 
 
+def rows_of(it):
+    return [row for row in ROWS if it.has(row.line)]
+
+
 def allocations(it):
     library = it.path("refuse.so")
     subprocess.run(["cc", "-O2", "-shared", "-fPIC", "-o", library, f"{HERE}/refuse.c", "-ldl"], check=True)
-    for name, line, is_right in ROWS:
-        name = f"allocations: {name}"
+    for row in rows_of(it):
+        name = f"allocations: {row.name}"
         if not it.wants(name):
             continue
-        words = line.split()
+        words = row.line.split()
         whole, count = run_refused(it, library, words, 0, False)
-        fault = "" if whole[0] == 0 and is_right(whole[1]) and not whole[2] else f"with memory {whole[0]} {shortened(whole[2])}"
+        fault = "" if row.is_right_whole(whole) else f"with memory {whole[0]} {shortened(whole[1])} {shortened(whole[2])}"
         if not fault and count == 0:
             fault = "no request for memory was seen"
         short = 0
@@ -236,19 +305,25 @@ MEMORY = [
     ("learn", "learn large.txt 6 --symmetry 8 --wrap-in"),
     ("domains", "domains chk.txt 2 400 400 --wrap-in"),
     ("refute", "refute chk.txt 2 101 101 --wrap-in --wrap-out"),
+    ("race", "race town.txt 3 80 80 --symmetry 8 --wrap-in --seeds 8"),
+    ("explain", "explain town.txt 3 48 48 --symmetry 8 --wrap-in --pins street.pins"),
+    ("grow", "grow town.txt 3 200 200 --symmetry 8 --wrap-in --seed 1 --block 60"),
+    ("grow, stuck", "grow chk.txt 2 161 161 --block 81"),
+    ("box-fill", "box-fill cube.toml 60 60 60 --wrap-out"),
+    ("box-refute", "box-refute tower.toml 60 60 60"),
 ]
 
 
 def memory(it):
     it.write("large.txt", "".join("".join("ab"[(x * x + y * y * 3 + x * y) % 7 % 2] for x in range(300)) + "\n" for y in range(300)))
+    it.write("street.pins", "pin 20 20 #\npin 0 0 #\npin 1 0 #\npin 2 0 .\n")
     start = least(lambda kb: it.run(["paint"], before=limited(kb))[0] == 3, 512, 1 << 20)
     for name, line in MEMORY:
-        name = f"memory: {name}"
-        if not it.wants(name):
+        if not it.wants(f"memory: {name}") or not it.has(line):
             continue
-        words = line.split()
+        name, words = f"memory: {name}", line.split()
         whole = it.run(words)
-        fault = "" if whole[0] == 0 else f"with memory {whole[0]} {shortened(whole[2])}"
+        fault = "" if whole[0] == 0 or (whole[0] == 8 and "stuck" in name) else f"with memory {whole[0]} {shortened(whole[2])}"
         enough = least(lambda kb: it.run(words, before=limited(kb)) == whole, start, 1 << 21)
         sizes = [start + (enough - start) * k // 19 for k in range(20)]
         short = 0
@@ -325,6 +400,35 @@ def devices_out(it):
     it.check("devices: all three closed, nothing to write", no_map, 1, before=closing(0, 1, 2))
     with open(it.path("chk.txt"), "rb") as unwritable:
         it.check("devices: an output that can't be written", line, 5, err=OUT_FAILED, stdout=unwritable)
+
+
+def devices_of_lines(it):
+    """The output of commands that write a line or two, and what stands in the place of their files."""
+    failed = "wfc: device Failed file={}\n"
+    for row in rows_of(it):
+        if row.line.split()[0] in ("fill", "domains", "learn"):
+            continue
+        with open("/dev/full", "wb") as full:
+            it.check(f"devices: /dev/full as output of {row.name}", row.line, 5, err=OUT_FAILED, stdout=full)
+            it.check(f"devices: /dev/full as error stream of {row.name}", row.line, row.status, row.is_right, stderr=full)
+        write, join = cut_pipe(0)
+        it.check(f"devices: a pipe without a reader as output of {row.name}", row.line, 5, err=OUT_FAILED, stdout=write)
+        os.close(write)
+        join()
+        it.check(f"devices: a closed output of {row.name}", row.line, 5, err=OUT_FAILED, before=closing(1))
+        it.check(f"devices: a closed error stream of {row.name}", row.line, row.status, row.is_right, before=closing(2))
+    it.check("devices: a folder as pins of explain", "explain chk.txt 2 2 2 --pins folder", 5, err=failed.format("folder"))
+    it.check("devices: missing pins of explain", "explain chk.txt 2 2 2 --pins none", 5, err="wfc: device Missing file=none\n")
+    it.check("devices: /dev/zero as pins of explain", "explain chk.txt 2 2 2 --pins /dev/zero", 4, err="wfc: file TooLong file=/dev/zero\n")
+    it.check("devices: /dev/null as pins of explain", "explain chk.txt 2 2 2 --pins /dev/null", 1, err="wfc: map exists\n")
+    it.check("devices: a folder as sample of a race", "race folder 2 2 2 --seeds 2", 5, err=failed.format("folder"))
+    it.check("devices: a budget spent, an output that is closed", "race chk.txt 2 3 3 --wrap-in --wrap-out --seeds 2 --budget 0", 2,
+             err="wfc: budget spent budget=0\n", before=closing(1))
+    it.check("devices: a map exists, an output that is closed", "explain chk.txt 2 2 2 --pins /dev/null", 1, err="wfc: map exists\n", before=closing(1))
+    it.check("devices: a folder as sample to be grown", "grow folder 2 2 2", 5, err=failed.format("folder"))
+    it.check("devices: a folder as tile set of a box", "box-fill folder 1 1 1", 5, err=failed.format("folder"))
+    it.check("devices: /dev/zero as pins of a box", "box-fill tower.toml 1 1 1 --pins /dev/zero", 4, err="wfc: file TooLong file=/dev/zero\n")
+    it.check("devices: /dev/zero as refutation of a box", "box-check tower.toml 1 1 1 /dev/zero", 1, err="wfc: check BadLine line=1 file=/dev/zero\n")
 
 
 def devices_in(it):
@@ -413,6 +517,88 @@ def limits_words(it):
         it.check(f"limits: {name} {value + 1}", line.format(value + 1), 3, err=f"wfc: command value {most}\n")
     for name, line in (("MODEL", "fill a.txt 0 1 1"), ("WIDTH", "fill a.txt 1 0 1"), ("HEIGHT", "fill a.txt 1 1 0")):
         it.check(f"limits: {name} 0", line, 3, err=f"wfc: command value {name}\n")
+
+
+def limits_race(it):
+    """Seeds, quantum and what fits a race."""
+    won = "seed {} retractions 0 map\n"
+    line = "race a.txt 1 1 1 --seeds {}"
+    for seeds, quantum in ((1, 1), (8, 1), (8, 1_000_000)):
+        it.check(f"limits: seeds {seeds}, quantum {quantum}", f"{line.format(seeds)} --quantum {quantum}", 0, won.format(0))
+    for name, words in (("seeds", line.format(0)), ("seeds", line.format(9)), ("quantum", line.format(1) + " --quantum 0"),
+                        ("quantum", line.format(1) + " --quantum 1000001"), ("rule", line.format(1) + " --rule ranked")):
+        it.check(f"limits: {' '.join(words.split()[5:])} of a race", words, 3, err=f"wfc: command value {name}\n")
+    last = (1 << 64) - 8
+    it.check("limits: a last seed of 18446744073709551615", f"{line.format(8)} --seed {last}", 0, won.format(last))
+    it.check("limits: a last seed of 18446744073709551616", f"{line.format(8)} --seed {last + 1}", 3, err="wfc: command value seeds\n")
+    it.check("limits: a race without --seeds", "race a.txt 1 1 1", 3, err="wfc: command refused\n")
+    for words, product in (("1024 1024 --seeds 8", 0), ("1025 1024 --seeds 8", 8_396_800), ("4096 2048 --seeds 1", 0), ("4096 2048 --seeds 2", 16_777_216)):
+        if product:
+            it.check(f"limits: a race of {product}", f"race a.txt 1 {words}", 4, err=f"wfc: race TooLarge product={product}\n")
+        else:
+            it.check("limits: a race of 8,388,608", f"race a.txt 1 {words}", 0, won.format(0))
+    line = "race colours.ppm 1 256 1 --seeds {} --pins end.pins"
+    it.write("end.pins", "".join(f"pin {x} 0 0,0,0\n" for x in range(256)))
+    it.check("limits: a race of eight of 1,048,576 pairs of 4,096 patterns", line.format(8), 0, won.format(0))
+
+
+def limits_explain(it):
+    """Lines of pins, and the chooser."""
+    line, clash = "explain chk.txt 2 {0} {0} --wrap-in --pins {1}", "pin 0 0 a\npin 1 0 a\n"
+    for count in (64, 65):
+        it.write(f"{count}.pins", "pin 0 0 a\n" * (count - 1) + "ban 1 0 b\n")
+        it.write(f"{count}_more.pins", "# a line that doesn't count\n\n" * 9 + "pin 0 0 a\n" * count)
+    it.check("limits: 64 lines of pins, two to blame", line.format(8, "64.pins"), 0, "core 2\nneeded 63\nneeded 64\n")
+    it.check("limits: 65 lines of pins", line.format(8, "65.pins"), 4, err="wfc: explain TooManyPins count=65 file=65.pins\n")
+    it.check("limits: 64 lines of pins, none to blame", line.format(8, "64_more.pins"), 1, err="wfc: map exists\n")
+    it.check("limits: 65 lines of pins and 18 others", line.format(8, "65_more.pins"), 4, err="wfc: explain TooManyPins count=65 file=65_more.pins\n")
+    it.write("million.pins", "pin 0 0 a\n" * 1_600_000)
+    it.check("limits: 1,600,000 lines of pins", line.format(8, "million.pins"), 4, err="wfc: explain TooManyPins count=1600000 file=million.pins\n")
+    it.write("long_clash.pins", padded(clash, FILE_LIMIT))
+    it.write("longer_clash.pins", padded(clash, FILE_LIMIT + 1))
+    it.check("limits: 16,777,216 bytes of pins of explain", line.format(8, "long_clash.pins"), 0, "core 2\nneeded 2\nneeded 3\n")
+    it.check("limits: 16,777,217 bytes of pins of explain", line.format(8, "longer_clash.pins"), 4, err="wfc: file TooLong file=longer_clash.pins\n")
+    it.check("limits: rule ranked of explain", line.format(8, "64.pins") + " --rule ranked", 3, err="wfc: command value rule\n")
+    it.check("limits: explain without --pins", "explain chk.txt 2 2 2", 3, err="wfc: command refused\n")
+    it.write("far_clash.pins", "pin 4095 1023 a\npin 0 0 a\npin 1 0 a\n")
+    it.check("limits: 8,378,370 pairs of explain", "explain chk.txt 2 4096 1024 --wrap-in --pins far_clash.pins", 0, "core 2\nneeded 2\nneeded 3\n")
+
+
+def limits_grow(it):
+    """Blocks, their side, and the largest maps."""
+    line = "grow a.txt 1 {} --block {}"
+    it.check("limits: 64 blocks", line.format("64 1", 1), 0, "a" * 64 + "\n")
+    it.check("limits: 65 blocks", line.format("65 1", 1), 4, err="wfc: grow TooManyBlocks count=65\n")
+    it.check("limits: 16,777,216 blocks", line.format("4096 4096", 1), 4, err="wfc: grow TooManyBlocks count=16777216\n")
+    it.check("limits: a block of side 4096", line.format("4096 2048", 4096), 0, ("a" * 4096 + "\n") * 2048)
+    it.check("limits: a block of side 4097", line.format("1 1", 4097), 3, err="wfc: command value block\n")
+    it.check("limits: a block of side N", "grow six.txt 6 8 8 --block 6", 0, ("a" * 8 + "\n") * 8)
+    it.check("limits: a block of side below N", "grow six.txt 6 8 8 --block 5", 3, err="wfc: command value block\n")
+    it.check("limits: 16,777,216 pixels in four blocks", line.format("4096 4096", 2048), 0, ("a" * 4096 + "\n") * 4096)
+    it.check("limits: a first block of 16,777,216 pairs", line.format("4096 4096", 4096), 4, err="wfc: build TooLarge product=16777216\n")
+    it.check("limits: a grown map of tiles", "grow corner.toml tiles 2 2", 3, err="wfc: command value MODEL\n")
+    it.check("limits: rule ranked of growth", line.format("1 1", 1) + " --rule ranked", 3, err="wfc: command value rule\n")
+    it.check("limits: a last seed past 64 bits of growth", line.format("4 4", 1) + f" --seed {(1 << 64) - 1}", 0, "aaaa\n" * 4)
+    it.check("limits: a stuck last block of 64", "grow chk.txt 2 9 9 --wrap-in --block 2 --pins last_clash.pins", 8,
+             lambda out: out.startswith(b"stuck 7 7 2 2 pins 5\n") and out.endswith(b"x 0\nq\n"), "wfc: grow stuck x=7 y=7\n")
+    it.check("limits: a stuck last block of 64, a full output", "grow chk.txt 2 9 9 --wrap-in --block 2 --pins last_clash.pins", 5, err=OUT_FAILED,
+             before=closing(1))
+
+
+def limits_boxes(it):
+    """Depth, pairs and pixels of boxes."""
+    it.write("cube64.toml", tile_set(["X"], picture="side64.txt", pair=True) + "[[stack]]\nlower = 't0'\nupper = 't0'\n")
+    layers = lambda rows, depth: "".join(f"layer {z}\n{rows}" for z in range(depth))
+    it.check("limits: DEPTH 256", "box-fill cube.toml 1 1 256", 0, layers("0\n", 256))
+    for depth in (0, 257):
+        it.check(f"limits: DEPTH {depth}", f"box-fill cube.toml 1 1 {depth}", 3, err="wfc: command value DEPTH\n")
+    it.check("limits: 8,388,608 places of a box", "box-fill cube.toml 256 128 256", 0, layers(("0" + " 0" * 255 + "\n") * 128, 256))
+    it.check("limits: 8,421,376 places of a box", "box-fill cube.toml 257 128 256", 4, err="wfc: build TooLarge product=8421376\n")
+    it.check("limits: 16,777,216 pixels of a box", "box-fill cube64.toml 16 16 16", 0, layers(("a" * 1024 + "\n") * 1024, 16))
+    it.check("limits: 17,825,792 pixels of a box", "box-fill cube64.toml 17 16 16", 4, err="wfc: render TooLarge pixels=17825792\n")
+    it.check("limits: a box's refutation of format 3", "box-refute tower.toml 2 1 2 --format 3", 3, err="wfc: command value format\n")
+    it.write("far_box.pins", "pin 0 0 4294967295 t0/0\n")
+    it.check("limits: a pin in layer 4294967295", "box-fill cube.toml 1 1 1 --pins far_box.pins", 4, err="wfc: build PinOutside line=1 file=far_box.pins\n")
 
 
 def limits_samples(it):
@@ -596,14 +782,21 @@ def main():
         it = Bench(asked.wfc, folder, asked.only)
         for name, text in SMALL.items():
             it.write(name, text)
+        it.probe()
         allocations(it)
         memory(it)
+        failing.cases(it, rows_of(it))
         devices_out(it)
         devices_in(it)
+        devices_of_lines(it)
         limits_words(it)
         limits_samples(it)
-        limits_problems(it)
+        limits_race(it)
+        limits_explain(it)
+        limits_grow(it)
         limits_tiles(it)
+        limits_boxes(it)
+        limits_problems(it)
         limits_masks(it)
         limits_lines(it)
         limits_refutations(it)
