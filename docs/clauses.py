@@ -25,7 +25,8 @@ def clauses_of(crate):
     for path in glob.glob(f"{ROOT}/crates/{crate}/src/**/*.rt", recursive=True):
         owner = name = None
         for line in open(path, encoding="utf-8"):
-            if line[:4] in ("impl", "trai", "pub ") and (head := re.match(r"(?:pub )?(?:impl(?:<[^>]*>)? (?:[^{]* for )?|trait )(\w+)", line)):
+            is_head = line[:4] in ("impl", "trai", "pub ")
+            if is_head and (head := re.match(r"(?:pub )?(?:impl(?:<[^>]*>)? (?:[^{]* for )?|trait )(\w+)", line)):
                 owner = head.group(1)
             if line.startswith("}"):
                 owner = None
@@ -50,7 +51,7 @@ def definitions():
 
 
 def part(name, field, records, bodies):
-    """The definition that a field begins with, of the record of this name or of one that its body names; None where there is no such field."""
+    """The definition that a field begins with, of the record of this name or of one that its body names; None where there is none."""
     for each in [name] + bodies.get(name, []):
         if field in records.get(each, {}):
             return records[each][field]
