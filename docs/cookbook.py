@@ -5,8 +5,8 @@
 
 A page is README.md, docs/gallery.md or docs/cookbook.md, all three if none is given. A block of a page that begins with ```console has
 commands in lines that begin with '$ ', which go on in lines that begin with '> ', each with what it writes behind it, on both streams. The
-blocks of a page run one after another in one folder, as a user at the top of the repository would run them: `./wfc`, `examples` and `bench`
-are there. A line '..' stands for any lines. A picture is shown as ![NAME](gallery/NAME.png) with its command behind it in backticks.
+blocks of a page run one after another in one folder, as a user at the top of the repository would run them: `./wfc`, `examples`, `bench`
+and `docs` are there. A line '..' stands for any lines. A picture is shown as ![NAME](gallery/NAME.png) with its command behind it in backticks.
 PROGRAM is the script `./wfc` if it isn't given. With --write the pages and pictures get what the commands write now; else those that differ
 are told. A block that needs a program which isn't here, as its line '# needs NAME' says, is left out and counted.
 Status 0 where all is as shown, else 1.
@@ -98,7 +98,7 @@ class Runs:
             text = file.read()
         with tempfile.TemporaryDirectory(prefix="wfc-pages-") as folder:
             os.symlink(self.program, f"{folder}/wfc")
-            for each in ("examples", "bench"):
+            for each in ("examples", "bench", "docs"):
                 shutil.copytree(f"{ROOT}/{each}", f"{folder}/{each}")
             made = BLOCK.sub(lambda it: f"```console\n{self.block(name, it.group(1), folder)}```", text)
             for picture, words in dict(PICTURE.findall(text)).items():
