@@ -137,8 +137,25 @@ def chunk(kind, data):
     return struct.pack(">I", len(data)) + kind + data + struct.pack(">I", zlib.crc32(kind + data))
 
 
+def smaller(width, height, pixels):
+    """A picture that is wider than 512, with squares of pixels as one, of their mean colour, so that it is not."""
+    side = -(-width // WIDTH)
+    wide, high, made = width // side, height // side, bytearray()
+    for y in range(high):
+        sums = [0] * (3 * wide)
+        for row in range(y * side, y * side + side):
+            line = pixels[3 * row * width : 3 * (row + 1) * width]
+            for part in range(3):
+                for step in range(side):
+                    sums[part::3] = map(int.__add__, sums[part::3], line[part + 3 * step :: 3 * side])
+        made += bytes(it // side**2 for it in sums)
+    return wide, high, bytes(made)
+
+
 def png(width, height, pixels):
     """The same picture as a PNG file, with pixels as large as fit into a width of 512."""
+    if width > WIDTH:
+        width, height, pixels = smaller(width, height, pixels)
     scale = max(1, WIDTH // width)
     rows = b""
     for y in range(height):
