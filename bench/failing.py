@@ -79,6 +79,12 @@ def changes(it, library):
             continue
         it.write("moved", first)
         whole, (_, reads) = run_with(it, library, words)
+        # A file that is exchanged or removed before it is opened is the other one, or missing.
+        it.write("moved", other)
+        exchanged, _ = run_with(it, library, words)
+        os.remove(it.path("moved"))
+        missing, _ = run_with(it, library, words)
+        early = {"exchange": exchanged, "remove": missing}
         bad, count, same = "", 0, 0
         for at in range(1, reads + 1):
             for how in ("cut", "empty", "grow", "over", "exchange", "remove"):
@@ -92,9 +98,10 @@ def changes(it, library):
                 got, _ = run_with(it, library, words, CHANGE_AT=at, CHANGE_NAME="moved", **setting)
                 count += 1
                 same += got == whole
-                if how in ("exchange", "remove") and got != whole:
-                    bad = bad or f"{how} before reading {at} of {reads}: {got[0]} {got[2]!r}"
-                if got[0] not in (0, 1, 4) or (got[0] != 0 and got[1]) or (got[0] == 0) != (not got[2]):
+                if how in early:
+                    if got not in (whole, early[how]):
+                        bad = bad or f"{how} before reading {at} of {reads}: {got[0]} {got[2]!r}"
+                elif got[0] not in (0, 1, 4) or (got[0] != 0 and got[1]) or (got[0] == 0) != (not got[2]):
                     bad = bad or f"{how} before reading {at} of {reads}: {got[0]} {got[1][:80]!r} {got[2]!r}"
         it.tell(f"{name}: {count} runs of {reads} readings, {same} with the whole answer, the others with that of what was read", bad)
 
