@@ -36,7 +36,8 @@ value_in name read absent (Some text) = in_range name (read text)
 
 -- a number of the table
 abbrev pub number_value : CommandKind → List Row → NumberRange → Result ℕ CommandFault
-number_value kind rows range = value_in range.name (number_in range.least range.most) range.absent (word_text kind (word_of range.name) rows)
+number_value kind rows range =
+    value_in range.name (number_in range.least range.most) range.absent (word_text kind (word_of range.name) rows)
 
 -- the model
 abbrev pub model_value : CommandKind → List Row → Result SourceModel CommandFault
