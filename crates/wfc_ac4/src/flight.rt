@@ -55,8 +55,8 @@ impl<'p> Flight<'p> {
             < values self.old.board.problem.now }
         requires at { at ≡ place self.old.board.problem.now next (link.offset /
             self.old.board.problem.now.dirs) link.back }
-        ensures struck { IsStruck self.old self.new next (link.offset / self.old.board.problem.now.dirs)
-            (opposite link.dir) }
+        ensures struck { IsStruck self.old self.new next
+            (link.offset / self.old.board.problem.now.dirs) (opposite link.dir) }
     {
         let problem = self.board.problem;
         let value = value_at(link.offset, problem.dirs());
@@ -252,8 +252,8 @@ impl<'p> Flight<'p> {
     pub fn settle<L: Ledger>(&mut self, links: &Links, steps: &mut Steps<L>)
         requires fresh { IsFresh self.old.board self.old.board.levels.spare }
         requires linked { AreLinks self.old.board.problem.now links.now }
-        requires loaded { self.old.counters
-            ≡ counts_of self.old.board.problem.now (has self.old.board.domains) self.old.counters.limit }
+        requires loaded { self.old.counters ≡ counts_of self.old.board.problem.now
+            (has self.old.board.domains) self.old.counters.limit }
         requires fits { FitsTable self.old.board.problem.now self.old.counters }
         requires head { self.old.head ≡ 0 }
         ensures between { IsBetween self.new.board self.new.counters self.new.head }

@@ -45,11 +45,13 @@ fn program<F: Folder, O: Sink, E: Sink>(
     out: &mut O,
     err: &mut E,
 ) -> ExitCode
-    ensures promises { IfOk words (λ words. KeepsPromises (call_of (λ chooser. (told chooser).rule) choosers.items words.items
-        F.seen folder.old folder.new O.seen out.old out.new E.seen err.old err.new (exit_status result))) }
+    ensures promises { IfOk words (λ words. KeepsPromises (call_of
+        (λ chooser. (told chooser).rule) choosers.items words.items F.seen folder.old folder.new
+        O.seen out.old out.new E.seen err.old err.new (exit_status result))) }
     ensures unread_status { IfErr words
         (λ e. exit_status result ≡ (said_of_words (unread_fault (error_kind e))).status) }
-    ensures unread_line { IfErr words (λ e. Tells (said_of_words (unread_fault (error_kind e))).told (E.seen err.old) (E.seen err.new)) }
+    ensures unread_line { IfErr words (λ e. Tells
+        (said_of_words (unread_fault (error_kind e))).told (E.seen err.old) (E.seen err.new)) }
 {
     let status = match words {
         Ok(words) => run(alloc, &words, folder, out, err, choosers),

@@ -68,6 +68,11 @@ lies_in block x y =
     nat_le block.x x && nat_lt x (block.x + block.width) && nat_le block.y y
     && nat_lt y (block.y + block.height)
 
+-- a block ends within an area
+abbrev pub IsBlockIn : Area → Block → Type 0
+IsBlockIn area block =
+    (block.x + block.width ≤ area.width) × (block.y + block.height ≤ area.height)
+
 -- the window that begins at a place lies in a block
 pub record HasWindow (n : ℕ) (block : Block) (x y : ℕ) : Type 0 where
   pub left : block.x ≤ x

@@ -46,6 +46,13 @@ abbrev pub terms_with : PatternsView → Rule → ℕ → ℕ → List Pin → T
 terms_with patterns rule budget seed pins =
     record { patterns = patterns; pins = pins; rule = rule; budget = budget; seed = seed }
 
+-- how growth of an area by these pins ends: its picture, or the block at which it stopped, with its lines
+abbrev pub shown_by_pins
+    : PatternsView → List Symbol → Area → List PinView → Rule → ℕ → ℕ → List Pin → Grown
+shown_by_pins patterns palette area lines rule budget seed pins =
+    shown_growth (texts_of palette) lines area
+    (growth_of area (terms_with patterns rule budget seed pins))
+
 -- the pins by which an area is grown, but for a side below that of a window, for too many blocks, for too
 -- many pairs in the first block, and for a line at fault
 abbrev pub growable_of

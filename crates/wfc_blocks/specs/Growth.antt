@@ -1,6 +1,6 @@
 -- Growth: block after block is filled by the run of its own problem, and keeps what the blocks
 -- before it set.
-use Rattle.std.specs.Prelude.{ℕ, ◌+◌, ◌%◌, ◌^◌, ◌<◌, ◌≤◌, All, List, [], ◌∷◌, Option, Some}
+use Rattle.std.specs.Prelude.{◌≡◌, ℕ, ◌+◌, ◌%◌, ◌^◌, ◌<◌, ◌≤◌, All, List, [], ◌∷◌, Option, Some}
 use Rattle.wfc_choose.specs.Pick.{Rule}
 use Rattle.wfc_model.specs.Legal.{Pin}
 use Rattle.wfc_model.specs.Raster.{Raster}
@@ -10,6 +10,7 @@ use Rattle.wfc_problem.specs.declared.TheConstants.{MAX_PAIRS}
 use Rattle.wfc_overlap.specs.Bridge.{pairs, picture_of}
 use Rattle.wfc_overlap.specs.Sample.{problem_of_sample}
 use Rattle.wfc_runs.specs.Words.{words_of_seed}
+use Rattle.wfc_search.specs.Ends.{EndsIn}
 use Rattle.wfc_search.specs.Run.{State, outcome_of}
 use Rattle.wfc_search.specs.Search.{assignment_of}
 use Rattle.wfc_search.specs.declared.Outcome.{Outcome}
@@ -41,6 +42,12 @@ abbrev pub block_end : Terms → Canvas → Block → Option (Outcome × State)
 block_end terms canvas block =
     outcome_of (problem_of_block terms canvas block) terms.rule terms.budget
     (words_of_seed (seed_of_block terms.seed block))
+
+-- the run of a block, where this is set, has this outcome
+abbrev pub HasBlockOutcome : Terms → Canvas → Block → Outcome → Type 0
+HasBlockOutcome terms canvas block ended =
+    EndsIn (problem_of_block terms canvas block) terms.rule terms.budget
+    (words_of_seed (seed_of_block terms.seed block)) ended
 
 -- the picture of a block whose run ends in a map at this state
 abbrev pub picture_of_block : Terms → Canvas → Block → State → Raster
@@ -74,6 +81,10 @@ growth_over terms (block ∷ blocks) canvas =
 -- growth over all blocks of an area
 abbrev pub growth_of : Area → Terms → Growth
 growth_of area terms = growth_over terms (blocks_of terms.patterns.n area) empty_canvas
+
+-- growth over an area stops at this block, where this is set
+abbrev pub IsStoppedAt : Area → Terms → Block → Canvas → Type 0
+IsStoppedAt area terms block canvas = growth_of area terms ≡ stopped block canvas
 
 -- the area and a block have room for a window, and the first block, which is the largest, has few
 -- enough pairs of a place and a pattern

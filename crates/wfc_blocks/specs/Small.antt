@@ -1,10 +1,12 @@
 -- A small area, a canvas without symmetry, texts and patterns that the laws speak of.
-use Rattle.std.specs.Prelude.{ℕ, ◌+◌, List, [], ◌∷◌, map}
+use Rattle.std.specs.Prelude.{ℕ, ◌+◌, true, false, List, [], ◌∷◌, codes, map}
 use Rattle.std.specs.List.{range_with_len}
 use Rattle.wfc_model.specs.Raster.{Raster, raster_of}
 use Rattle.wfc_pattern.specs.Patterns.{PatternsView}
 use Rattle.wfc_picture.specs.declared.symbol.Symbol.{Symbol}
 use Rattle.wfc_picture.specs.declared.symbol.Symbol.TheVariants.{Char}
+use Rattle.wfc_overlap.specs.Small.{line_of}
+use Rattle.wfc_pins.specs.PinView.{PinView}
 use Rattle.wfc_blocks.specs.Blocks.{Area, area_with, block_at}
 use Rattle.wfc_blocks.specs.declared.block.Block.{Block}
 use Rattle.wfc_blocks.specs.Canvas.{Canvas, empty_canvas, with_block}
@@ -29,6 +31,10 @@ first_set = with_block empty_canvas (block_at 2 five_by_four 0) nine_set
 -- the letters from `a` to `t`, each a text
 abbrev pub twenty_texts : List (List ℕ)
 twenty_texts = map (λ k. (97 + k) ∷ []) (range_with_len 0 20)
+
+-- two lines of a pins file: the first bans a letter, and the second keeps one
+abbrev pub two_file_lines : List PinView
+two_file_lines = line_of 7 false 4 1 (codes "z") ∷ line_of 8 true 1 3 (codes "a") ∷ []
 
 -- the letters `a` and `b`
 abbrev pub two_letters : List Symbol

@@ -4,7 +4,8 @@ ghost use Rattle.std.specs.Prelude.{◌≡◌, ℕ, ◌<◌, ◌≤◌, length, 
 ghost use Rattle.wfc_model.specs.Raster.{IsSized};
 ghost use Rattle.wfc_blocks.specs.Blocks.{area_with};
 ghost use Rattle.wfc_blocks.specs.Canvas.{empty_canvas, canvas_picture, with_block};
-ghost use Rattle.wfc_blocks.specs.CanvasView.{HasNumbersBelow, HaveSameSides, IsNumbersOf, LiesWithin, canvas_of, entry_number, painted, part_of_row, with_pixel};
+ghost use Rattle.wfc_blocks.specs.CanvasView.{HasNumbersBelow, HaveSameSides, IsNumbersOf, LiesWithin};
+ghost use Rattle.wfc_blocks.specs.CanvasView.{canvas_of, entry_number, painted, part_of_row, with_pixel};
 ghost use Rattle.wfc_blocks.specs.declared.TheConstants.{UNSET};
 
 use crate::UNSET;

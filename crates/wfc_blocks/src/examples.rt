@@ -6,12 +6,14 @@ ghost use Rattle.wfc_model.specs.Legal.{banned_pin, kept_pin};
 ghost use Rattle.wfc_model.specs.Raster.{raster_of};
 ghost use Rattle.wfc_overlap.specs.Sample.{output_with};
 ghost use Rattle.wfc_overlap.specs.Small.{line_of};
-ghost use Rattle.wfc_blocks.specs.Blocks.{HasWindow, area_with, block_at, block_count, block_from, blocks_across, blocks_along, blocks_down, blocks_of, lies_in, output_of_block, stride, whole_of};
+ghost use Rattle.wfc_blocks.specs.Blocks.{HasWindow, area_with, block_at, block_count, block_from, blocks_across};
+ghost use Rattle.wfc_blocks.specs.Blocks.{blocks_along, blocks_down, blocks_of, lies_in, output_of_block, stride, whole_of};
 ghost use Rattle.wfc_blocks.specs.Canvas.{empty_canvas, canvas_picture, lines_of_block, number_set, pin_in_block, pins_of_block, set_line};
 ghost use Rattle.wfc_search.specs.Small.{scanline};
 ghost use Rattle.wfc_blocks.specs.Growth.{AreNumbersBelow, seed_of_block};
 ghost use Rattle.wfc_blocks.specs.Grown.{grown_of};
-ghost use Rattle.wfc_blocks.specs.Small.{block_with, first_set, five_by_four, nine_set, one_board, twenty_texts, two_boards, two_letters};
+ghost use Rattle.wfc_blocks.specs.Small.{block_with, first_set, five_by_four, nine_set, one_board};
+ghost use Rattle.wfc_blocks.specs.Small.{twenty_texts, two_boards, two_file_lines, two_letters};
 ghost use Rattle.wfc_blocks.specs.declared.grown.Grown.TheVariants as grown;
 ghost use Rattle.wfc_blocks.specs.declared.grown.GrowFault.TheVariants as faults;
 
@@ -92,11 +94,9 @@ pub fn pins_of_blocks()
 /// symbol, and those of the file keep their line and their symbol.
 pub fn lines_of_blocks()
     ensures set { set_line twenty_texts 2 1 19 ≡ line_of 0 true 2 1 (codes "t") }
-    ensures right { lines_of_block twenty_texts
-        (line_of 7 false 4 1 (codes "z") ∷ line_of 8 true 1 3 (codes "a") ∷ []) first_set
-        (block_at 2 five_by_four 1) ≡ line_of 0 true 0 0 (codes "n")
-        ∷ line_of 0 true 0 1 (codes "q") ∷ line_of 0 true 0 2 (codes "t")
-        ∷ line_of 7 false 2 1 (codes "z") ∷ [] }
+    ensures right { lines_of_block twenty_texts two_file_lines first_set (block_at 2 five_by_four 1)
+        ≡ line_of 0 true 0 0 (codes "n") ∷ line_of 0 true 0 1 (codes "q")
+        ∷ line_of 0 true 0 2 (codes "t") ∷ line_of 7 false 2 1 (codes "z") ∷ [] }
 {}
 
 /// The seed of a block is the seed and its number, modulo 2^64.
@@ -113,10 +113,8 @@ pub fn grown_boards()
         (line_of 1 true 0 0 (codes "a") ∷ []) scanline 0 7
         ≡ Ok (grown.Map (raster_of 3 3 (0 ∷ 1 ∷ 0 ∷ 1 ∷ 0 ∷ 1 ∷ 0 ∷ 1 ∷ 0 ∷ []))) }
     ensures stuck { grown_of one_board two_letters (area_with 3 2 2) [] scanline 0 7
-        ≡ Ok (grown.Stuck (record {
-          block = block_with 1 1 0 2 2;
-          pins = line_of 0 true 0 0 (codes "b") ∷ line_of 0 true 0 1 (codes "a") ∷ [];
-        })) }
+        ≡ Ok (grown.Stuck (record { block = block_with 1 1 0 2 2;
+        pins = line_of 0 true 0 0 (codes "b") ∷ line_of 0 true 0 1 (codes "a") ∷ [] })) }
     ensures below { AreNumbersBelow 2 two_boards }
     ensures not_below { AreNumbersBelow 1 two_boards → ⊥ }
 {}

@@ -128,9 +128,9 @@ pub(crate) fn fill_blocks<L: Ledger>(
     requires enough { block_count cover.n (area_of cover) ≤ length choosers.old.items }
     ensures growth { (rule : Rule) →
         HaveRule (map (λ chooser. (told chooser).rule) choosers.old.items) rule →
-        IfOk result (λ halt. growth_over
-        (terms_with patterns.now rule budget seed marks.now) (blocks_of cover.n (area_of cover))
-        (canvas_of canvas.old) ≡ growth_at halt (canvas_of canvas.new)) }
+        IfOk result (λ halt. growth_over (terms_with patterns.now rule budget seed marks.now)
+        (blocks_of cover.n (area_of cover)) (canvas_of canvas.old)
+        ≡ growth_at halt (canvas_of canvas.new)) }
     ensures within { IfOk result (HaltsWithin cover.width cover.height) }
     ensures alike { HaveSameSides canvas.old canvas.new }
 {

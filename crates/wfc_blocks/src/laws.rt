@@ -1,7 +1,7 @@
 //! Laws of blocks and growth, each a function with no body whose contract is the law. They run
 //! nothing.
 
-ghost use Rattle.std.specs.Prelude.{◌≡◌, ℕ, ◌+◌, ◌<◌, ◌≤◌, true, false, List, Contains, Some, Ok};
+ghost use Rattle.std.specs.Prelude.{◌≡◌, ℕ, ◌<◌, ◌≤◌, true, false, List, Contains, Some, Ok};
 ghost use Rattle.wfc_model.specs.Legal.{Pin, Rules, IsLegalPicture};
 ghost use Rattle.wfc_model.specs.Raster.{Raster, number_at};
 ghost use Rattle.wfc_model.specs.Window.{starts};
@@ -14,13 +14,11 @@ ghost use Rattle.wfc_overlap.specs.Built.{built, pins_in, texts_of};
 ghost use Rattle.wfc_picture.specs.declared.symbol.Symbol.{Symbol};
 ghost use Rattle.wfc_pins.specs.PinView.{PinView};
 ghost use Rattle.wfc_blocks.specs.Promises.{IsNamedBy};
-ghost use Rattle.wfc_search.specs.Ends.{EndsIn};
 ghost use Rattle.wfc_search.specs.declared.Outcome.TheVariants.{NoMap, Spent};
-ghost use Rattle.wfc_blocks.specs.Blocks.{Area, HasWindow, block_at, block_count, blocks_of, lies_in, output_of_block, whole_of};
+ghost use Rattle.wfc_blocks.specs.Blocks.{Area, HasWindow, IsBlockIn, block_at, block_count, blocks_of, lies_in, output_of_block, whole_of};
 ghost use Rattle.wfc_blocks.specs.Canvas.{Canvas, canvas_picture, lines_of_block, pins_of_block};
-ghost use Rattle.wfc_blocks.specs.Grown.{growable_of, grown_of, shown_growth, terms_with};
-ghost use Rattle.wfc_blocks.specs.Growth.{IsGrowable, Terms, full, growth_of, problem_of_block, seed_of_block, spent, stopped};
-ghost use Rattle.wfc_runs.specs.Words.{words_of_seed};
+ghost use Rattle.wfc_blocks.specs.Grown.{growable_of, grown_of, shown_by_pins};
+ghost use Rattle.wfc_blocks.specs.Growth.{HasBlockOutcome, IsGrowable, IsStoppedAt, Terms, full, growth_of, problem_of_block, spent};
 ghost use Rattle.wfc_blocks.specs.declared.block.Block.{Block};
 
 /// Each place of an area at which a window begins has its window in a block, and in no other.
@@ -45,10 +43,8 @@ pub fn blocks_have_room()
     ensures room { (patterns : PatternsView) (area : Area) (k : ℕ) → IsGrowable patterns area →
         k < block_count patterns.n area →
         IsRoom patterns (output_of_block (block_at patterns.n area k)) }
-    ensures inside { (n : ℕ) (area : Area) (k : ℕ) → n ≤ area.side →
-        k < block_count n area → 0 < n → n ≤ area.width → n ≤ area.height →
-        ((block_at n area k).x + (block_at n area k).width ≤ area.width)
-        × ((block_at n area k).y + (block_at n area k).height ≤ area.height) }
+    ensures inside { (n : ℕ) (area : Area) (k : ℕ) → n ≤ area.side → k < block_count n area →
+        0 < n → n ≤ area.width → n ≤ area.height → IsBlockIn area (block_at n area k) }
 {}
 
 /// The pins of a block lie in it.
@@ -62,9 +58,8 @@ pub fn pins_lie_in_their_block()
 pub fn growth_goes_by_its_refusals()
     ensures split { (patterns : PatternsView) (palette : List Symbol) (area : Area)
         (lines : List PinView) (rule : Rule) (budget seed : ℕ) →
-        grown_of patterns palette area lines rule budget seed
-        ≡ result_map (λ pins. shown_growth (texts_of palette) lines area
-        (growth_of area (terms_with patterns rule budget seed pins)))
+        grown_of patterns palette area lines rule budget seed ≡ result_map
+        (λ pins. shown_by_pins patterns palette area lines rule budget seed pins)
         (growable_of patterns palette area lines) }
 {}
 
@@ -73,16 +68,13 @@ pub fn growth_goes_by_its_refusals()
 pub fn grown_maps_are_legal()
     ensures legal { (sample : Raster) (rules : Rules) (area : Area) (terms : Terms)
         (canvas : Canvas) → IsPatterns terms.patterns →
-        IsTaughtBy sample rules terms.patterns (whole_of area) →
-        IsGrowable terms.patterns area → AreInside (whole_of area) terms.pins →
-        growth_of area terms ≡ full canvas →
-        IsLegalPicture sample rules terms.pins area.width area.height
-        (canvas_picture area canvas) }
+        IsTaughtBy sample rules terms.patterns (whole_of area) → IsGrowable terms.patterns area →
+        AreInside (whole_of area) terms.pins → growth_of area terms ≡ full canvas →
+        IsLegalPicture sample rules terms.pins area.width area.height (canvas_picture area canvas) }
     ensures set { (sample : Raster) (rules : Rules) (area : Area) (terms : Terms)
         (canvas : Canvas) (x y : ℕ) → IsPatterns terms.patterns →
-        IsTaughtBy sample rules terms.patterns (whole_of area) →
-        IsGrowable terms.patterns area → growth_of area terms ≡ full canvas →
-        x < area.width → y < area.height →
+        IsTaughtBy sample rules terms.patterns (whole_of area) → IsGrowable terms.patterns area →
+        growth_of area terms ≡ full canvas → x < area.width → y < area.height →
         canvas x y ≡ Some (number_at (canvas_picture area canvas) x y) }
 {}
 
@@ -91,23 +83,18 @@ pub fn grown_maps_are_legal()
 pub fn stuck_blocks_have_no_map()
     ensures among { (area : Area) (terms : Terms) (block : Block) (canvas : Canvas) →
         IsPatterns terms.patterns → IsGrowable terms.patterns area →
-        growth_of area terms ≡ stopped block canvas →
-        Contains (blocks_of terms.patterns.n area) block }
+        IsStoppedAt area terms block canvas → Contains (blocks_of terms.patterns.n area) block }
     ensures room { (area : Area) (terms : Terms) (block : Block) (canvas : Canvas) →
         IsPatterns terms.patterns → IsGrowable terms.patterns area →
-        growth_of area terms ≡ stopped block canvas →
-        IsRoom terms.patterns (output_of_block block) }
+        IsStoppedAt area terms block canvas → IsRoom terms.patterns (output_of_block block) }
     ensures ends { (area : Area) (terms : Terms) (block : Block) (canvas : Canvas) →
         IsPatterns terms.patterns → IsGrowable terms.patterns area →
-        growth_of area terms ≡ stopped block canvas →
-        EndsIn (problem_of_block terms canvas block) terms.rule terms.budget
-        (words_of_seed (seed_of_block terms.seed block)) NoMap }
+        IsStoppedAt area terms block canvas → HasBlockOutcome terms canvas block NoMap }
     ensures none { (sample : Raster) (rules : Rules) (area : Area) (terms : Terms)
         (block : Block) (canvas : Canvas) (m : Raster) → IsPatterns terms.patterns →
-        IsTaughtBy sample rules terms.patterns (whole_of area) →
-        IsGrowable terms.patterns area → growth_of area terms ≡ stopped block canvas →
-        IsLegalPicture sample rules (pins_of_block terms.pins canvas block) block.width
-        block.height m → ⊥ }
+        IsTaughtBy sample rules terms.patterns (whole_of area) → IsGrowable terms.patterns area →
+        IsStoppedAt area terms block canvas → IsLegalPicture sample rules
+        (pins_of_block terms.pins canvas block) block.width block.height m → ⊥ }
 {}
 
 /// The lines of a block at which growth stopped, read by a palette that names the numbers of the
@@ -116,16 +103,14 @@ pub fn stuck_lines_are_the_pins()
     ensures meant { (palette : List Symbol) (lines : List PinView) (area : Area) (terms : Terms)
         (block : Block) (canvas : Canvas) → IsNamedBy palette terms.patterns →
         pins_in (texts_of palette) area.width area.height lines ≡ Ok terms.pins →
-        growth_of area terms ≡ stopped block canvas →
-        pins_in (texts_of palette) block.width block.height
+        IsStoppedAt area terms block canvas → pins_in (texts_of palette) block.width block.height
         (lines_of_block (texts_of palette) lines canvas block)
         ≡ Ok (pins_of_block terms.pins canvas block) }
     ensures built { (palette : List Symbol) (lines : List PinView) (area : Area) (terms : Terms)
         (block : Block) (canvas : Canvas) → IsNamedBy palette terms.patterns →
         IsPatterns terms.patterns → IsGrowable terms.patterns area →
         pins_in (texts_of palette) area.width area.height lines ≡ Ok terms.pins →
-        growth_of area terms ≡ stopped block canvas →
-        built terms.patterns palette (output_of_block block)
+        IsStoppedAt area terms block canvas → built terms.patterns palette (output_of_block block)
         (lines_of_block (texts_of palette) lines canvas block)
         ≡ Ok (problem_of_block terms canvas block) }
 {}
@@ -135,6 +120,5 @@ pub fn spent_growth_has_a_spent_block()
     ensures spent { (area : Area) (terms : Terms) → IsPatterns terms.patterns →
         IsGrowable terms.patterns area → growth_of area terms ≡ spent →
         (block : Block) × (canvas : Canvas) × Contains (blocks_of terms.patterns.n area) block
-        × EndsIn (problem_of_block terms canvas block) terms.rule terms.budget
-        (words_of_seed (seed_of_block terms.seed block)) Spent }
+        × HasBlockOutcome terms canvas block Spent }
 {}

@@ -35,9 +35,8 @@ pub(crate) fn block_lines(
 
 /// The lines that keep these pins.
 fn set_lines(alloc: Global, texts: &[Vec<u8>], marks: &[Mark]) -> Result<Vec<PinLine>, NoMemory>
-    ensures value { IfOk result (λ lines. lines.items
-        ≡ map (λ pin. set_line (map (λ text. text.items) texts.now) pin.column pin.row pin.number)
-        marks.now) }
+    ensures value { IfOk result (λ lines. lines.items ≡ map (λ pin.
+        set_line (map (λ text. text.items) texts.now) pin.column pin.row pin.number) marks.now) }
 {
     let mut lines = Vec::with_capacity(alloc, marks.len())?;
     for mark in marks {

@@ -10,8 +10,8 @@ ghost use Rattle.wfc_blocks.specs.Blocks.{area_with, block_count, output_of_bloc
 ghost use Rattle.wfc_blocks.specs.Canvas.{lines_of_block};
 ghost use Rattle.wfc_blocks.specs.CanvasView.{LiesWithin, canvas_of};
 ghost use Rattle.wfc_blocks.specs.Covers.{area_of};
-ghost use Rattle.wfc_blocks.specs.Grown.{grow_fault, grown_of, or_grow_fault, shown_growth, terms_with};
-ghost use Rattle.wfc_blocks.specs.Growth.{AreNumbersBelow, IsGrowable, growth_of};
+ghost use Rattle.wfc_blocks.specs.Grown.{grow_fault, grown_of, or_grow_fault, shown_by_pins, shown_growth};
+ghost use Rattle.wfc_blocks.specs.Growth.{AreNumbersBelow, IsGrowable};
 ghost use Rattle.wfc_blocks.specs.Promises.{ShowsLegalMap, ShowsStuckBlock};
 ghost use Rattle.wfc_blocks.specs.Steps.{HaltsWithin, growth_at};
 ghost use Rattle.wfc_blocks.specs.declared.TheConstants.{MAX_BLOCKS, UNSET};
@@ -159,9 +159,8 @@ fn grown_area<L: Ledger>(
     requires enough { block_count cover.n (area_of cover) ≤ length choosers.items }
     ensures grown { (rule : Rule) →
         HaveRule (map (λ chooser. (told chooser).rule) choosers.items) rule →
-        IfOk result (λ grown. grown
-        ≡ shown_growth (texts_of palette.now) pins.now (area_of cover) (growth_of (area_of cover)
-        (terms_with patterns.now rule budget seed marks.now))) }
+        IfOk result (λ grown. grown ≡ shown_by_pins patterns.now palette.now (area_of cover)
+        pins.now rule budget seed marks.now) }
 {
     let mut choosers = choosers;
     let mut canvas = Canvas::new(alloc, cover.width, cover.height)?;
@@ -211,10 +210,8 @@ fn stuck(
     requires width_limit { canvas.now.width ≤ 4096 }
     requires height_limit { canvas.now.height ≤ 4096 }
     requires within { LiesWithin canvas.now.width canvas.now.height block }
-    ensures value { IfOk result (λ stuck. stuck ≡ record {
-      block = block;
-      pins = lines_of_block (texts_of palette.now) pins.now (canvas_of canvas.now) block;
-    }) }
+    ensures value { IfOk result (λ stuck. stuck ≡ record { block = block;
+        pins = lines_of_block (texts_of palette.now) pins.now (canvas_of canvas.now) block }) }
 {
     let texts = texts(alloc, palette)?;
     Ok(Stuck {

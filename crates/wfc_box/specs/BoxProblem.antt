@@ -3,6 +3,7 @@
 use Rattle.std.specs.Prelude.{ℕ, ◌+◌, ◌-◌, ◌*◌, ◌/◌, ◌%◌, ◌==◌, nat_lt, Bool, not, ◌||◌, List, map, filter, if◌then◌else◌}
 use Rattle.std.specs.List.{flat_map, list_all, range_with_len}
 use Rattle.wfc_places.specs.Marks.{suits}
+use Rattle.wfc_problem.specs.Assignment.{IsLegalAssignment}
 use Rattle.wfc_problem.specs.Network.{Network}
 use Rattle.wfc_problem.specs.declared.TheConstants.{NO_CELL}
 use Rattle.wfc_tileset.specs.Tiles.{TileSetView, variant_total}
@@ -93,3 +94,7 @@ problem_of_box set stacked frame pins = record {
   supports = box_supports set stacked;
   base = box_base_table set frame pins;
 }
+
+-- an assignment is legal for the problem of a box
+abbrev pub IsLegalInBox : TileSetView → List (ℕ × ℕ) → Frame → List LayerPin → List ℕ → Type 0
+IsLegalInBox set stacked frame pins a = IsLegalAssignment (problem_of_box set stacked frame pins) a

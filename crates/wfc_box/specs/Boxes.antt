@@ -73,6 +73,7 @@ pub record IsInBox (frame : Frame) (p : LayerPin) : Type 0 where
   pub row_in : p.pin.row < frame.height
   pub layer_in : p.layer < frame.depth
 
+-- each pin's place lies in the box
 abbrev pub AreInBox : Frame → List LayerPin → Type 0
 AreInBox frame pins = All (IsInBox frame) pins
 

@@ -42,6 +42,12 @@ two_by_two = frame_of 2 1 2 false
 abbrev pub box_line : ℕ → Bool → ℕ → ℕ → ℕ → List ℕ → BoxPinView
 box_line number keep x y z symbol = record { line = number; keep = keep; x = x; y = y; z = z; symbol = symbol }
 
+-- lines of a box's pins file: the first three lie outside, and there is no variant that the last names
+abbrev pub bad_box_lines : List BoxPinView
+bad_box_lines =
+    box_line 1 true 3 0 0 (codes "y") ∷ box_line 2 true 0 2 0 (codes "x/0")
+    ∷ box_line 3 false 0 0 4 (codes "y") ∷ box_line 5 true 2 1 3 (codes "x/1") ∷ []
+
 -- a stack of a document
 abbrev pub stack_data : List ℕ → List ℕ → Data
 stack_data lower upper = table (member (codes "lower") (string lower) (member (codes "upper") (string upper) no_members))

@@ -31,9 +31,11 @@ stack_end_from tiles stack text =
     (λ tile. then_stack (ok_or (turn_of (drop (name_length text) text)) (fault.BadTurn stack))
     (λ turn. Ok (end_with tile turn)))
 
+-- an end of a stack that has to be there, by its key
 abbrev pub stack_end : List TileView → ℕ → StackKey → Option Data → Result End StackFault
 stack_end tiles stack key d = then_stack (stack_text stack key d) (stack_end_from tiles stack)
 
+-- the stack of a lower and an upper end
 abbrev pub stack_with : End → End → Stack
 stack_with lower upper = record { lower = lower; upper = upper }
 

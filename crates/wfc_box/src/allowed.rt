@@ -1,6 +1,7 @@
 //! Which variants may stand on which.
 
-ghost use Rattle.std.specs.Prelude.{◌≡◌, ◌↔◌, ◌+◌, ◌*◌, ◌<◌, ◌++◌, ◌∷◌, [], false, true, All, IfOk, IsTrue, OnOk, length, replicate, slice_index_or, slice_set};
+ghost use Rattle.std.specs.Prelude.{◌≡◌, ◌↔◌, ◌+◌, ◌*◌, ◌<◌, ◌++◌, ◌∷◌, [], false, true, All, IfOk};
+ghost use Rattle.std.specs.Prelude.{IsTrue, OnOk, length, replicate, slice_index_or, slice_set};
 ghost use Rattle.wfc_tileset.specs.Tiles.{variant_total};
 ghost use Rattle.wfc_box.specs.StackTable.{AreVariantPairs, AreStackFlags};
 ghost use Rattle.wfc_box.specs.Stacks.{IsStack, IsStacked, is_stacked, stacked_of, stacked_pairs, turned_stack};

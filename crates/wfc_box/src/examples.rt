@@ -17,7 +17,8 @@ ghost use Rattle.wfc_box.specs.BoxProblem.{all_beside_in_box, all_fitting_in_box
 ghost use Rattle.wfc_box.specs.BoxText.{box_layout_of, box_text};
 ghost use Rattle.wfc_box.specs.Boxes.{IsLegalBox, box_of, box_cell, frame_of, number_in_box, numbers_of_box, places_in};
 ghost use Rattle.wfc_box.specs.Built.{box_pins_in};
-ghost use Rattle.wfc_box.specs.Small.{banned_in, flat, kept_in, box_line, one_stack, pillar, single, stack_data, twelve, two_by_two, with_stacks, wrapped};
+ghost use Rattle.wfc_box.specs.Small.{banned_in, bad_box_lines, flat, kept_in, box_line, one_stack, pillar, single};
+ghost use Rattle.wfc_box.specs.Small.{stack_data, twelve, two_by_two, with_stacks, wrapped};
 ghost use Rattle.wfc_box.specs.StackDocument.{stacks_in};
 ghost use Rattle.wfc_box.specs.Stacks.{IsStacked, stacked_pairs};
 ghost use Rattle.wfc_box.specs.declared.fault.StackFault.TheVariants as stack_faults;
@@ -66,9 +67,7 @@ pub fn pins_by_example()
     ensures meant { box_pins_in line_and_cross.tiles flat
         (box_line 4 true 2 0 3 (codes "line/1") ∷ box_line 7 false 0 1 2 (codes "x/0") ∷ [])
         ≡ Ok (kept_in 2 0 3 1 ∷ banned_in 0 1 2 2 ∷ []) }
-    ensures faults { map (λ line. box_pins_in line_and_cross.tiles flat (line ∷ []))
-        (box_line 1 true 3 0 0 (codes "y") ∷ box_line 2 true 0 2 0 (codes "x/0")
-        ∷ box_line 3 false 0 0 4 (codes "y") ∷ box_line 5 true 2 1 3 (codes "x/1") ∷ [])
+    ensures faults { map (λ line. box_pins_in line_and_cross.tiles flat (line ∷ [])) bad_box_lines
         ≡ Err (build_faults.PinOutside 1) ∷ Err (build_faults.PinOutside 2)
         ∷ Err (build_faults.PinOutside 3) ∷ Err (build_faults.UnknownSymbol 5) ∷ [] }
 {}
@@ -90,18 +89,15 @@ pub fn documents_by_example()
         ≡ Ok (record { lower = end_of 0 1; upper = end_of 1 0 } ∷ []) }
     ensures not_array { stacks_in line_and_cross.tiles
         (Some (member (codes "stack") (string []) no_members)) ≡ Err stack_faults.NotArray }
-    ensures not_table { stacks_in line_and_cross.tiles
-        (Some (with_stacks (stack_data (codes "x") (codes "x") ∷ string [] ∷ [])))
-        ≡ Err (stack_faults.NotTable 1) }
+    ensures not_table { stacks_in line_and_cross.tiles (Some (with_stacks
+        (stack_data (codes "x") (codes "x") ∷ string [] ∷ []))) ≡ Err (stack_faults.NotTable 1) }
     ensures missing { stacks_in line_and_cross.tiles
         (Some (with_stacks (table (member (codes "lower") (string (codes "x")) no_members) ∷ [])))
         ≡ Err (stack_faults.MissingKey 0 keys.Upper) }
-    ensures unknown { stacks_in line_and_cross.tiles
-        (Some (with_stacks (stack_data (codes "y") (codes "x 9") ∷ [])))
-        ≡ Err (stack_faults.UnknownTile 0) }
-    ensures turn { stacks_in line_and_cross.tiles
-        (Some (with_stacks (stack_data (codes "line 0") (codes "x 9") ∷ [])))
-        ≡ Err (stack_faults.BadTurn 0) }
+    ensures unknown { stacks_in line_and_cross.tiles (Some (with_stacks
+        (stack_data (codes "y") (codes "x 9") ∷ []))) ≡ Err (stack_faults.UnknownTile 0) }
+    ensures turn { stacks_in line_and_cross.tiles (Some (with_stacks
+        (stack_data (codes "line 0") (codes "x 9") ∷ []))) ≡ Err (stack_faults.BadTurn 0) }
 {}
 
 /// The forms of boxes, and the text of one.
@@ -116,9 +112,8 @@ pub fn texts_by_example()
     ensures most { box_layout_of kinds.Plain None 4096 64 64 1 ≡ Ok Cells }
     ensures large { box_layout_of kinds.Plain None 4096 64 16 3
         ≡ Err (render_faults.TooLarge 37748736) }
-    ensures text { box_text Cells lines
-        (raster_of 2 1 (0 ∷ 1 ∷ []) ∷ raster_of 2 1 (1 ∷ 1 ∷ []) ∷ [])
-        ≡ codes "layer 0\n0 1\nlayer 1\n1 1\n" }
+    ensures text { box_text Cells lines (raster_of 2 1 (0 ∷ 1 ∷ []) ∷ raster_of 2 1 (1 ∷ 1 ∷ [])
+        ∷ []) ≡ codes "layer 0\n0 1\nlayer 1\n1 1\n" }
 {}
 
 /// A box is legal where each upper variant may stand on the lower one, and not the other way round;

@@ -4,11 +4,10 @@
 ghost use Rattle.std.specs.Prelude.{◌≡◌, ◌≤◌, ℕ, List, Ok};
 ghost use Rattle.wfc_model.specs.Raster.{Raster};
 ghost use Rattle.wfc_problem.specs.Network.{IsProblem, Network};
-ghost use Rattle.wfc_problem.specs.Assignment.{IsLegalAssignment};
 ghost use Rattle.wfc_problem.specs.declared.TheConstants.{MAX_PAIRS};
 ghost use Rattle.wfc_tileset.specs.Tiles.{TileSetView};
 ghost use Rattle.wfc_tileset.specs.TileSets.{IsTileSet};
-ghost use Rattle.wfc_box.specs.BoxProblem.{problem_of_box};
+ghost use Rattle.wfc_box.specs.BoxProblem.{IsLegalInBox, problem_of_box};
 ghost use Rattle.wfc_box.specs.Boxes.{AreInBox, IsFrame, IsLegalBox, LayerPin, box_of, numbers_of_box};
 ghost use Rattle.wfc_box.specs.declared.frame.Frame.{Frame};
 ghost use Rattle.wfc_box.specs.BoxPinView.{BoxPinView};
@@ -28,7 +27,7 @@ pub fn boxes_are_assignments()
     ensures legal { (set : TileSetView) (stacked : List (ℕ × ℕ)) (frame : Frame)
         (pins : List LayerPin) (box : List Raster) → IsFrame frame →
         IsLegalBox set stacked frame pins box →
-        IsLegalAssignment (problem_of_box set stacked frame pins) (numbers_of_box frame box) }
+        IsLegalInBox set stacked frame pins (numbers_of_box frame box) }
 {}
 
 /// The box of a legal assignment is legal.
@@ -36,8 +35,7 @@ pub fn assignments_are_boxes()
     ensures legal { (set : TileSetView) (stacked : List (ℕ × ℕ)) (frame : Frame)
         (pins : List LayerPin) (a : List ℕ) → IsFrame frame → IsTileSet set →
         IsProblem (problem_of_box set stacked frame pins) → AreInBox frame pins →
-        IsLegalAssignment (problem_of_box set stacked frame pins) a →
-        IsLegalBox set stacked frame pins (box_of frame a) }
+        IsLegalInBox set stacked frame pins a → IsLegalBox set stacked frame pins (box_of frame a) }
 {}
 
 /// Legal boxes and legal assignments correspond one to one: each is made of the other, and gives it
@@ -49,8 +47,7 @@ pub fn one_to_one()
     ensures assignments { (set : TileSetView) (stacked : List (ℕ × ℕ)) (frame : Frame)
         (pins : List LayerPin) (a : List ℕ) → IsFrame frame → IsTileSet set →
         IsProblem (problem_of_box set stacked frame pins) → AreInBox frame pins →
-        IsLegalAssignment (problem_of_box set stacked frame pins) a →
-        numbers_of_box frame (box_of frame a) ≡ a }
+        IsLegalInBox set stacked frame pins a → numbers_of_box frame (box_of frame a) ≡ a }
 {}
 
 /// What is built of a tile set, stacked pairs, a frame and the lines of a box's pins file is a

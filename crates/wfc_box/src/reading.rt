@@ -9,7 +9,8 @@ ghost use Rattle.toml.specs.View.{view, table_view, items_view};
 ghost use Rattle.wfc_tileset.specs.Allowed.{IsEnd};
 ghost use Rattle.wfc_tileset.specs.Document.{has_name};
 ghost use Rattle.wfc_tileset.specs.Names.{AreNames};
-ghost use Rattle.wfc_box.specs.StackDocument.{then_stack, stack_elements, stack_end_from, stack_end, document_of, stack_from, stacks_from, stacks_in, stacks_of, stack_table_in, stack_text};
+ghost use Rattle.wfc_box.specs.StackDocument.{then_stack, stack_elements, stack_end_from, stack_end, document_of};
+ghost use Rattle.wfc_box.specs.StackDocument.{stack_from, stacks_from, stacks_in, stacks_of, stack_table_in, stack_text};
 ghost use Rattle.wfc_box.specs.Stacks.{IsStack, stacked_pairs};
 
 use crate::allowed::Stacks;

@@ -32,6 +32,7 @@ box_fill_plan kinds asked = and_then (step (enough 1 kinds asked.rule)) (λ _. b
 abbrev pub box_filled : BoxFilling → BoxFillTask
 box_filled made = box_fill made.tiles made.form made.problem
 
+-- what the code makes for `box-fill`, as its task, or the fault
 abbrev pub box_fill_made : Result BoxFilling Fault → Result BoxFillTask Fault
 box_fill_made (Ok made) = Ok (box_filled made)
 box_fill_made (Err fault) = Err fault

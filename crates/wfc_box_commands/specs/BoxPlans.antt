@@ -24,10 +24,11 @@ stacked_plan asked =
     and_then (step (stacked_in set bytes)) (λ stacked.
     done (set, stacked)))))
 
--- the pins file is read, if one is named
+-- the pins file of this name is read
 abbrev pub box_pins_file_plan : List ℕ → Plan (List BoxPinView)
 box_pins_file_plan name = and_then (file_plan Pins name) (λ bytes. step (box_lines_in bytes))
 
+-- the pins file is read, if one is named; else there are no pins and bans
 abbrev pub box_pins_plan : Option (List ℕ) → Plan (List BoxPinView)
 box_pins_plan None = done []
 box_pins_plan (Some name) = box_pins_file_plan name

@@ -68,9 +68,8 @@ fn replied(
         (kinds_of (map (λ chooser. (told chooser).rule) choosers.items)) request.now.rule }
     requires frame { IsFrame (frame_asked request.now) }
     requires filling { IsBoxFilling request.now filling.now }
-    ensures replies { Replies
-        (BoxFillAnswers (map (λ chooser. (told chooser).rule) choosers.items) request.now)
-        (box_filled filling.now) (reply_view result) }
+    ensures replies { Replies (BoxFillAnswers (map (λ chooser. (told chooser).rule) choosers.items)
+        request.now) (box_filled filling.now) (reply_view result) }
 {
     let answer = answer(alloc, request, choosers, filling)?;
     Ok(answer)
@@ -87,10 +86,9 @@ fn answer(
         (kinds_of (map (λ chooser. (told chooser).rule) choosers.items)) request.now.rule }
     requires frame { IsFrame (frame_asked request.now) }
     requires filling { IsBoxFilling request.now filling.now }
-    ensures answers { IfOk result
-        (λ answer. fill_by (map (λ chooser. (told chooser).rule) choosers.items) request.now
-        (layers_text request.now filling.now.tiles filling.now.form) filling.now.problem
-        ≡ Some (answer_view answer)) }
+    ensures answers { IfOk result (λ answer. fill_by (map (λ chooser. (told chooser).rule)
+        choosers.items) request.now (layers_text request.now filling.now.tiles filling.now.form)
+        filling.now.problem ≡ Some (answer_view answer)) }
 {
     let chooser = first_of(alloc, choosers, request.rule)?;
     let ran = run(

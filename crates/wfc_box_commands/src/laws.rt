@@ -41,8 +41,8 @@ pub fn box_fill_tasks_are_given()
 /// `box-refute` comes to a task exactly where a chooser is there and the problem is that of the request, and `box-check`
 /// exactly where the problem is, and this is what the file of the refutation is answered.
 pub fn box_proof_tasks_are_given()
-    ensures refute { (kinds : List RuleKind) (asked : RequestView) (files : List File) (P : Network) →
-        (outcome (refute_plan box_proofs kinds asked) files ≡ Ok (refute P))
+    ensures refute { (kinds : List RuleKind) (asked : RequestView) (files : List File)
+        (P : Network) → (outcome (refute_plan box_proofs kinds asked) files ≡ Ok (refute P))
         ↔ IsRefuteTask box_proofs kinds asked files P }
     ensures check { (asked : RequestView) (files : List File) (found : Option CheckFault) →
         (outcome (check_plan box_proofs asked) files ≡ Ok (check found))
@@ -63,15 +63,8 @@ pub fn asked_boxes_are_assignments()
 /// What is asked for of a box of two by one by three, by example: its layers wrap, and no words of a sample count.
 pub fn requests_by_example()
     ensures frame { frame_asked small_box ≡ frame_of 2 1 3 true }
-    ensures shape { box_shape small_box ≡ (record {
-      n = 0;
-      width = 2;
-      height = 1;
-      depth = 3;
-      symmetry = 1;
-      wrap_in = false;
-      wrap_out = true;
-    }) }
+    ensures shape { box_shape small_box ≡ (record { n = 0; width = 2; height = 1; depth = 3;
+        symmetry = 1; wrap_in = false; wrap_out = true }) }
     ensures fill_budget { box_fill_command.budget small_box ≡ 7 }
     ensures refute_budget { box_refute_command.budget small_box ≡ 7 }
     ensures fill_no { (files : List File) →

@@ -1,9 +1,9 @@
 //! Laws of the order of refusals, each a function with no body whose contract is the law. They run nothing.
 
-ghost use Rattle.std.specs.Prelude.{Err, List, None, Ok, Some, [], codes, ℕ, ◌↔◌, ◌∷◌, ◌≡◌};
+ghost use Rattle.std.specs.Prelude.{Err, List, None, Ok, Some, [], codes, ℕ, ◌∷◌, ◌≡◌};
 ghost use Rattle.wfc_box.specs.StackDocument.{stacks_of};
 ghost use Rattle.wfc_box.specs.declared.fault.StackFault.{StackFault};
-ghost use Rattle.wfc_box_commands.specs.BoxFillTask.{BoxFillTask, box_fill_plan};
+ghost use Rattle.wfc_box_commands.specs.BoxFillTask.{box_fill_plan};
 ghost use Rattle.wfc_box_commands.specs.BoxOrder.{box_fill_order, box_order};
 ghost use Rattle.wfc_box_commands.specs.BoxPlans.{StackedSet, box_plan};
 ghost use Rattle.wfc_box_commands.specs.BoxProofs.{box_proofs};
@@ -15,17 +15,15 @@ ghost use Rattle.wfc_outside.specs.declared.whole.ReadFault.TheVariants.{Missing
 ghost use Rattle.wfc_pins.specs.declared.pins.PinFault.TheVariants as pins;
 ghost use Rattle.wfc_plan.specs.Files.{IsFile};
 ghost use Rattle.wfc_plan.specs.Kinds.{HasChoosers};
-ghost use Rattle.wfc_plan.specs.Order.{AreInOrder, IsFirstFault};
 ghost use Rattle.wfc_plan.specs.Plan.{outcome};
-ghost use Rattle.wfc_plan.specs.declared.fault.Fault.{Fault};
+ghost use Rattle.wfc_plan.specs.Refusing.{IsMadeInOrder, IsRefusedInOrder};
 ghost use Rattle.wfc_plan.specs.declared.fault.Fault.TheVariants.{Refused, Unread};
 ghost use Rattle.wfc_plan.specs.declared.fault.Refusal.TheVariants as refusals;
 ghost use Rattle.wfc_plan.specs.declared.fault.Source.TheVariants.{Pins, Sample};
-ghost use Rattle.wfc_problem.specs.Network.{Network};
 ghost use Rattle.wfc_proof_commands.specs.CheckOrder.{check_order};
-ghost use Rattle.wfc_proof_commands.specs.CheckTask.{CheckTask, check_plan};
+ghost use Rattle.wfc_proof_commands.specs.CheckTask.{check_plan};
 ghost use Rattle.wfc_proof_commands.specs.RefuteOrder.{refute_order};
-ghost use Rattle.wfc_proof_commands.specs.RefuteTask.{RefuteTask, refute_plan};
+ghost use Rattle.wfc_proof_commands.specs.RefuteTask.{refute_plan};
 ghost use Rattle.wfc_render.specs.declared.form.Form.{Form};
 ghost use Rattle.wfc_render.specs.declared.form.RenderFault.{RenderFault};
 ghost use Rattle.wfc_task.specs.Small.{AreBeside};
@@ -38,50 +36,43 @@ ghost use Rattle.wfc_words.specs.RequestView.{RequestView};
 /// The problem of a box has a fault exactly where it is that of the first stage at fault, and is made exactly where all
 /// are in order.
 pub fn boxes_are_refused_in_order()
-    ensures refused { (asked : RequestView) (files : List File) (fault : Fault) →
-        (outcome (box_plan asked) files ≡ Err fault) ↔ IsFirstFault (box_order asked files) fault }
+    ensures refused { (asked : RequestView) (files : List File) →
+        IsRefusedInOrder (box_plan asked) files (box_order asked files) }
     ensures made { (asked : RequestView) (files : List File) →
-        ((P : Network) × (outcome (box_plan asked) files ≡ Ok P))
-        ↔ AreInOrder (box_order asked files) }
+        IsMadeInOrder (box_plan asked) files (box_order asked files) }
 {}
 
 /// So it is with `box-fill`: the chooser before all else, and the layout before the pins.
 pub fn box_fill_refuses_in_order()
-    ensures refused { (kinds : List RuleKind) (asked : RequestView) (files : List File)
-        (fault : Fault) → (outcome (box_fill_plan kinds asked) files ≡ Err fault)
-        ↔ IsFirstFault (box_fill_order kinds asked files) fault }
+    ensures refused { (kinds : List RuleKind) (asked : RequestView) (files : List File) →
+        IsRefusedInOrder (box_fill_plan kinds asked) files (box_fill_order kinds asked files) }
     ensures made { (kinds : List RuleKind) (asked : RequestView) (files : List File) →
-        ((task : BoxFillTask) × (outcome (box_fill_plan kinds asked) files ≡ Ok task))
-        ↔ AreInOrder (box_fill_order kinds asked files) }
+        IsMadeInOrder (box_fill_plan kinds asked) files (box_fill_order kinds asked files) }
 {}
 
 /// So it is with `box-refute`: the chooser before the problem.
 pub fn box_refute_refuses_in_order()
-    ensures refused { (kinds : List RuleKind) (asked : RequestView) (files : List File)
-        (fault : Fault) → (outcome (refute_plan box_proofs kinds asked) files ≡ Err fault)
-        ↔ IsFirstFault (refute_order box_proofs kinds asked files) fault }
-    ensures made { (kinds : List RuleKind) (asked : RequestView) (files : List File) →
-        ((task : RefuteTask) × (outcome (refute_plan box_proofs kinds asked) files ≡ Ok task))
-        ↔ AreInOrder (refute_order box_proofs kinds asked files) }
+    ensures refused { (kinds : List RuleKind) (asked : RequestView) (files : List File) →
+        IsRefusedInOrder (refute_plan box_proofs kinds asked) files
+        (refute_order box_proofs kinds asked files) }
+    ensures made { (kinds : List RuleKind) (asked : RequestView) (files : List File) → IsMadeInOrder
+        (refute_plan box_proofs kinds asked) files (refute_order box_proofs kinds asked files) }
 {}
 
 /// So it is with `box-check`: the problem before the refutation.
 pub fn box_check_refuses_in_order()
-    ensures refused { (asked : RequestView) (files : List File) (fault : Fault) →
-        (outcome (check_plan box_proofs asked) files ≡ Err fault)
-        ↔ IsFirstFault (check_order box_proofs asked files) fault }
+    ensures refused { (asked : RequestView) (files : List File) →
+        IsRefusedInOrder (check_plan box_proofs asked) files (check_order box_proofs asked files) }
     ensures made { (asked : RequestView) (files : List File) →
-        ((task : CheckTask) × (outcome (check_plan box_proofs asked) files ≡ Ok task))
-        ↔ AreInOrder (check_order box_proofs asked files) }
+        IsMadeInOrder (check_plan box_proofs asked) files (check_order box_proofs asked files) }
 {}
 
 /// Where nothing is there: the chooser before the tile set, and the tile set before all else.
 pub fn first_faults()
     ensures fill { (asked : RequestView) (files : List File) →
         outcome (box_fill_plan [] asked) files ≡ Err (Refused (refusals.Chooser asked.rule)) }
-    ensures refute { (asked : RequestView) (files : List File) →
-        outcome (refute_plan box_proofs [] asked) files
-        ≡ Err (Refused (refusals.Chooser asked.rule)) }
+    ensures refute { (asked : RequestView) (files : List File) → outcome
+        (refute_plan box_proofs [] asked) files ≡ Err (Refused (refusals.Chooser asked.rule)) }
     ensures tiles { box_filled_by_one small_box [] ≡ Err (Unread Sample Missing) }
     ensures check { outcome (check_plan box_proofs small_box) [] ≡ Err (Unread Sample Missing) }
 {}
@@ -111,13 +102,11 @@ pub fn first_of_several_faults()
         IsStackedAnd small_box files made (Ok form) → AreBeside files None →
         box_filled_by_one small_box files ≡ Err (Unread Pins Missing) }
     ensures lines { (files : List File) (made : StackedSet) (form : Form) →
-        IsStackedAnd small_box files made (Ok form) →
-        AreBeside files (Some (codes "pin 0 0 x\n")) →
-        box_filled_by_one small_box files ≡ Err (Refused (refusals.Pins (pins.BadLine 1))) }
+        IsStackedAnd small_box files made (Ok form) → AreBeside files (Some (codes "pin 0 0 x\n"))
+        → box_filled_by_one small_box files ≡ Err (Refused (refusals.Pins (pins.BadLine 1))) }
     ensures refute { (files : List File) (made : StackedSet) (why : RenderFault) →
-        IsStackedAnd small_box files made (Err why) → AreBeside files None →
-        outcome (refute_plan box_proofs (Fewest ∷ []) small_box) files
-        ≡ Err (Unread Pins Missing) }
+        IsStackedAnd small_box files made (Err why) → AreBeside files None → outcome
+        (refute_plan box_proofs (Fewest ∷ []) small_box) files ≡ Err (Unread Pins Missing) }
     ensures check { (files : List File) (made : StackedSet) (why : RenderFault) →
         IsStackedAnd small_box files made (Err why) → AreBeside files None →
         outcome (check_plan box_proofs small_box) files ≡ Err (Unread Pins Missing) }

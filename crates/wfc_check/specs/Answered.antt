@@ -4,7 +4,8 @@ use Rattle.wfc_outside.specs.Folder.{File, FolderView, IsToldAs, IsMissing, IsFa
 use Rattle.wfc_problem.specs.Network.{Network}
 use Rattle.wfc_proof.specs.declared.heads.Shape.{Shape}
 use Rattle.wfc_check.specs.declared.fault.CheckFault.{CheckFault}
-use Rattle.wfc_check.specs.declared.fault.CheckFault.TheVariants.{Rejected, BadLine, HeaderDiffers, NotEnded, Missing, Failed, TooLong, NoMemory, OptionsDiffer}
+use Rattle.wfc_check.specs.declared.fault.CheckFault.TheVariants.{Rejected, BadLine, HeaderDiffers, NotEnded, Missing}
+use Rattle.wfc_check.specs.declared.fault.CheckFault.TheVariants.{Failed, TooLong, NoMemory, OptionsDiffer}
 use Rattle.wfc_check.specs.Text.{checked, IsRefutation}
 
 -- a fault that stands in the text, or its length

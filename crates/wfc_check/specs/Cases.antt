@@ -9,6 +9,10 @@ use Rattle.wfc_check.specs.declared.fault.CheckFault.{CheckFault}
 abbrev pub shape : Shape
 shape = record { n = 2; width = 3; height = 4; depth = 1; symmetry = 8; wrap_in = true; wrap_out = false }
 
+-- the same in a map of 4 by 3
+abbrev pub turned_shape : Shape
+turned_shape = record { n = 2; width = 4; height = 3; depth = 1; symmetry = 8; wrap_in = true; wrap_out = false }
+
 -- the answer to a text of which so many bytes may be read
 abbrev pub answer_within : ℕ → List ℕ → Result (Unit {0}) CheckFault
 answer_within most text = answer_from dead shape most 1 (at_start dead) text
@@ -17,9 +21,10 @@ answer_within most text = answer_from dead shape most 1 (at_start dead) text
 abbrev pub answer_to : List ℕ → Result (Unit {0}) CheckFault
 answer_to text = answer_within 200 text
 
--- the heads of both formats
+-- the head of a text in format 1
 abbrev pub head : List ℕ
 head = codes "wfc-refutation 1\ncells 2 values 3\n"
 
+-- the head of a text in format 2
 abbrev pub head_2 : List ℕ
 head_2 = codes "wfc-refutation 2\ncells 2 values 3\nfor 2 3 4 1 8 1 0\n"

@@ -1,11 +1,12 @@
 -- The first lines of a text, and which line a fault is at.
-use Rattle.std.specs.Prelude.{◌≡◌, ℕ, zero, suc, ◌≤◌, List, [], ◌∷◌, length, Option, None, Some, Err, if◌then◌else◌}
+use Rattle.std.specs.Prelude.{◌≡◌, ◌⊎◌, ℕ, zero, suc, ◌≤◌, List, [], ◌∷◌, length, Option, None, Some, Ok, Err, if◌then◌else◌}
 use Rattle.wfc_text.specs.Line.{is_line_feed}
 use Rattle.wfc_problem.specs.Network.{Network}
 use Rattle.wfc_proof.specs.declared.heads.Shape.{Shape}
 use Rattle.wfc_check.specs.Text.{checked}
 use Rattle.wfc_check.specs.declared.fault.CheckFault.{CheckFault}
-use Rattle.wfc_check.specs.declared.fault.CheckFault.TheVariants.{Rejected, BadLine, HeaderDiffers, NotEnded, Missing, Failed, TooLong, NoMemory, OptionsDiffer}
+use Rattle.wfc_check.specs.declared.fault.CheckFault.TheVariants.{Rejected, BadLine, HeaderDiffers, NotEnded, Missing}
+use Rattle.wfc_check.specs.declared.fault.CheckFault.TheVariants.{Failed, TooLong, NoMemory, OptionsDiffer}
 use Rattle.wfc_check.specs.declared.reading.TheConstants.{MAX_REFUTATION_BYTES}
 
 -- the first n lines of a text with their ends, all of it where it has no more
@@ -31,3 +32,7 @@ pub record IsAtFault (P : Network) (shape : Shape) (text : List ℕ) (fault : Ch
   pub within : length text ≤ MAX_REFUTATION_BYTES
   pub is : checked P shape text ≡ Err fault
   pub line : line_at_fault fault ≡ Some k
+
+-- the text is accepted, or answered that its proof isn't ended
+abbrev pub IsRightSoFar : Network → Shape → List ℕ → Type 0
+IsRightSoFar P shape text = (checked P shape text ≡ Ok tt) ⊎ (checked P shape text ≡ Err NotEnded)

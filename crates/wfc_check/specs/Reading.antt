@@ -1,10 +1,9 @@
 -- Where the reading of a text is, as the definitions see it.
-use Rattle.std.specs.Prelude.{◌≡◌, Result, Ok, Err, MatchResult}
+use Rattle.std.specs.Prelude.{◌≡◌}
 use Rattle.wfc_problem.specs.Network.{Network}
 use Rattle.wfc_proof.specs.declared.heads.Shape.{Shape}
 use Rattle.wfc_check.specs.Checker.{problem_of, point_of}
 use Rattle.wfc_check.specs.Text.{Place, place, at_start}
-use Rattle.wfc_check.specs.declared.fault.CheckFault.{CheckFault}
 use Rattle.wfc_check.specs.declared.reading.Reading.{Reading}
 
 -- its place
@@ -20,7 +19,3 @@ pub record IsOpenedFor (P : Network) (shape : Shape) (reading : Reading) : Type 
   pub holds : reads_for reading ≡ (P, shape)
   pub start : place_of reading ≡ at_start P
   pub first : reading.number ≡ 1
-
--- the answer is the one wanted: the place where a line leads, or its fault
-abbrev pub Leads : {T : Type 0} → Result Place CheckFault → Place → Result T CheckFault → Type 0
-Leads wanted new result = MatchResult result (λ _. wanted ≡ Ok new) (λ fault. wanted ≡ Err fault)

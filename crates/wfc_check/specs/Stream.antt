@@ -16,6 +16,7 @@ pub record StreamView : Type 0 where
   pub at : ℕ
   pub room : ℕ
 
+-- a stream as contracts see it: of its piece of the file it keeps what it hasn't given yet
 abbrev pub stream_view : Stream → StreamView
 stream_view stream = record {
   name = stream.name.now;
@@ -46,6 +47,7 @@ pub record IsLeft (contents : Option (List File)) (stream : StreamView) (left : 
   pub is : left ≡ stream.kept ++ behind
   pub told : IsBehind contents stream.name stream.at behind
 
+-- some bytes of the file are left to the stream
 abbrev pub HasLeft : Option (List File) → StreamView → Type 0
 HasLeft contents stream = (left : List ℕ) × IsLeft contents stream left
 
@@ -80,6 +82,7 @@ pub record IsShortLine (line : List ℕ) : Type 0 where
   pub plain : IsPlain line
   pub short : length line ≤ 64
 
+-- bytes without a line's end, one more than a line may have
 pub record IsLongLine (line : List ℕ) : Type 0 where
   pub plain : IsPlain line
   pub long : length line ≡ 65
@@ -91,6 +94,7 @@ pub record Gathering (old new : StreamView) (before after end : List ℕ) : Type
   pub line : after ≡ before ++ bytes
   pub passes : Passes old new (bytes ++ end)
 
+-- bytes that were kept came to a line: up to its end, or, where none was found, all of them up to one more than a line may have
 abbrev pub Gathers : StreamView → StreamView → List ℕ → List ℕ → Bool → Type 0
 Gathers old new before after true = Gathering old new before after (10 ∷ []) × (length after ≤ 64)
 Gathers old new before after false =

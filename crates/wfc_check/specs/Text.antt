@@ -1,14 +1,15 @@
 -- What is answered to the text of a refutation, line by line.
-use Rattle.std.specs.Prelude.{ℕ, ◌+◌, ◌≤◌, ◌==◌, ◌&&◌, nat_lt, Bool, true, false, List, [], ◌∷◌, length, take, Result, Ok, Err, if◌then◌else◌}
+use Rattle.std.specs.Prelude.{◌≡◌, ℕ, ◌+◌, ◌≤◌, ◌==◌, ◌&&◌, nat_lt, Bool, true, false, List, [], ◌∷◌, length, take}
+use Rattle.std.specs.Prelude.{Result, Ok, Err, MatchResult, if◌then◌else◌}
 use Rattle.std.specs.Bool.{beq}
 use Rattle.std.specs.List.{slice_split}
 use Rattle.wfc_text.specs.Line.{is_line_feed}
 use Rattle.wfc_problem.specs.Network.{Network, values, in_base}
+pub use Rattle.wfc_proof.specs.Telling.{line_in}
 use Rattle.wfc_proof.specs.Checker.{Point, line_step}
 use Rattle.wfc_proof.specs.Checker.Point.{going}
 use Rattle.wfc_proof.specs.Heads.{format_of, numbers_of, shape_of}
 use Rattle.wfc_proof.specs.ProofText.{IsProofText}
-use Rattle.wfc_proof.specs.Text.{line_of, line_2_of}
 use Rattle.wfc_proof.specs.declared.Line.{Line}
 use Rattle.wfc_proof.specs.declared.Reject.{Reject}
 use Rattle.wfc_proof.specs.declared.heads.Format.{Format}
@@ -30,6 +31,7 @@ pub record Place : Type 0 where
   pub stage : Stage
   pub point : Point
 
+-- the place with this stage and this point
 abbrev pub place : Stage → Point → Place
 place stage point = record { stage = stage; point = point }
 
@@ -48,11 +50,12 @@ after_first number (Err fault) = Err (BadLine number)
 abbrev pub are_of_problem : Network → Numbers → Bool
 are_of_problem P numbers = numbers.cells == P.cells && numbers.values == values P
 
--- behind the numbers comes the proof, in format 2 the shape before it
+-- behind the numbers of a head comes the proof, in format 2 the shape before it
 abbrev pub behind_numbers : Format → Stage
 behind_numbers One = Proving One
 behind_numbers Two = Shaping
 
+-- the stage behind the numbers of a head, or the fault of their line
 abbrev pub after_numbers : Network → Format → ℕ → Result Numbers LineFault → Result Stage CheckFault
 after_numbers P format number (Ok numbers) =
     if are_of_problem P numbers then Ok (behind_numbers format)
@@ -72,16 +75,12 @@ after_shape shape number (Err fault) = Err (BadLine number)
 
 -- ---- the lines of a proof
 
--- the line that bytes spell in the format
-abbrev pub line_in : Format → List ℕ → Result Line LineFault
-line_in One bytes = line_of bytes
-line_in Two bytes = line_2_of bytes
-
 -- where a line of the proof leads, if it is right there
 abbrev pub after_step : ℕ → Format → Result Point Reject → Result Place CheckFault
 after_step number format (Ok point) = Ok (place (Proving format) point)
 after_step number format (Err reject) = Err (Rejected number reject)
 
+-- where a line of the proof leads, or the fault of bytes that are no line
 abbrev pub after_line : Network → ℕ → Format → Point → Result Line LineFault → Result Place CheckFault
 after_line P number format point (Ok line) = after_step number format (line_step P point line)
 after_line P number format point (Err fault) = Err (BadLine number)
@@ -105,6 +104,15 @@ abbrev pub line_led : Network → Shape → ℕ → Place → List ℕ → Resul
 line_led P shape number at line =
     if nat_lt MAX_LINE_BYTES (length line) then Err (BadLine number)
     else staged P shape number at.stage at.point line
+
+-- the answer is the one wanted: the place where a line leads, or its fault
+abbrev pub Leads : {T : Type 0} → Result Place CheckFault → Place → Result T CheckFault → Type 0
+Leads wanted new result = MatchResult result (λ _. wanted ≡ Ok new) (λ fault. wanted ≡ Err fault)
+
+-- the answer is the one wanted: the stage behind a line, with the proof at this point, or the line's fault
+abbrev pub IsStaged : Result Place CheckFault → Point → Result Stage CheckFault → Type 0
+IsStaged wanted point result =
+    MatchResult result (λ next. wanted ≡ Ok (place next point)) (λ fault. wanted ≡ Err fault)
 
 -- ---- the end of a text
 
@@ -130,6 +138,7 @@ answer_at_end number at (byte ∷ line) = Err (BadLine number)
 abbrev pub answer_at_limit : ℕ → List ℕ → Result (Unit {0}) CheckFault
 answer_at_limit number line = if nat_lt MAX_LINE_BYTES (length line) then Err (BadLine number) else Err TooLong
 
+-- the answer behind a last part without a line's end: where the text goes on but no more may be read, or where it ends
 abbrev pub answer_behind : Bool → ℕ → Place → List ℕ → Result (Unit {0}) CheckFault
 answer_behind true number at line = answer_at_limit number line
 answer_behind false number at line = answer_at_end number at line

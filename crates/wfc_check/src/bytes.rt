@@ -26,7 +26,8 @@ pub fn check_bytes(
     bytes: &[u8],
 ) -> Result<(), CheckFault>
     requires limit { length bytes.now ≤ MAX_REFUTATION_BYTES }
-    ensures exact { Gives CheckFault.NoMemory (λ done. done) result (checked problem.now shape.now bytes.now) }
+    ensures exact { Gives CheckFault.NoMemory (λ done. done) result
+        (checked problem.now shape.now bytes.now) }
     ensures refutation { OnOk result (IsRefutation problem.now shape.now bytes.now) }
     ensures sound { OnOk result (HasNone problem.now) }
 {
@@ -41,7 +42,8 @@ fn read_lines(
     bytes: &[u8],
 ) -> Result<(), CheckFault>
     requires limit { length bytes.now ≤ MAX_REFUTATION_BYTES }
-    ensures exact { Gives CheckFault.NoMemory (λ done. done) result (checked problem.now shape.now bytes.now) }
+    ensures exact { Gives CheckFault.NoMemory (λ done. done) result
+        (checked problem.now shape.now bytes.now) }
     ensures problem { IsProblem problem.now }
 {
     let _cells = problem.cells();

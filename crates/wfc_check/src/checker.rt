@@ -5,7 +5,8 @@ ghost use Rattle.wfc_problem.specs.Network.{IsProblem};
 ghost use Rattle.wfc_problem.specs.Rounds.{depth_of, pairs};
 ghost use Rattle.wfc_proof.specs.Checker.{line_step, closed_step};
 ghost use Rattle.wfc_check.specs.Entries.{standing, waits_of};
-ghost use Rattle.wfc_check.specs.Checker.{point_at, point_of, problem_of, progress_of, told, led_to, IsTaken, IsOpened, AreEnded, SpellClosing, HasNone};
+ghost use Rattle.wfc_check.specs.Checker.{point_at, point_of, problem_of, progress_of, told, led_to, IsTaken, IsOpened};
+ghost use Rattle.wfc_check.specs.Checker.{AreEnded, SpellClosing, HasNone};
 ghost use Rattle.wfc_check.specs.declared.progress.Progress.TheVariants.{Going};
 
 use crate::nodes;
@@ -73,8 +74,7 @@ impl<'p> Checker<'p> {
     /// one that begins, but for what is taken back, which was paid for when it was taken away.
     pub fn line(&mut self, line: Line) -> Result<Progress, Reject>
         ensures value { result ≡ told (line_step (problem_of self.old) (point_of self.old) line) }
-        ensures next { point_of self.new
-            ≡ led_to (point_of self.old)
+        ensures next { point_of self.new ≡ led_to (point_of self.old)
             (line_step (problem_of self.old) (point_of self.old) line) }
         ensures same { problem_of self.new ≡ problem_of self.old }
         ensures refused { OnErr result (self.new ≡ self.old) }
@@ -114,8 +114,8 @@ fn are_ended(alloc: Global, problem: &Problem, lines: &[Line]) -> Result<bool, N
 /// A line, as far as the proof has come.
 fn take_line(trail: &mut Trail, progress: Progress, line: Line) -> Result<Progress, Reject>
     requires problem { IsProblem trail.old.problem }
-    requires few { progress ≡ Going →
-        pairs trail.old.problem (standing trail.old) + length (waits_of trail.old) ≤ depth_of trail.old.problem }
+    requires few { progress ≡ Going → pairs trail.old.problem (standing trail.old)
+        + length (waits_of trail.old) ≤ depth_of trail.old.problem }
     ensures taken { IsTaken (line_step trail.old.problem (point_at progress trail.old) line)
         trail.old trail.new result }
 {
@@ -131,7 +131,8 @@ fn open_line(trail: &mut Trail, line: Line) -> Result<Progress, Reject>
     requires problem { IsProblem trail.old.problem }
     requires few { pairs trail.old.problem (standing trail.old) + length (waits_of trail.old) ≤
         depth_of trail.old.problem }
-    ensures taken { IsTaken (line_step trail.old.problem (point_at Going trail.old) line) trail.old trail.new result }
+    ensures taken { IsTaken
+        (line_step trail.old.problem (point_at Going trail.old) line) trail.old trail.new result }
 {
     match line {
         Line::Remove { cell, value, dir } => nodes::remove(trail, cell, value, dir),

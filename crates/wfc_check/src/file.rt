@@ -26,10 +26,13 @@ pub fn check<F: Folder>(
     folder: &mut F,
     name: &str,
 ) -> Result<(), CheckFault>
-    ensures answer { Answers problem.now shape.now name.now (F.seen folder.old) (F.seen folder.new) result }
-    ensures refutation { OnOk result (IsToldRefutation problem.now shape.now (F.seen folder.old).contents name.now) }
+    ensures answer { Answers problem.now shape.now name.now (F.seen folder.old)
+        (F.seen folder.new) result }
+    ensures refutation { OnOk result
+        (IsToldRefutation problem.now shape.now (F.seen folder.old).contents name.now) }
     ensures sound { OnOk result (HasNone problem.now) }
-    ensures given { F.bytes_given folder.new ≤ F.bytes_given folder.old + MAX_REFUTATION_BYTES + 4096 }
+    ensures given { F.bytes_given folder.new
+        ≤ F.bytes_given folder.old + MAX_REFUTATION_BYTES + 4096 }
 {
     read_file(alloc, problem, shape, folder, name)
 }
@@ -42,9 +45,11 @@ fn read_file<F: Folder>(
     folder: &mut F,
     name: &str,
 ) -> Result<(), CheckFault>
-    ensures answer { Answers problem.now shape.now name.now (F.seen folder.old) (F.seen folder.new) result }
+    ensures answer { Answers problem.now shape.now name.now (F.seen folder.old)
+        (F.seen folder.new) result }
     ensures problem { IsProblem problem.now }
-    ensures given { F.bytes_given folder.new ≤ F.bytes_given folder.old + MAX_REFUTATION_BYTES + 4096 }
+    ensures given { F.bytes_given folder.new
+        ≤ F.bytes_given folder.old + MAX_REFUTATION_BYTES + 4096 }
 {
     let _cells = problem.cells();
     let mut reading = Reading::open(alloc, problem, shape)?;

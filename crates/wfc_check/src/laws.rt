@@ -1,14 +1,14 @@
 //! Laws of the definitions, each a function with no body whose contract is the law. They run nothing.
 
-ghost use Rattle.std.specs.Prelude.{◌≡◌, ℕ, ◌<◌, ◌↔◌, ◌⊎◌, ◌++◌, List, [], codes, replicate, None, Some, Ok, Err, true, false};
+ghost use Rattle.std.specs.Prelude.{◌≡◌, ℕ, ◌<◌, ◌↔◌, ◌++◌, List, [], codes, replicate, None, Some, Ok, Err};
 ghost use Rattle.wfc_problem.specs.Network.{Network, IsProblem};
 ghost use Rattle.wfc_proof.specs.Heads.{IsShape};
 ghost use Rattle.wfc_proof.specs.declared.Reject.TheVariants.{NotEmpty, NotClosed, AfterEnd, IndexRange};
 ghost use Rattle.wfc_proof.specs.declared.heads.Shape.{Shape};
 ghost use Rattle.wfc_check.specs.Answered.{IsOfText};
-ghost use Rattle.wfc_check.specs.Cases.{answer_to, answer_within, head, head_2, shape};
+ghost use Rattle.wfc_check.specs.Cases.{answer_to, answer_within, head, head_2, shape, turned_shape};
 ghost use Rattle.wfc_check.specs.Checker.{HasNone};
-ghost use Rattle.wfc_check.specs.Fronts.{first_lines, line_at_fault, IsAtFault};
+ghost use Rattle.wfc_check.specs.Fronts.{first_lines, line_at_fault, IsAtFault, IsRightSoFar};
 ghost use Rattle.wfc_check.specs.Text.{checked, IsRefutation};
 ghost use Rattle.wfc_check.specs.declared.fault.CheckFault.{CheckFault};
 ghost use Rattle.wfc_check.specs.declared.fault.CheckFault.TheVariants.{Rejected, BadLine, HeaderDiffers, NotEnded, TooLong, OptionsDiffer};
@@ -18,12 +18,12 @@ use crate::reading::{MAX_LINE_BYTES, MAX_REFUTATION_BYTES};
 /// A text is accepted exactly where it is a refutation, and then there is no legal assignment. What else it is answered is a
 /// fault of the text or its length.
 pub fn refutations_are_accepted()
-    ensures exact { (P : Network) → IsProblem P → (shape : Shape) → IsShape shape → (text : List ℕ) →
-        (checked P shape text ≡ Ok tt) ↔ IsRefutation P shape text }
+    ensures exact { (P : Network) → IsProblem P → (shape : Shape) → IsShape shape → (text : List ℕ)
+        → (checked P shape text ≡ Ok tt) ↔ IsRefutation P shape text }
     ensures sound { (P : Network) → IsProblem P → (shape : Shape) (text : List ℕ)
         → IsRefutation P shape text → HasNone P }
-    ensures fault { (P : Network) (shape : Shape) (text : List ℕ) (fault : CheckFault) → checked P shape text ≡ Err fault →
-        IsOfText fault }
+    ensures fault { (P : Network) (shape : Shape) (text : List ℕ) (fault : CheckFault)
+        → checked P shape text ≡ Err fault → IsOfText fault }
 {}
 
 /// A fault is at the first line that isn't right: the lines before it alone are accepted, or answered that they don't end
@@ -32,8 +32,7 @@ pub fn faults_are_at_the_first_line()
     ensures here { (P : Network) (shape : Shape) (text : List ℕ) (fault : CheckFault) (k : ℕ) →
         IsAtFault P shape text fault k → checked P shape (first_lines k text) ≡ Err fault }
     ensures before { (P : Network) (shape : Shape) (text : List ℕ) (fault : CheckFault) (k n : ℕ) →
-        IsAtFault P shape text fault k → 0 < n → n < k →
-        (checked P shape (first_lines n text) ≡ Ok tt) ⊎ (checked P shape (first_lines n text) ≡ Err NotEnded) }
+        IsAtFault P shape text fault k → 0 < n → n < k → IsRightSoFar P shape (first_lines n text) }
 {}
 
 /// The first lines of a text, and which line each fault of a text is at.
@@ -41,8 +40,10 @@ pub fn lines_by_example()
     ensures two { first_lines 2 (codes "ab\n\nc\nd") ≡ codes "ab\n\n" }
     ensures all { first_lines 3 (codes "ab\nc") ≡ codes "ab\nc" }
     ensures none { first_lines 0 (codes "ab\nc") ≡ [] }
-    ensures proof { (line_at_fault (Rejected 7 AfterEnd) ≡ Some 7) × (line_at_fault (BadLine 5) ≡ Some 5) }
-    ensures head { (line_at_fault (HeaderDiffers 4 5) ≡ Some 2) × (line_at_fault (OptionsDiffer shape) ≡ Some 3) }
+    ensures proof { (line_at_fault (Rejected 7 AfterEnd) ≡ Some 7)
+        × (line_at_fault (BadLine 5) ≡ Some 5) }
+    ensures head { (line_at_fault (HeaderDiffers 4 5) ≡ Some 2)
+        × (line_at_fault (OptionsDiffer shape) ≡ Some 3) }
     ensures text { (line_at_fault NotEnded ≡ None) × (line_at_fault TooLong ≡ None) }
 {}
 
@@ -65,11 +66,14 @@ pub fn heads_at_fault_by_example()
     ensures empty { answer_to (codes "") ≡ Err (BadLine 1) }
     ensures format { answer_to (codes "wfc-refutation 3\n") ≡ Err (BadLine 1) }
     ensures alone { answer_to (codes "wfc-refutation 1\n") ≡ Err NotEnded }
-    ensures zero_first { answer_to (codes "wfc-refutation 1\ncells 02 values 3\n") ≡ Err (BadLine 2) }
-    ensures numbers { answer_to (codes "wfc-refutation 2\ncells 3 values 2\n") ≡ Err (HeaderDiffers 3 2) }
-    ensures window { answer_to (codes "wfc-refutation 2\ncells 2 values 3\nfor 7 3 4 1 8 1 0\n") ≡ Err (BadLine 3) }
+    ensures zero_first { answer_to (codes "wfc-refutation 1\ncells 02 values 3\n")
+        ≡ Err (BadLine 2) }
+    ensures numbers { answer_to (codes "wfc-refutation 2\ncells 3 values 2\n")
+        ≡ Err (HeaderDiffers 3 2) }
+    ensures window { answer_to (codes "wfc-refutation 2\ncells 2 values 3\nfor 7 3 4 1 8 1 0\n")
+        ≡ Err (BadLine 3) }
     ensures shape { answer_to (codes "wfc-refutation 2\ncells 2 values 3\nfor 2 4 3 1 8 1 0\n")
-        ≡ Err (OptionsDiffer (record { n = 2; width = 4; height = 3; depth = 1; symmetry = 8; wrap_in = true; wrap_out = false })) }
+        ≡ Err (OptionsDiffer turned_shape) }
     ensures other_format { answer_to (head ++ codes "r 0 0 1 2\n") ≡ Err (BadLine 3) }
 {}
 
@@ -77,8 +81,10 @@ pub fn heads_at_fault_by_example()
 /// without its own.
 pub fn proofs_at_fault_by_example()
     ensures not_empty { answer_to (head ++ codes "x 0\n") ≡ Err (Rejected 3 (NotEmpty 0)) }
-    ensures waiting { answer_to (head ++ codes "t 0 1\nr 0 1 2\nx 0\nq\n") ≡ Err (Rejected 6 NotClosed) }
-    ensures behind { answer_to (head_2 ++ codes "r 0 0 1 2\nx 0\nq\nq\n") ≡ Err (Rejected 7 AfterEnd) }
+    ensures waiting { answer_to (head ++ codes "t 0 1\nr 0 1 2\nx 0\nq\n")
+        ≡ Err (Rejected 6 NotClosed) }
+    ensures behind { answer_to (head_2 ++ codes "r 0 0 1 2\nx 0\nq\nq\n")
+        ≡ Err (Rejected 7 AfterEnd) }
     ensures behind_none { answer_to (head_2 ++ codes "r 0 0 1 2\nx 0\nq\nz\n") ≡ Err (BadLine 7) }
     ensures not_ended { answer_to (head_2 ++ codes "r 0 0 1 2\nx 0\n") ≡ Err NotEnded }
     ensures no_feed { answer_to (head_2 ++ codes "r 0 0 1 2\nx 0\nq") ≡ Err (BadLine 6) }

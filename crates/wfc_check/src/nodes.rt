@@ -31,7 +31,8 @@ fn first_among(trail: &Trail, cell: u32, among: &[u16]) -> Option<u16>
 /// The least value that stands at a cell.
 fn least_at(trail: &Trail, cell: u32) -> Option<u16>
     requires cell_in { cell < trail.now.problem.cells }
-    ensures value { result ≡ find (standing trail.now cell) (range_with_len 0 (values trail.now.problem)) }
+    ensures value { result
+        ≡ find (standing trail.now cell) (range_with_len 0 (values trail.now.problem)) }
 {
     for value in 0..trail.problem().values() {
         if trail.has(cell, value) {
@@ -67,7 +68,8 @@ fn has_other(trail: &Trail, cell: u32, value: u16) -> bool
 
 /// Why a removal is refused, if it is.
 pub fn removal_fault(trail: &Trail, cell: u32, value: u16, dir: u8) -> Option<Reject>
-    ensures value { result ≡ node_fault trail.now.problem (standing trail.now) (removes cell value dir) }
+    ensures value { result
+        ≡ node_fault trail.now.problem (standing trail.now) (removes cell value dir) }
 {
     let problem = trail.problem();
     if !(cell < problem.cells() && (value < problem.values() && dir < problem.dirs())) {
@@ -131,8 +133,8 @@ pub fn branch(trail: &mut Trail, cell: u32, value: u16)
 
 /// Takes a value away, unless that is refused.
 pub fn remove(trail: &mut Trail, cell: u32, value: u16, dir: u8) -> Result<Progress, Reject>
-    ensures taken { IsTaken (node_step trail.old.problem (point_at Going trail.old) (removes cell value dir))
-        trail.old trail.new result }
+    ensures taken { IsTaken (node_step trail.old.problem (point_at Going trail.old)
+        (removes cell value dir)) trail.old trail.new result }
 {
     match removal_fault(trail, cell, value, dir) {
         Some(reject) => Err(reject),
@@ -153,7 +155,8 @@ pub fn remove_span(
 ) -> Result<Progress, Reject>
     requires whole { first ≤ last }
     ensures taken { IsTaken (node_steps trail.old.problem (point_at Going trail.old)
-        (map (λ value. removes cell value dir) (range_with_len first (last + 1 - first)))) trail.old trail.new result }
+        (map (λ value. removes cell value dir) (range_with_len first (last + 1 - first))))
+        trail.old trail.new result }
 {
     let mark = trail.len();
     for value in u32::from(first)..u32::from(last) + 1 {
@@ -173,8 +176,8 @@ pub fn split(trail: &mut Trail, cell: u32, value: u16) -> Result<Progress, Rejec
     requires problem { IsProblem trail.old.problem }
     requires few { pairs trail.old.problem (standing trail.old) + length (waits_of trail.old) ≤
         depth_of trail.old.problem }
-    ensures taken { IsTaken (node_step trail.old.problem (point_at Going trail.old) (splits cell value))
-        trail.old trail.new result }
+    ensures taken { IsTaken (node_step trail.old.problem (point_at Going trail.old)
+        (splits cell value)) trail.old trail.new result }
 {
     match split_fault(trail, cell, value) {
         Some(reject) => Err(reject),

@@ -1,9 +1,10 @@
 //! The lines of a refutation's text, one after another, and the first that is at fault.
 
-ghost use Rattle.std.specs.Prelude.{◌≡◌, ◌+◌, ◌-◌, ◌^◌, ◌<◌, IfOk, MatchResult, OnOk, Ok, Err};
+ghost use Rattle.std.specs.Prelude.{◌≡◌, ◌+◌, ◌-◌, ◌^◌, ◌<◌, IfOk, OnOk};
 ghost use Rattle.wfc_proof.specs.Heads.{format_of, numbers_of, shape_of};
 ghost use Rattle.wfc_check.specs.Checker.{problem_of, point_of};
-ghost use Rattle.wfc_check.specs.Text.{after_first, after_numbers, after_shape, after_line, line_in, staged, line_led, place, answer_at_end, at_start};
+ghost use Rattle.wfc_check.specs.Text.{after_first, after_numbers, after_shape, after_line, line_in, staged, line_led, place};
+ghost use Rattle.wfc_check.specs.Text.{IsStaged, Leads, answer_at_end, at_start};
 ghost use Rattle.wfc_check.specs.declared.reading.Stage.TheVariants.{Proving};
 
 use crate::checker::Checker;
@@ -42,7 +43,7 @@ pub(crate) struct Reading<'p, 's> {
 }
 
 impl<'p, 's> Reading<'p, 's> {
-    ghost use Rattle.wfc_check.specs.Reading.{place_of, reads_for, IsOpenedFor, Leads};
+    ghost use Rattle.wfc_check.specs.Reading.{place_of, reads_for, IsOpenedFor};
 
     /// The start of a text, which is held to this problem and this shape. It takes all the memory that the reading of lines
     /// needs.
@@ -111,10 +112,8 @@ fn take_line(
     number: u64,
     line: &[u8],
 ) -> Result<Stage, CheckFault>
-    ensures led { MatchResult result
-        (λ next. staged (problem_of checker.old) shape.now number stage (point_of checker.old)
-        line.now ≡ Ok (place next (point_of checker.new)))
-        (λ fault. staged (problem_of checker.old) shape.now number stage (point_of checker.old) line.now ≡ Err fault) }
+    ensures led { IsStaged (staged (problem_of checker.old) shape.now number stage
+        (point_of checker.old) line.now) (point_of checker.new) result }
     ensures same { problem_of checker.new ≡ problem_of checker.old }
 {
     match stage {
@@ -185,10 +184,8 @@ fn after_line(
     number: u64,
     line: &[u8],
 ) -> Result<(), CheckFault>
-    ensures led { MatchResult result
-        (λ _. after_line (problem_of checker.old) number format (point_of checker.old)
-        (line_in format line.now) ≡ Ok (place (Proving format) (point_of checker.new)))
-        (λ fault. after_line (problem_of checker.old) number format (point_of checker.old) (line_in format line.now) ≡ Err fault) }
+    ensures led { Leads (after_line (problem_of checker.old) number format (point_of checker.old)
+        (line_in format line.now)) (place (Proving format) (point_of checker.new)) result }
     ensures same { problem_of checker.new ≡ problem_of checker.old }
 {
     let Ok(line) = line_in(format, line) else {

@@ -70,13 +70,15 @@ impl<'n> Stream<'n> {
             (λ fault. CausesStop self.old.name.now (F.seen folder.old) (F.seen folder.new) fault) }
         ensures name { self.new.name ≡ self.old.name }
         ensures most { self.new.most ≡ self.old.most }
-        ensures given { F.bytes_given folder.new + self.old.at ≤ F.bytes_given folder.old + self.new.at }
+        ensures given { F.bytes_given folder.new + self.old.at
+            ≤ F.bytes_given folder.old + self.new.at }
         ensures some { result ≡ Ok true → self.new.from < self.new.to }
         ensures steps { result ≡ Ok true
             → Steps (F.seen folder.old).contents (stream_view self.old) (stream_view self.new) [] }
         ensures left { result ≡ Ok true → Keeps (F.seen folder.old).contents (stream_view self.old)
             → HasLeft (F.seen folder.old).contents (stream_view self.new) }
-        ensures end { result ≡ Ok false → IsLeft (F.seen folder.old).contents (stream_view self.old) [] }
+        ensures end { result ≡ Ok false
+            → IsLeft (F.seen folder.old).contents (stream_view self.old) [] }
     {
         if self.from < self.to {
             return Ok(true);
@@ -93,7 +95,8 @@ impl<'n> Stream<'n> {
     fn pass(&mut self, count: usize)
         requires kept { self.old.from + count ≤ self.old.to }
         requires room { count ≤ self.old.room }
-        ensures passed { Passes (stream_view self.old) (stream_view self.new) (take count (stream_view self.old).kept) }
+        ensures passed { Passes (stream_view self.old) (stream_view self.new)
+            (take count (stream_view self.old).kept) }
         ensures name { self.new.name ≡ self.old.name }
         ensures most { self.new.most ≡ self.old.most }
     {
@@ -139,8 +142,10 @@ impl<'n> Stream<'n> {
             (λ fault. CausesStop self.old.name.now (F.seen folder.old) (F.seen folder.new) fault) }
         ensures name { self.new.name ≡ self.old.name }
         ensures most { self.new.most ≡ self.old.most }
-        ensures given { F.bytes_given folder.new + self.old.at ≤ F.bytes_given folder.old + self.new.at }
-        ensures line { IfOk result (EndsLine (F.seen folder.old).contents (stream_view self.old) (stream_view self.new) line.new.items) }
+        ensures given { F.bytes_given folder.new + self.old.at
+            ≤ F.bytes_given folder.old + self.new.at }
+        ensures line { IfOk result (EndsLine (F.seen folder.old).contents (stream_view self.old)
+            (stream_view self.new) line.new.items) }
     {
         line.clear();
         'read: loop {

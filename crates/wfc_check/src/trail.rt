@@ -85,7 +85,8 @@ impl<'p> Trail<'p> {
     #[inline]
     pub fn remove(&mut self, cell: u32, value: u16)
         requires stands { IsTrue (standing self.old cell value) }
-        ensures more { self.new ≡ with_more self.old (record { cell = cell; value = value; waits = false }) }
+        ensures more { self.new
+            ≡ with_more self.old (record { cell = cell; value = value; waits = false }) }
     {
         self.flags[cell as usize * self.problem.values() as usize + value as usize] = false;
         self.entries.push_reserved(Entry {
@@ -100,7 +101,8 @@ impl<'p> Trail<'p> {
     pub fn put_off(&mut self, cell: u32, value: u16)
         requires stands { IsTrue (standing self.old cell value) }
         requires few { length (waits_of self.old) < depth_of self.old.problem }
-        ensures more { self.new ≡ with_more self.old (record { cell = cell; value = value; waits = true }) }
+        ensures more { self.new
+            ≡ with_more self.old (record { cell = cell; value = value; waits = true }) }
     {
         self.entries.push_reserved(Entry {
             cell,
@@ -113,7 +115,8 @@ impl<'p> Trail<'p> {
     #[inline]
     pub fn back(&mut self) -> Option<Entry>
         ensures none { result ≡ None → self.old.entries ≡ [] }
-        ensures last { MatchOption result (self.new ≡ self.old) (λ entry. self.old ≡ with_more self.new entry) }
+        ensures last { MatchOption result (self.new ≡ self.old)
+            (λ entry. self.old ≡ with_more self.new entry) }
         ensures stood { MatchOption result (self.new ≡ self.old)
             (λ entry. IsTrue (standing self.new entry.cell entry.value)) }
     {

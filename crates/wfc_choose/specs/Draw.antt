@@ -17,3 +17,14 @@ drawn P values word = first_above P (word % sum_by (value_weight P) values) 0 va
 abbrev pub IsInShare : Network → List ℕ → ℕ → ℕ → Type 0
 IsInShare P front v number =
     (sum_by (value_weight P) front ≤ number) × (number < sum_by (value_weight P) front + value_weight P v)
+
+-- one cell whose values 0, 1 and 2 have the weights 3, 1 and 5
+abbrev pub trio : Network
+trio = record {
+  cells = 1;
+  dirs = 4;
+  neighbours = [];
+  weights = 3 ∷ 1 ∷ 5 ∷ [];
+  supports = [];
+  base = [];
+}

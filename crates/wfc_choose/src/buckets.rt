@@ -50,7 +50,8 @@ impl Model for Buckets {
 impl Buckets {
     /// Without any cells.
     pub fn new(alloc: Global) -> Buckets
-        ensures begins { result ≡ record { rule = record { kind = Fewest; ranks = [] }; sizes = [] } }
+        ensures begins { result
+            ≡ record { rule = record { kind = Fewest; ranks = [] }; sizes = [] } }
     {
         Buckets {
             alloc,

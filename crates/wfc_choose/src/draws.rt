@@ -37,7 +37,8 @@ fn weights_at(problem: &Problem, domains: &Domains, cell: u32) -> u64
     requires fits { Fits problem.now domains.now }
     requires cell_in { cell < problem.now.cells }
     requires some { 0 < size_at problem.now (has domains.now) cell }
-    ensures value { result ≡ sum_by (value_weight problem.now) (values_at problem.now (has domains.now) cell) }
+    ensures value { result
+        ≡ sum_by (value_weight problem.now) (values_at problem.now (has domains.now) cell) }
     ensures some { 0 < result }
 {
     let mut sum: u64 = 0;

@@ -1,8 +1,9 @@
 //! What the definitions imply. Each function does nothing; its contract is the law.
 
-ghost use Rattle.std.specs.Prelude.{◌≡◌, ℕ, ◌%◌, ◌<◌, ◌≤◌, ◌↔◌, List, [], ◌∷◌, ◌++◌, length, Option, Some, None, Contains, IsFalse, slice_index};
+ghost use Rattle.std.specs.Prelude.{◌≡◌, ℕ, ◌%◌, ◌<◌, ◌≤◌, ◌↔◌, List, [], ◌∷◌, ◌++◌, length};
+ghost use Rattle.std.specs.Prelude.{Option, Some, None, Contains, IsFalse, slice_index};
 ghost use Rattle.std.specs.List.{sum_by};
-ghost use Rattle.wfc_choose.specs.Draw.{drawn, IsInShare};
+ghost use Rattle.wfc_choose.specs.Draw.{drawn, IsInShare, trio};
 ghost use Rattle.wfc_choose.specs.Pick.{Rule, picked, urge};
 ghost use Rattle.wfc_choose.specs.declared.RuleKind.TheVariants.{Scanline, Fewest, Ranked};
 ghost use Rattle.wfc_choose.specs.declared.TheConstants.{NO_RANK};
@@ -15,12 +16,14 @@ ghost use Rattle.wfc_problem.specs.Sizes.{is_dead, sizes_of, values_at, size_at}
 pub fn picks_are_open()
     ensures is_open { (rule : Rule) (sizes : List ℕ) (c : ℕ) → picked rule sizes ≡ Some c →
         (c < length sizes) × (2 ≤ slice_index sizes c) }
-    ensures none { (rule : Rule) (sizes : List ℕ) (c : ℕ) → picked rule sizes ≡ None → c < length sizes →
-        slice_index sizes c ≤ 1 }
+    ensures none { (rule : Rule) (sizes : List ℕ) (c : ℕ) → picked rule sizes ≡ None →
+        c < length sizes → slice_index sizes c ≤ 1 }
     ensures least { (rule : Rule) (sizes : List ℕ) (c other : ℕ) → picked rule sizes ≡ Some c →
-        other < length sizes → 2 ≤ slice_index sizes other → urge rule sizes c ≤ urge rule sizes other }
+        other < length sizes → 2 ≤ slice_index sizes other →
+        urge rule sizes c ≤ urge rule sizes other }
     ensures first { (rule : Rule) (sizes : List ℕ) (c other : ℕ) → picked rule sizes ≡ Some c →
-        other < length sizes → 2 ≤ slice_index sizes other → urge rule sizes other ≡ urge rule sizes c → c ≤ other }
+        other < length sizes → 2 ≤ slice_index sizes other →
+        urge rule sizes other ≡ urge rule sizes c → c ≤ other }
 {}
 
 /// Where no cell is empty, none is picked exactly where each has one value.
@@ -38,39 +41,39 @@ pub fn draws_are_values()
 /// Of the values of a cell one is drawn exactly where the sum of the weights of those before it is at most the word
 /// modulo the sum of all, and that sum with its own weight is above it.
 pub fn draws_are_by_weight()
-    ensures share { (P : Network) → IsProblem P → (D : Test) (c word v : ℕ) (front behind : List ℕ) →
-        values_at P D c ≡ front ++ v ∷ behind → (drawn P (values_at P D c) word ≡ v)
+    ensures share { (P : Network) → IsProblem P → (D : Test) (c word v : ℕ) (front behind : List ℕ)
+        → values_at P D c ≡ front ++ v ∷ behind → (drawn P (values_at P D c) word ≡ v)
         ↔ IsInShare P front v (word % sum_by (value_weight P) (values_at P D c)) }
 {}
 
 /// Each kind of rule picks its own cell of the sizes 1, 5, 0, 3, 2, 2, and none of 1, 0, 1. A cell without a rank comes
 /// last, and of cells with one rank the least comes first.
 pub fn small_picks()
-    ensures scanline { picked (record { kind = Scanline; ranks = [] }) (1 ∷ 5 ∷ 0 ∷ 3 ∷ 2 ∷ 2 ∷ []) ≡ Some 1 }
-    ensures fewest { picked (record { kind = Fewest; ranks = [] }) (1 ∷ 5 ∷ 0 ∷ 3 ∷ 2 ∷ 2 ∷ []) ≡ Some 4 }
+    ensures scanline { picked (record { kind = Scanline; ranks = [] }) (1 ∷ 5 ∷ 0 ∷ 3 ∷ 2 ∷ 2 ∷ [])
+        ≡ Some 1 }
+    ensures fewest { picked (record { kind = Fewest; ranks = [] }) (1 ∷ 5 ∷ 0 ∷ 3 ∷ 2 ∷ 2 ∷ [])
+        ≡ Some 4 }
     ensures ranked { picked (record { kind = Ranked; ranks = 0 ∷ 9 ∷ 0 ∷ 8 ∷ [] })
         (1 ∷ 5 ∷ 0 ∷ 3 ∷ 2 ∷ 2 ∷ []) ≡ Some 3 }
     ensures level { picked (record { kind = Ranked; ranks = 0 ∷ 9 ∷ 0 ∷ 9 ∷ [] })
         (1 ∷ 5 ∷ 0 ∷ 3 ∷ 2 ∷ 2 ∷ []) ≡ Some 1 }
-    ensures unranked { picked (record { kind = Ranked; ranks = [] }) (1 ∷ 1 ∷ 0 ∷ 3 ∷ 2 ∷ 2 ∷ []) ≡ Some 3 }
+    ensures unranked { picked (record { kind = Ranked; ranks = [] }) (1 ∷ 1 ∷ 0 ∷ 3 ∷ 2 ∷ 2 ∷ [])
+        ≡ Some 3 }
     ensures none { picked (record { kind = Fewest; ranks = [] }) (1 ∷ 0 ∷ 1 ∷ []) ≡ None }
     ensures empty { picked (record { kind = Scanline; ranks = [] }) [] ≡ None }
 {}
 
 /// Of the values 0 and 2 of weights 3 and 5 the words 2, 3, 7 and 8 draw 0, 2, 2 and 0: 8 goes round.
 pub fn small_draws()
-    ensures drawn { let P : Network = record { cells = 1; dirs = 4; neighbours = []; weights = 3 ∷ 1 ∷ 5 ∷ []; supports = []; base = [] } in
-        drawn P (0 ∷ 2 ∷ []) 2 ∷ drawn P (0 ∷ 2 ∷ []) 3 ∷ drawn P (0 ∷ 2 ∷ []) 7 ∷ drawn P (0 ∷ 2 ∷ []) 8 ∷ [] ≡ 0 ∷ 2 ∷ 2 ∷ 0 ∷ [] }
+    ensures drawn { drawn trio (0 ∷ 2 ∷ []) 2 ∷ drawn trio (0 ∷ 2 ∷ []) 3
+        ∷ drawn trio (0 ∷ 2 ∷ []) 7 ∷ drawn trio (0 ∷ 2 ∷ []) 8 ∷ [] ≡ 0 ∷ 2 ∷ 2 ∷ 0 ∷ [] }
 {}
 
 /// The share of the value 2 of weight 5 behind the value 0 of weight 3 goes from 3 to 7.
 pub fn small_shares()
-    ensures inside { let P : Network = record { cells = 1; dirs = 4; neighbours = []; weights = 3 ∷ 1 ∷ 5 ∷ []; supports = []; base = [] } in
-        IsInShare P (0 ∷ []) 2 3 × IsInShare P (0 ∷ []) 2 7 }
-    ensures below { let P : Network = record { cells = 1; dirs = 4; neighbours = []; weights = 3 ∷ 1 ∷ 5 ∷ []; supports = []; base = [] } in
-        IsInShare P (0 ∷ []) 2 2 → ⊥ }
-    ensures above { let P : Network = record { cells = 1; dirs = 4; neighbours = []; weights = 3 ∷ 1 ∷ 5 ∷ []; supports = []; base = [] } in
-        IsInShare P (0 ∷ []) 2 8 → ⊥ }
+    ensures inside { IsInShare trio (0 ∷ []) 2 3 × IsInShare trio (0 ∷ []) 2 7 }
+    ensures below { IsInShare trio (0 ∷ []) 2 2 → ⊥ }
+    ensures above { IsInShare trio (0 ∷ []) 2 8 → ⊥ }
 {}
 
 /// The rank of a cell without one.

@@ -54,7 +54,8 @@ pub trait Chooser: Drop {
     fn resized(&mut self, cell: u32, size: u32)
         requires cell_in { cell < length (told self.old).sizes }
         requires small { size ≤ MAX_VALUES }
-        ensures resized { told self.new ≡ record (told self.old) { sizes = slice_set (told self.old).sizes cell size } };
+        ensures resized { told self.new
+            ≡ record (told self.old) { sizes = slice_set (told self.old).sizes cell size } };
 
     /// The cell that the rule picks of these sizes, if some cell has two values or more. It takes no memory.
     fn pick(&self) -> Option<u32>

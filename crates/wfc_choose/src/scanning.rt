@@ -35,7 +35,8 @@ impl Model for Scanning {
 impl Scanning {
     /// The least cell first.
     pub fn scanline(alloc: Global) -> Scanning
-        ensures begins { result ≡ record { rule = record { kind = Scanline; ranks = [] }; sizes = [] } }
+        ensures begins { result
+            ≡ record { rule = record { kind = Scanline; ranks = [] }; sizes = [] } }
     {
         Scanning {
             alloc,
@@ -47,7 +48,8 @@ impl Scanning {
 
     /// The cell with the fewest values first.
     pub fn fewest(alloc: Global) -> Scanning
-        ensures begins { result ≡ record { rule = record { kind = Fewest; ranks = [] }; sizes = [] } }
+        ensures begins { result
+            ≡ record { rule = record { kind = Fewest; ranks = [] }; sizes = [] } }
     {
         Scanning {
             alloc,
@@ -59,7 +61,8 @@ impl Scanning {
 
     /// The cell of the least rank first. The ranks are those of the first cells; the others have `NO_RANK`.
     pub fn ranked(alloc: Global, ranks: Vec<u32>) -> Scanning
-        ensures begins { result ≡ record { rule = record { kind = Ranked; ranks = ranks.items }; sizes = [] } }
+        ensures begins { result
+            ≡ record { rule = record { kind = Ranked; ranks = ranks.items }; sizes = [] } }
     {
         Scanning {
             alloc,
@@ -87,7 +90,8 @@ fn better(kind: RuleKind, ranks: &[u32], sizes: &[u16], best: Option<u32>, cell:
     requires cell_in { cell < length sizes.now }
     requires limit { length sizes.now ≤ MAX_PAIRS }
     requires before { IsBestBelow (record { kind = kind; ranks = ranks.now }) sizes.now cell best }
-    ensures best { IsBestBelow (record { kind = kind; ranks = ranks.now }) sizes.now (cell + 1) result }
+    ensures best { IsBestBelow (record { kind = kind; ranks = ranks.now })
+        sizes.now (cell + 1) result }
 {
     if sizes[cell as usize] < 2 {
         return best;
@@ -119,7 +123,8 @@ fn best_of(kind: RuleKind, ranks: &[u32], sizes: &[u16]) -> Option<u32>
 /// The first cell with two values or more.
 fn first_open(sizes: &[u16]) -> Option<u32>
     requires limit { length sizes.now ≤ MAX_PAIRS }
-    ensures exact { (ranks : List ℕ) → result ≡ picked (record { kind = Scanline; ranks = ranks }) sizes.now }
+    ensures exact { (ranks : List ℕ) →
+        result ≡ picked (record { kind = Scanline; ranks = ranks }) sizes.now }
 {
     for cell in 0..sizes.len() as u32 {
         if sizes[cell as usize] >= 2 {

@@ -21,6 +21,7 @@ pub record IsRefusedCall (fault : CommandFault) (call : Call) : Type 0 where
   pub folder : call.after.folder ≡ call.before.folder
   pub delivers : Delivers (said_of_words fault) call
 
+-- what a call may do, by what its words were read as: a request, or none and why
 abbrev pub AnswersAsked : Call → Result RequestView CommandFault → Type 0
 AnswersAsked call (Ok asked) = IsAnswerTo call asked
 AnswersAsked call (Err fault) = IsRefusedCall fault call

@@ -1,5 +1,5 @@
 -- What leaves a call: the text of an answer, the line of the error stream, and the status.
-use Rattle.std.specs.Prelude.{Bool, Err, List, None, Ok, Option, Result, Some, true, ℕ, ◌≡◌, ◌⊎◌}
+use Rattle.std.specs.Prelude.{Bool, Err, List, None, Ok, Option, Result, Some, false, true, ℕ, ◌≡◌, ◌⊎◌}
 use Rattle.wfc_cli.specs.ErrorLine.{command_status, fault_text}
 use Rattle.wfc_lines.specs.Command.{text_of_command}
 use Rattle.wfc_lines.specs.Line.{line}
@@ -17,6 +17,11 @@ use Rattle.wfc_words.specs.declared.fault.CommandFault.{CommandFault}
 -- the stream took the line of the text, or a front of it and then met a counted fault
 pub record IsTold (text : List ℕ) (old new : SinkView) : Type 0 where
   pub cases : (new ≡ after_bytes old (line text)) ⊎ IsFaultAfterFront old new (line text)
+
+-- the sink that took these bytes, isn't finished, and has counted so many faults
+abbrev pub open_sink : List ℕ → ℕ → SinkView
+open_sink bytes faults =
+    record { told = Some (record { bytes = bytes; finished = false }); faults = faults }
 
 -- the stream is told the text, or there is none and it is as before
 abbrev pub Tells : Option (List ℕ) → SinkView → SinkView → Type 0

@@ -2,7 +2,8 @@
 use Rattle.wfc_box_commands.specs.BoxClaims.{BoxCheckPromises, BoxFillPromises, BoxRefutePromises}
 use Rattle.wfc_cli.specs.Answer.{IsAnswer}
 use Rattle.wfc_cli.specs.LineClaims.{IsApartFromErr, TellsStatus}
-use Rattle.wfc_cli.specs.Theorem.{CountsFaults, HasDeviceFault, HasFirstFault, HasRefusedWords, IsComplete, IsRefusedFirst, KeepsOut, RefusesWords}
+use Rattle.wfc_cli.specs.Theorem.{CountsFaults, HasDeviceFault, HasFirstFault, HasRefusedWords}
+use Rattle.wfc_cli.specs.Theorem.{IsComplete, IsRefusedFirst, KeepsOut, RefusesWords}
 use Rattle.wfc_grow_command.specs.GrowClaims.{GrowPromises}
 use Rattle.wfc_map_commands.specs.DemoClaims.{DemoPromises}
 use Rattle.wfc_map_commands.specs.DomainsClaims.{DomainsPromises}

@@ -1,11 +1,11 @@
 //! Laws of the definitions, each a function with no body whose contract is the law. They run nothing.
 
-ghost use Rattle.std.specs.Prelude.{Err, List, None, Ok, Some, [], codes, false, ◌↔◌, ◌≡◌};
+ghost use Rattle.std.specs.Prelude.{List, None, Some, [], codes, ◌≡◌};
 ghost use Rattle.wfc_box_commands.specs.BoxFillTask.{box_fill_plan};
 ghost use Rattle.wfc_box_commands.specs.BoxProofs.{box_proofs};
 ghost use Rattle.wfc_choose.specs.declared.RuleKind.{RuleKind};
 ghost use Rattle.wfc_cli.specs.Commands.{command_of};
-ghost use Rattle.wfc_cli.specs.Delivery.{Tells};
+ghost use Rattle.wfc_cli.specs.Delivery.{Tells, open_sink};
 ghost use Rattle.wfc_grow_command.specs.GrowTask.{grow_plan};
 ghost use Rattle.wfc_lines.specs.Outcome.{no_map_text};
 ghost use Rattle.wfc_map_commands.specs.DemoTask.{demo_plan};
@@ -13,9 +13,7 @@ ghost use Rattle.wfc_map_commands.specs.DomainsTask.{domains_plan};
 ghost use Rattle.wfc_map_commands.specs.FillTask.{fill_plan};
 ghost use Rattle.wfc_map_commands.specs.LearnTask.{learn_plan};
 ghost use Rattle.wfc_outside.specs.Folder.{File};
-ghost use Rattle.wfc_plan.specs.Order.{AreInOrder, IsFirstFault};
-ghost use Rattle.wfc_plan.specs.Plan.{outcome};
-ghost use Rattle.wfc_plan.specs.declared.fault.Fault.{Fault};
+ghost use Rattle.wfc_plan.specs.Refusing.{IsMadeInOrder, IsRefusedInOrder};
 ghost use Rattle.wfc_proof_commands.specs.Checking.{flat_proofs};
 ghost use Rattle.wfc_proof_commands.specs.CheckTask.{check_plan};
 ghost use Rattle.wfc_proof_commands.specs.RefuteTask.{refute_plan};
@@ -28,12 +26,8 @@ ghost use Rattle.wfc_words.specs.declared.kinds.CommandKind.TheVariants as comma
 
 /// What the error stream took with a line and with none, by example.
 pub fn lines_are_told_by_example()
-    ensures whole { Tells (Some no_map_text)
-        (record { told = Some (record { bytes = []; finished = false }); faults = 3 })
-        (record {
-          told = Some (record { bytes = codes "wfc: no map\n"; finished = false });
-          faults = 3;
-        }) }
+    ensures whole { Tells (Some no_map_text) (open_sink [] 3)
+        (open_sink (codes "wfc: no map\n") 3) }
     ensures none { Tells None (record { told = None; faults = 3 })
         (record { told = None; faults = 3 }) }
 {}
@@ -41,14 +35,11 @@ pub fn lines_are_told_by_example()
 /// Each command is refused for the first of its stages that has a fault, in its order, and comes to a task where none has.
 pub fn commands_refuse_in_order()
     ensures refused { (kind : CommandKind) (kinds : List RuleKind) (asked : RequestView)
-        (files : List File) (fault : Fault) →
-        (outcome ((command_of kind).plan kinds asked) files ≡ Err fault)
-        ↔ IsFirstFault ((command_of kind).order kinds asked files) fault }
+        (files : List File) → IsRefusedInOrder ((command_of kind).plan kinds asked) files
+        ((command_of kind).order kinds asked files) }
     ensures made { (kind : CommandKind) (kinds : List RuleKind) (asked : RequestView)
-        (files : List File) →
-        ((task : (command_of kind).Task)
-        × (outcome ((command_of kind).plan kinds asked) files ≡ Ok task))
-        ↔ AreInOrder ((command_of kind).order kinds asked files) }
+        (files : List File) → IsMadeInOrder ((command_of kind).plan kinds asked) files
+        ((command_of kind).order kinds asked files) }
 {}
 
 /// Which command each kind has, by its plan, its budget and its line.

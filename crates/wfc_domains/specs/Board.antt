@@ -100,7 +100,8 @@ pub record Grows (old new : Board) : Type 0 where
 
 -- the last removal was taken back
 pub record Regains (old new : Board) (last : Removal) : Type 0 where
-  pub same : new ≡ record old { domains = new.domains; trail = record old.trail { start = new.trail.start; removals = new.trail.removals } }
+  pub same : new
+      ≡ record old { domains = new.domains; trail = record old.trail { start = new.trail.start; removals = new.trail.removals } }
   pub removals : old.trail.removals ≡ new.trail.removals ++ last ∷ []
   pub cell_in : last.cell < old.problem.now.cells
   pub value_in : last.value < values old.problem.now

@@ -1,5 +1,6 @@
 -- A table of support counters, and how many of them a removal changes.
-use Rattle.std.specs.Prelude.{◌≡◌, ℕ, ◌+◌, ◌*◌, ◌/◌, ◌%◌, ◌<◌, ◌≤◌, ◌⊎◌, List, length, map, replicate, slice_index, slice_set, Option, Some, None}
+use Rattle.std.specs.Prelude.{◌≡◌, ℕ, ◌+◌, ◌*◌, ◌/◌, ◌%◌, ◌<◌, ◌≤◌, ◌⊎◌, List, length, map}
+use Rattle.std.specs.Prelude.{replicate, slice_index, slice_set, Option, Some, None}
 use Rattle.std.specs.List.{range_with_len, sum_by}
 use Rattle.wfc_problem.specs.Network.{Network, values, neighbour, supports_of}
 use Rattle.wfc_problem.specs.Domains.{Test, support_count}

@@ -1,5 +1,6 @@
 -- What contracts see of a store, and what every store promises.
-use Rattle.std.specs.Prelude.{◌≡◌, ℕ, ◌+◌, ◌-◌, ◌<◌, ◌⊎◌, List, [], ◌∷◌, ◌++◌, length, take, drop, slice_index, slice_get, Some, IsTrue, IsFalse}
+use Rattle.std.specs.Prelude.{◌≡◌, ℕ, ◌+◌, ◌-◌, ◌<◌, ◌⊎◌, List, [], ◌∷◌, ◌++◌, length, take}
+use Rattle.std.specs.Prelude.{drop, slice_index, slice_get, Some, IsTrue, IsFalse}
 use Rattle.wfc_problem.specs.Network.{Network, in_base, IsProblem}
 use Rattle.wfc_problem.specs.Domains.{Test, IsGreatest, IsEmptyAt}
 use Rattle.wfc_problem.specs.Rounds.{greatest}

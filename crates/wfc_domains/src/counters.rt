@@ -1,9 +1,11 @@
 //! Support counters: how many supports each value has left beside each cell.
 
-ghost use Rattle.std.specs.Prelude.{◌≡◌, ℕ, ◌+◌, ◌-◌, ◌*◌, ◌%◌, ◌<◌, ◌≤◌, ◌^◌, ◌↔◌, ◌⊎◌, IfOk, IfSome, IsTrue, IsFalse, All, count_by, length, map, slice_index, slice_set, vec_len};
+ghost use Rattle.std.specs.Prelude.{◌≡◌, ℕ, ◌+◌, ◌-◌, ◌*◌, ◌%◌, ◌<◌, ◌≤◌, ◌^◌, ◌↔◌, ◌⊎◌, IfOk, IfSome, IsTrue};
+ghost use Rattle.std.specs.Prelude.{IsFalse, All, count_by, length, map, slice_index, slice_set, vec_len};
 ghost use Rattle.wfc_problem.specs.Network.{values, neighbour, supports_of};
 ghost use Rattle.wfc_problem.specs.Domains.{support_count, count_at};
-ghost use Rattle.wfc_domains.specs.Counters.{FitsTable, count_of, entry_of, with_count, place_in, Marks, Unmarks, counters_of, counts_of, no_counts, place};
+ghost use Rattle.wfc_domains.specs.Counters.{FitsTable, count_of, entry_of, with_count, place_in, Marks};
+ghost use Rattle.wfc_domains.specs.Counters.{Unmarks, counters_of, counts_of, no_counts, place};
 ghost use Rattle.wfc_domains.specs.Domains.{Fits, has};
 ghost use Rattle.wfc_domains.specs.Loaded.{AreLoaded, IsSurrounded, IsLike, IsCopied, IsRowCopied};
 
@@ -264,8 +266,7 @@ impl Counters {
         requires some { 0 < slice_index self.old.counts place % 32768 }
         ensures bare { IsTrue result ↔ (slice_index self.old.counts place ≡ 1) }
         ensures changed { self.new ≡ record self.old {
-          counts = slice_set self.old.counts place (slice_index self.old.counts place - 1);
-        } }
+            counts = slice_set self.old.counts place (slice_index self.old.counts place - 1) } }
         ensures steps { steps.new ≡ steps.old + 1 }
     {
         steps.tick();

@@ -1,6 +1,7 @@
 //! Domains: which values stand at each cell.
 
-ghost use Rattle.std.specs.Prelude.{◌≡◌, ℕ, ◌+◌, ◌*◌, ◌<◌, ◌≤◌, ◌^◌, true, false, All, IsTrue, IsFalse, IfOk, count_by, length, map, slice_index, slice_index_or, vec_len};
+ghost use Rattle.std.specs.Prelude.{◌≡◌, ℕ, ◌+◌, ◌*◌, ◌<◌, ◌≤◌, ◌^◌, true, false, All, IsTrue, IsFalse, IfOk};
+ghost use Rattle.std.specs.Prelude.{count_by, length, map, slice_index, slice_index_or, vec_len};
 ghost use Rattle.std.specs.List.{range_with_len};
 ghost use Rattle.wfc_problem.specs.Network.{row_of, values};
 ghost use Rattle.wfc_problem.specs.declared.TheConstants.{MAX_VALUES};

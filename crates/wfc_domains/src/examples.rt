@@ -60,14 +60,8 @@ pub fn levels_are_read()
     ensures before { map (before_of two_levels 0) (range_with_len 0 3) ≡ false ∷ true ∷ false ∷ [] }
     ensures before_later { map (before_of two_levels 3) (range_with_len 0 3) ≡ true ∷ false ∷ true
         ∷ [] }
-    ensures last { without_last two_levels ≡ record {
-      problem = corner;
-      standing = Is 1 0 ∷ [];
-      spare = 5;
-      removals = unsupported ∷ cut_first ∷ [];
-      marks = 1 ∷ [];
-      verdict = Alive;
-    } }
+    ensures last { without_last two_levels ≡ record { problem = corner; standing = Is 1 0 ∷ [];
+        spare = 5; removals = unsupported ∷ cut_first ∷ []; marks = 1 ∷ []; verdict = Alive } }
     ensures cell { IsBefore 1 9 9 2 0 0 }
     ensures value { IsBefore 2 0 5 2 1 3 }
     ensures dir { IsBefore 2 1 2 2 1 3 }
@@ -86,8 +80,8 @@ pub fn counters_are_read()
     ensures kept { count_of (with_count numbered 1 0 2 7) 1 0 3 ≡ 115 }
     ensures counts { map (count_of (counts_of corner (in_base corner) 127) 0 1) (range_with_len 0 4)
         ≡ 0 ∷ 2 ∷ 1 ∷ 0 ∷ [] }
-    ensures removed { map (count_of (counts_of corner (in_base corner) 127) 1 0) (range_with_len 0 4)
-        ≡ 0 ∷ 0 ∷ 1 ∷ 0 ∷ [] }
+    ensures removed { map (count_of (counts_of corner (in_base corner) 127) 1 0)
+        (range_with_len 0 4) ≡ 0 ∷ 0 ∷ 1 ∷ 0 ∷ [] }
     ensures none { count_of (no_counts corner 127) 3 2 3 ≡ 0 }
     ensures cost { cost_at corner 0 1 ≡ 3 }
     ensures costs { cost_of corner (unsupported ∷ record cut_first { value = 1 } ∷ []) ≡ 4 }
@@ -107,23 +101,19 @@ pub fn entries_are_read()
 
 /// A removal tells how many values its cell had; kept as a number, it is told by what the cells have left.
 pub fn logs_are_read()
-    ensures extent { extent_of corner ≡ record {
-      cells = 4;
-      values = 3;
-      dirs = 4;
-      sizes = 2 ∷ 2 ∷ 3 ∷ 2
-          ∷ [];
-    } }
+    ensures extent { extent_of corner
+        ≡ record { cells = 4; values = 3; dirs = 4; sizes = 2 ∷ 2 ∷ 3 ∷ 2 ∷ [] } }
     ensures left { sizes_after (2 ∷ 2 ∷ 3 ∷ 2 ∷ []) (2 ∷ 0 ∷ 2 ∷ []) ≡ 1 ∷ 2 ∷ 1 ∷ 2 ∷ [] }
-    ensures logged { AreLogged (extent_of corner) (2 ∷ 2 ∷ 3 ∷ 2 ∷ []) (unsupported ∷ cut_first ∷ later
-        ∷ []) }
-    ensures twice { AreLogged (extent_of corner) (2 ∷ 2 ∷ 3 ∷ 2 ∷ []) (cut_first ∷ cut_first ∷ []) → ⊥ }
+    ensures logged { AreLogged (extent_of corner) (2 ∷ 2 ∷ 3 ∷ 2 ∷ [])
+        (unsupported ∷ cut_first ∷ later ∷ []) }
+    ensures twice { AreLogged (extent_of corner) (2 ∷ 2 ∷ 3 ∷ 2 ∷ [])
+        (cut_first ∷ cut_first ∷ []) → ⊥ }
     ensures none_left { IsLogged (extent_of corner) (0 ∷ []) (record cut_first { before = 0 }) → ⊥ }
     ensures no_direction { IsLogged (extent_of corner) (2 ∷ []) (record cut_first { cause = Arc 4 })
         → ⊥ }
     ensures first { first_sizes 3 4 (1 ∷ 2 ∷ 2 ∷ 2 ∷ []) (38 ∷ 4 ∷ []) ≡ 2 ∷ 2 ∷ 3 ∷ 2 ∷ [] }
     ensures numbers { map (place_number 3 4) (unsupported ∷ cut_first ∷ []) ≡ 38 ∷ 4 ∷ [] }
-    ensures removals { placed_removals 3 4 (2 ∷ 2 ∷ 3 ∷ 2 ∷ []) (38 ∷ 4 ∷ []) ≡ unsupported ∷ cut_first
-        ∷ [] }
+    ensures removals { placed_removals 3 4 (2 ∷ 2 ∷ 3 ∷ 2 ∷ []) (38 ∷ 4 ∷ [])
+        ≡ unsupported ∷ cut_first ∷ [] }
     ensures parts { numbers_from (38 ∷ 4 ∷ []) (0 ∷ 1 ∷ []) ≡ 38 ∷ 65540 ∷ [] }
 {}

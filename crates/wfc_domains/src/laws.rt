@@ -13,12 +13,12 @@ ghost use Rattle.wfc_domains.specs.Store.{StoreView, IsSound, IsLeastEmpty, adde
 /// emptied the named cell, and before each removal no cell was empty. A level under a literal begins without an empty
 /// cell; an opening that begins with one removes nothing.
 pub fn closings_stop()
-    ensures stops { (v : StoreView) (cell : ℕ) → IsSound v → v.verdict ≡ Dead cell →
-        IsFalse (is_dead v.problem (before_of v)) →
-        IsStopped v.problem (before_of v) (added_of v) cell }
+    ensures stops { (v : StoreView) (cell : ℕ) → IsSound v → v.verdict ≡ Dead cell → IsFalse
+        (is_dead v.problem (before_of v)) → IsStopped v.problem (before_of v) (added_of v) cell }
     ensures filled { (v : StoreView) (k : ℕ) → IsSound v → k < length (added_of v) →
         IsFalse (is_dead v.problem (without (before_of v) (take k (added_of v)))) }
-    ensures began { (v : StoreView) → IsSound v → 0 < length v.standing → IsFalse (is_dead v.problem (before_of v)) }
+    ensures began { (v : StoreView) → IsSound v → 0 < length v.standing →
+        IsFalse (is_dead v.problem (before_of v)) }
     ensures opening { (v : StoreView) (cell : ℕ) → IsSound v → v.standing ≡ [] →
         IsLeastEmpty v.problem (in_base v.problem) cell → v.removals ≡ [] }
 {}
@@ -28,5 +28,6 @@ pub fn stops_by_example()
     ensures emptied { IsStopped corner (in_base corner) (cut_first ∷ cut_second ∷ []) 0 }
     ensures nothing { IsStopped corner (in_base corner) [] 0 → ⊥ }
     ensures not_yet { IsStopped corner (in_base corner) (cut_first ∷ []) 0 → ⊥ }
-    ensures goes_on { IsStopped corner (in_base corner) (cut_first ∷ cut_second ∷ later ∷ []) 0 → ⊥ }
+    ensures goes_on { IsStopped corner (in_base corner)
+        (cut_first ∷ cut_second ∷ later ∷ []) 0 → ⊥ }
 {}

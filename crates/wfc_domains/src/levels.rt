@@ -73,11 +73,8 @@ impl Levels {
     /// Puts a literal on.
     pub fn push(&mut self, literal: Literal, mark: u32)
         requires spare { 0 < self.old.spare }
-        ensures more { self.new ≡ record {
-          standing = self.old.standing ++ literal ∷ [];
-          marks = self.old.marks ++ mark ∷ [];
-          spare = self.old.spare - 1;
-        } }
+        ensures more { self.new ≡ record { standing = self.old.standing ++ literal ∷ [];
+            marks = self.old.marks ++ mark ∷ []; spare = self.old.spare - 1 } }
     {
         self.standing.push_reserved(literal);
         self.marks.push_reserved(mark);
@@ -87,11 +84,8 @@ impl Levels {
     /// Takes the last literal away.
     pub fn pop(&mut self)
         requires some { 0 < length self.old.standing }
-        ensures less { self.new ≡ record {
-          standing = all_but_last self.old.standing;
-          marks = all_but_last self.old.marks;
-          spare = self.old.spare + 1;
-        } }
+        ensures less { self.new ≡ record { standing = all_but_last self.old.standing;
+            marks = all_but_last self.old.marks; spare = self.old.spare + 1 } }
     {
         let _ = self.standing.pop();
         let _ = self.marks.pop();
@@ -100,11 +94,8 @@ impl Levels {
 
     /// Takes all literals away.
     pub fn clear(&mut self)
-        ensures none { self.new ≡ record {
-          standing = [];
-          marks = [];
-          spare = self.old.spare + length self.old.standing;
-        } }
+        ensures none { self.new ≡ record { standing = []; marks = [];
+            spare = self.old.spare + length self.old.standing } }
     {
         self.spare += self.standing.len() as u32;
         self.standing.clear();

@@ -87,7 +87,8 @@ pub fn move_to(older: &mut Older, list: &mut Vec<Removal>)
     requires room { length older.old.removals + vec_len list.old ≤ older.old.room }
     requires logged { AreLogged older.old.extent (sizes_after older.old.extent.sizes (cells_of
         older.old.removals)) list.old.items }
-    ensures more { older.new ≡ record older.old { removals = older.old.removals ++ list.old.items } }
+    ensures more { older.new
+        ≡ record older.old { removals = older.old.removals ++ list.old.items } }
     ensures empty { list.new.items ≡ [] }
     ensures capacity { vec_capacity list.new ≡ vec_capacity list.old }
 {

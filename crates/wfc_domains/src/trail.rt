@@ -47,12 +47,8 @@ impl Trail {
         room: usize,
     ) -> Result<Trail, NoMemory>
         requires base { domains.now ≡ base_of problem.now }
-        ensures ok { IfOk result (λ trail. trail ≡ record {
-          room = room;
-          extent = extent_of problem.now;
-          start = 0;
-          removals = [];
-        }) }
+        ensures ok { IfOk result (λ trail. trail
+            ≡ record { room = room; extent = extent_of problem.now; start = 0; removals = [] }) }
     {
         Ok(Trail {
             room,
@@ -104,10 +100,8 @@ impl Trail {
     pub fn pop(&mut self) -> Removal
         requires some { 0 < length self.old.removals }
         ensures last { self.old.removals ≡ self.new.removals ++ result ∷ [] }
-        ensures same { self.new ≡ record self.old {
-          start = self.new.start;
-          removals = self.new.removals;
-        } }
+        ensures same { self.new
+            ≡ record self.old { start = self.new.start; removals = self.new.removals } }
     {
         match self.list.pop() {
             Some(removal) => removal,

@@ -157,7 +157,8 @@ fn both_fewest_pick_alike(rt: HostRuntime) -> Result<(), Fail> {
 
 /// So many cells of one size.
 fn level_sizes(alloc: Global, count: usize) -> Result<Vec<u32>, AllocError>
-    ensures sizes { IfOk result (λ sizes. (vec_len sizes ≡ count) × All (λ size. size ≤ MAX_VALUES) sizes.items) }
+    ensures sizes { IfOk result
+        (λ sizes. (vec_len sizes ≡ count) × All (λ size. size ≤ MAX_VALUES) sizes.items) }
 {
     vec![in alloc; 4096; count]
 }

@@ -1,10 +1,11 @@
 -- Small pinned problems without symmetry, on which laws try the definitions.
-use Rattle.std.specs.Prelude.{ℕ, Bool, true, false, not, List, [], ◌∷◌}
+use Rattle.std.specs.Prelude.{ℕ, Bool, true, false, not, List, [], ◌∷◌, codes}
 use Rattle.wfc_model.specs.Legal.{banned_pin, kept_pin}
-use Rattle.wfc_overlap.specs.Small.{three_by_two, two_patterns}
+use Rattle.wfc_overlap.specs.Small.{line_of as sample_line, three_by_two, two_patterns}
+use Rattle.wfc_pins.specs.PinView.{PinView}
 use Rattle.wfc_problem.specs.Network.{Network}
 use Rattle.wfc_search.specs.Small.{pair, ring}
-use Rattle.wfc_tiled.specs.Small.{line_and_cross, two_holes}
+use Rattle.wfc_tiled.specs.Small.{line_and_cross, line_of as tile_line, two_holes}
 use Rattle.wfc_explain.specs.Pinned.{PinnedView}
 use Rattle.wfc_explain.specs.Problems.{SamplePins, TilesPins}
 use Rattle.wfc_explain.specs.declared.explained.Kept.{Kept}
@@ -54,3 +55,11 @@ two_tile_lines = record {
   wrap = false;
   pins = kept_pin 0 1 1 ∷ banned_pin 2 0 2 ∷ [];
 }
+
+-- line 4 of a pins file keeps a blank in the second column of the first row
+abbrev pub blank_line : PinView
+blank_line = sample_line 4 true 1 0 (codes "\\s")
+
+-- line 4 of a pins file keeps a straight line after a quarter turn in this column and row
+abbrev pub turned_line : ℕ → ℕ → PinView
+turned_line x y = tile_line 4 true x y (codes "line/1")

@@ -17,7 +17,8 @@ ghost use Rattle.wfc_explain.specs.Masks.{given_mask};
 ghost use Rattle.wfc_explain.specs.Outcomes.{outcome_with};
 ghost use Rattle.wfc_explain.specs.Pinned.{IsAlike, IsFewer};
 ghost use Rattle.wfc_explain.specs.Problems.{pinned_sample, pinned_tiles, sample_pins, tiles_pins};
-ghost use Rattle.wfc_explain.specs.Small.{kept, no_lines, one_line, pair_with, ring_with, three_lines, two_sample_lines, two_tile_lines};
+ghost use Rattle.wfc_explain.specs.Small.{blank_line, kept, no_lines, one_line, pair_with, ring_with};
+ghost use Rattle.wfc_explain.specs.Small.{three_lines, turned_line, two_sample_lines, two_tile_lines};
 ghost use Rattle.wfc_explain.specs.Trials.{all_lines, core_of, trial_with, explanation_of, mark_of, lines_without};
 ghost use Rattle.wfc_explain.specs.declared.explained.Explained.TheVariants.{Core, MapExists, Spent};
 ghost use Rattle.wfc_explain.specs.declared.explained.Mark.TheVariants.{Needed, Undecided};
@@ -49,7 +50,8 @@ pub fn lines_are_decided()
     ensures all { all_lines 2 ≡ true ∷ true ∷ [] }
     ensures without { lines_without (true ∷ true ∷ false ∷ []) 0 ≡ false ∷ true ∷ false ∷ [] }
     ensures dropped { trial_with
-        (record { keep = true ∷ true ∷ false ∷ []; core = kept 5 Needed ∷ [] }) 1 None ≡ record { keep = true ∷ false ∷ false ∷ []; core = kept 5 Needed ∷ [] } }
+        (record { keep = true ∷ true ∷ false ∷ []; core = kept 5 Needed ∷ [] }) 1 None
+        ≡ record { keep = true ∷ false ∷ false ∷ []; core = kept 5 Needed ∷ [] } }
     ensures stays { trial_with
         (record { keep = true ∷ true ∷ false ∷ []; core = kept 5 Needed ∷ [] }) 1 (Some Undecided)
         ≡ record { keep = true ∷ true ∷ false ∷ []; core = kept 5 Needed ∷ kept 1 Undecided ∷ [] } }
@@ -82,22 +84,18 @@ pub fn lines_are_kept()
 /// are kept.
 pub fn pinned_problems()
     ensures sample_lines { sample_pins two_patterns three_symbols three_by_two
-        (sample_line 4 true 1 0 (codes "\\s") ∷ sample_line 7 false 2 1 (codes "a") ∷ [])
-        ≡ Ok two_sample_lines }
+        (blank_line ∷ sample_line 7 false 2 1 (codes "a") ∷ []) ≡ Ok two_sample_lines }
     ensures sample_fault { sample_pins two_patterns three_symbols three_by_two
-        (sample_line 4 true 1 0 (codes "\\s") ∷ sample_line 7 false 3 1 (codes "a") ∷ [])
-        ≡ Err (PinOutside 7) }
+        (blank_line ∷ sample_line 7 false 3 1 (codes "a") ∷ []) ≡ Err (PinOutside 7) }
     ensures sample_count { (pinned_sample two_sample_lines).lines ≡ 2 }
     ensures sample_first { (pinned_sample two_sample_lines).problem_of (true ∷ false ∷ [])
         ≡ problem_of_sample two_patterns three_by_two (kept_pin 1 0 1 ∷ []) }
     ensures sample_second { (pinned_sample two_sample_lines).problem_of (false ∷ true ∷ [])
         ≡ problem_of_sample two_patterns three_by_two (banned_pin 2 1 0 ∷ []) }
     ensures tile_lines { tiles_pins line_and_cross two_holes false
-        (tile_line 4 true 0 1 (codes "line/1") ∷ tile_line 7 false 2 0 (codes "x/0") ∷ [])
-        ≡ Ok two_tile_lines }
+        (turned_line 0 1 ∷ tile_line 7 false 2 0 (codes "x/0") ∷ []) ≡ Ok two_tile_lines }
     ensures tile_fault { tiles_pins line_and_cross two_holes false
-        (tile_line 4 true 1 0 (codes "line/1") ∷ tile_line 7 false 9 9 (codes "x/0") ∷ [])
-        ≡ Err (PinInHole 4) }
+        (turned_line 1 0 ∷ tile_line 7 false 9 9 (codes "x/0") ∷ []) ≡ Err (PinInHole 4) }
     ensures tile_count { (pinned_tiles two_tile_lines).lines ≡ 2 }
     ensures tile_second { (pinned_tiles two_tile_lines).problem_of (false ∷ true ∷ [])
         ≡ problem_of_tiles line_and_cross two_holes false (banned_pin 2 0 2 ∷ []) }

@@ -37,17 +37,15 @@ pub fn kept_sample_lines_are_built()
         (lines : List PinView) (s : SamplePins) →
         sample_pins patterns palette output lines ≡ Ok s → length s.pins ≡ length lines }
     ensures built { (patterns : PatternsView) (palette : List Symbol) (output : Output)
-        (lines : List PinView) (s : SamplePins) →
-        sample_pins patterns palette output lines ≡ Ok s → (keep : List Bool) →
-        overlap.built patterns palette output (kept_of keep lines)
+        (lines : List PinView) (s : SamplePins) → sample_pins patterns palette output lines ≡ Ok s →
+        (keep : List Bool) → overlap.built patterns palette output (kept_of keep lines)
         ≡ Ok ((pinned_sample s).problem_of keep) }
 {}
 
 /// So it is for a tile set.
 pub fn kept_tile_lines_are_built()
     ensures as_many { (tiles : TileSetView) (mask : MaskView) (wrap : Bool) (lines : List PinView)
-        (s : TilesPins) → tiles_pins tiles mask wrap lines ≡ Ok s
-        → length s.pins ≡ length lines }
+        (s : TilesPins) → tiles_pins tiles mask wrap lines ≡ Ok s → length s.pins ≡ length lines }
     ensures built { (tiles : TileSetView) (mask : MaskView) (wrap : Bool) (lines : List PinView)
         (s : TilesPins) → tiles_pins tiles mask wrap lines ≡ Ok s → (keep : List Bool) →
         tiled.built tiles mask wrap (kept_of keep lines) ≡ Ok ((pinned_tiles s).problem_of keep) }

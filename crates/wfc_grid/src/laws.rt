@@ -26,7 +26,8 @@ pub fn spelled_grids_are_one()
 
 /// The text that is written for a grid spells it.
 pub fn written_grids_are_spelled()
-    ensures spelled { (grid : GridView) → IsGrid grid → SpellsGrid (grid_text (raster_of_grid grid).rows) grid }
+    ensures spelled { (grid : GridView) → IsGrid grid
+        → SpellsGrid (grid_text (raster_of_grid grid).rows) grid }
 {}
 
 /// A text is read as a grid exactly where it spells it within the limit.
@@ -45,7 +46,8 @@ pub fn grids_by_example()
     ensures bad_byte { grid_of (codes "ab\ncd\t\nc\n") ≡ Err (BadByte 2 3) }
     ensures behind { grid_of (codes "ab\n\n") ≡ Err (Ragged 2) }
     ensures written { grid_text (codes "abc" ∷ codes "def" ∷ []) ≡ codes "abc\ndef\n" }
-    ensures number { number_at (raster_of_grid (record { width = 3; height = 2; bytes = codes "abcdef" })) 2 0 ≡ 99 }
+    ensures number { number_at
+        (raster_of_grid (record { width = 3; height = 2; bytes = codes "abcdef" })) 2 0 ≡ 99 }
 {}
 
 /// The bytes of a grid are those from the blank to the tilde.

@@ -136,7 +136,8 @@ IsSpentBelow call asked files =
 
 -- the text of an end of growth: that of its map; or the block and its pins, alone or with a front of the text of a run of
 -- the block's problem behind them
-abbrev pub IsTextOfGrown : {rules : List Rule} {files : List File} (asked : RequestView) → GrowWork rules asked files → Grown → List ℕ → Type 0
+abbrev pub IsTextOfGrown : {rules : List Rule} {files : List File} (asked : RequestView)
+    → GrowWork rules asked files → Grown → List ℕ → Type 0
 IsTextOfGrown asked work (grown.Map m) text = text ≡ text_of_grown asked work m
 IsTextOfGrown asked work (grown.Stuck stuck) text =
     (text ≡ stuck_text stuck)

@@ -12,7 +12,8 @@ use Rattle.wfc_plan.specs.declared.fault.Fault.{Fault}
 use Rattle.wfc_plan.specs.declared.fault.Fault.TheVariants.{Refused}
 use Rattle.wfc_plan.specs.declared.fault.Refusal.TheVariants as refusals
 use Rattle.wfc_plan.specs.declared.fault.Source.TheVariants.{Pins, Sample}
-use Rattle.wfc_task.specs.Stages.{IsCountFault, IsFormFault, IsLayoutFault, IsLearnFault, IsPinFault, IsPinsFault, IsSizeFault, IsSymbolsFault, Teaches}
+use Rattle.wfc_task.specs.Stages.{IsCountFault, IsFormFault, IsLayoutFault, IsLearnFault, IsPinFault}
+use Rattle.wfc_task.specs.Stages.{IsPinsFault, IsSizeFault, IsSymbolsFault, Teaches}
 use Rattle.wfc_task.specs.declared.lesson.Taught.{Taught}
 use Rattle.wfc_words.specs.RequestView.{RequestView}
 

@@ -75,6 +75,10 @@ read_plan kinds asked =
 abbrev pub grown_plan : RequestView → GrowTask → Plan GrowTask
 grown_plan asked task = and_then (step (growable asked task)) (λ _. done task)
 
+-- what is refused of what was read, as the code keeps it
+abbrev pub growing_plan : RequestView → Growing → Plan GrowTask
+growing_plan asked growing = grown_plan asked (growing_view growing)
+
 -- what `grow` comes to
 abbrev pub grow_plan : List RuleKind → RequestView → Plan GrowTask
 grow_plan kinds asked = and_then (read_plan kinds asked) (λ task. grown_plan asked task)

@@ -6,3 +6,4 @@ pub mod GrowOrder
 pub mod GrowClaims
 pub mod GrowCommand
 pub mod Growing
+pub mod Small

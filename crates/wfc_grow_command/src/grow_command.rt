@@ -8,7 +8,7 @@ ghost use Rattle.wfc_choose.specs.Pick.{Rule};
 ghost use Rattle.wfc_grow_command.specs.GrowAnswer.{GrowsBy};
 ghost use Rattle.wfc_grow_command.specs.GrowCommand.{GrowAnswers, grow_command};
 ghost use Rattle.wfc_grow_command.specs.GrowGiven.{IsGrowAsked};
-ghost use Rattle.wfc_grow_command.specs.GrowTask.{area_asked, grow_refusal, growing_view, grown_plan};
+ghost use Rattle.wfc_grow_command.specs.GrowTask.{area_asked, grow_refusal, growing_plan};
 ghost use Rattle.wfc_grow_command.specs.Growing.{CanBePut, IsGrowing, PutsGrown};
 ghost use Rattle.wfc_grow_command.specs.declared.growing.TheConstants.{GROW_CHOOSERS};
 ghost use Rattle.wfc_outside.specs.Folder.{FolderView};
@@ -68,7 +68,7 @@ fn grown_from<O: Sink>(
     requires choosers { HasChoosers GROW_CHOOSERS
         (kinds_of (map (λ chooser. (told chooser).rule) choosers.items)) request.now.rule }
     requires growing { IsGrowing request.now growing.now }
-    ensures ends { (folder : FolderView) → EndsPut (grown_plan request.now (growing_view growing.now))
+    ensures ends { (folder : FolderView) → EndsPut (growing_plan request.now growing.now)
         (GrowAnswers (map (λ chooser. (told chooser).rule) choosers.items) request.now)
         folder folder (O.seen out.old) (O.seen out.new) result }
 {
@@ -92,7 +92,7 @@ fn grown_with<O: Sink>(
     requires have { HaveRule (map (λ chooser. (told chooser).rule) choosers.items)
         (told chooser).rule }
     requires enough { MAX_BLOCKS ≤ length choosers.items }
-    ensures ends { (folder : FolderView) → EndsPut (grown_plan request.now (growing_view growing.now))
+    ensures ends { (folder : FolderView) → EndsPut (growing_plan request.now growing.now)
         (GrowsBy (Some (told chooser).rule) request.now)
         folder folder (O.seen out.old) (O.seen out.new) result }
 {

@@ -9,6 +9,7 @@ ghost use Rattle.wfc_grow_command.specs.GrowAnswer.{stuck_verdict};
 ghost use Rattle.wfc_grow_command.specs.GrowClaims.{grow_rules};
 ghost use Rattle.wfc_grow_command.specs.GrowGiven.{IsGrowTask};
 ghost use Rattle.wfc_grow_command.specs.GrowTask.{GrowTask, area_asked, grow_plan, grow_refusal};
+ghost use Rattle.wfc_grow_command.specs.Small.{pin_line};
 ghost use Rattle.wfc_grow_command.specs.StuckText.{block_writing, pin_text, stuck_text};
 ghost use Rattle.wfc_grow_command.specs.declared.growing.TheConstants.{GROW_CHOOSERS};
 ghost use Rattle.wfc_outside.specs.Folder.{File};
@@ -51,30 +52,17 @@ pub fn growth_is_asked_so()
 
 /// What is written of a stuck block, by example: its lines are those of a pins file.
 pub fn stuck_blocks_are_written_so()
-    ensures text { stuck_text (record {
-      block = block_with 5 12 7 3 4;
-      pins = record { line = 0; keep = true; x = 1; y = 10; symbol = codes "a" }
-          ∷ record { line = 6; keep = false; x = 2; y = 0; symbol = codes "1,2,3" } ∷ [];
-    }) ≡ codes "stuck 12 7 3 4 pins 2\npin 1 10 a\nban 2 0 1,2,3\n" }
-    ensures read { pins_of (pin_text (record { line = 0; keep = true; x = 1; y = 10; symbol = codes "a" })
-        ++ pin_text (record { line = 6; keep = false; x = 2; y = 0; symbol = codes "b" }))
-        ≡ Ok (record { line = 1; keep = true; x = 1; y = 10; symbol = codes "a" }
-        ∷ record { line = 2; keep = false; x = 2; y = 0; symbol = codes "b" } ∷ []) }
+    ensures text { stuck_text (record { block = block_with 5 12 7 3 4;
+        pins = pin_line 0 true 1 10 (codes "a") ∷ pin_line 6 false 2 0 (codes "1,2,3") ∷ [] })
+        ≡ codes "stuck 12 7 3 4 pins 2\npin 1 10 a\nban 2 0 1,2,3\n" }
+    ensures read { pins_of (pin_text (pin_line 0 true 1 10 (codes "a"))
+        ++ pin_text (pin_line 6 false 2 0 (codes "b")))
+        ≡ Ok (pin_line 1 true 1 10 (codes "a") ∷ pin_line 2 false 2 0 (codes "b") ∷ []) }
     ensures verdict { stuck_verdict (record { block = block_with 5 12 7 3 4; pins = [] })
         ≡ verdicts.Stuck 12 7 }
-    ensures writing { block_writing (record (sample_asked 2 P6) { seed = 100; budget = 9; symmetry = 8 })
-        (block_with 5 12 7 3 4) ≡ record {
-          format = 2;
-          shape = record {
-            n = 2;
-            width = 3;
-            height = 4;
-            depth = 1;
-            symmetry = 8;
-            wrap_in = false;
-            wrap_out = false;
-          };
-          budget = 9;
-          seed = 105;
-        } }
+    ensures writing { block_writing
+        (record (sample_asked 2 P6) { seed = 100; budget = 9; symmetry = 8 })
+        (block_with 5 12 7 3 4) ≡ record { format = 2; shape = record { n = 2; width = 3;
+        height = 4; depth = 1; symmetry = 8; wrap_in = false; wrap_out = false }; budget = 9;
+        seed = 105 } }
 {}

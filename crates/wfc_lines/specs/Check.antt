@@ -42,6 +42,7 @@ options_text found file =
     ++ codes " symmetry=" ++ decimal found.symmetry ++ codes " wrap_in="
     ++ decimal (bit found.wrap_in) ++ codes " wrap_out=" ++ decimal (bit found.wrap_out)) file
 
+-- why the text of a file is not accepted as a refutation of the problem, or why the file was not read
 abbrev pub text_of_check : CheckFault → List ℕ → List ℕ
 text_of_check (faults.Rejected line reject) file = text_of_rejected line reject file
 text_of_check (faults.BadLine line) file = bad_line_text line file

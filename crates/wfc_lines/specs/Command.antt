@@ -12,6 +12,7 @@ use Rattle.wfc_words.specs.declared.fault.ValueName.{ValueName}
 abbrev pub text_of_value : ValueName → List ℕ
 text_of_value name = codes "command value " ++ word_of name
 
+-- why the words are no request: they are none of a command, one value is not in its range, or memory ran out
 abbrev pub text_of_command : CommandFault → List ℕ
 text_of_command faults.Refused = codes "command refused"
 text_of_command (faults.Value name) = text_of_value name

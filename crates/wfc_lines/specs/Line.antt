@@ -1,9 +1,14 @@
 -- The forms of a line.
-use Rattle.std.specs.Prelude.{ℕ, List, ◌++◌, codes, decimal}
+use Rattle.std.specs.Prelude.{ℕ, List, ◌++◌, codes, decimal, Result}
+use Rattle.wfc_outside.specs.Sink.{SinkView, Puts}
 
 -- a text as a line of the program
 abbrev pub line : List ℕ → List ℕ
 line text = codes "wfc: " ++ text ++ codes "\n"
+
+-- a text is said: a stream took the whole of its line, or a front of it and then a fault was counted
+abbrev pub IsSaid : {T E : Type 0} → SinkView → SinkView → List ℕ → Result T E → Type 0
+IsSaid old new text result = Puts old new (line text) result
 
 -- a text and the name of the file that it speaks of
 abbrev pub about : List ℕ → List ℕ → List ℕ

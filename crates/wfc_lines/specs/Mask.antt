@@ -7,6 +7,7 @@ use Rattle.wfc_tiled.specs.declared.reading.MaskFault.TheVariants as faults
 use Rattle.wfc_lines.specs.Line.{about, numbered_text, twice_numbered_text}
 use Rattle.wfc_lines.specs.Outcome.{no_memory_text}
 
+-- why the text of a mask is no grid of characters, with the line and the column that are at fault
 abbrev pub text_of_mask_grid : GridFault → List ℕ → List ℕ
 text_of_mask_grid grids.Empty file = about (codes "mask Empty") file
 text_of_mask_grid (grids.Ragged line) file = numbered_text (codes "mask Ragged line=") line file
@@ -15,6 +16,7 @@ text_of_mask_grid (grids.BadByte line column) file =
 text_of_mask_grid grids.TooLarge file = about (codes "mask TooLarge") file
 text_of_mask_grid grids.NoMemory file = no_memory_text
 
+-- why a grid is no mask: its sides are not those of the map, it has a wrong symbol, or it leaves no place
 abbrev pub text_of_mask : MaskFault → List ℕ → List ℕ
 text_of_mask (faults.SizeDiffers width height) file =
     twice_numbered_text (codes "mask SizeDiffers width=") width (codes " height=") height file

@@ -5,6 +5,7 @@ use Rattle.wfc_ppm.specs.declared.reading.PpmFault.TheVariants as faults
 use Rattle.wfc_lines.specs.Line.{about, numbered_text, twice_numbered_text}
 use Rattle.wfc_lines.specs.Outcome.{no_memory_text}
 
+-- why a text is no picture of colours, with the place or the number that is at fault
 abbrev pub text_of_ppm : PpmFault → List ℕ → List ℕ
 text_of_ppm faults.Magic file = about (codes "ppm Magic") file
 text_of_ppm (faults.Header at) file = numbered_text (codes "ppm Header at=") at file

@@ -17,6 +17,7 @@ name_of_end ends.Upper = codes "upper"
 abbrev pub end_text : List ℕ → ℕ → StackKey → List ℕ → List ℕ
 end_text text stack key file = keyed_text text (codes " stack=" ++ decimal stack) (name_of_end key) file
 
+-- what is wrong with the stacks of a document, with the number of the stack that is at fault
 abbrev pub text_of_stacks : StackFault → List ℕ → List ℕ
 text_of_stacks faults.NotArray file = about (codes "stack NotArray") file
 text_of_stacks (faults.NotTable stack) file = numbered_text (codes "stack NotTable stack=") stack file

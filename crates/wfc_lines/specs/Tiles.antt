@@ -30,6 +30,7 @@ text_of_place (places.Pair pair) = codes " pair=" ++ decimal pair
 abbrev pub keyed_text : List ℕ → List ℕ → List ℕ → List ℕ → List ℕ
 keyed_text text place key file = about (text ++ place ++ codes " key=" ++ key) file
 
+-- why a document is no tile set, with the tile or the pair that is at fault, or why the picture of a tile was not read
 abbrev pub text_of_tiles : TileFault → List ℕ → List ℕ
 text_of_tiles faults.Toml file = about (codes "tiles Toml") file
 text_of_tiles faults.NoTiles file = about (codes "tiles NoTiles") file

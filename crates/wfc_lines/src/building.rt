@@ -1,8 +1,7 @@
 //! The lines of a request without a problem.
 
 ghost use Rattle.std.specs.Prelude.{◌≡◌};
-ghost use Rattle.wfc_outside.specs.Sink.{Puts};
-ghost use Rattle.wfc_lines.specs.Line.{line};
+ghost use Rattle.wfc_lines.specs.Line.{IsSaid};
 ghost use Rattle.wfc_lines.specs.Build.{text_of_build};
 
 use crate::line::{count, numbered, plain};
@@ -12,7 +11,7 @@ use wfc_pins::BuildFault;
 
 /// Puts why a request has no problem; the file is that of the pins.
 pub fn build<E: Sink>(err: &mut E, fault: BuildFault, file: &str) -> Result<(), SinkFault>
-    ensures told { Puts (E.seen err.old) (E.seen err.new) (line (text_of_build fault file.now)) result }
+    ensures told { IsSaid (E.seen err.old) (E.seen err.new) (text_of_build fault file.now) result }
 {
     match fault {
         BuildFault::SizeBelowN => plain(err, "build SizeBelowN"),

@@ -1,10 +1,9 @@
 //! The lines of a text that is no refutation.
 
 ghost use Rattle.std.specs.Prelude.{◌≡◌, ◌++◌, codes, decimal};
-ghost use Rattle.wfc_outside.specs.Sink.{Puts};
 ghost use Rattle.wfc_proof.specs.Heads.{bit};
 ghost use Rattle.wfc_lines.specs.Check.{bad_line_text, header_text, options_text, rejected_text, text_of_check, text_of_rejected};
-ghost use Rattle.wfc_lines.specs.Line.{line};
+ghost use Rattle.wfc_lines.specs.Line.{IsSaid};
 
 use crate::line::{named, put};
 use crate::reads::reading;
@@ -15,7 +14,8 @@ use wfc_proof::Shape;
 
 /// Puts why the text of a file is no refutation, or why the file was not read.
 pub fn check<E: Sink>(err: &mut E, fault: &CheckFault, file: &str) -> Result<(), SinkFault>
-    ensures told { Puts (E.seen err.old) (E.seen err.new) (line (text_of_check fault.now file.now)) result }
+    ensures told { IsSaid (E.seen err.old) (E.seen err.new)
+        (text_of_check fault.now file.now) result }
 {
     match *fault {
         CheckFault::Rejected { line, reject } => refused(err, line, reject, file),
@@ -32,7 +32,8 @@ pub fn check<E: Sink>(err: &mut E, fault: &CheckFault, file: &str) -> Result<(),
 
 /// Puts why a line of a proof is refused.
 fn refused<E: Sink>(err: &mut E, row: u64, reject: Reject, file: &str) -> Result<(), SinkFault>
-    ensures told { Puts (E.seen err.old) (E.seen err.new) (line (text_of_rejected row reject file.now)) result }
+    ensures told { IsSaid (E.seen err.old) (E.seen err.new)
+        (text_of_rejected row reject file.now) result }
 {
     match reject {
         Reject::NotStanding => rejected(err, row, "NotStanding", file),
@@ -48,7 +49,8 @@ fn refused<E: Sink>(err: &mut E, row: u64, reject: Reject, file: &str) -> Result
 
 /// Puts a refusal that names no value.
 fn rejected<E: Sink>(err: &mut E, row: u64, name: &str, file: &str) -> Result<(), SinkFault>
-    ensures told { Puts (E.seen err.old) (E.seen err.new) (line (rejected_text row name.now file.now)) result }
+    ensures told { IsSaid (E.seen err.old) (E.seen err.new)
+        (rejected_text row name.now file.now) result }
 {
     let mut row_buffer = Buffer::new();
     let row = row_buffer.format(row).as_bytes();
@@ -76,8 +78,8 @@ fn rejected_at<E: Sink>(
     value: u16,
     file: &str,
 ) -> Result<(), SinkFault>
-    ensures told { Puts (E.seen err.old) (E.seen err.new)
-        (line (rejected_text row (name.now ++ decimal value) file.now)) result }
+    ensures told { IsSaid (E.seen err.old) (E.seen err.new)
+        (rejected_text row (name.now ++ decimal value) file.now) result }
 {
     let mut row_buffer = Buffer::new();
     let mut value_buffer = Buffer::new();
@@ -102,7 +104,7 @@ fn rejected_at<E: Sink>(
 
 /// Puts that a line is none of a refutation.
 fn bad_line<E: Sink>(err: &mut E, row: u64, file: &str) -> Result<(), SinkFault>
-    ensures told { Puts (E.seen err.old) (E.seen err.new) (line (bad_line_text row file.now)) result }
+    ensures told { IsSaid (E.seen err.old) (E.seen err.new) (bad_line_text row file.now) result }
 {
     let mut row_buffer = Buffer::new();
     let row = row_buffer.format(row).as_bytes();
@@ -120,7 +122,8 @@ fn header_differs<E: Sink>(
     values: u32,
     file: &str,
 ) -> Result<(), SinkFault>
-    ensures told { Puts (E.seen err.old) (E.seen err.new) (line (header_text cells values file.now)) result }
+    ensures told { IsSaid (E.seen err.old) (E.seen err.new)
+        (header_text cells values file.now) result }
 {
     let mut cells_buffer = Buffer::new();
     let mut values_buffer = Buffer::new();
@@ -143,7 +146,8 @@ fn header_differs<E: Sink>(
 
 /// Puts the shape of a head that isn't the request's.
 fn options_differ<E: Sink>(err: &mut E, found: &Shape, file: &str) -> Result<(), SinkFault>
-    ensures told { Puts (E.seen err.old) (E.seen err.new) (line (options_text found.now file.now)) result }
+    ensures told { IsSaid (E.seen err.old) (E.seen err.new)
+        (options_text found.now file.now) result }
 {
     let mut n_buffer = Buffer::new();
     let mut width_buffer = Buffer::new();

@@ -1,8 +1,7 @@
 //! The lines of words that are no request, and of a rule that no chooser has.
 
 ghost use Rattle.std.specs.Prelude.{◌≡◌};
-ghost use Rattle.wfc_outside.specs.Sink.{Puts};
-ghost use Rattle.wfc_lines.specs.Line.{line};
+ghost use Rattle.wfc_lines.specs.Line.{IsSaid};
 ghost use Rattle.wfc_lines.specs.Command.{text_of_chooser, text_of_command, text_of_value};
 
 use crate::line::{plain, put};
@@ -13,7 +12,7 @@ use wfc_words::{CommandFault, ValueName};
 
 /// Puts why the words are no request.
 pub fn command<E: Sink>(err: &mut E, fault: CommandFault) -> Result<(), SinkFault>
-    ensures told { Puts (E.seen err.old) (E.seen err.new) (line (text_of_command fault)) result }
+    ensures told { IsSaid (E.seen err.old) (E.seen err.new) (text_of_command fault) result }
 {
     match fault {
         CommandFault::Refused => plain(err, "command refused"),
@@ -24,7 +23,7 @@ pub fn command<E: Sink>(err: &mut E, fault: CommandFault) -> Result<(), SinkFaul
 
 /// Puts which value isn't in its range.
 fn value<E: Sink>(err: &mut E, name: ValueName) -> Result<(), SinkFault>
-    ensures told { Puts (E.seen err.old) (E.seen err.new) (line (text_of_value name)) result }
+    ensures told { IsSaid (E.seen err.old) (E.seen err.new) (text_of_value name) result }
 {
     let word = name.word().as_bytes();
     put(err, &[b"wfc: command value ", word, b"\n"])
@@ -32,7 +31,7 @@ fn value<E: Sink>(err: &mut E, name: ValueName) -> Result<(), SinkFault>
 
 /// Puts that no chooser has the rule that is asked for.
 pub fn chooser<E: Sink>(err: &mut E, rule: RuleKind) -> Result<(), SinkFault>
-    ensures told { Puts (E.seen err.old) (E.seen err.new) (line (text_of_chooser rule)) result }
+    ensures told { IsSaid (E.seen err.old) (E.seen err.new) (text_of_chooser rule) result }
 {
     match rule {
         RuleKind::Scanline => plain(err, "chooser missing rule=scanline"),

@@ -1,8 +1,7 @@
 //! The lines of a text that is no grid.
 
 ghost use Rattle.std.specs.Prelude.{◌≡◌};
-ghost use Rattle.wfc_outside.specs.Sink.{Puts};
-ghost use Rattle.wfc_lines.specs.Line.{line};
+ghost use Rattle.wfc_lines.specs.Line.{IsSaid};
 ghost use Rattle.wfc_lines.specs.Grid.{text_of_grid};
 
 use crate::line::{named, numbered, twice_numbered};
@@ -12,8 +11,7 @@ use wfc_outside::{Sink, SinkFault};
 
 /// Puts why a text is no grid.
 pub fn grid<E: Sink>(err: &mut E, fault: GridFault, file: &str) -> Result<(), SinkFault>
-    ensures told { Puts (E.seen err.old) (E.seen err.new)
-        (line (text_of_grid fault file.now)) result }
+    ensures told { IsSaid (E.seen err.old) (E.seen err.new) (text_of_grid fault file.now) result }
 {
     match fault {
         GridFault::Empty => named(err, "grid Empty", file),

@@ -1,9 +1,8 @@
 //! The lines of a map that is grown block by block.
 
 ghost use Rattle.std.specs.Prelude.{◌≡◌};
-ghost use Rattle.wfc_outside.specs.Sink.{Puts};
 ghost use Rattle.wfc_lines.specs.Grow.{text_of_many_blocks, text_of_stuck};
-ghost use Rattle.wfc_lines.specs.Line.{line};
+ghost use Rattle.wfc_lines.specs.Line.{IsSaid};
 
 use crate::line::{count, put};
 use itoa::Buffer;
@@ -11,15 +10,14 @@ use wfc_outside::{Sink, SinkFault};
 
 /// Puts that a map has too many blocks, and how many.
 pub fn many_blocks<E: Sink>(err: &mut E, blocks: u64) -> Result<(), SinkFault>
-    ensures told { Puts (E.seen err.old) (E.seen err.new) (line (text_of_many_blocks blocks))
-        result }
+    ensures told { IsSaid (E.seen err.old) (E.seen err.new) (text_of_many_blocks blocks) result }
 {
     count(err, "grow TooManyBlocks count=", blocks)
 }
 
 /// Puts that no map fills the block that begins in this column and row, in pixels.
 pub fn stuck<E: Sink>(err: &mut E, x: u32, y: u32) -> Result<(), SinkFault>
-    ensures told { Puts (E.seen err.old) (E.seen err.new) (line (text_of_stuck x y)) result }
+    ensures told { IsSaid (E.seen err.old) (E.seen err.new) (text_of_stuck x y) result }
 {
     let mut first_buffer = Buffer::new();
     let mut second_buffer = Buffer::new();

@@ -1,10 +1,11 @@
 //! Laws of the definitions, each a function with no body whose contract is the law. They run nothing.
 
-ghost use Rattle.std.specs.Prelude.{◌≡◌, true, false, codes};
+ghost use Rattle.std.specs.Prelude.{◌≡◌, ◌++◌, codes};
 ghost use Rattle.wfc_choose.specs.declared.RuleKind.TheVariants as rules;
 ghost use Rattle.wfc_grid.specs.declared.reading.GridFault.TheVariants as grids;
 ghost use Rattle.wfc_box.specs.declared.fault.StackFault.TheVariants as stacks;
 ghost use Rattle.wfc_box.specs.declared.fault.StackKey.TheVariants as ends;
+ghost use Rattle.wfc_check.specs.Cases.{shape};
 ghost use Rattle.wfc_check.specs.declared.fault.CheckFault.TheVariants as checks;
 ghost use Rattle.wfc_lines.specs.Build.{text_of_build};
 ghost use Rattle.wfc_lines.specs.Check.{text_of_check};
@@ -57,7 +58,8 @@ pub fn texts_of_commands_by_example()
     ensures value { text_of_command (commands.Value names.Model) ≡ codes "command value MODEL" }
     ensures mask { text_of_command (commands.Value names.Mask) ≡ codes "command value mask" }
     ensures seeds { text_of_command (commands.Value names.Seeds) ≡ codes "command value seeds" }
-    ensures quantum { text_of_command (commands.Value names.Quantum) ≡ codes "command value quantum" }
+    ensures quantum { text_of_command (commands.Value names.Quantum)
+        ≡ codes "command value quantum" }
     ensures block { text_of_command (commands.Value names.Block) ≡ codes "command value block" }
     ensures depth { text_of_command (commands.Value names.Depth) ≡ codes "command value DEPTH" }
     ensures race { text_of_race 2500 ≡ codes "race TooLarge product=2500" }
@@ -75,12 +77,17 @@ pub fn texts_of_commands_by_example()
 pub fn texts_of_pictures_by_example()
     ensures magic { text_of_ppm ppms.Magic (codes "a") ≡ codes "ppm Magic file=a" }
     ensures header { text_of_ppm (ppms.Header 7) (codes "a") ≡ codes "ppm Header at=7 file=a" }
-    ensures maxval { text_of_ppm (ppms.Maxval 70000) (codes "a") ≡ codes "ppm Maxval value=70000 file=a" }
+    ensures maxval { text_of_ppm (ppms.Maxval 70000) (codes "a")
+        ≡ codes "ppm Maxval value=70000 file=a" }
     ensures large { text_of_ppm ppms.TooLarge (codes "a") ≡ codes "ppm TooLarge file=a" }
-    ensures truncated { text_of_ppm (ppms.Truncated 12 9) (codes "a") ≡ codes "ppm Truncated wanted=12 found=9 file=a" }
-    ensures above { text_of_ppm (ppms.SampleAboveMaxval 15) (codes "a") ≡ codes "ppm SampleAboveMaxval at=15 file=a" }
-    ensures sample { text_of_ppm (ppms.BadSample 16) (codes "a") ≡ codes "ppm BadSample at=16 file=a" }
-    ensures trailing { text_of_ppm (ppms.Trailing 17) (codes "a") ≡ codes "ppm Trailing at=17 file=a" }
+    ensures truncated { text_of_ppm (ppms.Truncated 12 9) (codes "a")
+        ≡ codes "ppm Truncated wanted=12 found=9 file=a" }
+    ensures above { text_of_ppm (ppms.SampleAboveMaxval 15) (codes "a")
+        ≡ codes "ppm SampleAboveMaxval at=15 file=a" }
+    ensures sample { text_of_ppm (ppms.BadSample 16) (codes "a")
+        ≡ codes "ppm BadSample at=16 file=a" }
+    ensures trailing { text_of_ppm (ppms.Trailing 17) (codes "a")
+        ≡ codes "ppm Trailing at=17 file=a" }
 {}
 
 /// The texts of inputs, by example.
@@ -89,19 +96,27 @@ pub fn texts_of_inputs_by_example()
     ensures ragged { text_of_grid (grids.Ragged 2) (codes "a") ≡ codes "grid Ragged line=2 file=a" }
     ensures colours { text_of_palette (palettes.TooManyColours 70) (codes "a")
         ≡ codes "palette TooManyColours at=70 file=a" }
-    ensures small { text_of_learn learns.SampleBelowN (codes "a") ≡ codes "learn SampleBelowN file=a" }
+    ensures small { text_of_learn learns.SampleBelowN (codes "a")
+        ≡ codes "learn SampleBelowN file=a" }
     ensures many { text_of_learn (learns.TooManyPatterns 4097) (codes "a")
         ≡ codes "learn TooManyPatterns count=4097 file=a" }
     ensures pin { text_of_pins (pins.BadLine 1) (codes "p") ≡ codes "pins BadLine line=1 file=p" }
-    ensures step { text_of_steps (steps.NothingToUndo 1) (codes "s") ≡ codes "steps NothingToUndo line=1 file=s" }
-    ensures range { text_of_range (ranges.OutOfRange 3) (codes "s") ≡ codes "steps OutOfRange line=3 file=s" }
+    ensures step { text_of_steps (steps.NothingToUndo 1) (codes "s")
+        ≡ codes "steps NothingToUndo line=1 file=s" }
+    ensures range { text_of_range (ranges.OutOfRange 3) (codes "s")
+        ≡ codes "steps OutOfRange line=3 file=s" }
     ensures side { text_of_build builds.SizeBelowN (codes "p") ≡ codes "build SizeBelowN" }
-    ensures pairs { text_of_build (builds.TooLarge 8392704) (codes "p") ≡ codes "build TooLarge product=8392704" }
-    ensures outside { text_of_build (builds.PinOutside 1) (codes "p") ≡ codes "build PinOutside line=1 file=p" }
-    ensures symbol { text_of_build (builds.UnknownSymbol 2) (codes "p") ≡ codes "build UnknownSymbol line=2 file=p" }
-    ensures hole { text_of_build (builds.PinInHole 3) (codes "p") ≡ codes "build PinInHole line=3 file=p" }
+    ensures pairs { text_of_build (builds.TooLarge 8392704) (codes "p")
+        ≡ codes "build TooLarge product=8392704" }
+    ensures outside { text_of_build (builds.PinOutside 1) (codes "p")
+        ≡ codes "build PinOutside line=1 file=p" }
+    ensures symbol { text_of_build (builds.UnknownSymbol 2) (codes "p")
+        ≡ codes "build UnknownSymbol line=2 file=p" }
+    ensures hole { text_of_build (builds.PinInHole 3) (codes "p")
+        ≡ codes "build PinInHole line=3 file=p" }
     ensures form { text_of_render renders.FormDiffers ≡ codes "render FormDiffers" }
-    ensures pixels { text_of_render (renders.TooLarge 16777217) ≡ codes "render TooLarge pixels=16777217" }
+    ensures pixels { text_of_render (renders.TooLarge 16777217)
+        ≡ codes "render TooLarge pixels=16777217" }
 {}
 
 /// The texts of files that are no refutations, by example.
@@ -110,19 +125,13 @@ pub fn texts_of_checks_by_example()
         ≡ codes "check Rejected line=3 reject=NotEmpty value=7 file=r" }
     ensures name { text_of_check (checks.Rejected 3 rejects.NotClosed) (codes "r")
         ≡ codes "check Rejected line=3 reject=NotClosed file=r" }
-    ensures bad_line { text_of_check (checks.BadLine 41) (codes "r") ≡ codes "check BadLine line=41 file=r" }
+    ensures bad_line { text_of_check (checks.BadLine 41) (codes "r")
+        ≡ codes "check BadLine line=41 file=r" }
     ensures header { text_of_check (checks.HeaderDiffers 3 2) (codes "r")
         ≡ codes "check HeaderDiffers cells=3 values=2 file=r" }
-    ensures options { text_of_check (checks.OptionsDiffer (record {
-      n = 2;
-      width = 3;
-      height = 4;
-      depth = 1;
-      symmetry = 8;
-      wrap_in = true;
-      wrap_out = false;
-    })) (codes "r")
-        ≡ codes "check OptionsDiffer n=2 width=3 height=4 depth=1 symmetry=8 wrap_in=1 wrap_out=0 file=r" }
+    ensures options { text_of_check (checks.OptionsDiffer shape) (codes "r")
+        ≡ codes "check OptionsDiffer n=2 width=3 height=4 depth=1 symmetry=8"
+        ++ codes " wrap_in=1 wrap_out=0 file=r" }
     ensures too_long { text_of_check checks.TooLong (codes "r") ≡ codes "file TooLong file=r" }
 {}
 
@@ -136,30 +145,44 @@ pub fn texts_of_tile_sets_by_example()
         ≡ codes "tiles WrongKind top key=pair file=t" }
     ensures left { text_of_tiles (tiles.WrongKind (places.Pair 12) keys.Left) (codes "t")
         ≡ codes "tiles WrongKind pair=12 key=left file=t" }
-    ensures class { text_of_tiles (tiles.BadClass 1) (codes "t") ≡ codes "tiles BadClass tile=1 file=t" }
-    ensures weight { text_of_tiles (tiles.BadWeight 2) (codes "t") ≡ codes "tiles BadWeight tile=2 file=t" }
-    ensures picture { text_of_tiles (tiles.BadPicture 3) (codes "t") ≡ codes "tiles BadPicture tile=3 file=t" }
-    ensures side { text_of_tiles (tiles.SizeDiffers 4) (codes "t") ≡ codes "tiles SizeDiffers tile=4 file=t" }
-    ensures twice { text_of_tiles (tiles.DoubleName 5) (codes "t") ≡ codes "tiles DoubleName tile=5 file=t" }
-    ensures unknown { text_of_tiles (tiles.UnknownTile 6) (codes "t") ≡ codes "tiles UnknownTile pair=6 file=t" }
-    ensures turn { text_of_tiles (tiles.BadTurn 7) (codes "t") ≡ codes "tiles BadTurn pair=7 file=t" }
+    ensures class { text_of_tiles (tiles.BadClass 1) (codes "t")
+        ≡ codes "tiles BadClass tile=1 file=t" }
+    ensures weight { text_of_tiles (tiles.BadWeight 2) (codes "t")
+        ≡ codes "tiles BadWeight tile=2 file=t" }
+    ensures picture { text_of_tiles (tiles.BadPicture 3) (codes "t")
+        ≡ codes "tiles BadPicture tile=3 file=t" }
+    ensures side { text_of_tiles (tiles.SizeDiffers 4) (codes "t")
+        ≡ codes "tiles SizeDiffers tile=4 file=t" }
+    ensures twice { text_of_tiles (tiles.DoubleName 5) (codes "t")
+        ≡ codes "tiles DoubleName tile=5 file=t" }
+    ensures unknown { text_of_tiles (tiles.UnknownTile 6) (codes "t")
+        ≡ codes "tiles UnknownTile pair=6 file=t" }
+    ensures turn { text_of_tiles (tiles.BadTurn 7) (codes "t")
+        ≡ codes "tiles BadTurn pair=7 file=t" }
     ensures many { text_of_tiles (tiles.TooManyVariants 4104) (codes "t")
         ≡ codes "tiles TooManyVariants count=4104 file=t" }
-    ensures no_file { text_of_tiles (tiles.Missing 8) (codes "t") ≡ codes "device Missing tile=8 file=t" }
-    ensures failed { text_of_tiles (tiles.Failed 9) (codes "t") ≡ codes "device Failed tile=9 file=t" }
-    ensures mixed { text_of_tiles (tiles.MixedKinds 10) (codes "t") ≡ codes "tiles MixedKinds tile=10 file=t" }
-    ensures name { text_of_tiles (tiles.BadName 11) (codes "t") ≡ codes "tiles BadName tile=11 file=t" }
+    ensures no_file { text_of_tiles (tiles.Missing 8) (codes "t")
+        ≡ codes "device Missing tile=8 file=t" }
+    ensures failed { text_of_tiles (tiles.Failed 9) (codes "t")
+        ≡ codes "device Failed tile=9 file=t" }
+    ensures mixed { text_of_tiles (tiles.MixedKinds 10) (codes "t")
+        ≡ codes "tiles MixedKinds tile=10 file=t" }
+    ensures name { text_of_tiles (tiles.BadName 11) (codes "t")
+        ≡ codes "tiles BadName tile=11 file=t" }
 {}
 
 /// The texts of files that are no masks, by example.
 pub fn texts_of_masks_by_example()
     ensures empty { text_of_mask_grid grids.Empty (codes "m") ≡ codes "mask Empty file=m" }
-    ensures ragged { text_of_mask_grid (grids.Ragged 2) (codes "m") ≡ codes "mask Ragged line=2 file=m" }
-    ensures byte { text_of_mask_grid (grids.BadByte 2 13) (codes "m") ≡ codes "mask BadByte line=2 column=13 file=m" }
+    ensures ragged { text_of_mask_grid (grids.Ragged 2) (codes "m")
+        ≡ codes "mask Ragged line=2 file=m" }
+    ensures byte { text_of_mask_grid (grids.BadByte 2 13) (codes "m")
+        ≡ codes "mask BadByte line=2 column=13 file=m" }
     ensures large { text_of_mask_grid grids.TooLarge (codes "m") ≡ codes "mask TooLarge file=m" }
     ensures sides { text_of_mask (masks.SizeDiffers 2 1) (codes "m")
         ≡ codes "mask SizeDiffers width=2 height=1 file=m" }
-    ensures symbol { text_of_mask (masks.BadSymbol 1 2) (codes "m") ≡ codes "mask BadSymbol line=1 column=2 file=m" }
+    ensures symbol { text_of_mask (masks.BadSymbol 1 2) (codes "m")
+        ≡ codes "mask BadSymbol line=1 column=2 file=m" }
     ensures holes { text_of_mask masks.AllHoles (codes "m") ≡ codes "mask AllHoles file=m" }
 {}
 

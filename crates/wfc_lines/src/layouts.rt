@@ -1,8 +1,7 @@
 //! The lines of a map without a layout.
 
 ghost use Rattle.std.specs.Prelude.{◌≡◌};
-ghost use Rattle.wfc_outside.specs.Sink.{Puts};
-ghost use Rattle.wfc_lines.specs.Line.{line};
+ghost use Rattle.wfc_lines.specs.Line.{IsSaid};
 ghost use Rattle.wfc_lines.specs.Render.{text_of_render};
 
 use crate::line::{count, plain};
@@ -11,7 +10,7 @@ use wfc_render::RenderFault;
 
 /// Puts why a map has no layout.
 pub fn render<E: Sink>(err: &mut E, fault: RenderFault) -> Result<(), SinkFault>
-    ensures told { Puts (E.seen err.old) (E.seen err.new) (line (text_of_render fault)) result }
+    ensures told { IsSaid (E.seen err.old) (E.seen err.new) (text_of_render fault) result }
 {
     match fault {
         RenderFault::FormDiffers => plain(err, "render FormDiffers"),

@@ -1,8 +1,7 @@
 //! The lines of a sample of which nothing is learned.
 
 ghost use Rattle.std.specs.Prelude.{◌≡◌};
-ghost use Rattle.wfc_outside.specs.Sink.{Puts};
-ghost use Rattle.wfc_lines.specs.Line.{line};
+ghost use Rattle.wfc_lines.specs.Line.{IsSaid};
 ghost use Rattle.wfc_lines.specs.Learn.{text_of_learn};
 
 use crate::line::{named, numbered};
@@ -12,7 +11,7 @@ use wfc_pattern::LearnFault;
 
 /// Puts why nothing is learned of a sample.
 pub fn learn<E: Sink>(err: &mut E, fault: LearnFault, file: &str) -> Result<(), SinkFault>
-    ensures told { Puts (E.seen err.old) (E.seen err.new) (line (text_of_learn fault file.now)) result }
+    ensures told { IsSaid (E.seen err.old) (E.seen err.new) (text_of_learn fault file.now) result }
 {
     match fault {
         LearnFault::SampleBelowN => named(err, "learn SampleBelowN", file),

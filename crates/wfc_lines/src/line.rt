@@ -3,21 +3,21 @@
 ghost use Rattle.std.specs.Prelude.{◌≡◌, ◌++◌, decimal};
 ghost use Rattle.std.specs.List.{flat_map};
 ghost use Rattle.wfc_outside.specs.Sink.{Puts};
-ghost use Rattle.wfc_lines.specs.Line.{about, line, numbered_text, twice_numbered_text};
+ghost use Rattle.wfc_lines.specs.Line.{IsSaid, about, numbered_text, twice_numbered_text};
 
 use itoa::Buffer;
 use wfc_outside::{Sink, SinkFault, write_all};
 
 /// Puts the line of a text.
 pub fn plain<E: Sink>(err: &mut E, text: &str) -> Result<(), SinkFault>
-    ensures told { Puts (E.seen err.old) (E.seen err.new) (line text.now) result }
+    ensures told { IsSaid (E.seen err.old) (E.seen err.new) text.now result }
 {
     put(err, &[b"wfc: ", text.as_bytes(), b"\n"])
 }
 
 /// Puts the line of a text and the number straight behind it.
 pub fn count<E: Sink>(err: &mut E, text: &str, n: u64) -> Result<(), SinkFault>
-    ensures told { Puts (E.seen err.old) (E.seen err.new) (line (text.now ++ decimal n)) result }
+    ensures told { IsSaid (E.seen err.old) (E.seen err.new) (text.now ++ decimal n) result }
 {
     let mut buffer = Buffer::new();
     let number = buffer.format(n).as_bytes();
@@ -26,7 +26,7 @@ pub fn count<E: Sink>(err: &mut E, text: &str, n: u64) -> Result<(), SinkFault>
 
 /// Puts the line of a text that speaks of a file.
 pub fn named<E: Sink>(err: &mut E, text: &str, file: &str) -> Result<(), SinkFault>
-    ensures told { Puts (E.seen err.old) (E.seen err.new) (line (about text.now file.now)) result }
+    ensures told { IsSaid (E.seen err.old) (E.seen err.new) (about text.now file.now) result }
 {
     put(
         err,
@@ -36,16 +36,16 @@ pub fn named<E: Sink>(err: &mut E, text: &str, file: &str) -> Result<(), SinkFau
 
 /// Puts the line of a text, the number straight behind it, and the file that it speaks of.
 pub fn numbered<E: Sink>(err: &mut E, text: &str, n: u32, file: &str) -> Result<(), SinkFault>
-    ensures told { Puts (E.seen err.old) (E.seen err.new)
-        (line (numbered_text text.now n file.now)) result }
+    ensures told { IsSaid (E.seen err.old) (E.seen err.new)
+        (numbered_text text.now n file.now) result }
 {
     counted(err, text, u64::from(n), file)
 }
 
 /// The same with a longer number.
 pub(crate) fn counted<E: Sink>(err: &mut E, text: &str, n: u64, file: &str) -> Result<(), SinkFault>
-    ensures told { Puts (E.seen err.old) (E.seen err.new)
-        (line (numbered_text text.now n file.now)) result }
+    ensures told { IsSaid (E.seen err.old) (E.seen err.new)
+        (numbered_text text.now n file.now) result }
 {
     let mut buffer = Buffer::new();
     let number = buffer.format(n).as_bytes();
@@ -72,8 +72,8 @@ pub fn twice_numbered<'a, E: Sink>(
     m: u32,
     file: &'a str,
 ) -> Result<(), SinkFault>
-    ensures told { Puts (E.seen err.old) (E.seen err.new)
-        (line (twice_numbered_text text.now n between.now m file.now)) result }
+    ensures told { IsSaid (E.seen err.old) (E.seen err.new)
+        (twice_numbered_text text.now n between.now m file.now) result }
 {
     let mut first_buffer = Buffer::new();
     let mut second_buffer = Buffer::new();

@@ -1,8 +1,7 @@
 //! The lines of a file that is no mask.
 
 ghost use Rattle.std.specs.Prelude.{◌≡◌};
-ghost use Rattle.wfc_outside.specs.Sink.{Puts};
-ghost use Rattle.wfc_lines.specs.Line.{line};
+ghost use Rattle.wfc_lines.specs.Line.{IsSaid};
 ghost use Rattle.wfc_lines.specs.Mask.{text_of_mask, text_of_mask_grid};
 
 use crate::line::{named, numbered, twice_numbered};
@@ -13,8 +12,8 @@ use wfc_tiled::MaskFault;
 
 /// Puts why the text of a mask is no grid.
 pub fn mask_grid<E: Sink>(err: &mut E, fault: GridFault, file: &str) -> Result<(), SinkFault>
-    ensures told { Puts (E.seen err.old) (E.seen err.new)
-        (line (text_of_mask_grid fault file.now)) result }
+    ensures told { IsSaid (E.seen err.old) (E.seen err.new)
+        (text_of_mask_grid fault file.now) result }
 {
     match fault {
         GridFault::Empty => named(err, "mask Empty", file),
@@ -34,8 +33,7 @@ pub fn mask_grid<E: Sink>(err: &mut E, fault: GridFault, file: &str) -> Result<(
 
 /// Puts why a grid is no mask.
 pub fn mask<E: Sink>(err: &mut E, fault: MaskFault, file: &str) -> Result<(), SinkFault>
-    ensures told { Puts (E.seen err.old) (E.seen err.new)
-        (line (text_of_mask fault file.now)) result }
+    ensures told { IsSaid (E.seen err.old) (E.seen err.new) (text_of_mask fault file.now) result }
 {
     match fault {
         MaskFault::SizeDiffers { width, height } => twice_numbered(

@@ -1,8 +1,7 @@
 //! The lines of a pins file.
 
 ghost use Rattle.std.specs.Prelude.{◌≡◌};
-ghost use Rattle.wfc_outside.specs.Sink.{Puts};
-ghost use Rattle.wfc_lines.specs.Line.{line};
+ghost use Rattle.wfc_lines.specs.Line.{IsSaid};
 ghost use Rattle.wfc_lines.specs.Pins.{text_of_pins};
 
 use crate::line::numbered;
@@ -12,7 +11,7 @@ use wfc_pins::PinFault;
 
 /// Puts why a text is no pins file.
 pub fn pins<E: Sink>(err: &mut E, fault: PinFault, file: &str) -> Result<(), SinkFault>
-    ensures told { Puts (E.seen err.old) (E.seen err.new) (line (text_of_pins fault file.now)) result }
+    ensures told { IsSaid (E.seen err.old) (E.seen err.new) (text_of_pins fault file.now) result }
 {
     match fault {
         PinFault::BadLine { line } => numbered(err, "pins BadLine line=", line, file),

@@ -1,8 +1,7 @@
 //! The lines of a text that is no picture of colours.
 
 ghost use Rattle.std.specs.Prelude.{◌≡◌};
-ghost use Rattle.wfc_outside.specs.Sink.{Puts};
-ghost use Rattle.wfc_lines.specs.Line.{line};
+ghost use Rattle.wfc_lines.specs.Line.{IsSaid};
 ghost use Rattle.wfc_lines.specs.Ppm.{text_of_ppm};
 
 use crate::line::{named, numbered, twice_numbered};
@@ -12,8 +11,7 @@ use wfc_ppm::PpmFault;
 
 /// Puts why a text is no picture of colours.
 pub fn ppm<E: Sink>(err: &mut E, fault: PpmFault, file: &str) -> Result<(), SinkFault>
-    ensures told { Puts (E.seen err.old) (E.seen err.new)
-        (line (text_of_ppm fault file.now)) result }
+    ensures told { IsSaid (E.seen err.old) (E.seen err.new) (text_of_ppm fault file.now) result }
 {
     match fault {
         PpmFault::Magic => named(err, "ppm Magic", file),

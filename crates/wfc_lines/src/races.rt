@@ -1,8 +1,7 @@
 //! The line of a race that is too large.
 
 ghost use Rattle.std.specs.Prelude.{◌≡◌};
-ghost use Rattle.wfc_outside.specs.Sink.{Puts};
-ghost use Rattle.wfc_lines.specs.Line.{line};
+ghost use Rattle.wfc_lines.specs.Line.{IsSaid};
 ghost use Rattle.wfc_lines.specs.Race.{text_of_race};
 
 use crate::line::count;
@@ -10,7 +9,7 @@ use wfc_outside::{Sink, SinkFault};
 
 /// Puts that a race is too large: the product of its cells, values and seeds is above the limit.
 pub fn race<E: Sink>(err: &mut E, product: u64) -> Result<(), SinkFault>
-    ensures told { Puts (E.seen err.old) (E.seen err.new) (line (text_of_race product)) result }
+    ensures told { IsSaid (E.seen err.old) (E.seen err.new) (text_of_race product) result }
 {
     count(err, "race TooLarge product=", product)
 }

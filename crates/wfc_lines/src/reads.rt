@@ -1,8 +1,7 @@
 //! The lines of a file that was not read.
 
 ghost use Rattle.std.specs.Prelude.{◌≡◌};
-ghost use Rattle.wfc_outside.specs.Sink.{Puts};
-ghost use Rattle.wfc_lines.specs.Line.{line};
+ghost use Rattle.wfc_lines.specs.Line.{IsSaid};
 ghost use Rattle.wfc_lines.specs.Reading.{text_of_reading};
 
 use crate::line::named;
@@ -11,7 +10,8 @@ use wfc_outside::{ReadFault, Sink, SinkFault};
 
 /// Puts why a file was not read.
 pub fn reading<E: Sink>(err: &mut E, fault: ReadFault, file: &str) -> Result<(), SinkFault>
-    ensures told { Puts (E.seen err.old) (E.seen err.new) (line (text_of_reading fault file.now)) result }
+    ensures told { IsSaid (E.seen err.old) (E.seen err.new)
+        (text_of_reading fault file.now) result }
 {
     match fault {
         ReadFault::Missing => named(err, "device Missing", file),

@@ -1,8 +1,7 @@
 //! The lines of a document whose stacks are at fault.
 
 ghost use Rattle.std.specs.Prelude.{◌≡◌};
-ghost use Rattle.wfc_outside.specs.Sink.{Puts};
-ghost use Rattle.wfc_lines.specs.Line.{line};
+ghost use Rattle.wfc_lines.specs.Line.{IsSaid};
 ghost use Rattle.wfc_lines.specs.Stacks.{end_text, name_of_end, text_of_stacks};
 
 use crate::line::{named, numbered};
@@ -13,8 +12,7 @@ use wfc_outside::{Sink, SinkFault};
 
 /// Puts what is wrong with the stacks of a tile set's document.
 pub fn stack<E: Sink>(err: &mut E, fault: StackFault, file: &str) -> Result<(), SinkFault>
-    ensures told { Puts (E.seen err.old) (E.seen err.new)
-        (line (text_of_stacks fault file.now)) result }
+    ensures told { IsSaid (E.seen err.old) (E.seen err.new) (text_of_stacks fault file.now) result }
 {
     match fault {
         StackFault::NotArray => named(err, "stack NotArray", file),
@@ -35,8 +33,8 @@ fn end<E: Sink>(
     key: StackKey,
     file: &str,
 ) -> Result<(), SinkFault>
-    ensures told { Puts (E.seen err.old) (E.seen err.new)
-        (line (end_text text.now stack key file.now)) result }
+    ensures told { IsSaid (E.seen err.old) (E.seen err.new)
+        (end_text text.now stack key file.now) result }
 {
     keyed_at(err, text, " stack=", stack, end_name(key), file)
 }

@@ -1,8 +1,7 @@
 //! The lines of a steps file.
 
 ghost use Rattle.std.specs.Prelude.{◌≡◌};
-ghost use Rattle.wfc_outside.specs.Sink.{Puts};
-ghost use Rattle.wfc_lines.specs.Line.{line};
+ghost use Rattle.wfc_lines.specs.Line.{IsSaid};
 ghost use Rattle.wfc_lines.specs.Steps.{text_of_range, text_of_steps};
 
 use crate::line::numbered;
@@ -12,7 +11,7 @@ use wfc_pins::{RangeFault, StepFault};
 
 /// Puts why a text is no steps file.
 pub fn steps<E: Sink>(err: &mut E, fault: StepFault, file: &str) -> Result<(), SinkFault>
-    ensures told { Puts (E.seen err.old) (E.seen err.new) (line (text_of_steps fault file.now)) result }
+    ensures told { IsSaid (E.seen err.old) (E.seen err.new) (text_of_steps fault file.now) result }
 {
     match fault {
         StepFault::BadLine { line } => numbered(err, "steps BadLine line=", line, file),
@@ -23,7 +22,7 @@ pub fn steps<E: Sink>(err: &mut E, fault: StepFault, file: &str) -> Result<(), S
 
 /// Puts which step isn't in the problem.
 pub fn range<E: Sink>(err: &mut E, fault: RangeFault, file: &str) -> Result<(), SinkFault>
-    ensures told { Puts (E.seen err.old) (E.seen err.new) (line (text_of_range fault file.now)) result }
+    ensures told { IsSaid (E.seen err.old) (E.seen err.new) (text_of_range fault file.now) result }
 {
     match fault {
         RangeFault::OutOfRange { line } => numbered(err, "steps OutOfRange line=", line, file),

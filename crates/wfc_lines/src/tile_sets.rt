@@ -1,8 +1,7 @@
 //! The lines of a document that is no tile set.
 
 ghost use Rattle.std.specs.Prelude.{◌≡◌, ◌++◌, decimal};
-ghost use Rattle.wfc_outside.specs.Sink.{Puts};
-ghost use Rattle.wfc_lines.specs.Line.{line};
+ghost use Rattle.wfc_lines.specs.Line.{IsSaid};
 ghost use Rattle.wfc_lines.specs.Tiles.{keyed_text, name_of_key, text_of_place, text_of_tiles};
 ghost use Rattle.wfc_tileset.specs.declared.fault.Place.TheVariants as places;
 
@@ -15,8 +14,7 @@ use wfc_tileset::{Key, Place, TileFault};
 /// Puts why a document is no tile set, or why the picture of a tile was not read. The file is the
 /// document's, of a picture too.
 pub fn tiles<E: Sink>(err: &mut E, fault: TileFault, file: &str) -> Result<(), SinkFault>
-    ensures told { Puts (E.seen err.old) (E.seen err.new)
-        (line (text_of_tiles fault file.now)) result }
+    ensures told { IsSaid (E.seen err.old) (E.seen err.new) (text_of_tiles fault file.now) result }
 {
     match fault {
         TileFault::Toml => named(err, "tiles Toml", file),
@@ -52,8 +50,8 @@ fn keyed<E: Sink>(
     key: Key,
     file: &str,
 ) -> Result<(), SinkFault>
-    ensures told { Puts (E.seen err.old) (E.seen err.new)
-        (line (keyed_text text.now (text_of_place place) (name_of_key key) file.now)) result }
+    ensures told { IsSaid (E.seen err.old) (E.seen err.new)
+        (keyed_text text.now (text_of_place place) (name_of_key key) file.now) result }
 {
     match place {
         Place::Top => keyed_at_top(err, text, key_name(key), file),
@@ -64,8 +62,8 @@ fn keyed<E: Sink>(
 
 /// Puts the line of a text that speaks of a key at the top of the document.
 fn keyed_at_top<E: Sink>(err: &mut E, text: &str, key: &str, file: &str) -> Result<(), SinkFault>
-    ensures told { Puts (E.seen err.old) (E.seen err.new)
-        (line (keyed_text text.now (text_of_place places.Top) key.now file.now)) result }
+    ensures told { IsSaid (E.seen err.old) (E.seen err.new)
+        (keyed_text text.now (text_of_place places.Top) key.now file.now) result }
 {
     let text = text.as_bytes();
     let key = key.as_bytes();
@@ -87,8 +85,8 @@ pub(crate) fn keyed_at<'a, E: Sink>(
     key: &'a str,
     file: &'a str,
 ) -> Result<(), SinkFault>
-    ensures told { Puts (E.seen err.old) (E.seen err.new)
-        (line (keyed_text text.now (kind.now ++ decimal number) key.now file.now)) result }
+    ensures told { IsSaid (E.seen err.old) (E.seen err.new)
+        (keyed_text text.now (kind.now ++ decimal number) key.now file.now) result }
 {
     let mut buffer = Buffer::new();
     let number = buffer.format(number).as_bytes();

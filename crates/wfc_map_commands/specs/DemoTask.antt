@@ -24,6 +24,7 @@ demo_plan kinds asked =
     and_then (step (enough 1 kinds rules.Fewest))
     (λ _. done (demo (demo_patterns asked.number) (demo_problem asked.number)))
 
+-- what the code makes for `demo`, as its task, or the fault
 abbrev pub demo_made : Result Demonstration Fault → Result DemoTask Fault
 demo_made (Ok made) = Ok (demo made.patterns made.problem)
 demo_made (Err fault) = Err fault

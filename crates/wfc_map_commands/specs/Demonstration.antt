@@ -10,10 +10,11 @@ use Rattle.wfc_picture.specs.declared.symbol.Symbol.{Symbol}
 use Rattle.wfc_picture.specs.declared.symbol.Symbol.TheVariants.{Char}
 use Rattle.wfc_problem.specs.Network.{Network}
 
--- how far the lines of demonstration n stand apart: those that go down, and those that go across
+-- how far the lines of demonstration n stand apart that go down
 abbrev pub columns_apart : ℕ → ℕ
 columns_apart n = 3 + n % 5
 
+-- how far the lines of demonstration n stand apart that go across
 abbrev pub rows_apart : ℕ → ℕ
 rows_apart n = 3 + n / 5 % 5
 
@@ -29,10 +30,11 @@ demo_symbols n side = map (λ k. demo_symbol n (k % side) (k / side)) (range_wit
 abbrev pub demo_picture : ℕ → ℕ → Raster
 demo_picture n side = raster_of side side (numbered (demo_symbols n side))
 
--- how long the sides are of what a demonstration learns from, and of what it fills
+-- how long the sides are of the picture that a demonstration learns from
 abbrev pub demo_side : ℕ
 demo_side = 24
 
+-- how long the sides are of the map that a demonstration makes
 abbrev pub demo_output : ℕ
 demo_output = 48
 

@@ -20,6 +20,7 @@ domains_plan asked =
     and_then (steps_plan asked.steps P) (λ steps.
     done (domains P steps)))
 
+-- what the code makes for `domains`, as its task, or the fault
 abbrev pub domains_made : Result Stepping Fault → Result DomainsTask Fault
 domains_made (Ok made) = Ok (domains made.problem made.steps.items)
 domains_made (Err fault) = Err fault

@@ -4,8 +4,10 @@ use Rattle.wfc_choose.specs.declared.RuleKind.{RuleKind}
 use Rattle.wfc_outside.specs.Folder.{File}
 use Rattle.wfc_plan.specs.Stages.{IsChooserFault, IsNamedFault, IsReadingFault, TaskStage}
 use Rattle.wfc_plan.specs.declared.fault.Source.TheVariants.{Mask, Pins, Sample}
-use Rattle.wfc_task.specs.Stages.{IsFormFault, IsLayoutFault, IsLearnFault, IsPairsFault, IsPinFault, IsPinsFault, IsSizeFault, IsSymbolsFault}
-use Rattle.wfc_task.specs.TileStages.{IsDocumentFault, IsMaskFault, IsMaskFormFault, IsTileLayoutFault, IsTilePairsFault, IsTilePinFault, IsTilesFault}
+use Rattle.wfc_task.specs.Stages.{IsFormFault, IsLayoutFault, IsLearnFault, IsPairsFault}
+use Rattle.wfc_task.specs.Stages.{IsPinFault, IsPinsFault, IsSizeFault, IsSymbolsFault}
+use Rattle.wfc_task.specs.TileStages.{IsDocumentFault, IsMaskFault, IsMaskFormFault, IsTileLayoutFault}
+use Rattle.wfc_task.specs.TileStages.{IsTilePairsFault, IsTilePinFault, IsTilesFault}
 use Rattle.wfc_words.specs.RequestView.{RequestView}
 use Rattle.wfc_words.specs.declared.kinds.SourceModel.{SourceModel}
 use Rattle.wfc_words.specs.declared.kinds.SourceModel.TheVariants.{Overlap, Tiles}

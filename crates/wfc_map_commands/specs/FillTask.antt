@@ -42,6 +42,7 @@ fill_tiles_plan asked =
     and_then (tiled_plan asked set) (λ made.
     done (fill_tiles set made.0 layout made.1))))
 
+-- what `fill` comes to behind its chooser, by what its map is made of
 abbrev pub fill_plan_by : SourceModel → RequestView → Plan FillTask
 fill_plan_by (Overlap n) asked = fill_sample_plan asked
 fill_plan_by Tiles asked = fill_tiles_plan asked
@@ -55,6 +56,7 @@ abbrev pub filled_by : RequestView → Filled → FillTask
 filled_by asked (filled.Windows made) = fill made.patterns made.palette made.layout made.problem
 filled_by asked (filled.Tiles made) = fill_tiles made.tiles (masked asked made.mask) made.layout made.problem
 
+-- what the code makes for `fill`, as its task, or the fault
 abbrev pub fill_made : RequestView → Result Filled Fault → Result FillTask Fault
 fill_made asked (Ok made) = Ok (filled_by asked made)
 fill_made asked (Err fault) = Err fault

@@ -25,6 +25,7 @@ IsRulesBy (Overlap n) asked files text =
     × (text ≡ learned_text patterns palette)
 IsRulesBy Tiles asked files text = (set : TileSetView) × IsTileSetOf asked files set × (text ≡ learned_tiles_text set)
 
+-- this is the text of the rules that a request asks for over these files
 abbrev pub IsRules : RequestView → List File → List ℕ → Type 0
 IsRules asked files text = IsRulesBy asked.source asked files text
 

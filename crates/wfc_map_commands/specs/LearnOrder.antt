@@ -23,5 +23,6 @@ learn_order_by Tiles asked files =
     ∷ IsTilesFault asked files
     ∷ []
 
+-- what is looked at for the rules of a request
 abbrev pub learn_order : RequestView → List File → List TaskStage
 learn_order asked files = learn_order_by asked.source asked files

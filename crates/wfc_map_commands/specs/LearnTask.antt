@@ -26,10 +26,12 @@ learn_sample_plan asked = and_then (sample_plan asked) (λ lesson. done (learn l
 abbrev pub learn_tiles_plan : RequestView → Plan LearnTask
 learn_tiles_plan asked = and_then (tiles_plan asked) (λ set. done (learn_tiles set))
 
+-- what `learn` comes to, by what is learned from: a sample or a tile set
 abbrev pub learn_plan_by : SourceModel → RequestView → Plan LearnTask
 learn_plan_by (Overlap n) asked = learn_sample_plan asked
 learn_plan_by Tiles asked = learn_tiles_plan asked
 
+-- what `learn` comes to for a request
 abbrev pub learn_plan : RequestView → Plan LearnTask
 learn_plan asked = learn_plan_by asked.source asked
 
@@ -38,6 +40,7 @@ abbrev pub learned_by : Learned → LearnTask
 learned_by (learned.Windows taught) = learn taught.patterns taught.palette
 learned_by (learned.Tiles set) = learn_tiles set
 
+-- what the code learns, as the task of `learn`, or the fault
 abbrev pub learn_made : Result Learned Fault → Result LearnTask Fault
 learn_made (Ok made) = Ok (learned_by made)
 learn_made (Err fault) = Err fault

@@ -7,13 +7,14 @@ use Rattle.wfc_plan.specs.Plan.{Plan, and_then, done, step}
 use Rattle.wfc_plan.specs.declared.fault.Source.TheVariants.{Steps}
 use Rattle.wfc_problem.specs.Network.{Network}
 
--- the steps file is read, if one is named, and then each step is looked up in the problem
+-- the steps file of this name is read, and then each step is looked up in the problem
 abbrev pub steps_file_plan : List ℕ → Network → Plan (List StepLine)
 steps_file_plan name P =
     and_then (file_plan Steps name) (λ bytes.
     and_then (step (steps_in bytes)) (λ steps.
     step (fitting P steps)))
 
+-- the steps file is read, if one is named; else there are no steps
 abbrev pub steps_plan : Option (List ℕ) → Network → Plan (List StepLine)
 steps_plan None P = done []
 steps_plan (Some name) P = steps_file_plan name P

@@ -48,8 +48,7 @@ fn answer(
 ) -> Result<Answer, NoMemory>
     requires chooser { HasChoosers 1
         (kinds_of (map (λ chooser. (told chooser).rule) choosers.items)) Fewest }
-    ensures answers { IfOk result
-        (λ answer. demo_answer task.now.patterns task.now.problem
+    ensures answers { IfOk result (λ answer. demo_answer task.now.patterns task.now.problem
         (end_of (map (λ chooser. (told chooser).rule) choosers.items) Fewest task.now.problem
         demo_budget request.now.number) ≡ Some (answer_view answer)) }
 {

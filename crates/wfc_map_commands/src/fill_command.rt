@@ -75,9 +75,8 @@ fn replied(
         (kinds_of (map (λ chooser. (told chooser).rule) choosers.items)) request.now.rule }
     requires output { IsOutputAsked request.now }
     requires filling { IsFillingBy request.now filled.now }
-    ensures replies { Replies
-        (FillAnswers (map (λ chooser. (told chooser).rule) choosers.items) request.now)
-        (filled_by request.now filled.now) (reply_view result) }
+    ensures replies { Replies (FillAnswers (map (λ chooser. (told chooser).rule) choosers.items)
+        request.now) (filled_by request.now filled.now) (reply_view result) }
 {
     let answer = answer(alloc, request, choosers, filled)?;
     Ok(answer)

@@ -15,6 +15,7 @@ ghost use Rattle.wfc_map_commands.specs.FillClaims.{FillWork, IsFoundMap};
 ghost use Rattle.wfc_map_commands.specs.FillGiven.{IsFillTask, IsTileFillTask};
 ghost use Rattle.wfc_map_commands.specs.FillTask.{fill, fill_plan, fill_tiles};
 ghost use Rattle.wfc_map_commands.specs.LearnTask.{learn, learn_plan, learn_tiles};
+ghost use Rattle.wfc_map_commands.specs.Small.{step_line};
 ghost use Rattle.wfc_model.specs.Raster.{Raster};
 ghost use Rattle.wfc_outside.specs.Folder.{File};
 ghost use Rattle.wfc_outside.specs.declared.whole.ReadFault.TheVariants.{Missing};
@@ -91,12 +92,10 @@ pub fn demo_tasks_are_given()
 pub fn standings_by_example()
     ensures none { standings [] [] ≡ [] ∷ [] }
     ensures undone { standings []
-        (record { line = 1; step = Assume (Is 0 0) }
-        ∷ record { line = 2; step = Assume (Not 1 2) } ∷ record { line = 5; step = Undo } ∷ [])
+        (step_line 1 (Assume (Is 0 0)) ∷ step_line 2 (Assume (Not 1 2)) ∷ step_line 5 Undo ∷ [])
         ≡ [] ∷ (Is 0 0 ∷ []) ∷ (Is 0 0 ∷ Not 1 2 ∷ []) ∷ (Is 0 0 ∷ []) ∷ [] }
-    ensures all_undone { standings (Is 3 7 ∷ [])
-        (record { line = 1; step = Undo } ∷ record { line = 2; step = Assume (Is 0 1) } ∷ [])
-        ≡ (Is 3 7 ∷ []) ∷ [] ∷ (Is 0 1 ∷ []) ∷ [] }
+    ensures all_undone { standings (Is 3 7 ∷ []) (step_line 1 Undo
+        ∷ step_line 2 (Assume (Is 0 1)) ∷ []) ≡ (Is 3 7 ∷ []) ∷ [] ∷ (Is 0 1 ∷ []) ∷ [] }
 {}
 
 /// The four lines of a demonstration, by example.

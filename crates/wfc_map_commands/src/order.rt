@@ -1,25 +1,24 @@
 //! Laws of the order of refusals, each a function with no body whose contract is the law. They run nothing.
 
-ghost use Rattle.std.specs.Prelude.{Err, List, None, Ok, Some, [], codes, ◌↔◌, ◌≡◌};
+ghost use Rattle.std.specs.Prelude.{Err, List, None, Some, [], codes, ◌≡◌};
 ghost use Rattle.wfc_choose.specs.declared.RuleKind.{RuleKind};
 ghost use Rattle.wfc_choose.specs.declared.RuleKind.TheVariants.{Fewest};
 ghost use Rattle.wfc_map_commands.specs.DemoOrder.{demo_order};
-ghost use Rattle.wfc_map_commands.specs.DemoTask.{DemoTask, demo_plan};
+ghost use Rattle.wfc_map_commands.specs.DemoTask.{demo_plan};
 ghost use Rattle.wfc_map_commands.specs.DomainsOrder.{domains_order};
-ghost use Rattle.wfc_map_commands.specs.DomainsTask.{DomainsTask, domains_plan};
+ghost use Rattle.wfc_map_commands.specs.DomainsTask.{domains_plan};
 ghost use Rattle.wfc_map_commands.specs.FillOrder.{fill_order};
-ghost use Rattle.wfc_map_commands.specs.FillTask.{FillTask, fill_plan};
+ghost use Rattle.wfc_map_commands.specs.FillTask.{fill_plan};
 ghost use Rattle.wfc_map_commands.specs.LearnOrder.{learn_order};
-ghost use Rattle.wfc_map_commands.specs.LearnTask.{LearnTask, learn_plan};
+ghost use Rattle.wfc_map_commands.specs.LearnTask.{learn_plan};
 ghost use Rattle.wfc_map_commands.specs.Small.{filled};
 ghost use Rattle.wfc_outside.specs.Folder.{File};
 ghost use Rattle.wfc_outside.specs.declared.whole.ReadFault.TheVariants.{Missing};
 ghost use Rattle.wfc_pattern.specs.declared.learning.LearnFault.TheVariants.{SampleBelowN};
 ghost use Rattle.wfc_pins.specs.declared.fault.BuildFault.TheVariants as builds;
 ghost use Rattle.wfc_pins.specs.declared.pins.PinFault.TheVariants as pins;
-ghost use Rattle.wfc_plan.specs.Order.{AreInOrder, IsFirstFault};
 ghost use Rattle.wfc_plan.specs.Plan.{outcome};
-ghost use Rattle.wfc_plan.specs.declared.fault.Fault.{Fault};
+ghost use Rattle.wfc_plan.specs.Refusing.{IsMadeInOrder, IsRefusedInOrder};
 ghost use Rattle.wfc_plan.specs.declared.fault.Fault.TheVariants.{Refused, Unread};
 ghost use Rattle.wfc_plan.specs.declared.fault.Refusal.TheVariants as refusals;
 ghost use Rattle.wfc_plan.specs.declared.fault.Source.TheVariants.{Mask, Pins, Sample, Steps};
@@ -31,42 +30,34 @@ ghost use Rattle.wfc_words.specs.RequestView.{RequestView};
 
 /// `fill` has a fault exactly where it is that of the first stage at fault, and comes to a task exactly where all are in order.
 pub fn fill_refuses_in_order()
-    ensures refused { (kinds : List RuleKind) (asked : RequestView) (files : List File)
-        (fault : Fault) → (outcome (fill_plan kinds asked) files ≡ Err fault)
-        ↔ IsFirstFault (fill_order kinds asked files) fault }
+    ensures refused { (kinds : List RuleKind) (asked : RequestView) (files : List File) →
+        IsRefusedInOrder (fill_plan kinds asked) files (fill_order kinds asked files) }
     ensures made { (kinds : List RuleKind) (asked : RequestView) (files : List File) →
-        ((task : FillTask) × (outcome (fill_plan kinds asked) files ≡ Ok task))
-        ↔ AreInOrder (fill_order kinds asked files) }
+        IsMadeInOrder (fill_plan kinds asked) files (fill_order kinds asked files) }
 {}
 
 /// `learn` has a fault exactly where it is that of the first stage at fault, and comes to a task exactly where all are in order.
 pub fn learn_refuses_in_order()
-    ensures refused { (asked : RequestView) (files : List File) (fault : Fault) →
-        (outcome (learn_plan asked) files ≡ Err fault)
-        ↔ IsFirstFault (learn_order asked files) fault }
+    ensures refused { (asked : RequestView) (files : List File) →
+        IsRefusedInOrder (learn_plan asked) files (learn_order asked files) }
     ensures made { (asked : RequestView) (files : List File) →
-        ((task : LearnTask) × (outcome (learn_plan asked) files ≡ Ok task))
-        ↔ AreInOrder (learn_order asked files) }
+        IsMadeInOrder (learn_plan asked) files (learn_order asked files) }
 {}
 
 /// So it is with `domains`: the problem before the steps.
 pub fn domains_refuses_in_order()
-    ensures refused { (asked : RequestView) (files : List File) (fault : Fault) →
-        (outcome (domains_plan asked) files ≡ Err fault)
-        ↔ IsFirstFault (domains_order asked files) fault }
+    ensures refused { (asked : RequestView) (files : List File) →
+        IsRefusedInOrder (domains_plan asked) files (domains_order asked files) }
     ensures made { (asked : RequestView) (files : List File) →
-        ((task : DomainsTask) × (outcome (domains_plan asked) files ≡ Ok task))
-        ↔ AreInOrder (domains_order asked files) }
+        IsMadeInOrder (domains_plan asked) files (domains_order asked files) }
 {}
 
 /// So it is with `demo`, where nothing but a chooser can be missing.
 pub fn demo_refuses_in_order()
-    ensures refused { (kinds : List RuleKind) (asked : RequestView) (files : List File)
-        (fault : Fault) → (outcome (demo_plan kinds asked) files ≡ Err fault)
-        ↔ IsFirstFault (demo_order kinds) fault }
+    ensures refused { (kinds : List RuleKind) (asked : RequestView) (files : List File) →
+        IsRefusedInOrder (demo_plan kinds asked) files (demo_order kinds) }
     ensures made { (kinds : List RuleKind) (asked : RequestView) (files : List File) →
-        ((task : DemoTask) × (outcome (demo_plan kinds asked) files ≡ Ok task))
-        ↔ AreInOrder (demo_order kinds) }
+        IsMadeInOrder (demo_plan kinds asked) files (demo_order kinds) }
 {}
 
 /// Of several faults at once the first in the order is named: `fill` of a sample.
@@ -90,9 +81,8 @@ pub fn first_of_several_faults()
 
 /// And of a tile set, whatever the tile set is: the pins before the mask, and the mask before what the pins mean.
 pub fn first_of_several_faults_of_tiles()
-    ensures pins_and_mask { (files : List File) (set : TileSetView) →
-        IsLaid tiles_asked files set → AreBeside files None →
-        filled tiles_asked files ≡ Err (Unread Pins Missing) }
+    ensures pins_and_mask { (files : List File) (set : TileSetView) → IsLaid tiles_asked files set →
+        AreBeside files None → filled tiles_asked files ≡ Err (Unread Pins Missing) }
     ensures lines_and_mask { (files : List File) (set : TileSetView) →
         IsLaid tiles_asked files set → AreBeside files (Some (codes "pin\n")) →
         filled tiles_asked files ≡ Err (Refused (refusals.Pins (pins.BadLine 1))) }

@@ -78,10 +78,10 @@ pub fn entries_of_windows()
 
 /// The eight images of a window of two by two: the fourth is the reflection of the third, and not a turn of the second.
 pub fn eight_images()
-    ensures first { map (image 2 (1 ∷ 2 ∷ 3 ∷ 4 ∷ [])) (range_with_len 0 4) ≡
-        (1 ∷ 2 ∷ 3 ∷ 4 ∷ []) ∷ (2 ∷ 1 ∷ 4 ∷ 3 ∷ []) ∷ (2 ∷ 4 ∷ 1 ∷ 3 ∷ []) ∷ (4 ∷ 2 ∷ 3 ∷ 1 ∷ []) ∷ [] }
-    ensures later { map (image 2 (1 ∷ 2 ∷ 3 ∷ 4 ∷ [])) (range_with_len 4 4) ≡
-        (4 ∷ 3 ∷ 2 ∷ 1 ∷ []) ∷ (3 ∷ 4 ∷ 1 ∷ 2 ∷ []) ∷ (3 ∷ 1 ∷ 4 ∷ 2 ∷ []) ∷ (1 ∷ 3 ∷ 2 ∷ 4 ∷ []) ∷ [] }
+    ensures first { map (image 2 (1 ∷ 2 ∷ 3 ∷ 4 ∷ [])) (range_with_len 0 4) ≡ (1 ∷ 2 ∷ 3 ∷ 4 ∷ [])
+        ∷ (2 ∷ 1 ∷ 4 ∷ 3 ∷ []) ∷ (2 ∷ 4 ∷ 1 ∷ 3 ∷ []) ∷ (4 ∷ 2 ∷ 3 ∷ 1 ∷ []) ∷ [] }
+    ensures later { map (image 2 (1 ∷ 2 ∷ 3 ∷ 4 ∷ [])) (range_with_len 4 4) ≡ (4 ∷ 3 ∷ 2 ∷ 1 ∷ [])
+        ∷ (3 ∷ 4 ∷ 1 ∷ 2 ∷ []) ∷ (3 ∷ 1 ∷ 4 ∷ 2 ∷ []) ∷ (1 ∷ 3 ∷ 2 ∷ 4 ∷ []) ∷ [] }
     ensures nine { map (image 3 nine) (range_with_len 2 2) ≡
         (3 ∷ 6 ∷ 9 ∷ 2 ∷ 5 ∷ 8 ∷ 1 ∷ 4 ∷ 7 ∷ []) ∷ (9 ∷ 6 ∷ 3 ∷ 8 ∷ 5 ∷ 2 ∷ 7 ∷ 4 ∷ 1 ∷ []) ∷ [] }
 {}
@@ -90,8 +90,8 @@ pub fn eight_images()
 
 /// Place by place, and at a place image by image.
 pub fn arising_in_order()
-    ensures order { arising six 2 2 false ≡
-        (1 ∷ 2 ∷ 4 ∷ 5 ∷ []) ∷ (2 ∷ 1 ∷ 5 ∷ 4 ∷ []) ∷ (2 ∷ 3 ∷ 5 ∷ 6 ∷ []) ∷ (3 ∷ 2 ∷ 6 ∷ 5 ∷ []) ∷ [] }
+    ensures order { arising six 2 2 false ≡ (1 ∷ 2 ∷ 4 ∷ 5 ∷ []) ∷ (2 ∷ 1 ∷ 5 ∷ 4 ∷ [])
+        ∷ (2 ∷ 3 ∷ 5 ∷ 6 ∷ []) ∷ (3 ∷ 2 ∷ 6 ∷ 5 ∷ []) ∷ [] }
     ensures wrapped { arising six 1 1 true ≡
         (1 ∷ []) ∷ (2 ∷ []) ∷ (3 ∷ []) ∷ (4 ∷ []) ∷ (5 ∷ []) ∷ (6 ∷ []) ∷ [] }
 {}
@@ -108,10 +108,10 @@ pub fn patterns_of_the_checkerboard()
     ensures flat { learned checkerboard 2 1 false ≡ (97 ∷ 98 ∷ 98 ∷ 97 ∷ []) ∷ [] }
     ensures wrapped { learned checkerboard 2 1 true ≡
         (97 ∷ 98 ∷ 98 ∷ 97 ∷ []) ∷ (98 ∷ 97 ∷ 97 ∷ 98 ∷ []) ∷ [] }
-    ensures wrapped_weights { map (weight_of (arising checkerboard 2 1 true)) (learned checkerboard 2 1 true) ≡
-        2 ∷ 2 ∷ [] }
-    ensures image_weights { map (weight_of (arising checkerboard 2 8 false)) (learned checkerboard 2 8 false) ≡
-        4 ∷ 4 ∷ [] }
+    ensures wrapped_weights { map (weight_of (arising checkerboard 2 1 true))
+        (learned checkerboard 2 1 true) ≡ 2 ∷ 2 ∷ [] }
+    ensures image_weights { map (weight_of (arising checkerboard 2 8 false))
+        (learned checkerboard 2 8 false) ≡ 4 ∷ 4 ∷ [] }
 {}
 
 /// A window is among the learned patterns exactly where it arises.
@@ -124,8 +124,8 @@ pub fn learned_windows_arise()
 pub fn numbers_are_the_samples()
     ensures learned { (sample : Raster) (n s : ℕ) (wrap : Bool) → IsRaster sample
         → All (All (Contains (numbers_of sample))) (learned sample n s wrap) }
-    ensures legal { (sample m : Raster) (rules : Rules) (pins : List Pin) (w h : ℕ)
-        → IsRaster sample → 0 < rules.n → IsLegalPicture sample rules pins w h m → IsKnown sample m }
+    ensures legal { (sample m : Raster) (rules : Rules) (pins : List Pin) (w h : ℕ) →
+        IsRaster sample → 0 < rules.n → IsLegalPicture sample rules pins w h m → IsKnown sample m }
 {}
 
 // ---- legal pictures
@@ -167,8 +167,8 @@ pub fn pins_of_six()
 pub fn pins_of_legal()
     ensures kept { IsLegalPicture checkerboard (plain_rules 2) (kept_pin 1 0 98 ∷ [])
         2 2 checkerboard }
-    ensures other_kept { IsLegalPicture checkerboard (plain_rules 2) (kept_pin 1 0 98 ∷ kept_pin 0 0 98 ∷ [])
-        2 2 checkerboard → ⊥ }
+    ensures other_kept { IsLegalPicture checkerboard (plain_rules 2)
+        (kept_pin 1 0 98 ∷ kept_pin 0 0 98 ∷ []) 2 2 checkerboard → ⊥ }
     ensures banned { IsLegalPicture checkerboard (plain_rules 2) (banned_pin 0 0 97 ∷ [])
         2 2 checkerboard → ⊥ }
 {}

@@ -169,7 +169,8 @@ impl<W: io::Write> StreamSink<W> {
 
     /// As `Sink` has it. The writer gets exactly the bytes that are answered as taken, and the count rises at each fault.
     pub fn write(&mut self, bytes: &[u8]) -> Result<usize, SinkFault>
-        ensures passed_on { WriteAppends (W.contents self.old.writer) (W.contents self.new.writer) result bytes.now }
+        ensures passed_on { WriteAppends (W.contents self.old.writer) (W.contents self.new.writer)
+            result bytes.now }
         ensures within { IfOk result (λ n. n ≤ length bytes.now) }
         ensures some { IfOk result (λ n. 0 < length bytes.now → 0 < n) }
         ensures counts { CountsFaults self.old.faults self.new.faults result }

@@ -5,8 +5,10 @@ ghost use Rattle.wfc_outside.specs.Cases.{counting_folder, telling_sink, three_f
 ghost use Rattle.wfc_outside.specs.Count.{CountsFaults, HasRisen, IsListedNext, raised};
 ghost use Rattle.wfc_outside.specs.Folder.{file_of, GivesFrom, IsFaultOf, IsMissing, IsToldAs};
 ghost use Rattle.wfc_outside.specs.Gives.{Gives};
-ghost use Rattle.wfc_outside.specs.MemoryFolder.{after_adding, after_call, after_failed_call, after_giving, bytes_of, fresh_folder, folder_listing, given_count, seen_folder};
-ghost use Rattle.wfc_outside.specs.MemorySink.{after_failing, after_finishing, after_taking, fresh_sink, IsToFail, seen_sink, sink_failing_finish, sink_listing, taken_count};
+ghost use Rattle.wfc_outside.specs.MemoryFolder.{after_adding, after_call, after_failed_call, after_giving, bytes_of};
+ghost use Rattle.wfc_outside.specs.MemoryFolder.{fresh_folder, folder_listing, given_count, seen_folder};
+ghost use Rattle.wfc_outside.specs.MemorySink.{after_failing, after_finishing, after_taking, fresh_sink, IsToFail};
+ghost use Rattle.wfc_outside.specs.MemorySink.{seen_sink, sink_failing_finish, sink_listing, taken_count};
 ghost use Rattle.wfc_outside.specs.Sink.{after_bytes, after_finish, Finishes, IsFault, IsFaultAfterFront, Puts};
 ghost use Rattle.wfc_outside.specs.Whole.{IsLongerThan};
 
@@ -56,22 +58,26 @@ pub fn pieces_of_files()
 /// A fault of a file is counted under its name, what is told stands, and no other count falls.
 pub fn faults_of_files()
     ensures counted { IsFaultOf (counting_folder None 3 5) (counting_folder None 4 5) (codes "a") }
-    ensures other_name { IsFaultOf (counting_folder None 3 5) (counting_folder None 3 6) (codes "a") → ⊥ }
+    ensures other_name { IsFaultOf (counting_folder None 3 5) (counting_folder None 3 6) (codes "a")
+        → ⊥ }
     ensures fell { IsFaultOf (counting_folder None 3 5) (counting_folder None 4 4) (codes "a") → ⊥ }
-    ensures forgot { IsFaultOf (counting_folder (Some three_files) 3 5) (counting_folder None 4 5) (codes "a") → ⊥ }
+    ensures forgot { IsFaultOf (counting_folder (Some three_files) 3 5) (counting_folder None 4 5)
+        (codes "a") → ⊥ }
     ensures lacking { IsMissing (counting_folder (Some three_files) 3 5)
         (counting_folder (Some three_files) 3 5) (codes "c") }
     ensures there { IsMissing (counting_folder (Some three_files) 3 5)
         (counting_folder (Some three_files) 4 6) (codes "b") → ⊥ }
     ensures untold { IsMissing (counting_folder None 3 5) (counting_folder None 4 5) (codes "a") }
-    ensures uncounted { IsMissing (counting_folder None 3 5) (counting_folder None 3 5) (codes "a") → ⊥ }
+    ensures uncounted { IsMissing (counting_folder None 3 5) (counting_folder None 3 5) (codes "a")
+        → ⊥ }
     ensures longer { IsLongerThan (Some three_files) (codes "a") 2 }
     ensures not_longer { IsLongerThan (Some three_files) (codes "a") 3 → ⊥ }
 {}
 
 /// Bytes are put behind those that were taken, and make them unfinished. A fault takes a front of them at most.
 pub fn texts_that_are_put()
-    ensures behind { after_bytes (telling_sink (5 ∷ []) true 3) (6 ∷ 7 ∷ []) ≡ telling_sink (5 ∷ 6 ∷ 7 ∷ []) false 3 }
+    ensures behind { after_bytes (telling_sink (5 ∷ []) true 3) (6 ∷ 7 ∷ [])
+        ≡ telling_sink (5 ∷ 6 ∷ 7 ∷ []) false 3 }
     ensures nothing { after_bytes (telling_sink (5 ∷ []) true 3) [] ≡ telling_sink (5 ∷ []) true 3 }
     ensures finished { after_finish (telling_sink (5 ∷ []) false 3) ≡ telling_sink (5 ∷ []) true 3 }
     ensures whole { Puts {T = ℕ} {E = ℕ} (telling_sink (5 ∷ []) true 3)
@@ -84,12 +90,14 @@ pub fn texts_that_are_put()
         (telling_sink (5 ∷ 6 ∷ []) false 3) (6 ∷ 7 ∷ []) (Err 0) → ⊥ }
     ensures cut { Puts {T = ℕ} {E = ℕ} (telling_sink (5 ∷ []) true 3)
         (telling_sink (5 ∷ 6 ∷ []) false 3) (6 ∷ 7 ∷ []) (Ok 0) → ⊥ }
-    ensures ended { Finishes {T = ℕ} {E = ℕ} (telling_sink (5 ∷ []) false 3) (telling_sink (5 ∷ []) true 3) (Ok 0) }
+    ensures ended { Finishes {T = ℕ} {E = ℕ} (telling_sink (5 ∷ []) false 3)
+        (telling_sink (5 ∷ []) true 3) (Ok 0) }
     ensures not_ended { Finishes {T = ℕ} {E = ℕ} (telling_sink (5 ∷ []) false 3)
         (telling_sink (5 ∷ []) false 4) (Err 0) }
     ensures half_ended { Finishes {T = ℕ} {E = ℕ} (telling_sink (5 ∷ []) false 3)
         (telling_sink (5 ∷ []) true 4) (Err 0) → ⊥ }
-    ensures taken_more { IsFault (telling_sink (5 ∷ []) false 3) (telling_sink (5 ∷ 6 ∷ []) false 4) → ⊥ }
+    ensures taken_more { IsFault (telling_sink (5 ∷ []) false 3) (telling_sink (5 ∷ 6 ∷ []) false 4)
+        → ⊥ }
 {}
 
 /// A computed answer is given through the view, and want of memory in its place, but no other fault.
@@ -103,14 +111,18 @@ pub fn answers_that_are_given()
 
 /// A folder in memory: what is added stands in place of what had the name, and faults are counted by name.
 pub fn folders_in_memory()
-    ensures replaced { bytes_of (after_adding two_kept (codes "a") (1 ∷ [])) (codes "a") ≡ Some (1 ∷ []) }
-    ensures beside { bytes_of (after_adding two_kept (codes "a") (1 ∷ [])) (codes "b") ≡ Some (8 ∷ []) }
+    ensures replaced { bytes_of (after_adding two_kept (codes "a") (1 ∷ [])) (codes "a")
+        ≡ Some (1 ∷ []) }
+    ensures beside { bytes_of (after_adding two_kept (codes "a") (1 ∷ [])) (codes "b")
+        ≡ Some (8 ∷ []) }
     ensures behind { map (λ file. file.bytes) (after_adding two_kept (codes "c") (1 ∷ [])).files
         ≡ (5 ∷ 6 ∷ 7 ∷ []) ∷ (8 ∷ []) ∷ (1 ∷ []) ∷ [] }
-    ensures counted { map (λ file. file.faults) (after_failed_call two_kept (codes "b")).files ≡ 3 ∷ 5 ∷ [] }
+    ensures counted { map (λ file. file.faults) (after_failed_call two_kept (codes "b")).files
+        ≡ 3 ∷ 5 ∷ [] }
     ensures calls { (after_failed_call two_kept (codes "b")).calls ≡ 2 }
     ensures called { (after_call two_kept).calls ≡ 2 }
-    ensures gave { (after_giving two_kept 2).given ∷ (after_giving two_kept 2).calls ∷ [] ≡ 12 ∷ 2 ∷ [] }
+    ensures gave { (after_giving two_kept 2).given ∷ (after_giving two_kept 2).calls ∷ []
+        ≡ 12 ∷ 2 ∷ [] }
     ensures seen { (seen_folder two_kept).faults (codes "b") ≡ 4 }
     ensures unknown { (seen_folder two_kept).faults (codes "c") ≡ 0 }
     ensures by_piece { given_count two_kept (5 ∷ 6 ∷ 7 ∷ []) 0 (0 ∷ 0 ∷ 0 ∷ []) ≡ 2 }
@@ -129,8 +141,10 @@ pub fn sinks_in_memory()
     ensures full { IsToFail (fresh_sink 2 0) (1 ∷ []) }
     ensures nothing_to_take { IsToFail (fresh_sink 2 0) [] → ⊥ }
     ensures room_left { IsToFail (fresh_sink 2 1) (1 ∷ []) → ⊥ }
-    ensures taking { seen_sink (after_taking (three_taken false) (1 ∷ [])) ≡ telling_sink (5 ∷ 6 ∷ 7 ∷ 1 ∷ []) false 3 }
-    ensures failing { seen_sink (after_failing (three_taken false)) ≡ telling_sink (5 ∷ 6 ∷ 7 ∷ []) true 4 }
+    ensures taking { seen_sink (after_taking (three_taken false) (1 ∷ []))
+        ≡ telling_sink (5 ∷ 6 ∷ 7 ∷ 1 ∷ []) false 3 }
+    ensures failing { seen_sink (after_failing (three_taken false))
+        ≡ telling_sink (5 ∷ 6 ∷ 7 ∷ []) true 4 }
     ensures calls { (after_failing (three_taken false)).calls ≡ 2 }
     ensures finishing { seen_sink (after_finishing (after_taking (three_taken false) (1 ∷ [])))
         ≡ telling_sink (5 ∷ 6 ∷ 7 ∷ 1 ∷ []) true 3 }

@@ -58,15 +58,18 @@ pub trait Folder {
     fn read_at(&mut self, name: &str, at: u64, buf: &mut [u8]) -> Result<usize, FolderFault>
         ensures ok { OnOk result (seen self.new ≡ seen self.old) }
         ensures within { IfOk result (λ n. n ≤ length buf.new) }
-        ensures given { IfOk result (λ n. GivesFrom (seen self.old).contents name.now at buf.new n) }
+        ensures given { IfOk result (λ n.
+            GivesFrom (seen self.old).contents name.now at buf.new n) }
 
         // No more bytes are counted than are given.
         ensures counted { IfOk result (λ n. bytes_given self.new ≤ bytes_given self.old + n) }
         ensures none_counted { OnErr result (bytes_given self.new ≤ bytes_given self.old) }
 
         // What is told stands in each case, and no count falls.
-        ensures missing { IsErrOf result FolderFault.Missing → IsMissing (seen self.old) (seen self.new) name.now }
-        ensures failed { IsErrOf result FolderFault.Failed → IsFaultOf (seen self.old) (seen self.new) name.now };
+        ensures missing { IsErrOf result FolderFault.Missing
+            → IsMissing (seen self.old) (seen self.new) name.now }
+        ensures failed { IsErrOf result FolderFault.Failed
+            → IsFaultOf (seen self.old) (seen self.new) name.now };
 }
 
 /// Why a sink took nothing.
@@ -85,7 +88,8 @@ pub trait Sink {
     fn write(&mut self, bytes: &[u8]) -> Result<usize, SinkFault>
         ensures within { IfOk result (λ n. n ≤ length bytes.now) }
         ensures some { IfOk result (λ n. 0 < length bytes.now → 0 < n) }
-        ensures ok { IfOk result (λ n. seen self.new ≡ after_bytes (seen self.old) (take n bytes.now)) }
+        ensures ok { IfOk result (λ n.
+            seen self.new ≡ after_bytes (seen self.old) (take n bytes.now)) }
         ensures failed { OnErr result (IsFault (seen self.old) (seen self.new)) };
 
     /// Says that nothing follows, and passes on what is held back.

@@ -1,11 +1,13 @@
 //! A folder in memory, whose files are told.
 
-ghost use Rattle.std.specs.Prelude.{◌≡◌, ◌≢◌, ◌↔◌, ℕ, ◌-◌, ◌≤◌, List, Some, None, min, length, take, drop, position, IfOk, IfSome, IsErrOf, IsSome, OnOk, OnErr};
+ghost use Rattle.std.specs.Prelude.{◌≡◌, ◌≢◌, ◌↔◌, ℕ, ◌-◌, ◌≤◌, List, Some, None, min, length, take, drop, position};
+ghost use Rattle.std.specs.Prelude.{IfOk, IfSome, IsErrOf, IsSome, OnOk, OnErr};
 ghost use Rattle.std.specs.Str.{bytes_eq};
 ghost use Rattle.std.specs.String.{string_bytes};
 ghost use Rattle.wfc_outside.specs.Count.{HasRisen, IsListedNext, raised};
 ghost use Rattle.wfc_outside.specs.Folder.{GivesFrom, IsFaultOf};
-ghost use Rattle.wfc_outside.specs.MemoryFolder.{after_adding, after_call, after_failed_call, after_giving, bytes_of, folder_listing, fresh_folder, given_count, seen_folder};
+ghost use Rattle.wfc_outside.specs.MemoryFolder.{after_adding, after_call, after_failed_call, after_giving, bytes_of};
+ghost use Rattle.wfc_outside.specs.MemoryFolder.{folder_listing, fresh_folder, given_count, seen_folder};
 
 use crate::count::one_more;
 use crate::{Folder, FolderFault, NoMemory};
@@ -113,7 +115,8 @@ impl MemoryFolder {
 
     /// Adds a file, or replaces the bytes of the one of that name.
     pub fn add(&mut self, name: String, bytes: Vec<u8>) -> Result<(), NoMemory>
-        ensures ok { OnOk result (self.new ≡ after_adding self.old (string_bytes name) bytes.items) }
+        ensures ok { OnOk result
+            (self.new ≡ after_adding self.old (string_bytes name) bytes.items) }
         ensures told { OnOk result (bytes_of self.new (string_bytes name) ≡ Some bytes.items) }
         ensures others { OnOk result ((other : List ℕ) → other ≢ string_bytes name
             → bytes_of self.new other ≡ bytes_of self.old other) }
@@ -143,15 +146,18 @@ impl MemoryFolder {
     /// As `Folder` has it. It answers `Missing` exactly where the name isn't there, and `Failed` exactly at a listed
     /// call on a name that is there.
     pub fn read_at(&mut self, name: &str, at: u64, buf: &mut [u8]) -> Result<usize, FolderFault>
-        ensures missing_exactly { IsErrOf result FolderFault.Missing ↔ (bytes_of self.old name.now ≡ None) }
+        ensures missing_exactly { IsErrOf result FolderFault.Missing
+            ↔ (bytes_of self.old name.now ≡ None) }
         ensures failed_exactly { IsErrOf result FolderFault.Failed
             ↔ (IsListedNext self.old.failing self.old.calls × IsSome (bytes_of self.old name.now)) }
         ensures count { IfOk result (λ n. IfSome (bytes_of self.old name.now)
             (λ file. n ≡ given_count self.old file at buf.old)) }
-        ensures given { IfOk result (λ n. GivesFrom (seen_folder self.old).contents name.now at buf.new n) }
+        ensures given { IfOk result (λ n.
+            GivesFrom (seen_folder self.old).contents name.now at buf.new n) }
         ensures ok { IfOk result (λ n. self.new ≡ after_giving self.old n) }
         ensures missing { IsErrOf result FolderFault.Missing → self.new ≡ after_call self.old }
-        ensures failed { IsErrOf result FolderFault.Failed → self.new ≡ after_failed_call self.old name.now }
+        ensures failed { IsErrOf result FolderFault.Failed
+            → self.new ≡ after_failed_call self.old name.now }
         ensures counted { IsErrOf result FolderFault.Failed
             → IsFaultOf (seen_folder self.old) (seen_folder self.new) name.now }
     {

@@ -2,7 +2,8 @@
 
 ghost use Rattle.std.specs.Prelude.{◌≡◌, ◌↔◌, ◌<◌, ◌≤◌, true, length, take, IfOk, IsErr, OnOk, OnErr};
 ghost use Rattle.wfc_outside.specs.Count.{HasRisen, raised};
-ghost use Rattle.wfc_outside.specs.MemorySink.{IsToFail, after_failing, after_finishing, after_taking, fresh_sink, seen_sink, sink_failing_finish, sink_listing, taken_count};
+ghost use Rattle.wfc_outside.specs.MemorySink.{IsToFail, after_failing, after_finishing, after_taking, fresh_sink};
+ghost use Rattle.wfc_outside.specs.MemorySink.{seen_sink, sink_failing_finish, sink_listing, taken_count};
 
 use crate::count::one_more;
 use crate::{NoMemory, Sink, SinkFault};

@@ -74,13 +74,19 @@ pub fn read_all<F: Folder>(
 
     ensures ok { OnOk result (F.seen folder.new ≡ F.seen folder.old) }
     ensures within { IfOk result (λ bytes. length bytes.items ≤ limit) }
-    ensures whole { IfOk result (λ bytes. IsToldAs (F.seen folder.old).contents name.now bytes.items) }
+    ensures whole { IfOk result (λ bytes.
+        IsToldAs (F.seen folder.old).contents name.now bytes.items) }
 
-    ensures missing { IsErrOf result ReadFault.Missing → IsMissing (F.seen folder.old) (F.seen folder.new) name.now }
-    ensures failed { IsErrOf result ReadFault.Failed → IsFaultOf (F.seen folder.old) (F.seen folder.new) name.now }
-    ensures too_long { IsErrOf result ReadFault.TooLong → IsLongerThan (F.seen folder.old).contents name.now limit }
-    ensures too_long_same { IsErrOf result ReadFault.TooLong → F.seen folder.new ≡ F.seen folder.old }
-    ensures no_memory { IsErrOf result ReadFault.NoMemory → F.seen folder.new ≡ F.seen folder.old }
+    ensures missing { IsErrOf result ReadFault.Missing
+        → IsMissing (F.seen folder.old) (F.seen folder.new) name.now }
+    ensures failed { IsErrOf result ReadFault.Failed
+        → IsFaultOf (F.seen folder.old) (F.seen folder.new) name.now }
+    ensures too_long { IsErrOf result ReadFault.TooLong
+        → IsLongerThan (F.seen folder.old).contents name.now limit }
+    ensures too_long_same { IsErrOf result ReadFault.TooLong
+        → F.seen folder.new ≡ F.seen folder.old }
+    ensures no_memory { IsErrOf result ReadFault.NoMemory
+        → F.seen folder.new ≡ F.seen folder.old }
 {
     let mut zeros = zeros(alloc, PIECE as usize)?;
     let buffer = zeros.as_mut_slice();

@@ -71,6 +71,16 @@ abbrev pub AreInside : Output → List Pin → Type 0
 AreInside output pins =
     All (λ pin. (pin.column < output.width) × (pin.row < output.height)) pins
 
+-- an assignment is legal for the problem of these patterns, this output and these pins
+abbrev pub IsSampleAssignment : PatternsView → Output → List Pin → List ℕ → Type 0
+IsSampleAssignment patterns output pins a =
+    IsLegalAssignment (problem_of_sample patterns output pins) a
+
+-- a picture is legal as this output, by a sample, its rules and these pins
+abbrev pub IsLegalOutput : Raster → Rules → List Pin → Output → Raster → Type 0
+IsLegalOutput sample rules pins output m =
+    IsLegalPicture sample rules pins output.width output.height m
+
 -- the window of a picture at each place is the pattern assigned to it
 abbrev pub HasWindowsOf : PatternsView → Output → List ℕ → Raster → Type 0
 HasWindowsOf patterns output a m =

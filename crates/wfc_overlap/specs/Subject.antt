@@ -1,11 +1,13 @@
 -- The problem of a sample in its own words: places, and which pins a window holds.
-use Rattle.std.specs.Prelude.{◌≡◌, ◌≢◌, ℕ, ◌+◌, ◌%◌, ◌<◌, List, MatchBool}
+use Rattle.std.specs.Prelude.{◌≡◌, ◌≢◌, ℕ, ◌+◌, ◌%◌, ◌<◌, Contains, List, MatchBool, length}
 use Rattle.wfc_model.specs.Image.{cell_at}
 use Rattle.wfc_model.specs.Legal.{Pin}
 use Rattle.wfc_model.specs.Window.{starts}
-use Rattle.wfc_pattern.specs.Patterns.{PatternsView}
-use Rattle.wfc_places.specs.Steps.{cell_of}
-use Rattle.wfc_overlap.specs.Sample.{Output}
+use Rattle.wfc_pattern.specs.Agreement.{Agrees}
+use Rattle.wfc_pattern.specs.Patterns.{PatternsView, window_at}
+use Rattle.wfc_places.specs.Steps.{IsStepFrom, cell_of}
+use Rattle.wfc_problem.specs.Network.{supports_of}
+use Rattle.wfc_overlap.specs.Sample.{Output, problem_of_sample}
 
 -- how many columns of places an output has
 abbrev pub place_columns : PatternsView → Output → ℕ
@@ -23,6 +25,22 @@ pub record IsPlaceOf (patterns : PatternsView) (output : Output) (x y : ℕ) : T
 -- the cell of a place
 abbrev pub place_cell : PatternsView → Output → ℕ → ℕ → ℕ
 place_cell patterns output x y = cell_of (place_columns patterns output) x y
+
+-- from the place in column x and row y one step in direction d leads to that in column u and row v
+abbrev pub IsPlaceStep : PatternsView → Output → ℕ → ℕ → ℕ → ℕ → ℕ → Type 0
+IsPlaceStep patterns output d x y u v =
+    IsStepFrom output.wrap (place_columns patterns output) (place_rows patterns output) d x y u v
+
+-- in the problem of a sample the pattern q may stand beside p in direction d
+abbrev pub IsSampleSupport : PatternsView → Output → List Pin → ℕ → ℕ → ℕ → Type 0
+IsSampleSupport patterns output pins p d q =
+    Contains (supports_of (problem_of_sample patterns output pins) p d) q
+
+-- q is one of the patterns, and agrees with the pattern p in direction d
+abbrev pub IsAgreeing : PatternsView → ℕ → ℕ → ℕ → Type 0
+IsAgreeing patterns p d q =
+    (q < length patterns.windows)
+    × Agrees patterns.n (window_at patterns p) (window_at patterns q) d
 
 -- a window at a place holds a pin: where it reaches the pin's pixel, it has the pin's number there, or another
 -- than a ban's

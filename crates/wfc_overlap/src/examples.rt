@@ -10,7 +10,8 @@ ghost use Rattle.wfc_overlap.specs.Built.{built, built_pins, pin_in, pins_in, te
 ghost use Rattle.wfc_overlap.specs.Sample.{Output, output_with, problem_of_sample};
 ghost use Rattle.wfc_places.specs.Steps.{IsStepFrom};
 ghost use Rattle.wfc_overlap.specs.Subject.{HoldsPin, IsPlaceOf, place_cell};
-ghost use Rattle.wfc_overlap.specs.Small.{line_of, no_pattern, one_pattern, rules_with, six_numbers, three_by_two, three_symbols, two_patterns};
+ghost use Rattle.wfc_overlap.specs.Small.{line_of, no_pattern, one_pattern, rules_with};
+ghost use Rattle.wfc_overlap.specs.Small.{six_numbers, three_by_two, three_symbols, two_patterns};
 ghost use Rattle.wfc_pattern.specs.Patterns.{PatternsView};
 ghost use Rattle.wfc_picture.specs.declared.symbol.Symbol.{Symbol};
 ghost use Rattle.wfc_pins.specs.PinView.{PinView};
@@ -113,15 +114,13 @@ pub fn lines_by_symbols()
 
 /// All lines are read in order, and the first that has a fault is answered.
 pub fn lines_in_order()
-    ensures read { pins_in (codes "a" ∷ codes "b" ∷ []) 3 2
-        (line_of 1 true 2 0 (codes "b") ∷ line_of 3 false 1 1 (codes "a") ∷ [])
-        ≡ Ok (kept_pin 2 0 1 ∷ banned_pin 1 1 0 ∷ []) }
+    ensures read { pins_in (codes "a" ∷ codes "b" ∷ []) 3 2 (line_of 1 true 2 0 (codes "b")
+        ∷ line_of 3 false 1 1 (codes "a") ∷ []) ≡ Ok (kept_pin 2 0 1 ∷ banned_pin 1 1 0 ∷ []) }
     ensures unknown { pins_in (codes "a" ∷ []) 3 2
         (line_of 1 true 2 0 (codes "a") ∷ line_of 3 true 1 1 (codes "b")
         ∷ line_of 4 true 3 0 (codes "a") ∷ []) ≡ Err (UnknownSymbol 3) }
-    ensures outside { pins_in (codes "a" ∷ []) 3 2
-        (line_of 2 true 3 0 (codes "a") ∷ line_of 3 true 1 1 (codes "b") ∷ [])
-        ≡ Err (PinOutside 2) }
+    ensures outside { pins_in (codes "a" ∷ []) 3 2 (line_of 2 true 3 0 (codes "a")
+        ∷ line_of 3 true 1 1 (codes "b") ∷ []) ≡ Err (PinOutside 2) }
 {}
 
 /// A problem is built of the pins that the lines mean; a side below that of a window comes before

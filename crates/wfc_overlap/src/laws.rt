@@ -1,27 +1,25 @@
 //! Laws of the problem of a sample, each a function with no body whose contract is the law. They
 //! run nothing.
 
-ghost use Rattle.std.specs.Prelude.{◌≡◌, ◌↔◌, ℕ, ◌<◌, Contains, All, IsTrue, length, List, Some, Err};
+ghost use Rattle.std.specs.Prelude.{◌≡◌, ◌↔◌, ℕ, ◌<◌, All, IsTrue, length, List, Some, Err};
 ghost use Rattle.std.specs.List.{AllPass};
 ghost use Rattle.std.specs.Option.{ok_or, option_map};
 ghost use Rattle.wfc_model.specs.Raster.{Raster};
 ghost use Rattle.wfc_model.specs.Window.{window};
-ghost use Rattle.wfc_model.specs.Legal.{Pin, Rules, IsLegalPicture};
-ghost use Rattle.wfc_pattern.specs.Agreement.{Agrees};
+ghost use Rattle.wfc_model.specs.Legal.{Pin, Rules};
 ghost use Rattle.wfc_pattern.specs.Patterns.{PatternsView, IsPatterns, window_at};
 ghost use Rattle.wfc_picture.specs.Palette.{symbol_number};
 ghost use Rattle.wfc_picture.specs.Symbol.{Spells, is_shown};
 ghost use Rattle.wfc_picture.specs.declared.symbol.Symbol.{Symbol};
 ghost use Rattle.wfc_pins.specs.PinView.{PinView};
 ghost use Rattle.wfc_pins.specs.declared.fault.BuildFault.TheVariants.{UnknownSymbol};
-ghost use Rattle.wfc_problem.specs.Network.{IsProblem, in_base, neighbour, supports_of};
-ghost use Rattle.wfc_problem.specs.Assignment.{IsLegalAssignment};
+ghost use Rattle.wfc_problem.specs.Network.{IsProblem, in_base, neighbour};
 ghost use Rattle.wfc_overlap.specs.Sample.{Output, problem_of_sample};
 ghost use Rattle.wfc_places.specs.Marks.{pin_with};
 ghost use Rattle.wfc_overlap.specs.Built.{pin_in, texts_of};
-ghost use Rattle.wfc_places.specs.Steps.{IsStepFrom};
-ghost use Rattle.wfc_overlap.specs.Subject.{HoldsPin, IsPlaceOf, place_cell, place_columns, place_rows};
-ghost use Rattle.wfc_overlap.specs.Bridge.{IsRoom, IsTaughtBy, AreInside, numbers_of_windows, picture_of, HasWindowsOf};
+ghost use Rattle.wfc_overlap.specs.Subject.{HoldsPin, IsAgreeing, IsPlaceOf, IsPlaceStep, IsSampleSupport, place_cell};
+ghost use Rattle.wfc_overlap.specs.Bridge.{IsRoom, IsTaughtBy, IsLegalOutput, IsSampleAssignment};
+ghost use Rattle.wfc_overlap.specs.Bridge.{AreInside, numbers_of_windows, picture_of, HasWindowsOf};
 
 /// Patterns, an output with room for them and pins make a problem.
 pub fn samples_make_problems()
@@ -33,51 +31,44 @@ pub fn samples_make_problems()
 /// The numbers of a legal picture's windows, place by place, are a legal assignment.
 pub fn pictures_are_assignments()
     ensures legal { (sample : Raster) (rules : Rules) (patterns : PatternsView) (output : Output)
-        (pins : List Pin) (m : Raster) →
-        IsPatterns patterns → IsTaughtBy sample rules patterns output →
-        IsLegalPicture sample rules pins output.width output.height m →
-        IsLegalAssignment (problem_of_sample patterns output pins)
-        (numbers_of_windows patterns output m) }
+        (pins : List Pin) (m : Raster) → IsPatterns patterns →
+        IsTaughtBy sample rules patterns output → IsLegalOutput sample rules pins output m →
+        IsSampleAssignment patterns output pins (numbers_of_windows patterns output m) }
 {}
 
 /// The picture of a legal assignment is legal, and its window at each place is the pattern assigned
 /// to it.
 pub fn assignments_are_pictures()
     ensures legal { (sample : Raster) (rules : Rules) (patterns : PatternsView) (output : Output)
-        (pins : List Pin) (a : List ℕ) →
-        IsPatterns patterns → IsRoom patterns output →
+        (pins : List Pin) (a : List ℕ) → IsPatterns patterns → IsRoom patterns output →
         IsTaughtBy sample rules patterns output → AreInside output pins →
-        IsLegalAssignment (problem_of_sample patterns output pins) a →
-        IsLegalPicture sample rules pins output.width output.height
-        (picture_of patterns output a) }
-    ensures windows { (patterns : PatternsView) (output : Output) (pins : List Pin)
-        (a : List ℕ) → IsPatterns patterns → IsRoom patterns output →
-        IsLegalAssignment (problem_of_sample patterns output pins) a →
+        IsSampleAssignment patterns output pins a →
+        IsLegalOutput sample rules pins output (picture_of patterns output a) }
+    ensures windows { (patterns : PatternsView) (output : Output) (pins : List Pin) (a : List ℕ) →
+        IsPatterns patterns → IsRoom patterns output → IsSampleAssignment patterns output pins a →
         HasWindowsOf patterns output a (picture_of patterns output a) }
 {}
 
 /// A legal picture exists exactly where a legal assignment does.
 pub fn either_exists_with_the_other()
     ensures exactly { (sample : Raster) (rules : Rules) (patterns : PatternsView)
-        (output : Output) (pins : List Pin) →
-        IsPatterns patterns → IsRoom patterns output →
+        (output : Output) (pins : List Pin) → IsPatterns patterns → IsRoom patterns output →
         IsTaughtBy sample rules patterns output → AreInside output pins →
-        ((m : Raster) × IsLegalPicture sample rules pins output.width output.height m)
-        ↔ ((a : List ℕ) × IsLegalAssignment (problem_of_sample patterns output pins) a) }
+        ((m : Raster) × IsLegalOutput sample rules pins output m)
+        ↔ ((a : List ℕ) × IsSampleAssignment patterns output pins a) }
 {}
 
 /// Legal pictures and legal assignments correspond one to one: each is made of the other, and gives
 /// it again.
 pub fn one_to_one()
-    ensures pictures { (sample : Raster) (rules : Rules) (patterns : PatternsView)
-        (output : Output) (pins : List Pin) (m : Raster) →
-        IsPatterns patterns → IsRoom patterns output → IsTaughtBy sample rules patterns output →
-        IsLegalPicture sample rules pins output.width output.height m →
+    ensures pictures { (sample : Raster) (rules : Rules) (patterns : PatternsView) (output : Output)
+        (pins : List Pin) (m : Raster) → IsPatterns patterns → IsRoom patterns output →
+        IsTaughtBy sample rules patterns output → IsLegalOutput sample rules pins output m →
         picture_of patterns output (numbers_of_windows patterns output m) ≡ m }
     ensures assignments { (sample : Raster) (rules : Rules) (patterns : PatternsView)
-        (output : Output) (pins : List Pin) (a : List ℕ) →
-        IsPatterns patterns → IsRoom patterns output → IsTaughtBy sample rules patterns output →
-        IsLegalAssignment (problem_of_sample patterns output pins) a →
+        (output : Output) (pins : List Pin) (a : List ℕ) → IsPatterns patterns →
+        IsRoom patterns output → IsTaughtBy sample rules patterns output →
+        IsSampleAssignment patterns output pins a →
         numbers_of_windows patterns output (picture_of patterns output a) ≡ a }
 {}
 
@@ -94,17 +85,14 @@ pub fn neighbours_are_a_step_away()
         IsPatterns patterns → IsRoom patterns output → (x y u v d : ℕ) →
         IsPlaceOf patterns output x y → IsPlaceOf patterns output u v → d < 4 →
         (neighbour (problem_of_sample patterns output pins) (place_cell patterns output x y) d
-        ≡ Some (place_cell patterns output u v)) ↔ IsStepFrom output.wrap
-        (place_columns patterns output) (place_rows patterns output) d x y u v }
+        ≡ Some (place_cell patterns output u v)) ↔ IsPlaceStep patterns output d x y u v }
 {}
 
 /// What may stand beside a pattern in a direction are exactly the patterns that agree with it.
 pub fn supports_are_agreement()
-    ensures exactly { (patterns : PatternsView) (output : Output) (pins : List Pin)
-        (p q d : ℕ) → p < length patterns.windows → d < 4 →
-        Contains (supports_of (problem_of_sample patterns output pins) p d) q ↔
-        ((q < length patterns.windows)
-        × Agrees patterns.n (window_at patterns p) (window_at patterns q) d) }
+    ensures exactly { (patterns : PatternsView) (output : Output) (pins : List Pin) (p q d : ℕ) →
+        p < length patterns.windows → d < 4 →
+        IsSampleSupport patterns output pins p d q ↔ IsAgreeing patterns p d q }
 {}
 
 /// A pattern is in the base of a place's cell exactly where it holds each pin and ban there.
@@ -121,8 +109,8 @@ pub fn bases_hold_pins()
 pub fn pins_name_symbols()
     ensures spelled { (palette : List Symbol) (width height : ℕ) (line : PinView) →
         line.x < width → line.y < height → AllPass is_shown palette → (symbol : Symbol) →
-        Spells line.symbol symbol → pin_in (texts_of palette) width height line
-        ≡ ok_or (option_map (pin_with line) (symbol_number palette symbol)) (UnknownSymbol line.line) }
+        Spells line.symbol symbol → pin_in (texts_of palette) width height line ≡ ok_or
+        (option_map (pin_with line) (symbol_number palette symbol)) (UnknownSymbol line.line) }
     ensures unknown { (palette : List Symbol) (width height : ℕ) (line : PinView) →
         line.x < width → line.y < height → AllPass is_shown palette →
         ((symbol : Symbol) → Spells line.symbol symbol → ⊥) →

@@ -24,9 +24,11 @@ HashesAre sample n symmetry columns numbers hashes =
 abbrev pub image_in : Arising → ℕ → List ℕ
 image_in arising at = arisen arising.picture.now arising.n arising.symmetry arising.columns at
 
+-- the images with these numbers, of such a sample
 abbrev pub images_in : Arising → List ℕ → List (List ℕ)
 images_in arising numbers = images_of arising.picture.now arising.n arising.symmetry arising.columns numbers
 
+-- these hashes are those of the images with these numbers, in the same order
 abbrev pub AreHashesIn : Arising → List ℕ → List ℕ → Type 0
 AreHashesIn arising numbers hashes =
     HashesAre arising.picture.now arising.n arising.symmetry arising.columns numbers hashes

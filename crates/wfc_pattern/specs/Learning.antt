@@ -1,5 +1,5 @@
 -- What is answered of a sample: its patterns, or why it teaches none.
-use Rattle.std.specs.Prelude.{ℕ, Bool, not, ◌&&◌, ◌||◌, nat_lt, length, map, Result, Ok, Err, if◌then◌else◌}
+use Rattle.std.specs.Prelude.{ℕ, Bool, not, ◌&&◌, ◌||◌, nat_lt, List, length, map, Result, Ok, Err, if◌then◌else◌}
 use Rattle.wfc_model.specs.Raster.{Raster, height_of}
 use Rattle.wfc_model.specs.Learned.{arising, learned, weight_of}
 use Rattle.wfc_pattern.specs.Patterns.{PatternsView}
@@ -10,6 +10,10 @@ use Rattle.wfc_pattern.specs.declared.learning.LearnFault.TheVariants.{SampleBel
 -- whether the sample doesn't wrap and has a side below n
 abbrev pub is_below_n : Raster → ℕ → Bool → Bool
 is_below_n sample n wrap = not wrap && (nat_lt sample.width n || nat_lt (height_of sample) n)
+
+-- how often each learned window arises, in the order of the windows
+abbrev pub learned_weights : Raster → ℕ → ℕ → Bool → List ℕ
+learned_weights sample n s wrap = map (weight_of (arising sample n s wrap)) (learned sample n s wrap)
 
 -- the learned windows, and beside each how often it arises
 abbrev pub learned_patterns : Raster → ℕ → ℕ → Bool → PatternsView

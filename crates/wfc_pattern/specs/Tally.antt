@@ -18,10 +18,11 @@ total es = sum_by (λ e. e.1) es
 abbrev pub tallied : List (List ℕ) → List (List ℕ × ℕ)
 tallied ws = map (λ (w : List ℕ). (w, weight_of ws w)) (unrepeated (pointwise nat_eq) ws)
 
--- the windows alone, and their counts alone
+-- the windows alone, in their order
 abbrev pub windows_of : List (List ℕ × ℕ) → List (List ℕ)
 windows_of es = map (λ (e : List ℕ × ℕ). e.0) es
 
+-- how often each of them stood in the list, in the same order
 abbrev pub weights_of : List (List ℕ × ℕ) → List ℕ
 weights_of es = map (λ (e : List ℕ × ℕ). e.1) es
 

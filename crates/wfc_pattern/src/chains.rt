@@ -47,7 +47,8 @@ impl Chains {
 
     /// The last place of a hash.
     pub fn latest(&self, hash: u32) -> Option<u32>
-        ensures last { IsLastOf (hashes_of self.now.links.items) hash (length self.now.links.items) result }
+        ensures last { IsLastOf (hashes_of self.now.links.items) hash
+            (length self.now.links.items) result }
     {
         let place = self.heads[hash as usize % self.heads.len()];
         self.found_from(place, hash)
@@ -66,9 +67,8 @@ impl Chains {
     /// The last place before `place` that has the hash, whose bucket the hash at `place - 1` shares.
     fn found_from(&self, mut place: u32, hash: u32) -> Option<u32>
         requires within { place ≤ length self.now.links.items }
-        requires there { 0 < place
-            → slice_index (hashes_of self.now.links.items) (place - 1) % length
-            self.now.heads.items ≡ hash % length self.now.heads.items }
+        requires there { 0 < place → slice_index (hashes_of self.now.links.items) (place - 1)
+            % length self.now.heads.items ≡ hash % length self.now.heads.items }
         ensures last { IsLastOf (hashes_of self.now.links.items) hash place result }
     {
         while place > 0 {

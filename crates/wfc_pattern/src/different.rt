@@ -30,8 +30,8 @@ pub fn count_different(alloc: Global, arising: &Arising, images: u32) -> Result<
     requires some { 0 < images }
     requires limit { images ≤ 8388608 }
     requires side { arising.now.n ≤ 6 }
-    ensures value { IfOk result (λ count. count
-        ≡ length (unrepeated (pointwise nat_eq) (images_in arising.now (range_with_len 0 images)))) }
+    ensures value { IfOk result (λ count. count ≡ length
+        (unrepeated (pointwise nat_eq) (images_in arising.now (range_with_len 0 images)))) }
 {
     let area = arising.n as usize * arising.n as usize;
     let mut image = vec![in alloc; 0; area]?;
@@ -95,11 +95,15 @@ impl Different {
         requires other { length other.old ≡ arising.now.n * arising.now.n }
         requires spare { length spare.old ≡ arising.now.n * arising.now.n }
         requires room { length self.old.numbers.items + 1 < 2 ^ 32 }
-        requires hashes { AreHashesIn arising.now self.old.numbers.items (hashes_of self.old.chains.links.items) }
+        requires hashes { AreHashesIn arising.now self.old.numbers.items
+            (hashes_of self.old.chains.links.items) }
         ensures kept { OnOk result (images_in arising.now self.new.numbers.items
-            ≡ with_new (pointwise nat_eq) (images_in arising.now self.old.numbers.items) (image_in arising.now at)) }
-        ensures hashes { OnOk result (AreHashesIn arising.now self.new.numbers.items (hashes_of self.new.chains.links.items)) }
-        ensures room { OnOk result (length self.new.numbers.items ≤ length self.old.numbers.items + 1) }
+            ≡ with_new (pointwise nat_eq) (images_in arising.now self.old.numbers.items)
+            (image_in arising.now at)) }
+        ensures hashes { OnOk result (AreHashesIn arising.now self.new.numbers.items
+            (hashes_of self.new.chains.links.items)) }
+        ensures room { OnOk result
+            (length self.new.numbers.items ≤ length self.old.numbers.items + 1) }
     {
         arising.write(at, image, spare);
         let hash = hash_of(image);
@@ -124,8 +128,10 @@ impl Different {
         requires other { length other.old ≡ arising.now.n * arising.now.n }
         requires spare { length spare.old ≡ arising.now.n * arising.now.n }
         requires hash { hash ≡ hash_of image.now }
-        requires hashes { AreHashesIn arising.now self.now.numbers.items (hashes_of self.now.chains.links.items) }
-        ensures value { result ≡ list_any (pointwise nat_eq image.now) (images_in arising.now self.now.numbers.items) }
+        requires hashes { AreHashesIn arising.now self.now.numbers.items
+            (hashes_of self.now.chains.links.items) }
+        ensures value { result
+            ≡ list_any (pointwise nat_eq image.now) (images_in arising.now self.now.numbers.items) }
     {
         let mut next = self.chains.latest(hash);
         while let Some(p) = next {

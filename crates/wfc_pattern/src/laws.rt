@@ -5,26 +5,25 @@ ghost use Rattle.std.specs.List.{range_with_len};
 ghost use Rattle.wfc_model.specs.Direction.{IsStepModulo, opposite};
 ghost use Rattle.wfc_model.specs.Raster.{Raster, IsRaster, height_of, raster_of};
 ghost use Rattle.wfc_model.specs.Window.{window};
-ghost use Rattle.wfc_model.specs.Learned.{arising, learned, weight_of};
+ghost use Rattle.wfc_model.specs.Learned.{arising, learned};
 ghost use Rattle.wfc_pattern.specs.Agreement.{Agrees, agrees};
-ghost use Rattle.wfc_pattern.specs.Learning.{learned_patterns, patterns_of};
+ghost use Rattle.wfc_pattern.specs.Learning.{learned_patterns, learned_weights, patterns_of};
 ghost use Rattle.wfc_pattern.specs.Patterns.{PatternsView, IsPatterns};
 ghost use Rattle.wfc_pattern.specs.declared.TheConstants.{MAX_PATTERNS, MAX_ARISING};
 ghost use Rattle.wfc_pattern.specs.declared.learning.LearnFault.{LearnFault};
 
 /// The windows at neighbouring places agree: the one at a place with the one a step away, modulo the sides.
 pub fn neighbouring_windows_agree()
-    ensures windows { (m : Raster) (n x y u v direction : ℕ) → IsRaster m →
-        IsStepModulo direction m.width (height_of m) x y u v →
-        Agrees n (window m x y n) (window m u v n) direction }
+    ensures windows { (m : Raster) (n x y u v direction : ℕ) → IsRaster m → IsStepModulo direction
+        m.width (height_of m) x y u v → Agrees n (window m x y n) (window m u v n) direction }
 {}
 
 /// The test of agreement says whether two patterns agree, and a direction and its opposite say the same.
 pub fn agreement_is_mutual()
     ensures test { (n : ℕ) (p q : List ℕ) (direction : ℕ) →
         IsTrue (agrees n p q direction) ↔ Agrees n p q direction }
-    ensures opposite { (n : ℕ) (p q : List ℕ) (direction : ℕ) → direction < 4 → agrees n p q direction
-        ≡ agrees n q p (opposite direction) }
+    ensures opposite { (n : ℕ) (p q : List ℕ) (direction : ℕ) → direction < 4
+        → agrees n p q direction ≡ agrees n q p (opposite direction) }
 {}
 
 /// Which windows of two by two may stand to the left of one, below it, to the right and above.
@@ -41,12 +40,15 @@ pub fn agreement_of_two()
 
 /// A sample of four by two that teaches three patterns, and samples that are too small and not.
 pub fn small_samples()
-    ensures patterns { patterns_of (raster_of 4 2 (1 ∷ 1 ∷ 1 ∷ 2 ∷ 1 ∷ 1 ∷ 1 ∷ 2 ∷ [])) 2 2 false ≡
-        Ok (record { n = 2; windows = (1 ∷ 1 ∷ 1 ∷ 1 ∷ []) ∷ (1 ∷ 2 ∷ 1 ∷ 2 ∷ []) ∷ (2 ∷ 1 ∷ 2 ∷ 1 ∷ []) ∷ []; weights = 4 ∷ 1 ∷ 1 ∷ [] }) }
-    ensures narrow { patterns_of (raster_of 1 2 (1 ∷ 2 ∷ [])) 2 1 false ≡ Err LearnFault.SampleBelowN }
-    ensures low { patterns_of (raster_of 2 1 (1 ∷ 2 ∷ [])) 2 1 false ≡ Err LearnFault.SampleBelowN }
-    ensures wrapped { patterns_of (raster_of 2 1 (1 ∷ 2 ∷ [])) 2 1 true ≡
-        Ok (record { n = 2; windows = (1 ∷ 2 ∷ 1 ∷ 2 ∷ []) ∷ (2 ∷ 1 ∷ 2 ∷ 1 ∷ []) ∷ []; weights = 1 ∷ 1 ∷ [] }) }
+    ensures patterns { patterns_of (raster_of 4 2 (1 ∷ 1 ∷ 1 ∷ 2 ∷ 1 ∷ 1 ∷ 1 ∷ 2 ∷ [])) 2 2 false
+        ≡ Ok (record { n = 2; windows = (1 ∷ 1 ∷ 1 ∷ 1 ∷ []) ∷ (1 ∷ 2 ∷ 1 ∷ 2 ∷ [])
+        ∷ (2 ∷ 1 ∷ 2 ∷ 1 ∷ []) ∷ []; weights = 4 ∷ 1 ∷ 1 ∷ [] }) }
+    ensures narrow { patterns_of (raster_of 1 2 (1 ∷ 2 ∷ [])) 2 1 false
+        ≡ Err LearnFault.SampleBelowN }
+    ensures low { patterns_of (raster_of 2 1 (1 ∷ 2 ∷ [])) 2 1 false
+        ≡ Err LearnFault.SampleBelowN }
+    ensures wrapped { patterns_of (raster_of 2 1 (1 ∷ 2 ∷ [])) 2 1 true ≡ Ok (record { n = 2;
+        windows = (1 ∷ 2 ∷ 1 ∷ 2 ∷ []) ∷ (2 ∷ 1 ∷ 2 ∷ 1 ∷ []) ∷ []; weights = 1 ∷ 1 ∷ [] }) }
 {}
 
 /// Up to 4,096 patterns are taught. With one more there are too many, and the fault says how many.
@@ -61,23 +63,31 @@ pub fn too_many_patterns()
 
 /// What a sample teaches are patterns: 1 to 4,096 different windows with their weights.
 pub fn taught_patterns()
-    ensures taught { (sample : Raster) (n s : ℕ) (wrap : Bool) (patterns : PatternsView) →
-        IsRaster sample → 0 < n → n ≤ 6 → 0 < s → s ≤ 8 →
-        sample.width * height_of sample ≤ 1048576 → patterns_of sample n s wrap ≡ Ok patterns → IsPatterns patterns }
-    ensures two { IsPatterns (record { n = 1; windows = (5 ∷ []) ∷ (6 ∷ []) ∷ []; weights = 3 ∷ 8388608 ∷ [] }) }
-    ensures repeated { IsPatterns (record { n = 1; windows = (5 ∷ []) ∷ (5 ∷ []) ∷ []; weights = 3 ∷ 1 ∷ [] }) → ⊥ }
-    ensures unweighed { IsPatterns (record { n = 1; windows = (5 ∷ []) ∷ (6 ∷ []) ∷ []; weights = 3 ∷ [] }) → ⊥ }
-    ensures weightless { IsPatterns (record { n = 1; windows = (5 ∷ []) ∷ (6 ∷ []) ∷ []; weights = 3 ∷ 0 ∷ [] }) → ⊥ }
-    ensures misshapen { IsPatterns (record { n = 2; windows = (5 ∷ 6 ∷ []) ∷ []; weights = 3 ∷ [] }) → ⊥ }
+    ensures taught { (sample : Raster) (n s : ℕ) (wrap : Bool) (patterns : PatternsView)
+        → IsRaster sample → 0 < n → n ≤ 6 → 0 < s → s ≤ 8 → sample.width * height_of sample
+        ≤ 1048576 → patterns_of sample n s wrap ≡ Ok patterns → IsPatterns patterns }
+    ensures two { IsPatterns
+        (record { n = 1; windows = (5 ∷ []) ∷ (6 ∷ []) ∷ []; weights = 3 ∷ 8388608 ∷ [] }) }
+    ensures repeated { IsPatterns
+        (record { n = 1; windows = (5 ∷ []) ∷ (5 ∷ []) ∷ []; weights = 3 ∷ 1 ∷ [] }) → ⊥ }
+    ensures unweighed { IsPatterns
+        (record { n = 1; windows = (5 ∷ []) ∷ (6 ∷ []) ∷ []; weights = 3 ∷ [] }) → ⊥ }
+    ensures weightless { IsPatterns
+        (record { n = 1; windows = (5 ∷ []) ∷ (6 ∷ []) ∷ []; weights = 3 ∷ 0 ∷ [] }) → ⊥ }
+    ensures misshapen { IsPatterns
+        (record { n = 2; windows = (5 ∷ 6 ∷ []) ∷ []; weights = 3 ∷ [] }) → ⊥ }
     ensures none { IsPatterns (record { n = 1; windows = []; weights = [] }) → ⊥ }
-    ensures widest { IsPatterns (record { n = 6; windows = replicate 36 5 ∷ []; weights = 3 ∷ [] }) }
-    ensures wider { IsPatterns (record { n = 7; windows = replicate 49 5 ∷ []; weights = 3 ∷ [] }) → ⊥ }
+    ensures widest { IsPatterns
+        (record { n = 6; windows = replicate 36 5 ∷ []; weights = 3 ∷ [] }) }
+    ensures wider { IsPatterns
+        (record { n = 7; windows = replicate 49 5 ∷ []; weights = 3 ∷ [] }) → ⊥ }
     ensures narrower { IsPatterns (record { n = 0; windows = [] ∷ []; weights = 3 ∷ [] }) → ⊥ }
-    ensures heaviest { IsPatterns (record { n = 1; windows = (5 ∷ []) ∷ []; weights = 8388609 ∷ [] }) → ⊥ }
+    ensures heaviest { IsPatterns
+        (record { n = 1; windows = (5 ∷ []) ∷ []; weights = 8388609 ∷ [] }) → ⊥ }
 {}
 
 /// The weights of the patterns together are the number of images that arise.
 pub fn weights_add_up()
     ensures sum { (sample : Raster) (n s : ℕ) (wrap : Bool) →
-        sum (map (weight_of (arising sample n s wrap)) (learned sample n s wrap)) ≡ length (arising sample n s wrap) }
+        sum (learned_weights sample n s wrap) ≡ length (arising sample n s wrap) }
 {}

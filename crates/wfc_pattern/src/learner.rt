@@ -52,11 +52,11 @@ impl Learner {
         requires few { length self.old.tally ≤ MAX_PATTERNS }
         ensures n { self.new.n ≡ self.old.n }
         ensures symmetry { self.new.symmetry ≡ self.old.symmetry }
-        ensures noted { IfOk result (λ few. OnTrue few (self.new.tally
-            ≡ fold noted self.old.tally (images_in_row picture.now self.old.n self.old.symmetry columns y))) }
+        ensures noted { IfOk result (λ few. OnTrue few (self.new.tally ≡ fold noted self.old.tally
+            (images_in_row picture.now self.old.n self.old.symmetry columns y))) }
         ensures few { IfOk result (λ few. OnTrue few (length self.new.tally ≤ MAX_PATTERNS)) }
-        ensures many { IfOk result (λ few. OnFalse few (MAX_PATTERNS
-            < length (fold noted self.old.tally (images_in_row picture.now self.old.n self.old.symmetry columns y)))) }
+        ensures many { IfOk result (λ few. OnFalse few (MAX_PATTERNS < length (fold noted
+            self.old.tally (images_in_row picture.now self.old.n self.old.symmetry columns y)))) }
     {
         for x in 0..columns {
             self.note_place(picture, x, y)?;
@@ -79,8 +79,8 @@ impl Learner {
         requires fits { total self.old.tally + self.old.symmetry < 2 ^ 32 }
         ensures n { self.new.n ≡ self.old.n }
         ensures symmetry { self.new.symmetry ≡ self.old.symmetry }
-        ensures noted { OnOk result (self.new.tally
-            ≡ fold noted self.old.tally (images_at picture.now self.old.n self.old.symmetry (x, y))) }
+        ensures noted { OnOk result (self.new.tally ≡ fold noted self.old.tally
+            (images_at picture.now self.old.n self.old.symmetry (x, y))) }
     {
         picture.window_into(x, y, self.n, &mut self.window);
         note_images(
@@ -129,7 +129,8 @@ fn note_image(
     requires fits { total tally.old + 1 < 2 ^ 32 }
     ensures noted { OnOk result (tally.new
         ≡ noted tally.old (if k % 2 == 0 then window.old else reflected n window.old)) }
-    ensures turned { OnOk result (window.new ≡ (if k % 2 == 0 then window.old else rotated n window.old)) }
+    ensures turned { OnOk result
+        (window.new ≡ (if k % 2 == 0 then window.old else rotated n window.old)) }
 {
     if k % 2 == 0 {
         return tally.note(alloc, window);

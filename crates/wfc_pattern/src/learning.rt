@@ -53,7 +53,8 @@ pub fn learn(
     requires some_image { 0 < symmetry }
     requires eight_images { symmetry ≤ 8 }
     requires limit { picture.now.width * height_of picture.now ≤ MAX_PIXELS }
-    ensures exact { Gives NoMemory (λ patterns. patterns) result (patterns_of picture.now n symmetry wrap) }
+    ensures exact { Gives NoMemory (λ patterns. patterns) result
+        (patterns_of picture.now n symmetry wrap) }
 {
     if is_below_n(picture, n, wrap) {
         return Err(LearnFault::SampleBelowN);
@@ -93,7 +94,8 @@ fn tally_of(
     ensures tallied { IfOk result (λ found. IfSome found (λ tally. tally
         ≡ tallied (arising picture.now n symmetry wrap))) }
     ensures few { IfOk result (λ found. IfSome found (λ tally. length tally ≤ MAX_PATTERNS)) }
-    ensures many { IfOk result (λ found. IfNone found (MAX_PATTERNS < length (learned picture.now n symmetry wrap))) }
+    ensures many { IfOk result (λ found.
+        IfNone found (MAX_PATTERNS < length (learned picture.now n symmetry wrap))) }
 {
     let mut learner = Learner::new(alloc, n, symmetry)?;
     let columns = starts(picture.width(), n, wrap);

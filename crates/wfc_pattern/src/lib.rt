@@ -86,8 +86,10 @@ impl Patterns {
         requires p_in { p < length self.now.windows }
         requires q_in { q < length self.now.windows }
         requires dir_in { dir < 4 }
-        ensures value { result ≡ agrees self.now.n (window_at self.now p) (window_at self.now q) dir }
-        ensures everywhere { IsTrue result ↔ Agrees self.now.n (window_at self.now p) (window_at self.now q) dir }
+        ensures value { result
+            ≡ agrees self.now.n (window_at self.now p) (window_at self.now q) dir }
+        ensures everywhere { IsTrue result
+            ↔ Agrees self.now.n (window_at self.now p) (window_at self.now q) dir }
         ensures patterns { IsPatterns self.now }
     {
         agree(self.window(p), self.window(q), self.n as usize, dir)
@@ -97,7 +99,8 @@ impl Patterns {
     pub fn find(&self, window: &[u32]) -> Option<u16>
         ensures value { result ≡ position (pointwise nat_eq window.now) self.now.windows }
         ensures found { IfSome result (λ p. slice_get self.now.windows p ≡ Some window.now) }
-        ensures inverse { (p : ℕ) → slice_get self.now.windows p ≡ Some window.now → result ≡ Some p }
+        ensures inverse { (p : ℕ) → slice_get self.now.windows p ≡ Some window.now
+            → result ≡ Some p }
         ensures absent { IsNone result ↔ ¬ Contains self.now.windows window.now }
         ensures patterns { IsPatterns self.now }
     {

@@ -1,6 +1,7 @@
 //! Laws of symbols and palettes, each a function with no body whose contract is the law. They run nothing.
 
-ghost use Rattle.std.specs.Prelude.{◌≡◌, ◌↔◌, ℕ, ◌<◌, List, [], ◌∷◌, length, map, slice_get, All, Contains, Option, None, Some, Ok, Err, IsTrue, true, false, codes};
+ghost use Rattle.std.specs.Prelude.{◌≡◌, ◌↔◌, ℕ, ◌<◌, List, [], ◌∷◌, length, map, slice_get, All, Contains, Option};
+ghost use Rattle.std.specs.Prelude.{None, Some, Ok, Err, IsTrue, true, false, codes};
 ghost use Rattle.std.specs.List.{IsDistinct};
 ghost use Rattle.wfc_model.specs.Raster.{raster_of};
 ghost use Rattle.wfc_picture.specs.Palette.{palette_of, symbol_number, numbered, first_past, unless_past, indexed};

@@ -1,5 +1,6 @@
 -- The steps that a text writes, a line each, and whether they fit a problem.
-use Rattle.std.specs.Prelude.{ℕ, ◌==◌, ◌&&◌, ◌++◌, nat_lt, Bool, true, false, not, List, [], ◌∷◌, count_by, Option, None, Some, Result, Ok, Err, codes, if◌then◌else◌}
+use Rattle.std.specs.Prelude.{◌≡◌, ℕ, ◌==◌, ◌&&◌, ◌++◌, nat_lt, Bool, true, false, not, List, [], ◌∷◌, count_by, Option}
+use Rattle.std.specs.Prelude.{None, Some, Result, Ok, Err, codes, if◌then◌else◌}
 use Rattle.std.specs.List.{find}
 use Rattle.std.specs.Option.{option_map}
 use Rattle.std.specs.Str.{bytes_eq}
@@ -67,6 +68,10 @@ step_behind before line = step_of line.number (undos before == assumptions befor
 abbrev pub steps_behind : List LineView → List LineView → Result (List StepLine) StepFault
 steps_behind before [] = Ok []
 steps_behind before (line ∷ lines) = and_rest (step_behind before line) (steps_behind (before ++ line ∷ []) lines)
+
+-- of these lines the one in the middle is the first at fault: it undoes where nothing stands to be undone
+abbrev pub IsUndoTooMany : List LineView → LineView → List LineView → Type 0
+IsUndoTooMany before line after = steps_behind [] (before ++ line ∷ after) ≡ Err (NothingToUndo line.number)
 
 -- the steps of a text, or the first line at fault
 abbrev pub steps_of : List ℕ → Result (List StepLine) StepFault

@@ -2,12 +2,12 @@
 
 ghost use Rattle.std.specs.Prelude.{◌≡◌, ◌↔◌, ℕ, All, IsTrue, map, true, false, List, [], ◌∷◌, ◌++◌, codes, Ok, Err, Some, None};
 ghost use Rattle.wfc_text.specs.Line.{LineView};
-ghost use Rattle.wfc_pins.specs.Small.{three_by_two};
+ghost use Rattle.wfc_pins.specs.Small.{three_by_two, three_steps};
 ghost use Rattle.wfc_pins.specs.Words.{is_skipped, read_lines, words_of};
 ghost use Rattle.wfc_pins.specs.InOrder.{IsFirstWith};
 ghost use Rattle.wfc_pins.specs.PinView.{PinView};
 ghost use Rattle.wfc_pins.specs.Pins.{pin_said, pins_of};
-ghost use Rattle.wfc_pins.specs.Steps.{IsStepIn, assumptions, fits, range_fault, said, steps_behind, steps_of, undos};
+ghost use Rattle.wfc_pins.specs.Steps.{IsStepIn, IsUndoTooMany, assumptions, fits, range_fault, said, steps_behind, steps_of, undos};
 ghost use Rattle.wfc_pins.specs.declared.pins.PinFault.TheVariants as pin_faults;
 ghost use Rattle.wfc_pins.specs.declared.steps.Step.{Step};
 ghost use Rattle.wfc_pins.specs.declared.steps.Step.TheVariants.{Assume, Undo};
@@ -19,7 +19,8 @@ ghost use Rattle.wfc_problem.specs.declared.Literal.TheVariants.{Is, Not};
 
 /// Blanks and TABs part words, also at a line's ends. A line is passed over where its first byte is `#` or it has no word.
 pub fn words()
-    ensures parted { words_of (codes " pin\t\t12  3 a#\t") ≡ codes "pin" ∷ codes "12" ∷ codes "3" ∷ codes "a#" ∷ [] }
+    ensures parted { words_of (codes " pin\t\t12  3 a#\t")
+        ≡ codes "pin" ∷ codes "12" ∷ codes "3" ∷ codes "a#" ∷ [] }
     ensures none { words_of (codes " \t ") ≡ [] }
     ensures comment { is_skipped (codes "# pin") ≡ true }
     ensures blank { is_skipped (codes "\t ") ≡ true }
@@ -40,7 +41,8 @@ pub fn steps()
     ensures read { steps_of (codes "choose 7 2\n\nforbid 1 3\nundo") ≡ Ok (
         record { line = 1; step = Assume (Is 2 7) } ∷ record { line = 3; step = Assume (Not 3 1) } ∷
         record { line = 4; step = Undo } ∷ []) }
-    ensures undone { steps_of (codes "choose 7 2\nundo\nundo\nundo 1") ≡ Err (step_faults.NothingToUndo 3) }
+    ensures undone { steps_of (codes "choose 7 2\nundo\nundo\nundo 1")
+        ≡ Err (step_faults.NothingToUndo 3) }
     ensures bad { steps_of (codes "choose 7 2\nundo 1\nundo\nundo") ≡ Err (step_faults.BadLine 2) }
 {}
 
@@ -51,16 +53,16 @@ pub fn faults_of_steps()
         → steps_behind [] (before ++ line ∷ after) ≡ Err (step_faults.BadLine line.number) }
     ensures nothing { (before : List LineView) (line : LineView) (after : List LineView)
         (steps : List StepLine) → steps_behind [] before ≡ Ok steps → said line ≡ Some Undo
-        → undos before ≡ assumptions before
-        → steps_behind [] (before ++ line ∷ after) ≡ Err (step_faults.NothingToUndo line.number) }
+        → undos before ≡ assumptions before → IsUndoTooMany before line after }
 {}
 
 /// A text is read as pins exactly where each of its lines says one, and else the first line that says none is at fault.
 pub fn faults_of_pins()
     ensures each { (text : List ℕ) (pins : List PinView)
         → (pins_of text ≡ Ok pins) ↔ (map pin_said (read_lines text) ≡ map Some pins) }
-    ensures first { (text : List ℕ) (n : ℕ) → (pins_of text ≡ Err (pin_faults.BadLine n)) ↔ ((line : LineView)
-        × (line.number ≡ n) × IsFirstWith (λ l. pin_said l ≡ None) (read_lines text) line) }
+    ensures first { (text : List ℕ) (n : ℕ) → (pins_of text ≡ Err (pin_faults.BadLine n))
+        ↔ ((line : LineView) × (line.number ≡ n)
+        × IsFirstWith (λ l. pin_said l ≡ None) (read_lines text) line) }
 {}
 
 /// Steps fit a problem exactly where each speaks of its cells and values, and else the first line that doesn't is at fault.
@@ -77,10 +79,7 @@ pub fn steps_in_range()
 pub fn small_steps()
     ensures both { map (fits three_by_two) (Assume (Is 1 2) ∷ Assume (Not 1 2) ∷ Undo ∷ [])
         ≡ true ∷ true ∷ true ∷ [] }
-    ensures past { map (fits three_by_two)
-        (Assume (Is 2 1) ∷ Assume (Not 2 1) ∷ Assume (Is 1 3) ∷ Assume (Not 1 3) ∷ [])
-        ≡ false ∷ false ∷ false ∷ false ∷ [] }
-    ensures first { range_fault three_by_two (record { line = 3; step = Assume (Is 0 0) } ∷
-        record { line = 5; step = Assume (Not 2 0) } ∷ record { line = 8; step = Assume (Is 0 9) } ∷ [])
-        ≡ Some (OutOfRange 5) }
+    ensures past { map (fits three_by_two) (Assume (Is 2 1) ∷ Assume (Not 2 1) ∷ Assume (Is 1 3)
+        ∷ Assume (Not 1 3) ∷ []) ≡ false ∷ false ∷ false ∷ false ∷ [] }
+    ensures first { range_fault three_by_two three_steps ≡ Some (OutOfRange 5) }
 {}

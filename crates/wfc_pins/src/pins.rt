@@ -107,7 +107,8 @@ fn pin_of(alloc: Global, line: &TextLine<'_>) -> Result<PinLine, PinFault>
 
 /// What the words of a line say, if it is a pin or a ban.
 fn pin_words(line: &[u8]) -> Option<PinWords<'_>>
-    ensures exact { (number : ℕ) → option_map (pin_view number) result ≡ pin_of_words number (words_of line.now) }
+    ensures exact { (number : ℕ)
+        → option_map (pin_view number) result ≡ pin_of_words number (words_of line.now) }
 {
     let mut words = Words::new(line);
     let keep = keep_of(words.next()?)?;

@@ -58,7 +58,8 @@ pub enum RangeFault {
     OutOfRange { line: u32 },
 }
 
-ghost use Rattle.wfc_pins.specs.Steps.{IsStepIn, assumed, fits, is_assumption, is_undo, range_fault, said, step_of, step_of_words, steps_of};
+ghost use Rattle.wfc_pins.specs.Steps.{IsStepIn, assumed, fits, is_assumption, is_undo, range_fault, said, step_of};
+ghost use Rattle.wfc_pins.specs.Steps.{step_of_words, steps_of};
 
 /// The steps of a steps file, in the order of its lines. A line is `choose CELL VALUE`, `forbid CELL VALUE` or `undo`,
 /// with CELL up to 4,294,967,295 and VALUE up to 65,535, both in decimal.
@@ -97,7 +98,8 @@ fn step_of(line: &TextLine<'_>, spent: bool) -> Result<StepLine, StepFault>
 fn standing_after(standing: u32, step: Step) -> u32
     requires some { IsTrue (is_undo (Some step)) → 0 < standing }
     requires few { standing + 1 < 2 ^ 32 }
-    ensures after { result + one_if (is_undo (Some step)) ≡ standing + one_if (is_assumption (Some step)) }
+    ensures after { result + one_if (is_undo (Some step))
+        ≡ standing + one_if (is_assumption (Some step)) }
 {
     match step {
         Step::Assume(_) => standing + 1,

@@ -13,7 +13,8 @@ pub fn steps_along_three()
     ensures forth { map (along 3 false 1 0) (0 ∷ 1 ∷ 2 ∷ []) ≡ Some 1 ∷ Some 2 ∷ None ∷ [] }
     ensures back { map (along 3 false 0 1) (0 ∷ 1 ∷ 2 ∷ []) ≡ None ∷ Some 0 ∷ Some 1 ∷ [] }
     ensures neither { map (along 3 false 0 0) (0 ∷ 1 ∷ 2 ∷ []) ≡ Some 0 ∷ Some 1 ∷ Some 2 ∷ [] }
-    ensures wrapped_forth { map (along 3 true 1 0) (0 ∷ 1 ∷ 2 ∷ []) ≡ Some 1 ∷ Some 2 ∷ Some 0 ∷ [] }
+    ensures wrapped_forth { map (along 3 true 1 0) (0 ∷ 1 ∷ 2 ∷ [])
+        ≡ Some 1 ∷ Some 2 ∷ Some 0 ∷ [] }
     ensures wrapped_back { map (along 3 true 0 1) (0 ∷ 1 ∷ 2 ∷ []) ≡ Some 2 ∷ Some 0 ∷ Some 1 ∷ [] }
 {}
 

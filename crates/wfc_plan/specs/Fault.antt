@@ -21,7 +21,9 @@ use Rattle.wfc_plan.specs.declared.fault.Class.TheVariants.{Input, Memory, NoCho
 use Rattle.wfc_plan.specs.declared.fault.Fault.{Fault}
 use Rattle.wfc_plan.specs.declared.fault.Fault.TheVariants.{Refused, Unread}
 use Rattle.wfc_plan.specs.declared.fault.Refusal.{Refusal}
-use Rattle.wfc_plan.specs.declared.fault.Refusal.TheVariants.{Build, Chooser, Colours, Grid, Learn, Mask, NoMemory, Pins, Ppm, RaceTooLarge, Range, Render, Stacks, Steps, Tiles, TooLong, TooManyBlocks, TooManyPins}
+use Rattle.wfc_plan.specs.declared.fault.Refusal.TheVariants.{Build, Chooser, Colours, Grid, Learn, Mask, NoMemory, Pins, Ppm}
+use Rattle.wfc_plan.specs.declared.fault.Refusal.TheVariants.{RaceTooLarge, Range, Render, Stacks, Steps}
+use Rattle.wfc_plan.specs.declared.fault.Refusal.TheVariants.{Tiles, TooLong, TooManyBlocks, TooManyPins}
 use Rattle.wfc_ppm.specs.declared.reading.PpmFault.{PpmFault}
 use Rattle.wfc_ppm.specs.declared.reading.PpmFault.TheVariants as ppms
 use Rattle.wfc_tiled.specs.declared.reading.MaskFault.{MaskFault}
@@ -29,43 +31,52 @@ use Rattle.wfc_tiled.specs.declared.reading.MaskFault.TheVariants as masks
 use Rattle.wfc_tileset.specs.declared.fault.TileFault.{TileFault}
 use Rattle.wfc_tileset.specs.declared.fault.TileFault.TheVariants as tiles
 
--- the class of a fault of each kind: want of memory is the machine's, all else the file's
+-- the class of a fault in a grid: want of memory is the machine's, all else the file's, as with each kind below
 abbrev pub grid_class : GridFault → Class
 grid_class grids.NoMemory = Memory
 grid_class _ = Input
 
+-- the class of a fault in the file of a picture in colours
 abbrev pub ppm_class : PpmFault → Class
 ppm_class ppms.NoMemory = Memory
 ppm_class _ = Input
 
+-- the class of a fault of giving the symbols of a sample their numbers
 abbrev pub colours_class : PaletteFault → Class
 colours_class palettes.NoMemory = Memory
 colours_class _ = Input
 
+-- the class of a fault of learning patterns from a sample
 abbrev pub learn_class : LearnFault → Class
 learn_class learning.NoMemory = Memory
 learn_class _ = Input
 
+-- the class of a fault in the text of a pins file
 abbrev pub pins_class : PinFault → Class
 pins_class pins.NoMemory = Memory
 pins_class _ = Input
 
+-- the class of a fault of making a problem
 abbrev pub build_class : BuildFault → Class
 build_class builds.NoMemory = Memory
 build_class _ = Input
 
+-- the class of a fault in the text of a steps file
 abbrev pub steps_class : StepFault → Class
 steps_class steps.NoMemory = Memory
 steps_class _ = Input
 
+-- the class of a fault in the document of a tile set, or in the picture of a tile
 abbrev pub tiles_class : TileFault → Class
 tiles_class tiles.NoMemory = Memory
 tiles_class _ = Input
 
+-- the class of a fault in a mask
 abbrev pub mask_class : MaskFault → Class
 mask_class masks.NoMemory = Memory
 mask_class _ = Input
 
+-- the class of a fault in the part of a tile set that says which tile may stand on which
 abbrev pub stacks_class : StackFault → Class
 stacks_class stacks.NoMemory = Memory
 stacks_class _ = Input

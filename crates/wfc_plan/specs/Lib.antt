@@ -5,3 +5,5 @@ pub mod Plan
 pub mod Kinds
 pub mod Stages
 pub mod Reaching
+pub mod Refusing
+pub mod Small

@@ -1,7 +1,8 @@
 //! The faults of a task, each with the file that it stands in, and their statuses.
 
 ghost use Rattle.std.specs.Prelude.{◌≡◌};
-ghost use Rattle.wfc_plan.specs.Fault.{build_class, class_status, colours_class, grid_class, learn_class, mask_class, pins_class, ppm_class, stacks_class, steps_class, tiles_class};
+ghost use Rattle.wfc_plan.specs.Fault.{build_class, class_status, colours_class, grid_class, learn_class, mask_class};
+ghost use Rattle.wfc_plan.specs.Fault.{pins_class, ppm_class, stacks_class, steps_class, tiles_class};
 
 use wfc_box::StackFault;
 use wfc_choose::RuleKind;

@@ -8,8 +8,9 @@ ghost use Rattle.wfc_plan.specs.Fault.{status_of};
 ghost use Rattle.wfc_plan.specs.Files.{file_plan};
 ghost use Rattle.wfc_plan.specs.Kinds.{HasChoosers, enough};
 ghost use Rattle.wfc_plan.specs.Order.{AreInOrder, IsFirstFault};
-ghost use Rattle.wfc_plan.specs.Plan.{done, most_bytes, outcome, read};
+ghost use Rattle.wfc_plan.specs.Plan.{most_bytes, outcome};
 ghost use Rattle.wfc_plan.specs.Reaching.{Reaches};
+ghost use Rattle.wfc_plan.specs.Small.{folder_telling, two_files_plan};
 ghost use Rattle.wfc_plan.specs.declared.fault.Fault.{Fault};
 ghost use Rattle.wfc_plan.specs.declared.fault.Fault.TheVariants.{Refused, Unread};
 ghost use Rattle.wfc_plan.specs.declared.fault.Refusal.TheVariants as refusals;
@@ -52,25 +53,19 @@ pub fn first_faults_by_example()
 
 /// Which file a plan comes to, by example: the second of two files where the folder has the first, and else the first alone.
 pub fn files_are_reached_by_example()
-    ensures first { Reaches {T = ℕ}
-        (read Sample (97 ∷ []) most_bytes (λ a. read Pins (98 ∷ []) most_bytes (λ b. done 0)))
-        (record { contents = Some []; faults = λ name. 0 }) Sample (97 ∷ []) }
-    ensures second { Reaches {T = ℕ}
-        (read Sample (97 ∷ []) most_bytes (λ a. read Pins (98 ∷ []) most_bytes (λ b. done 0)))
-        (record {
-          contents = Some (record { name = 97 ∷ []; bytes = 7 ∷ [] } ∷ []);
-          faults = λ name. 0;
-        }) Pins (98 ∷ []) }
-    ensures hidden { Reaches {T = ℕ}
-        (read Sample (97 ∷ []) most_bytes (λ a. read Pins (98 ∷ []) most_bytes (λ b. done 0)))
-        (record { contents = Some []; faults = λ name. 0 }) Pins (98 ∷ []) → ⊥ }
+    ensures first { Reaches two_files_plan (folder_telling []) Sample (97 ∷ []) }
+    ensures second { Reaches two_files_plan
+        (folder_telling (record { name = 97 ∷ []; bytes = 7 ∷ [] } ∷ [])) Pins (98 ∷ []) }
+    ensures hidden { Reaches two_files_plan (folder_telling []) Pins (98 ∷ []) → ⊥ }
 {}
 
 /// A file that is read whole has at most 16,777,216 bytes, whatever it is read for; one with a byte more is too long.
 pub fn files_have_a_limit()
     ensures bytes { most_bytes ≡ Some 16777216 }
-    ensures most { (files : List File) (source : Source) (name bytes : List ℕ) → file_of files name ≡ Some bytes
-        → length bytes ≡ 16777216 → outcome (file_plan source name) files ≡ Ok bytes }
-    ensures more { (files : List File) (source : Source) (name bytes : List ℕ) → file_of files name ≡ Some bytes
-        → length bytes ≡ 16777217 → outcome (file_plan source name) files ≡ Err (Unread source TooLong) }
+    ensures most { (files : List File) (source : Source) (name bytes : List ℕ) →
+        file_of files name ≡ Some bytes → length bytes ≡ 16777216 →
+        outcome (file_plan source name) files ≡ Ok bytes }
+    ensures more { (files : List File) (source : Source) (name bytes : List ℕ) →
+        file_of files name ≡ Some bytes → length bytes ≡ 16777217 →
+        outcome (file_plan source name) files ≡ Err (Unread source TooLong) }
 {}

@@ -1,5 +1,6 @@
 -- The first fault of a text that is read as a picture.
-use Rattle.std.specs.Prelude.{ℕ, ◌+◌, ◌*◌, ◌==◌, Bool, true, false, not, ◌||◌, nat_lt, List, [], ◌∷◌, codes, length, take, drop, position, Option, None, Some, if◌then◌else◌, suc, zero}
+use Rattle.std.specs.Prelude.{ℕ, ◌+◌, ◌*◌, ◌==◌, Bool, true, false, not, ◌||◌, nat_lt, List, [], ◌∷◌, codes, length}
+use Rattle.std.specs.Prelude.{take, drop, position, Option, None, Some, if◌then◌else◌, suc, zero}
 use Rattle.std.specs.Option.{option_or}
 use Rattle.std.specs.Str.{bytes_eq}
 use Rattle.wfc_picture.specs.declared.palette.TheConstants.{MAX_PIXELS}
@@ -68,6 +69,10 @@ header_fault form total text =
     (option_or (field_fault total (behind_field (behind_field text)))
     (end_fault form total (behind_field (behind_field (behind_field text))))))
 
+-- the first fault of the header of a whole text
+abbrev pub text_header_fault : Form → List ℕ → Option PpmFault
+text_header_fault form text = header_fault form (length text) (drop 2 text)
+
 -- maxval is 1 to 65,535
 abbrev pub maxval_fault : ℕ → Option PpmFault
 maxval_fault maxval = if (maxval == 0) || nat_lt 65535 maxval then Some (Maxval maxval) else None
@@ -97,7 +102,8 @@ above_fault at size (Some index) = Some (SampleAboveMaxval (at + index * size))
 -- the fault of raw samples: too few bytes for so many, then a sample above maxval, then a byte too many
 abbrev pub raw_fault : ℕ → ℕ → ℕ → List ℕ → Option PpmFault
 raw_fault total maxval wanted bytes = if nat_lt (length bytes) wanted then Some (Truncated wanted (length bytes)) else
-    option_or (above_fault (place_of total bytes) (sample_size maxval) (position (nat_lt maxval) (raw_samples maxval (take wanted bytes))))
+    option_or (above_fault (place_of total bytes) (sample_size maxval)
+    (position (nat_lt maxval) (raw_samples maxval (take wanted bytes))))
     (if nat_lt wanted (length bytes) then Some (Trailing (place_of total bytes + wanted)) else None)
 
 -- whether a token ends before this rest: at its end, at whitespace, or at a comment

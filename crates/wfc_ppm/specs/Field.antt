@@ -1,5 +1,6 @@
 -- The parts of a picture's text: whitespace and comments, and the numbers behind them.
-use Rattle.std.specs.Prelude.{ℕ, ◌-◌, ◌==◌, Bool, true, false, not, ◌||◌, min, List, [], ◌∷◌, length, take, drop, Option, None, Some, if◌then◌else◌}
+use Rattle.std.specs.Prelude.{ℕ, ◌-◌, ◌==◌, Bool, true, false, not, ◌||◌, min, List, [], ◌∷◌, length, take, drop}
+use Rattle.std.specs.Prelude.{Option, None, Some, if◌then◌else◌}
 use Rattle.std.specs.List.{position_or_len}
 use Rattle.std.specs.Str.Parse.{digits_value}
 use Rattle.wfc_text.specs.Number.{is_other}

@@ -1,5 +1,5 @@
 -- The front of a picture's text: what stands before the samples, and what can still become it.
-use Rattle.std.specs.Prelude.{◌≡◌, ℕ, ◌+◌, ◌<◌, List, [], ◌∷◌, ◌++◌, codes, drop, length}
+use Rattle.std.specs.Prelude.{◌≡◌, ℕ, ◌+◌, ◌<◌, List, [], ◌∷◌, ◌++◌, codes, drop, length, take}
 use Rattle.wfc_ppm.specs.Field.{digits_of}
 use Rattle.wfc_ppm.specs.Spelling.{IsField, IsSeparator, IsSpace}
 use Rattle.wfc_ppm.specs.declared.reading.Form.{Form}
@@ -32,6 +32,10 @@ pub record IsWholeHead (form : Form) (bytes : List ℕ) : Type 0 where
   pub most_is : IsField most maxval
   pub behind_is : IsHeadEnd form behind
 
+-- the text begins with all that stands before samples
+abbrev pub HasWholeHead : Form → List ℕ → Type 0
+HasWholeHead form text = (front : List ℕ) × (rest : List ℕ) × (text ≡ front ++ rest) × IsWholeHead form front
+
 -- the bytes can be continued to all that stands before samples
 abbrev pub StartsHead : Form → List ℕ → Type 0
 StartsHead form bytes = (rest : List ℕ) × IsWholeHead form (bytes ++ rest)
@@ -39,3 +43,7 @@ StartsHead form bytes = (rest : List ℕ) × IsWholeHead form (bytes ++ rest)
 -- the place behind the digits that stand at a place
 abbrev pub digits_end : List ℕ → ℕ → ℕ
 digits_end text at = at + length (digits_of (drop at text))
+
+-- the bytes of a text up to the one behind the digits that stand at a place
+abbrev pub through_digits : List ℕ → ℕ → List ℕ
+through_digits text at = take (digits_end text at + 1) text

@@ -3,7 +3,8 @@
 ghost use Rattle.std.specs.Prelude.{◌≡◌, ◌+◌, ◌*◌, ◌≤◌, true, false, min, None, Some, length, IfOk, IfErr};
 ghost use Rattle.std.specs.Char.{digit_value, is_ascii_digit};
 ghost use Rattle.wfc_ppm.specs.Fault.{ends_token, field_fault, side_fault};
-ghost use Rattle.wfc_ppm.specs.Field.{behind_digits, behind_field, comment_behind, digits_of, field_value, is_space, place_of, start_of, stop_of, value_of};
+ghost use Rattle.wfc_ppm.specs.Field.{behind_digits, behind_field, comment_behind, digits_of, field_value, is_space};
+ghost use Rattle.wfc_ppm.specs.Field.{place_of, start_of, stop_of, value_of};
 
 use crate::reading::PpmFault;
 

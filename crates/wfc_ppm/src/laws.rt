@@ -1,16 +1,17 @@
 //! Laws of the definitions, each a function with no body whose contract is the law. They run nothing.
 
-ghost use Rattle.std.specs.Prelude.{◌≡◌, ◌↔◌, ℕ, ◌+◌, ◌*◌, ◌<◌, ◌≤◌, List, [], ◌∷◌, ◌++◌, All, None, Some, codes, drop, length, take, Ok, Err};
+ghost use Rattle.std.specs.Prelude.{◌≡◌, ◌↔◌, ℕ, ◌*◌, ◌<◌, ◌≤◌, List, [], ◌∷◌, ◌++◌, All, None, Some, codes, length, take, Ok, Err};
 ghost use Rattle.wfc_picture.specs.declared.palette.TheConstants.{MAX_PIXELS};
-ghost use Rattle.wfc_ppm.specs.Fault.{form_of, header_fault, pairs_of};
-ghost use Rattle.wfc_ppm.specs.Front.{IsHeadEnd, IsWholeHead, StartsHead, digits_end};
+ghost use Rattle.wfc_ppm.specs.Fault.{form_of, pairs_of, text_header_fault};
+ghost use Rattle.wfc_ppm.specs.Front.{HasWholeHead, IsHeadEnd, IsWholeHead, StartsHead, digits_end, through_digits};
 ghost use Rattle.wfc_ppm.specs.declared.reading.Form.{Form};
 ghost use Rattle.wfc_ppm.specs.declared.reading.Form.TheVariants.{Raw, Plain};
 ghost use Rattle.wfc_ppm.specs.Ppm.{PpmView, p6_text, p3_text, raw_bytes};
 ghost use Rattle.wfc_ppm.specs.Reading.{ppm_of};
 ghost use Rattle.wfc_ppm.specs.Spelling.{SpellsPpm};
-ghost use Rattle.wfc_ppm.specs.Small.{two_pixels, wide_pixels};
-ghost use Rattle.wfc_ppm.specs.declared.reading.PpmFault.TheVariants.{Magic, Header, Maxval, TooLarge, Truncated, SampleAboveMaxval, BadSample, Trailing};
+ghost use Rattle.wfc_ppm.specs.Small.{two_pixels, wide_bytes, wide_pixels};
+ghost use Rattle.wfc_ppm.specs.declared.reading.PpmFault.TheVariants.{Magic, Header, Maxval, TooLarge, Truncated};
+ghost use Rattle.wfc_ppm.specs.declared.reading.PpmFault.TheVariants.{SampleAboveMaxval, BadSample, Trailing};
 
 /// The limit is this number.
 pub fn limits_are()
@@ -30,16 +31,19 @@ pub fn spelled_pictures_are_one()
 
 /// Two pixels in a row, as they are read and written in both forms.
 pub fn two_pixels_by_example()
-    ensures raw { ppm_of (codes "P6\n# made by hand\n2 1\n200 " ++ 1 ∷ 2 ∷ 3 ∷ 200 ∷ 0 ∷ 10 ∷ []) ≡ Ok two_pixels }
-    ensures plain { ppm_of (codes "P3#c\r2\t#d\n1 0200\r\n1 2 3\n200#e\n000 10 #f") ≡ Ok two_pixels }
-    ensures raw_written { p6_text two_pixels ≡ codes "P6\n2 1\n200\n" ++ 1 ∷ 2 ∷ 3 ∷ 200 ∷ 0 ∷ 10 ∷ [] }
+    ensures raw { ppm_of (codes "P6\n# made by hand\n2 1\n200 " ++ 1 ∷ 2 ∷ 3 ∷ 200 ∷ 0 ∷ 10 ∷ [])
+        ≡ Ok two_pixels }
+    ensures plain { ppm_of (codes "P3#c\r2\t#d\n1 0200\r\n1 2 3\n200#e\n000 10 #f")
+        ≡ Ok two_pixels }
+    ensures raw_written { p6_text two_pixels
+        ≡ codes "P6\n2 1\n200\n" ++ 1 ∷ 2 ∷ 3 ∷ 200 ∷ 0 ∷ 10 ∷ [] }
     ensures plain_written { p3_text two_pixels ≡ codes "P3\n2 1\n200\n1 2 3\n200 0 10\n" }
 {}
 
 /// Samples of two bytes have the most significant first.
 pub fn wide_samples_by_example()
-    ensures read { ppm_of (codes "P6 1 2 256\n" ++ 0 ∷ 1 ∷ 0 ∷ 2 ∷ 1 ∷ 0 ∷ 0 ∷ 255 ∷ 0 ∷ 35 ∷ 0 ∷ 4 ∷ []) ≡ Ok wide_pixels }
-    ensures written { raw_bytes 256 wide_pixels.pixels ≡ 0 ∷ 1 ∷ 0 ∷ 2 ∷ 1 ∷ 0 ∷ 0 ∷ 255 ∷ 0 ∷ 35 ∷ 0 ∷ 4 ∷ [] }
+    ensures read { ppm_of (codes "P6 1 2 256\n" ++ wide_bytes) ≡ Ok wide_pixels }
+    ensures written { raw_bytes 256 wide_pixels.pixels ≡ wide_bytes }
     ensures narrow { raw_bytes 255 two_pixels.pixels ≡ 1 ∷ 2 ∷ 3 ∷ 200 ∷ 0 ∷ 10 ∷ [] }
     ensures pairs { pairs_of (1 ∷ 2 ∷ 3 ∷ 4 ∷ 5 ∷ []) ≡ 258 ∷ 772 ∷ [] }
 {}
@@ -66,20 +70,20 @@ pub fn headers_by_example()
 /// with sides of at least 1 and any maxval. A text whose header has no fault begins with a whole one.
 pub fn heads_go_on_before_a_fault()
     ensures before { (form : Form) (text : List ℕ) (at : ℕ) → form_of text ≡ Some form
-        → header_fault form (length text) (drop 2 text) ≡ Some (Header at) → StartsHead form (take at text) }
+        → text_header_fault form text ≡ Some (Header at) → StartsHead form (take at text) }
     ensures whole { (form : Form) (text : List ℕ) → form_of text ≡ Some form
-        → header_fault form (length text) (drop 2 text) ≡ None
-        → (front : List ℕ) × (rest : List ℕ) × (text ≡ front ++ rest) × IsWholeHead form front }
+        → text_header_fault form text ≡ None → HasWholeHead form text }
 {}
 
 /// Behind a fault of the header no header goes on: the bytes up to it can't be continued to one, nor to a picture. Where digits
 /// stand there, as those of a side of 0, this is said of all of them and the byte behind them, since more digits could follow.
 pub fn no_head_goes_on_behind_a_fault()
     ensures heads { (form : Form) (text : List ℕ) (at : ℕ) → digits_end text at < length text
-        → header_fault form (length text) (drop 2 text) ≡ Some (Header at) → StartsHead form (take (digits_end text at + 1) text) → ⊥ }
-    ensures pictures { (form : Form) (text : List ℕ) (at : ℕ) → form_of text ≡ Some form → digits_end text at < length text
-        → header_fault form (length text) (drop 2 text) ≡ Some (Header at)
-        → (rest : List ℕ) (ppm : PpmView) → SpellsPpm (take (digits_end text at + 1) text ++ rest) ppm → ⊥ }
+        → text_header_fault form text ≡ Some (Header at)
+        → StartsHead form (through_digits text at) → ⊥ }
+    ensures pictures { (form : Form) (text : List ℕ) (at : ℕ) → form_of text ≡ Some form
+        → digits_end text at < length text → text_header_fault form text ≡ Some (Header at)
+        → (rest : List ℕ) (ppm : PpmView) → SpellsPpm (through_digits text at ++ rest) ppm → ⊥ }
     ensures here { digits_end (codes "P6 1 1x 0 ") 6 ≡ 6 }
     ensures zeros { digits_end (codes "P6 1 00 x") 5 ≡ 7 }
 {}
@@ -98,9 +102,12 @@ pub fn heads_by_example()
 
 /// The first fault of samples, at its place.
 pub fn samples_by_example()
-    ensures raw_cut { ppm_of (codes "P6 1 1 65535 " ++ 0 ∷ 1 ∷ 0 ∷ 2 ∷ 255 ∷ []) ≡ Err (Truncated 6 5) }
-    ensures raw_above { ppm_of (codes "P6\n1 1\n254\n" ++ 0 ∷ 0 ∷ 255 ∷ 0 ∷ []) ≡ Err (SampleAboveMaxval 13) }
-    ensures wide_above { ppm_of (codes "P6 1 1 256 " ++ 0 ∷ 1 ∷ 1 ∷ 1 ∷ 9 ∷ 9 ∷ []) ≡ Err (SampleAboveMaxval 13) }
+    ensures raw_cut { ppm_of (codes "P6 1 1 65535 " ++ 0 ∷ 1 ∷ 0 ∷ 2 ∷ 255 ∷ [])
+        ≡ Err (Truncated 6 5) }
+    ensures raw_above { ppm_of (codes "P6\n1 1\n254\n" ++ 0 ∷ 0 ∷ 255 ∷ 0 ∷ [])
+        ≡ Err (SampleAboveMaxval 13) }
+    ensures wide_above { ppm_of (codes "P6 1 1 256 " ++ 0 ∷ 1 ∷ 1 ∷ 1 ∷ 9 ∷ 9 ∷ [])
+        ≡ Err (SampleAboveMaxval 13) }
     ensures raw_trailing { ppm_of (codes "P6 1 1 255 " ++ 1 ∷ 2 ∷ 3 ∷ 10 ∷ []) ≡ Err (Trailing 14) }
     ensures plain_cut { ppm_of (codes "P3\n1 1\n255\n1 2\n") ≡ Err (Truncated 3 2) }
     ensures plain_bad { ppm_of (codes "P3\n1 1\n255\n1 2 x\n") ≡ Err (BadSample 15) }

@@ -22,10 +22,11 @@ pub fn plain_pixels(
     requires part { length text.now ≤ total }
     requires small { maxval ≤ 65535 }
     requires few { count ≤ 1048576 }
-    ensures right { IfOk result (λ _. plain_fault total maxval (count * 3) 0 count text.now ≡ None) }
+    ensures right { IfOk result (λ _.
+        plain_fault total maxval (count * 3) 0 count text.now ≡ None) }
     ensures pixels { IfOk result (λ pixels. pixels.items ≡ plain_pixels count text.now) }
-    ensures fault { IfErr result (λ fault.
-        (plain_fault total maxval (count * 3) 0 count text.now ≡ Some fault) ⊎ (fault ≡ PpmFault.NoMemory)) }
+    ensures fault { IfErr result (λ fault. (plain_fault total maxval (count * 3) 0 count text.now
+        ≡ Some fault) ⊎ (fault ≡ PpmFault.NoMemory)) }
 {
     let mut pixels = Vec::with_capacity(alloc, count as usize)?;
     let mut rest = text;
@@ -54,7 +55,8 @@ fn pixel(
     ensures colour { IfOk result (λ got. got.0 ≡ plain_pixel text.now) }
     ensures rest { IfOk result (λ got. got.1.now ≡ behind_pixel text.now) }
     ensures shorter { IfOk result (λ got. length got.1.now ≤ length text.now) }
-    ensures fault { IfErr result (λ fault. pixel_fault total maxval wanted found text.now ≡ Some fault) }
+    ensures fault { IfErr result (λ fault.
+        pixel_fault total maxval wanted found text.now ≡ Some fault) }
 {
     let (r, text) = sample(total, maxval, wanted, found, text)?;
     let (g, text) = sample(total, maxval, wanted, found + 1, text)?;
@@ -77,7 +79,8 @@ fn sample(
     ensures value { IfOk result (λ got. got.0 ≡ field_value text.now) }
     ensures rest { IfOk result (λ got. got.1.now ≡ behind_field text.now) }
     ensures shorter { IfOk result (λ got. length got.1.now ≤ length text.now) }
-    ensures fault { IfErr result (λ fault. sample_fault total maxval wanted found text.now ≡ Some fault) }
+    ensures fault { IfErr result (λ fault.
+        sample_fault total maxval wanted found text.now ≡ Some fault) }
 {
     let (start, _cut) = stop(text);
     if start.is_empty() {

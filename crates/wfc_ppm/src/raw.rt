@@ -1,6 +1,7 @@
 //! Raw samples: one or two bytes each.
 
-ghost use Rattle.std.specs.Prelude.{◌≡◌, ◌⊎◌, ◌+◌, ◌*◌, ◌%◌, ◌<◌, ◌≤◌, nat_lt, None, Some, length, position, slice_index, take, IfOk, IfErr, IfSome};
+ghost use Rattle.std.specs.Prelude.{◌≡◌, ◌⊎◌, ◌+◌, ◌*◌, ◌%◌, ◌<◌, ◌≤◌, nat_lt, None, Some, length, position};
+ghost use Rattle.std.specs.Prelude.{slice_index, take, IfOk, IfErr, IfSome};
 ghost use Rattle.wfc_ppm.specs.Fault.{pairs_of, raw_fault, raw_samples, sample_size};
 ghost use Rattle.wfc_ppm.specs.Reading.{colours_of};
 
@@ -21,7 +22,8 @@ pub fn raw_pixels(
     requires part { length bytes.now ≤ total }
     requires whole { wanted % sample_size maxval ≡ 0 }
     ensures right { IfOk result (λ _. raw_fault total maxval wanted bytes.now ≡ None) }
-    ensures pixels { IfOk result (λ pixels. pixels.items ≡ colours_of (raw_samples maxval (take wanted bytes.now))) }
+    ensures pixels { IfOk result (λ pixels.
+        pixels.items ≡ colours_of (raw_samples maxval (take wanted bytes.now))) }
     ensures fault { IfErr result (λ fault.
         (raw_fault total maxval wanted bytes.now ≡ Some fault) ⊎ (fault ≡ PpmFault.NoMemory)) }
 {
@@ -98,7 +100,8 @@ fn pair(high: u8, low: u8) -> u16
 
 /// The pixels of samples.
 fn colours(alloc: Global, maxval: u32, bytes: &[u8]) -> Result<Vec<Colour>, AllocError>
-    ensures pixels { IfOk result (λ pixels. pixels.items ≡ colours_of (raw_samples maxval bytes.now)) }
+    ensures pixels { IfOk result (λ pixels.
+        pixels.items ≡ colours_of (raw_samples maxval bytes.now)) }
 {
     if maxval < 256 {
         narrow_colours(alloc, bytes)
@@ -150,9 +153,12 @@ fn wide_colours(alloc: Global, bytes: &[u8]) -> Result<Vec<Colour>, AllocError>
 #[inline]
 fn wide_pixel(bytes: &[u8], index: usize) -> Colour
     requires inside { 6 * index + 6 ≤ length bytes.now }
-    ensures red { result.r ≡ slice_index bytes.now (6 * index) * 256 + slice_index bytes.now (6 * index + 1) }
-    ensures green { result.g ≡ slice_index bytes.now (6 * index + 2) * 256 + slice_index bytes.now (6 * index + 3) }
-    ensures blue { result.b ≡ slice_index bytes.now (6 * index + 4) * 256 + slice_index bytes.now (6 * index + 5) }
+    ensures red { result.r
+        ≡ slice_index bytes.now (6 * index) * 256 + slice_index bytes.now (6 * index + 1) }
+    ensures green { result.g
+        ≡ slice_index bytes.now (6 * index + 2) * 256 + slice_index bytes.now (6 * index + 3) }
+    ensures blue { result.b
+        ≡ slice_index bytes.now (6 * index + 4) * 256 + slice_index bytes.now (6 * index + 5) }
 {
     Colour {
         r: pair(bytes[6 * index], bytes[6 * index + 1]),

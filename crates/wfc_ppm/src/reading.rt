@@ -2,7 +2,8 @@
 
 ghost use Rattle.std.specs.Prelude.{◌≡◌, ◌≢◌, ◌⊎◌, ◌*◌, ◌≤◌, None, Some, drop, length, IfOk, IfErr, IfSome};
 ghost use Rattle.wfc_outside.specs.Gives.{Gives};
-ghost use Rattle.wfc_ppm.specs.Fault.{end_fault, form_of, gap_fault, head_of, header_fault, maxval_fault, samples_fault, size_fault, space_fault};
+ghost use Rattle.wfc_ppm.specs.Fault.{end_fault, form_of, gap_fault, head_of, header_fault, maxval_fault};
+ghost use Rattle.wfc_ppm.specs.Fault.{samples_fault, size_fault, space_fault};
 ghost use Rattle.wfc_ppm.specs.Ppm.{PpmView};
 ghost use Rattle.wfc_ppm.specs.Reading.{pixels_of, ppm_in, ppm_of};
 ghost use Rattle.wfc_ppm.specs.Spelling.{SpellsPpm};
@@ -142,7 +143,8 @@ fn read_header(form: Form, total: u32, bytes: &[u8]) -> Result<Header<'_>, PpmFa
     ensures right { IfOk result (λ _. header_fault form total (drop 2 bytes.now) ≡ None) }
     ensures header { IfOk result (λ header. head_view header ≡ head_of bytes.now) }
     ensures shorter { IfOk result (λ header. length header.rest.now ≤ length bytes.now) }
-    ensures fault { IfErr result (λ fault. header_fault form total (drop 2 bytes.now) ≡ Some fault) }
+    ensures fault { IfErr result (λ fault.
+        header_fault form total (drop 2 bytes.now) ≡ Some fault) }
 {
     let (width, text) = side(total, &bytes[2..])?;
     let (height, text) = side(total, text)?;
@@ -241,8 +243,8 @@ fn pixels(
     requires end { end_fault form total header.now.rest.now ≡ None }
     ensures right { IfOk result (λ _. samples_fault form total (head_view header.now) ≡ None) }
     ensures pixels { IfOk result (λ pixels. pixels.items ≡ pixels_of form (head_view header.now)) }
-    ensures fault { IfErr result (λ fault.
-        (samples_fault form total (head_view header.now) ≡ Some fault) ⊎ (fault ≡ PpmFault.NoMemory)) }
+    ensures fault { IfErr result (λ fault. (samples_fault form total (head_view header.now)
+        ≡ Some fault) ⊎ (fault ≡ PpmFault.NoMemory)) }
 {
     let count = header.width * header.height;
     match form {

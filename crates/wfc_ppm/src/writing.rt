@@ -21,7 +21,8 @@ const HEAD_BYTES: usize = 32;
 pub fn write_p6(alloc: Global, ppm: &Ppm) -> Result<Vec<u8>, NoMemory>
     ensures text { IfOk result (λ text. text.items ≡ p6_text ppm.now) }
     ensures spelled { IfOk result (λ text. SpellsP6 text.items ppm.now) }
-    ensures again { IfOk result (λ text. ppm.now.width * ppm.now.height ≤ MAX_PIXELS → ppm_of text.items ≡ Ok ppm.now) }
+    ensures again { IfOk result (λ text.
+        ppm.now.width * ppm.now.height ≤ MAX_PIXELS → ppm_of text.items ≡ Ok ppm.now) }
 {
     let size = if ppm.maxval < 256 { 3 } else { 6 };
     let room = ppm
@@ -39,7 +40,8 @@ pub fn write_p6(alloc: Global, ppm: &Ppm) -> Result<Vec<u8>, NoMemory>
 pub fn write_p3(alloc: Global, ppm: &Ppm) -> Result<Vec<u8>, NoMemory>
     ensures text { IfOk result (λ text. text.items ≡ p3_text ppm.now) }
     ensures spelled { IfOk result (λ text. SpellsP3 text.items ppm.now) }
-    ensures again { IfOk result (λ text. ppm.now.width * ppm.now.height ≤ MAX_PIXELS → ppm_of text.items ≡ Ok ppm.now) }
+    ensures again { IfOk result (λ text.
+        ppm.now.width * ppm.now.height ≤ MAX_PIXELS → ppm_of text.items ≡ Ok ppm.now) }
 {
     let size = line_room(ppm.maxval);
     let room = ppm
@@ -55,7 +57,8 @@ pub fn write_p3(alloc: Global, ppm: &Ppm) -> Result<Vec<u8>, NoMemory>
 
 /// The most bytes of a pixel's line, where no sample is above maxval.
 pub fn line_room(maxval: u16) -> usize
-    ensures enough { (pixel : Colour) → IsTrue (is_within maxval pixel) → length (pixel_line pixel) ≤ result }
+    ensures enough { (pixel : Colour) → IsTrue (is_within maxval pixel)
+        → length (pixel_line pixel) ≤ result }
 {
     if maxval < 10 {
         6
@@ -75,7 +78,8 @@ pub fn push_p6_head(
     height: u32,
     maxval: u16,
 ) -> Result<(), NoMemory>
-    ensures ok { OnOk result (text.new.items ≡ text.old.items ++ (codes "P6\n" ++ head_lines width height maxval)) }
+    ensures ok { OnOk result
+        (text.new.items ≡ text.old.items ++ (codes "P6\n" ++ head_lines width height maxval)) }
 {
     text.extend_from_slice(b"P6\n")?;
     push_head_lines(text, width, height, maxval)
@@ -88,7 +92,8 @@ pub fn push_p3_head(
     height: u32,
     maxval: u16,
 ) -> Result<(), NoMemory>
-    ensures ok { OnOk result (text.new.items ≡ text.old.items ++ (codes "P3\n" ++ head_lines width height maxval)) }
+    ensures ok { OnOk result
+        (text.new.items ≡ text.old.items ++ (codes "P3\n" ++ head_lines width height maxval)) }
 {
     text.extend_from_slice(b"P3\n")?;
     push_head_lines(text, width, height, maxval)

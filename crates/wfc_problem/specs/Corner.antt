@@ -1,5 +1,5 @@
 -- A small problem without symmetry, on which laws try the definitions.
-use Rattle.std.specs.Prelude.{true, false, [], ◌∷◌}
+use Rattle.std.specs.Prelude.{ℕ, true, false, List, [], ◌∷◌, slice_set}
 use Rattle.wfc_problem.specs.declared.TheConstants.{NO_CELL}
 use Rattle.wfc_problem.specs.Network.{Network}
 
@@ -24,3 +24,11 @@ corner = record {
       ∷ true ∷ true ∷ true
       ∷ true ∷ false ∷ true ∷ [];
 }
+
+-- the same problem with another neighbour at a place of its table
+abbrev pub corner_with_neighbour : ℕ → ℕ → Network
+corner_with_neighbour place cell = record corner { neighbours = slice_set corner.neighbours place cell }
+
+-- the same problem with other values in a row of the table of what may stand beside what
+abbrev pub corner_with_supports : ℕ → List ℕ → Network
+corner_with_supports row supports = record corner { supports = slice_set corner.supports row supports }

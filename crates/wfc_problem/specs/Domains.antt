@@ -1,5 +1,6 @@
 -- Domains as tests, cut by literals, and the greatest ones that are arc consistent.
-use Rattle.std.specs.Prelude.{◌≡◌, ℕ, ◌<◌, ◌↔◌, Bool, not, ◌&&◌, ◌||◌, List, ◌==◌, Option, Some, None, count_by, Contains, IsTrue, IsFalse, length, slice_index}
+use Rattle.std.specs.Prelude.{◌≡◌, ℕ, ◌<◌, ◌↔◌, Bool, not, ◌&&◌, ◌||◌, List, ◌==◌, Option, Some, None, count_by}
+use Rattle.std.specs.Prelude.{Contains, IsTrue, IsFalse, length, slice_index}
 use Rattle.std.specs.List.{list_all}
 use Rattle.wfc_problem.specs.Network.{Network, values, neighbour, supports_of, in_base}
 use Rattle.wfc_problem.specs.declared.Literal.{Literal}

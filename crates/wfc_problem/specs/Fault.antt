@@ -1,5 +1,6 @@
 -- Why parts are no problem: the first check, in the order in which they are made, that the parts don't pass.
-use Rattle.std.specs.Prelude.{ℕ, ◌+◌, ◌*◌, Bool, true, false, not, ◌&&◌, ◌||◌, List, [], ◌∷◌, length, nat_lt, nat_le, ◌==◌, if◌then◌else◌, Option, Some, None}
+use Rattle.std.specs.Prelude.{ℕ, ◌+◌, ◌*◌, Bool, true, false, not, ◌&&◌, ◌||◌, List, [], ◌∷◌, length, nat_lt, nat_le}
+use Rattle.std.specs.Prelude.{◌==◌, if◌then◌else◌, Option, Some, None}
 use Rattle.std.specs.List.{find, list_all, position, range_with_len}
 use Rattle.std.specs.Option.{option_map, option_or}
 use Rattle.wfc_model.specs.Direction.{opposite}

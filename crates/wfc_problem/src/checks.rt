@@ -5,7 +5,9 @@ ghost use Rattle.std.specs.Prelude.{◌≡◌, ℕ, ◌+◌, ◌*◌, ◌<◌, �
 ghost use Rattle.std.specs.List.Sorted.{IsStrictlyIncreasing};
 ghost use Rattle.std.specs.Result.{result_err};
 ghost use Rattle.wfc_model.specs.Direction.{opposite};
-ghost use Rattle.wfc_problem.specs.Fault.{problem_fault_of, lengths_fault, size_fault, neighbours_fault, supports_fault, weight_fault, back_fault, symmetry_fault, rises, leads_back, first_failing, is_entry, is_weight};
+ghost use Rattle.wfc_problem.specs.Fault.{problem_fault_of, lengths_fault, size_fault, neighbours_fault};
+ghost use Rattle.wfc_problem.specs.Fault.{supports_fault, weight_fault, back_fault, symmetry_fault, rises, leads_back};
+ghost use Rattle.wfc_problem.specs.Fault.{first_failing, is_entry, is_weight};
 ghost use Rattle.wfc_problem.specs.Network.{HasTables, IsIndexed, values};
 
 use crate::symmetry::check_symmetry;

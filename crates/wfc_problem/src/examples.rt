@@ -4,7 +4,7 @@
 ghost use Rattle.std.specs.Prelude.{◌≡◌, ℕ, true, false, List, [], ◌∷◌, map, replicate, slice_set, Option, Some, None};
 ghost use Rattle.std.specs.List.{range_with_len};
 ghost use Rattle.wfc_problem.specs.Assignment.{IsLegalAssignment, LiesIn};
-ghost use Rattle.wfc_problem.specs.Corner.{corner};
+ghost use Rattle.wfc_problem.specs.Corner.{corner, corner_with_neighbour, corner_with_supports};
 ghost use Rattle.wfc_problem.specs.Domains.{IsSupported, IsArcConsistent, IsDead, IsLiteralIn, HasOnly, base_with, leaves, support_count};
 ghost use Rattle.wfc_problem.specs.Fault.{problem_fault_of, size_fault};
 ghost use Rattle.wfc_problem.specs.Network.{IsProblem, values, value_weight, neighbour, beside, supports_of, ok, in_base};
@@ -40,7 +40,8 @@ pub fn whole_bases_are_told()
     ensures part { is_whole corner ≡ false }
     ensures without_flags { (network_of true corner).base ≡ replicate 12 true }
     ensures whole { is_whole (network_of true corner) ≡ true }
-    ensures but_one { is_whole (record corner { base = slice_set (replicate 12 true) 11 false }) ≡ false }
+    ensures but_one { is_whole (record corner { base = slice_set (replicate 12 true) 11 false })
+        ≡ false }
     ensures with_flags { network_of false corner ≡ corner }
 {}
 
@@ -60,23 +61,15 @@ pub fn faults_are_named()
     ensures fits { size_fault (record corner { cells = 2048; weights = replicate 4096 1 }) ≡ None }
     ensures size { size_fault (record corner { cells = 2049; weights = replicate 4096 1 })
         ≡ Some (TooLarge 8392704) }
-    ensures entry { problem_fault_of (record corner {
-      neighbours = slice_set corner.neighbours 3 4;
-    }) ≡ Some (BadIndex Neighbours 3) }
-    ensures falling { problem_fault_of (record corner {
-      supports = slice_set corner.supports 2 (2 ∷ 1 ∷ []);
-    }) ≡ Some (BadIndex Supports 2) }
-    ensures support { problem_fault_of (record corner {
-      supports = slice_set corner.supports 6 (3 ∷ []);
-    }) ≡ Some (BadIndex Supports 6) }
+    ensures entry { problem_fault_of (corner_with_neighbour 3 4) ≡ Some (BadIndex Neighbours 3) }
+    ensures falling { problem_fault_of (corner_with_supports 2 (2 ∷ 1 ∷ []))
+        ≡ Some (BadIndex Supports 2) }
+    ensures support { problem_fault_of (corner_with_supports 6 (3 ∷ []))
+        ≡ Some (BadIndex Supports 6) }
     ensures weight { problem_fault_of (record corner { weights = 5 ∷ 16777217 ∷ 0 ∷ [] })
         ≡ Some (BadWeight 1) }
-    ensures one_way { problem_fault_of (record corner {
-      neighbours = slice_set corner.neighbours 4 NO_CELL;
-    }) ≡ Some (NotBack 0 2) }
-    ensures one_sided { problem_fault_of (record corner {
-      supports = slice_set corner.supports 10 [];
-    }) ≡ Some (NotSymmetric 0 0) }
+    ensures one_way { problem_fault_of (corner_with_neighbour 4 NO_CELL) ≡ Some (NotBack 0 2) }
+    ensures one_sided { problem_fault_of (corner_with_supports 10 []) ≡ Some (NotSymmetric 0 0) }
 {}
 
 /// An assignment has a value for each cell, of its base, and neighbours may stand beside each

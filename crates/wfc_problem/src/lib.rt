@@ -3,7 +3,8 @@
 //! it: what a literal cuts off, and what the greatest arc-consistent domains of a problem are.
 #![tactic(auto)]
 
-ghost use Rattle.std.specs.Prelude.{◌≡◌, ℕ, ◌+◌, ◌*◌, ◌<◌, ◌≤◌, ◌↔◌, [], false, IsTrue, IsOk, IfOk, Contains, count_by, length, map, slice_index_or};
+ghost use Rattle.std.specs.Prelude.{◌≡◌, ℕ, ◌+◌, ◌*◌, ◌<◌, ◌≤◌, ◌↔◌, [], false, IsTrue, IsOk, IfOk, Contains, count_by};
+ghost use Rattle.std.specs.Prelude.{length, map, slice_index_or};
 ghost use Rattle.std.specs.List.Sorted.{IsStrictlyIncreasing};
 ghost use Rattle.std.specs.Result.{result_err};
 ghost use Rattle.wfc_model.specs.Direction.{opposite};

@@ -117,9 +117,8 @@ fn side_holds(problem: &Problem, flags: &[bool], cell: u32, value: u16, dir: u8)
     requires cell_in { cell < problem.now.cells }
     requires value_in { value < values problem.now }
     requires dir_in { dir < problem.now.dirs }
-    ensures value { result
-        ≡ side_holds problem.now (has_flag (values problem.now) flags.now) value dir
-        (neighbour problem.now cell dir) }
+    ensures value { result ≡ side_holds problem.now (has_flag (values problem.now) flags.now) value
+        dir (neighbour problem.now cell dir) }
 {
     match problem.neighbour(cell, dir) {
         None => true,

@@ -1,5 +1,6 @@
 -- The heads of refutations, as lines, and what their lines say.
-use Rattle.std.specs.Prelude.{ℕ, ◌-◌, ◌^◌, ◌<◌, ◌≤◌, Bool, true, false, List, [], ◌∷◌, ◌++◌, codes, decimal, Option, None, Some, Result, Ok, Err, if◌then◌else◌}
+use Rattle.std.specs.Prelude.{ℕ, ◌-◌, ◌^◌, ◌<◌, ◌≤◌, Bool, true, false, List, [], ◌∷◌, ◌++◌, codes, decimal, Option}
+use Rattle.std.specs.Prelude.{None, Some, Result, Ok, Err, if◌then◌else◌}
 use Rattle.std.specs.Option.{ok_or}
 use Rattle.std.specs.Str.{bytes_eq}
 use Rattle.wfc_proof.specs.Words.{spaced_words, with_spaces, decimal_within}
@@ -23,6 +24,7 @@ format_text Two = codes "wfc-refutation 2"
 abbrev pub numbers_words : ℕ → ℕ → List (List ℕ)
 numbers_words cells values = codes "cells" ∷ decimal cells ∷ codes "values" ∷ decimal values ∷ []
 
+-- the second line of a head, without its end
 abbrev pub numbers_text : ℕ → ℕ → List ℕ
 numbers_text cells values = with_spaces (numbers_words cells values)
 
@@ -38,6 +40,7 @@ shape_words shape =
     ∷ decimal shape.depth ∷ decimal shape.symmetry ∷ decimal (bit shape.wrap_in)
     ∷ decimal (bit shape.wrap_out) ∷ []
 
+-- the third line of a head of format 2, without its end
 abbrev pub shape_text : Shape → List ℕ
 shape_text shape = with_spaces (shape_words shape)
 

@@ -1,11 +1,16 @@
--- Two small problems, on which laws try the definitions.
-use Rattle.std.specs.Prelude.{true, false, List, [], ◌∷◌, Result}
+-- Two small problems, on which laws try the definitions, with a proof of the second, and small journals.
+use Rattle.std.specs.Prelude.{ℕ, Bool, true, false, List, [], ◌∷◌, Option, None, Result, codes}
+use Rattle.wfc_problem.specs.Domains.{cut}
 use Rattle.wfc_problem.specs.Network.{Network, in_base}
+use Rattle.wfc_problem.specs.declared.Literal.{Literal}
 use Rattle.wfc_problem.specs.declared.TheConstants.{NO_CELL}
-use Rattle.wfc_proof.specs.Checker.{Point, line_steps}
+use Rattle.wfc_proof.specs.Checker.{Point, line_steps, node_fault}
 use Rattle.wfc_proof.specs.Checker.Point.{going}
+use Rattle.wfc_proof.specs.Proof.{Node}
+use Rattle.wfc_proof.specs.Journal.{JournalView}
 use Rattle.wfc_proof.specs.declared.Line.{Line}
 use Rattle.wfc_proof.specs.declared.Reject.{Reject}
+use Rattle.wfc_proof.specs.declared.heads.Shape.{Shape}
 
 -- cell 1 to the right of cell 0; to the right of 0 stands 1, of 1 nothing, of 2 stand 1 and 2
 abbrev pub wide : Network
@@ -29,6 +34,46 @@ dead = record {
   base = true ∷ true ∷ false ∷ true ∷ false ∷ false ∷ [];
 }
 
+-- why a node is refused at the base of the first problem, if it is
+abbrev pub wide_fault : Node → Option Reject
+wide_fault node = node_fault wide (in_base wide) node
+
+-- the same, where a value was removed from the base of a cell, or all its other values were
+abbrev pub wide_fault_after : Literal → Node → Option Reject
+wide_fault_after literal node = node_fault wide (cut (in_base wide) literal) node
+
 -- where these lines lead a checker that begins at the base of the second problem
 abbrev pub from_base : List Line → Result Point Reject
 from_base lines = line_steps dead (going (in_base dead) []) lines
+
+-- windows of side 2 of a sample that wraps, with all images, in a map of 3 by 4 that doesn't wrap
+abbrev pub wrapped_shape : Shape
+wrapped_shape = record { n = 2; width = 3; height = 4; depth = 1; symmetry = 8; wrap_in = true; wrap_out = false }
+
+-- a shape with the greatest numbers that a head may have, in a map that wraps
+abbrev pub greatest_shape : Shape
+greatest_shape = record {
+  n = 6;
+  width = 4294967295;
+  height = 4294967295;
+  depth = 4294967295;
+  symmetry = 255;
+  wrap_in = false;
+  wrap_out = true;
+}
+
+-- a text in format 1 that proves that the second problem has no legal assignment
+abbrev pub dead_text : List ℕ
+dead_text = codes "wfc-refutation 1\ncells 2 values 3\nr 0 0 2\nr 0 1 2\nx 0\nq\n"
+
+-- the same proof in format 2, where each removal is a span of its own
+abbrev pub dead_text_apart : List ℕ
+dead_text_apart = codes "wfc-refutation 2\ncells 2 values 3\nfor 2 3 4 1 8 1 0\nr 0 0 0 2\nr 0 1 1 2\nx 0\nq\n"
+
+-- the same proof in format 2, where the two removals are one span
+abbrev pub dead_text_joined : List ℕ
+dead_text_joined = codes "wfc-refutation 2\ncells 2 values 3\nfor 2 3 4 1 8 1 0\nr 0 0 1 2\nx 0\nq\n"
+
+-- a journal without a sink: its lines, where they are told, whether it refused one, and the count of its faults
+abbrev pub journal_with : Option (List Line) → Bool → ℕ → JournalView
+journal_with lines failed faults = record { lines = lines; failed = failed; faults = faults; target = None }

@@ -1,5 +1,6 @@
 -- Removals joined into spans, as they are told.
-use Rattle.std.specs.Prelude.{◌≡◌, ℕ, ◌+◌, ◌==◌, ◌&&◌, ◌⊎◌, nat_le, Bool, true, false, List, [], ◌∷◌, ◌++◌, Option, None, Some, is_some, if◌then◌else◌}
+use Rattle.std.specs.Prelude.{◌≡◌, ℕ, ◌+◌, ◌≤◌, ◌==◌, ◌&&◌, ◌⊎◌, nat_le, Bool, true, false, length, take, if◌then◌else◌}
+use Rattle.std.specs.Prelude.{List, [], ◌∷◌, ◌++◌, Option, None, Some, is_some}
 use Rattle.std.specs.List.{flat_map}
 use Rattle.std.specs.Option.{option_map}
 use Rattle.std.specs.Borrow.{GName}
@@ -38,6 +39,7 @@ span_behind c first last d End = None
 span_behind c first last d Found = None
 span_behind c first last d Out = None
 
+-- two lines as one span, if both are spans and the second goes on where the first ends
 abbrev pub one_span : Line → Line → Option Line
 one_span (Remove c v d) line = None
 one_span (Span c first last d) line = span_behind c first last d line
@@ -82,6 +84,7 @@ pub record Joined : Type 0 where
   pub done : List Line
   pub kept : Option Line
 
+-- before the first line is joined: no lines, and no span that may grow
 abbrev pub nothing_joined : Joined
 nothing_joined = record { done = []; kept = None }
 
@@ -89,6 +92,7 @@ nothing_joined = record { done = []; kept = None }
 abbrev pub apart : Joined → Line → Joined
 apart joined line = record { done = joined.done ++ (lines_of joined.kept ++ settled line); kept = growing line }
 
+-- with a line behind them: the last span grew to this one, or, where there is none, the line is no part of it
 abbrev pub grown_or_apart : Joined → Line → Option Line → Joined
 grown_or_apart joined line None = apart joined line
 grown_or_apart joined line (Some span) = record { done = joined.done; kept = Some span }
@@ -102,6 +106,10 @@ abbrev pub join_on : Joined → List Line → Joined
 join_on joined [] = joined
 join_on joined (line ∷ lines) = join_on (join_line joined line) lines
 
+-- where the lines are joined, no span at their end may still grow
+abbrev pub AreSettled : List Line → Type 0
+AreSettled lines = (join_on nothing_joined lines).kept ≡ None
+
 -- all of them
 abbrev pub all_joined : Joined → List Line
 all_joined joined = joined.done ++ lines_of joined.kept
@@ -110,6 +118,12 @@ all_joined joined = joined.done ++ lines_of joined.kept
 -- cell and direction and its value is the next one
 abbrev pub in_spans : List Line → List Line
 in_spans lines = all_joined (join_on nothing_joined lines)
+
+-- a fault came after the sink took a front, that isn't the whole, of the text of some of these lines, from the first on, with
+-- their removals joined into spans
+abbrev pub IsCutInSpans : SinkView → SinkView → List Line → Type 0
+IsCutInSpans old new lines =
+    (count : ℕ) × (count ≤ length lines) × IsCut old new (text_of (in_spans (take count lines)))
 
 -- lines with one more, which stands behind them, or is one span with the last of them
 abbrev pub AreWithOneMore : List Line → Line → List Line → Type 0
@@ -148,7 +162,7 @@ AreJoined told kept refused =
     option_map (λ (lines : List Line). join_on nothing_joined (counted (lines ++ (lines_of kept ++ lines_of refused)))) told
     ≡ option_map (joined_as kept refused) told
 
--- whether there is none, or it is a span that doesn't end before it begins
+-- whether a line is a span that doesn't end before it begins
 abbrev pub is_span : Line → Bool
 is_span (Remove c v d) = false
 is_span (Span c first last d) = nat_le first last
@@ -158,6 +172,7 @@ is_span End = false
 is_span Found = false
 is_span Out = false
 
+-- whether what may still grow is nothing, or a span that doesn't end before it begins
 abbrev pub is_kept : Option Line → Bool
 is_kept None = true
 is_kept (Some line) = is_span line

@@ -1,10 +1,11 @@
 -- What a journal that writes into a sink tells: its lines are read from the bytes that the sink took.
-use Rattle.std.specs.Prelude.{◌≡◌, ℕ, ◌==◌, ◌<◌, false, List, [], ◌∷◌, ◌++◌, length, take, Option, None, Some, Result, Ok, Err, MatchResult, is_some, if◌then◌else◌}
+use Rattle.std.specs.Prelude.{◌≡◌, ℕ, ◌==◌, ◌<◌, ◌≤◌, false, List, [], ◌∷◌, ◌++◌, length, take, Option, None, Some}
+use Rattle.std.specs.Prelude.{Result, Ok, Err, MatchResult, is_some, if◌then◌else◌}
 use Rattle.std.specs.List.{flat_map}
 use Rattle.std.specs.Option.{option_map}
 use Rattle.std.specs.Borrow.{GName}
 use Rattle.wfc_outside.specs.Count.{HasRisen}
-use Rattle.wfc_outside.specs.Sink.{Taken, SinkView, after_bytes}
+use Rattle.wfc_outside.specs.Sink.{Taken, SinkView, IsFaultAfterFront, after_bytes}
 use Rattle.wfc_proof.specs.Heads.{ended}
 use Rattle.wfc_proof.specs.Journal.{JournalView, Target, counted_as}
 use Rattle.wfc_proof.specs.Text.{line_of, line_2_of, line_text}
@@ -108,6 +109,11 @@ pub record IsCut (old new : SinkView) (bytes : List ℕ) : Type 0 where
   pub less : n < length bytes
   pub front : new.told ≡ (after_bytes old (take n bytes)).told
   pub counted : HasRisen old.faults new.faults
+
+-- a fault came after the sink took a front of the text of some of these lines, from the first on
+abbrev pub IsFaultAfterLines : SinkView → SinkView → List Line → Type 0
+IsFaultAfterLines old new lines =
+    (count : ℕ) × (count ≤ length lines) × IsFaultAfterFront old new (text_of (take count lines))
 
 -- the bytes were put, or a front of them that isn't the whole and then a fault was counted
 abbrev pub PutsOrCuts : {T E : Type 0} → SinkView → SinkView → List ℕ → Result T E → Type 0

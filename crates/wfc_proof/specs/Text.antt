@@ -52,13 +52,15 @@ IsOfFormat2 End = ⊤
 IsOfFormat2 Found = ⊤
 IsOfFormat2 Out = ⊤
 
--- the cell, the value and the direction that a word writes
+-- the cell that a word writes
 abbrev pub cell_word : List ℕ → Option ℕ
 cell_word word = decimal_within (2 ^ 32 - 1) word
 
+-- the value that a word writes
 abbrev pub value_word : List ℕ → Option ℕ
 value_word word = decimal_within (2 ^ 16 - 1) word
 
+-- the direction that a word writes
 abbrev pub dir_word : List ℕ → Option ℕ
 dir_word word = decimal_within (2 ^ 8 - 1) word
 
@@ -85,23 +87,27 @@ line_of_mark word =
     else (if bytes_eq word (codes "o") then Some Out
     else None))
 
--- the line of the words behind each letter
+-- the removal of one value that the words behind its letter are: a cell, a value and a direction
 abbrev pub removal_of : List (List ℕ) → Option Line
 removal_of (c ∷ v ∷ d ∷ []) = removal (cell_word c) (value_word v) (dir_word d)
 removal_of _ = None
 
+-- the removal of a span that the words behind its letter are: a cell, its first and last value, and a direction
 abbrev pub span_of : List (List ℕ) → Option Line
 span_of (c ∷ first ∷ last ∷ d ∷ []) = span (cell_word c) (value_word first) (value_word last) (dir_word d)
 span_of _ = None
 
+-- the trial that the words behind its letter are: a cell and a value
 abbrev pub trial_of : List (List ℕ) → Option Line
 trial_of (c ∷ v ∷ []) = trial (cell_word c) (value_word v)
 trial_of _ = None
 
+-- the line of an empty cell that the word behind its letter is
 abbrev pub empty_of : List (List ℕ) → Option Line
 empty_of (c ∷ []) = option_map Empty (cell_word c)
 empty_of _ = None
 
+-- the line that a letter stands for where no word follows it
 abbrev pub mark_of : List ℕ → List (List ℕ) → Option Line
 mark_of word [] = line_of_mark word
 mark_of word (next ∷ words) = None

@@ -3,6 +3,8 @@ use Rattle.std.specs.Prelude.{◌≡◌, ℕ, ◌==◌, true, List, [], ◌∷�
 use Rattle.wfc_outside.specs.Sink.{SinkView, after_bytes, IsFaultAfterFront}
 use Rattle.wfc_problem.specs.Network.{Network, values}
 use Rattle.wfc_proof.specs.Heads.{format_of, head_2_text}
+use Rattle.wfc_proof.specs.Proof.{Proof}
+use Rattle.wfc_proof.specs.ProofText.{IsTextOf}
 use Rattle.wfc_proof.specs.Spans.{all_joined, counted, in_spans, is_kept, join_on}
 use Rattle.wfc_proof.specs.Telling.{read_text, text_of}
 use Rattle.wfc_proof.specs.declared.Line.{Line}
@@ -44,6 +46,12 @@ abbrev pub upgraded_text : Network → Shape → List ℕ → List ℕ
 upgraded_text P shape bytes =
     head_2_text shape P.cells (values P)
     ++ text_of (in_spans (counted (lines_in (format_at bytes) bytes)))
+
+-- whatever proof the bytes are a text of, in either format, the text that is brought to format 2 is a text of it too
+abbrev pub HasUpgradedProofs : Network → Shape → List ℕ → Type 0
+HasUpgradedProofs P shape bytes =
+    (format : Format) (proof : Proof) → IsTextOf P shape format proof bytes
+    → IsTextOf P shape Two proof (upgraded_text P shape bytes)
 
 -- what is still to be put of lines, behind a span that is kept
 abbrev pub spans_left : Option Line → List Line → List Line

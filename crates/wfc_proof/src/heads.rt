@@ -3,7 +3,9 @@
 ghost use Rattle.std.specs.Prelude.{◌≡◌, ◌-◌, ◌^◌, ◌≤◌, ◌+◌, ◌∷◌, ◌++◌, [], decimal, length};
 ghost use Rattle.wfc_outside.specs.Sink.{Puts};
 ghost use Rattle.wfc_proof.specs.Words.{decimal_within};
-ghost use Rattle.wfc_proof.specs.Heads.{ended, format_text, numbers_text, shape_text, head_text, head_2_text, format_of, numbers_of, numbers_of_words, shape_of, shape_of_words, shape_with, head_word, bit_word, bit};
+ghost use Rattle.wfc_proof.specs.Heads.{ended, format_text, numbers_text, shape_text, head_text, head_2_text};
+ghost use Rattle.wfc_proof.specs.Heads.{format_of, numbers_of, numbers_of_words, shape_of, shape_of_words, shape_with};
+ghost use Rattle.wfc_proof.specs.Heads.{head_word, bit_word, bit};
 
 use crate::gathered::Gathered;
 use crate::text::LineFault;
@@ -113,8 +115,9 @@ fn shape_with(
     wrap_in: &[u8],
     wrap_out: &[u8],
 ) -> Option<Shape>
-    ensures exact { result ≡ shape_with (decimal_within 6 n.now) (head_word width.now) (head_word height.now)
-        (head_word depth.now) (decimal_within (2 ^ 8 - 1) symmetry.now) (bit_word wrap_in.now) (bit_word wrap_out.now) }
+    ensures exact { result ≡ shape_with (decimal_within 6 n.now) (head_word width.now)
+        (head_word height.now) (head_word depth.now) (decimal_within (2 ^ 8 - 1) symmetry.now)
+        (bit_word wrap_in.now) (bit_word wrap_out.now) }
 {
     let n = side_of_window(n)?;
     let width = decimal32(width)?;
@@ -173,7 +176,8 @@ pub fn write_header_2<S: Sink>(
     values: u16,
 ) -> Result<(), SinkFault>
     requires limit { shape.now.n ≤ 6 }
-    ensures put { Puts (S.seen sink.old) (S.seen sink.new) (head_2_text shape.now cells values) result }
+    ensures put { Puts (S.seen sink.old) (S.seen sink.new)
+        (head_2_text shape.now cells values) result }
 {
     let mut text = Gathered::new();
     gather_format(&mut text, Format::Two);
@@ -225,8 +229,8 @@ fn gather_shape(text: &mut Gathered, shape: &Shape)
 /// Gathers the end of that line: the number of images, and what wraps.
 fn gather_images(text: &mut Gathered, shape: &Shape)
     requires room { length text.old ≤ 128 }
-    ensures gathered { text.new ≡ text.old ++ 32 ∷ (decimal shape.now.symmetry ++ 32 ∷ (decimal (bit shape.now.wrap_in)
-        ++ 32 ∷ (decimal (bit shape.now.wrap_out) ++ 10 ∷ []))) }
+    ensures gathered { text.new ≡ text.old ++ 32 ∷ (decimal shape.now.symmetry ++ 32
+        ∷ (decimal (bit shape.now.wrap_in) ++ 32 ∷ (decimal (bit shape.now.wrap_out) ++ 10 ∷ []))) }
 {
     text.push_number(u32::from(shape.symmetry));
     text.push_number(bit(shape.wrap_in));

@@ -103,8 +103,9 @@ impl<'s, S: Sink> SpanJournal<'s, S> {
         shape: &Shape,
     ) -> Result<SpanJournal<'s, S>, JournalFault>
         requires limit { shape.now.n ≤ 6 }
-        ensures begun { IfOk result (λ journal. spans_told_by S.Sink journal ≡ begun sink.entry.ghost_name
-            (after_bytes (S.seen sink.old) (head_2_text shape.now problem.now.cells (values problem.now)))) }
+        ensures begun { IfOk result (λ journal. spans_told_by S.Sink journal
+            ≡ begun sink.entry.ghost_name (after_bytes (S.seen sink.old)
+            (head_2_text shape.now problem.now.cells (values problem.now)))) }
     {
         match put_head_2(sink, *shape, problem.cells(), problem.values()) {
             Ok(()) => Ok(SpanJournal::behind_head(sink)),
@@ -115,7 +116,8 @@ impl<'s, S: Sink> SpanJournal<'s, S> {
     /// A journal over a sink that has taken a head. It writes nothing yet.
     pub fn behind_head(sink: &'s mut S) -> SpanJournal<'s, S>
         requires bare { IsBare Two (S.seen sink.old).told }
-        ensures begun { spans_told_by S.Sink result ≡ begun sink.entry.ghost_name (S.seen sink.old) }
+        ensures begun { spans_told_by S.Sink result
+            ≡ begun sink.entry.ghost_name (S.seen sink.old) }
     {
         SpanJournal {
             sink,

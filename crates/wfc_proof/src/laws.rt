@@ -1,23 +1,24 @@
 //! Laws of the definitions, each a function with no body whose contract is the law. They run nothing.
 
 ghost use Rattle.std.specs.Prelude.{◌≡◌, ℕ, ◌↔◌, ◌+◌, ◌<◌, ◌≤◌, [], ◌∷◌, ◌++◌, List, codes, length, map, None, Some, Ok, Err};
-ghost use Rattle.std.specs.Prelude.{false, true, IsTrue, IsFalse, Option, take};
+ghost use Rattle.std.specs.Prelude.{false, true, Option};
 ghost use Rattle.wfc_problem.specs.Assignment.{IsLegalAssignment, LiesIn};
-ghost use Rattle.wfc_problem.specs.Domains.{Test, Within, IsEmptyAt, cut};
-ghost use Rattle.wfc_problem.specs.Network.{Network, IsProblem, in_base, neighbour, ok};
+ghost use Rattle.wfc_problem.specs.Domains.{Test, Within, IsEmptyAt};
+ghost use Rattle.wfc_problem.specs.Network.{Network, IsProblem, in_base};
 ghost use Rattle.wfc_problem.specs.declared.Literal.TheVariants.{Is, Not};
 ghost use Rattle.wfc_problem.specs.Rounds.{pairs, depth_of};
-ghost use Rattle.wfc_proof.specs.Checker.{line_steps, node_fault};
+ghost use Rattle.wfc_proof.specs.Checker.{HasOpenBranch, line_steps, node_fault};
 ghost use Rattle.wfc_proof.specs.Checker.Point.{going, closed, ended};
-ghost use Rattle.wfc_proof.specs.Lines.{Spells, spelled};
-ghost use Rattle.wfc_proof.specs.Proof.{Proof, Closes, FollowsFrom, StopsThere, is_left_off, nodes, IsRemoval, IsSplit};
+ghost use Rattle.wfc_proof.specs.Lines.{AreClosing, AreEnding, AreLeftOpen, spelled};
+ghost use Rattle.wfc_proof.specs.Proof.{IsLeastStanding, IsLeastSupport, Proof, Closes, nodes, IsRemoval, IsSplit};
 ghost use Rattle.wfc_proof.specs.Proof.Node.{removes, splits, empties};
 ghost use Rattle.wfc_proof.specs.Proof.Proof.{empty, remove, split, left_off};
-ghost use Rattle.wfc_proof.specs.Small.{wide, dead, from_base};
-ghost use Rattle.wfc_proof.specs.Spans.{AreWithOneMore, IsSpanning, in_spans, join_on, nothing_joined, spans_of};
-ghost use Rattle.wfc_proof.specs.Telling.{IsAt, IsCut, begun, journal_of, read_text, refused_lines, text_of};
+ghost use Rattle.wfc_proof.specs.Small.{dead, dead_text, dead_text_apart, dead_text_joined, from_base, greatest_shape, journal_with};
+ghost use Rattle.wfc_proof.specs.Small.{wide_fault, wide_fault_after, wrapped_shape};
+ghost use Rattle.wfc_proof.specs.Spans.{IsCutInSpans, AreWithOneMore, AreSettled, IsSpanning, in_spans, spans_of};
+ghost use Rattle.wfc_proof.specs.Telling.{IsFaultAfterLines, IsAt, begun, journal_of, read_text, refused_lines, text_of};
 ghost use Rattle.std.specs.Borrow.{GName};
-ghost use Rattle.wfc_outside.specs.Sink.{IsFaultAfterFront, SinkView, after_bytes};
+ghost use Rattle.wfc_outside.specs.Sink.{SinkView, after_bytes};
 ghost use Rattle.wfc_proof.specs.Text.{line_text, line_of, line_2_of, IsOfFormat1, IsOfFormat2};
 ghost use Rattle.wfc_proof.specs.Upgrade.{upgraded_text};
 ghost use Rattle.wfc_proof.specs.Heads.{AreNumbers, IsShape, format_of, format_text, head_text, head_2_text, numbers_of};
@@ -49,35 +50,36 @@ pub fn spans_are_removals()
 
 /// A line comes behind those that were told before, and nothing else changes. A quiet journal stays as it is.
 pub fn lines_come_behind()
-    ensures told { after_line (record { lines = Some (Try 1 2 ∷ []); failed = false; faults = 3; target = None }) (Span 4 5 6 0)
-        ≡ record { lines = Some (Try 1 2 ∷ Remove 4 5 0 ∷ Remove 4 6 0 ∷ []); failed = false; faults = 3; target = None } }
+    ensures told { after_line (journal_with (Some (Try 1 2 ∷ [])) false 3) (Span 4 5 6 0)
+        ≡ journal_with (Some (Try 1 2 ∷ Remove 4 5 0 ∷ Remove 4 6 0 ∷ [])) false 3 }
     ensures quiet { (lines : List Line) → after_lines quiet lines ≡ quiet }
 {}
 
 /// A refused line counts among those that were handed over, and a fault was counted. A quiet journal refuses none.
 pub fn refusals_are_counted()
-    ensures refused { IsRefused (record { lines = Some (Try 1 2 ∷ []); failed = false; faults = 3; target = None })
-        (record { lines = Some (Try 1 2 ∷ Empty 5 ∷ []); failed = true; faults = 4; target = None }) (Empty 5) }
-    ensures not_handed_over { IsRefused (record { lines = Some (Try 1 2 ∷ []); failed = false; faults = 3; target = None })
-        (record { lines = Some (Try 1 2 ∷ []); failed = true; faults = 4; target = None }) (Empty 5) → ⊥ }
-    ensures not_failed { IsRefused (record { lines = None; failed = false; faults = 3; target = None })
-        (record { lines = None; failed = false; faults = 4; target = None }) (Empty 5) → ⊥ }
-    ensures not_counted { IsRefused (record { lines = None; failed = false; faults = 3; target = None })
-        (record { lines = None; failed = true; faults = 3; target = None }) (Empty 5) → ⊥ }
-    ensures elsewhere { (there : Target) → IsRefused (record { lines = None; failed = false; faults = 3; target = Some there })
-        (record { lines = None; failed = true; faults = 4; target = None }) (Empty 5) → ⊥ }
+    ensures refused { IsRefused (journal_with (Some (Try 1 2 ∷ [])) false 3)
+        (journal_with (Some (Try 1 2 ∷ Empty 5 ∷ [])) true 4) (Empty 5) }
+    ensures not_handed_over { IsRefused (journal_with (Some (Try 1 2 ∷ [])) false 3)
+        (journal_with (Some (Try 1 2 ∷ [])) true 4) (Empty 5) → ⊥ }
+    ensures not_failed { IsRefused (journal_with None false 3) (journal_with None false 4)
+        (Empty 5) → ⊥ }
+    ensures not_counted { IsRefused (journal_with None false 3) (journal_with None true 3)
+        (Empty 5) → ⊥ }
+    ensures elsewhere { (there : Target) → IsRefused
+        (record (journal_with None false 3) { target = Some there })
+        (journal_with None true 4) (Empty 5) → ⊥ }
     ensures quiet { (line : Line) → IsRefused quiet quiet line → ⊥ }
 {}
 
 /// Where lines are cut off, a front of them was handed over, with at least one line.
 pub fn fronts_are_handed_over()
-    ensures front { IsCutOff (record { lines = Some (Try 1 2 ∷ []); failed = false; faults = 3; target = None })
-        (record { lines = Some (Try 1 2 ∷ Remove 4 5 0 ∷ Empty 5 ∷ []); failed = true; faults = 4; target = None })
+    ensures front { IsCutOff (journal_with (Some (Try 1 2 ∷ [])) false 3)
+        (journal_with (Some (Try 1 2 ∷ Remove 4 5 0 ∷ Empty 5 ∷ [])) true 4)
         (Remove 4 5 0 ∷ Empty 5 ∷ End ∷ []) }
-    ensures none { IsCutOff (record { lines = Some (Try 1 2 ∷ []); failed = false; faults = 3; target = None })
-        (record { lines = Some (Try 1 2 ∷ []); failed = true; faults = 4; target = None }) (Remove 4 5 0 ∷ Empty 5 ∷ []) → ⊥ }
-    ensures a_later_line { IsCutOff (record { lines = Some (Try 1 2 ∷ []); failed = false; faults = 3; target = None })
-        (record { lines = Some (Try 1 2 ∷ Empty 5 ∷ []); failed = true; faults = 4; target = None }) (Remove 4 5 0 ∷ Empty 5 ∷ []) → ⊥ }
+    ensures none { IsCutOff (journal_with (Some (Try 1 2 ∷ [])) false 3)
+        (journal_with (Some (Try 1 2 ∷ [])) true 4) (Remove 4 5 0 ∷ Empty 5 ∷ []) → ⊥ }
+    ensures a_later_line { IsCutOff (journal_with (Some (Try 1 2 ∷ [])) false 3)
+        (journal_with (Some (Try 1 2 ∷ Empty 5 ∷ [])) true 4) (Remove 4 5 0 ∷ Empty 5 ∷ []) → ⊥ }
     ensures quiet { (lines : List Line) → IsCutOff quiet quiet lines → ⊥ }
 {}
 
@@ -85,8 +87,8 @@ pub fn fronts_are_handed_over()
 
 /// Where a proof closes domains, no legal assignment lies in them; and none at all where these are the base domains.
 pub fn proofs_are_sound()
-    ensures within { (P : Network) → IsProblem P → (a : List ℕ) → IsLegalAssignment P a → (D : Test) (proof : Proof) →
-        Closes P D proof → LiesIn a D → ⊥ }
+    ensures within { (P : Network) → IsProblem P → (a : List ℕ) → IsLegalAssignment P a
+        → (D : Test) (proof : Proof) → Closes P D proof → LiesIn a D → ⊥ }
     ensures base { (P : Network) → IsProblem P → (proof : Proof) → Closes P (in_base P) proof →
         (a : List ℕ) → IsLegalAssignment P a → ⊥ }
 {}
@@ -94,8 +96,8 @@ pub fn proofs_are_sound()
 /// A node is accepted exactly where it is right: a removal where the value stands and has no support in the direction, a
 /// split where another value stands beside it, an empty cell where no value stands.
 pub fn right_nodes_are_accepted()
-    ensures removals { (P : Network) → IsProblem P → (D : Test) → Within D (in_base P) → (c v d : ℕ) →
-        (node_fault P D (removes c v d) ≡ None) ↔ IsRemoval P D c v d }
+    ensures removals { (P : Network) → IsProblem P → (D : Test) → Within D (in_base P) → (c v d : ℕ)
+        → (node_fault P D (removes c v d) ≡ None) ↔ IsRemoval P D c v d }
     ensures splits { (P : Network) → IsProblem P → (D : Test) → Within D (in_base P) → (c v : ℕ) →
         (node_fault P D (splits c v) ≡ None) ↔ IsSplit D c v }
     ensures empties { (P : Network) → IsProblem P → (D : Test) → Within D (in_base P) → (c : ℕ) →
@@ -105,37 +107,31 @@ pub fn right_nodes_are_accepted()
 /// The value that a refusal names is the least: of a removal the least standing value of the neighbour that may stand
 /// beside it, of an empty cell the least that stands.
 pub fn refusals_name_the_least()
-    ensures support { (P : Network) → IsProblem P → (D : Test) (c v d w : ℕ) →
-        node_fault P D (removes c v d) ≡ Some (HasSupport w) →
-        (n : ℕ) × (neighbour P c d ≡ Some n) × IsTrue (D n w) × IsTrue (ok P d v w)
-        × ((u : ℕ) → u < w → IsTrue (D n u) → IsFalse (ok P d v u)) }
-    ensures value { (P : Network) (D : Test) (c w : ℕ) → node_fault P D (empties c) ≡ Some (NotEmpty w) →
-        IsTrue (D c w) × ((u : ℕ) → u < w → IsFalse (D c u)) }
+    ensures support { (P : Network) → IsProblem P → (D : Test) (c v d w : ℕ)
+        → node_fault P D (removes c v d) ≡ Some (HasSupport w) → IsLeastSupport P D c v d w }
+    ensures value { (P : Network) (D : Test) (c w : ℕ)
+        → node_fault P D (empties c) ≡ Some (NotEmpty w) → IsLeastStanding D c w }
 {}
 
 /// All lines are accepted and the proof is closed exactly where the lines spell the nodes of a proof that closes the
 /// domains at the start; it has ended exactly where an `End` follows such lines; and a branch is open exactly where they
 /// spell a proof that follows, with branches left off at its end.
 pub fn accepted_lines_spell_proofs()
-    ensures closed { (P : Network) → IsProblem P → (D : Test) → Within D (in_base P) → (lines : List Line) →
-        (line_steps P (going D []) lines ≡ Ok closed)
-        ↔ ((proof : Proof) × Closes P D proof × Spells lines (nodes proof)) }
-    ensures ended { (P : Network) → IsProblem P → (D : Test) → Within D (in_base P) → (lines : List Line) →
-        (line_steps P (going D []) lines ≡ Ok ended)
-        ↔ ((before : List Line) × (lines ≡ before ++ End ∷ []) × (proof : Proof) × Closes P D proof
-        × Spells before (nodes proof)) }
-    ensures going { (P : Network) → IsProblem P → (D : Test) → Within D (in_base P) → (lines : List Line) →
-        ((E : Test) × (waiting : List Test) × (line_steps P (going D []) lines ≡ Ok (going E waiting)))
-        ↔ ((proof : Proof) × FollowsFrom P D proof × StopsThere proof × IsTrue (is_left_off proof)
-        × Spells lines (nodes proof)) }
+    ensures closed { (P : Network) → IsProblem P → (D : Test) → Within D (in_base P)
+        → (lines : List Line)
+        → (line_steps P (going D []) lines ≡ Ok closed) ↔ AreClosing P D lines }
+    ensures ended { (P : Network) → IsProblem P → (D : Test) → Within D (in_base P)
+        → (lines : List Line) → (line_steps P (going D []) lines ≡ Ok ended) ↔ AreEnding P D lines }
+    ensures going { (P : Network) → IsProblem P → (D : Test) → Within D (in_base P)
+        → (lines : List Line) → HasOpenBranch P D lines ↔ AreLeftOpen P D lines }
 {}
 
 /// Where a branch is open, the domains lie within the base, and the branches that wait and the pairs that stand are
 /// together at most as many as the pairs of the base.
 pub fn few_branches_wait()
-    ensures few { (P : Network) → IsProblem P → (lines : List Line) (E : Test) (waiting : List Test) →
-        line_steps P (going (in_base P) []) lines ≡ Ok (going E waiting) →
-        Within E (in_base P) × (pairs P E + length waiting ≤ depth_of P) }
+    ensures few { (P : Network) → IsProblem P → (lines : List Line) (E : Test) (waiting : List Test)
+        → line_steps P (going (in_base P) []) lines ≡ Ok (going E waiting)
+        → Within E (in_base P) × (pairs P E + length waiting ≤ depth_of P) }
 {}
 
 // ---- texts
@@ -150,9 +146,10 @@ pub fn lines_are_their_texts()
 
 /// The lines of a head are read exactly where they are their texts, within the limits.
 pub fn heads_are_their_texts()
-    ensures format { (bytes : List ℕ) (format : Format) → (format_of bytes ≡ Ok format) ↔ (bytes ≡ format_text format) }
-    ensures numbers { (bytes : List ℕ) (numbers : Numbers) →
-        (numbers_of bytes ≡ Ok numbers) ↔ ((bytes ≡ numbers_text numbers.cells numbers.values) × AreNumbers numbers) }
+    ensures format { (bytes : List ℕ) (format : Format)
+        → (format_of bytes ≡ Ok format) ↔ (bytes ≡ format_text format) }
+    ensures numbers { (bytes : List ℕ) (numbers : Numbers) → (numbers_of bytes ≡ Ok numbers)
+        ↔ ((bytes ≡ numbers_text numbers.cells numbers.values) × AreNumbers numbers) }
     ensures shape { (bytes : List ℕ) (shape : Shape) →
         (shape_of bytes ≡ Ok shape) ↔ ((bytes ≡ shape_text shape) × IsShape shape) }
 {}
@@ -162,21 +159,21 @@ pub fn heads_are_their_texts()
 /// Why removals are refused: an index comes first, then a value that doesn't stand, a side without a neighbour, and the
 /// least support. A support that is gone counts no more, and a value that is gone isn't removed again.
 pub fn removals_by_example()
-    ensures base { map (node_fault wide (in_base wide)) (removes 0 1 2 ∷ removes 0 0 2 ∷ removes 0 2 2 ∷ removes 0 0 0 ∷ [])
-        ≡ None ∷ Some (HasSupport 1) ∷ Some (HasSupport 1) ∷ Some NoNeighbour ∷ [] }
-    ensures indexes { map (node_fault wide (in_base wide)) (removes 2 0 2 ∷ removes 0 3 2 ∷ removes 0 0 4 ∷ [])
+    ensures base { map wide_fault (removes 0 1 2 ∷ removes 0 0 2 ∷ removes 0 2 2 ∷ removes 0 0 0
+        ∷ []) ≡ None ∷ Some (HasSupport 1) ∷ Some (HasSupport 1) ∷ Some NoNeighbour ∷ [] }
+    ensures indexes { map wide_fault (removes 2 0 2 ∷ removes 0 3 2 ∷ removes 0 0 4 ∷ [])
         ≡ Some IndexRange ∷ Some IndexRange ∷ Some IndexRange ∷ [] }
-    ensures later { map (node_fault wide (cut (in_base wide) (Not 1 1))) (removes 0 0 2 ∷ removes 0 2 2 ∷ removes 1 1 0 ∷ [])
-        ≡ None ∷ Some (HasSupport 2) ∷ Some NotStanding ∷ [] }
+    ensures later { map (wide_fault_after (Not 1 1)) (removes 0 0 2 ∷ removes 0 2 2 ∷ removes 1 1 0
+        ∷ []) ≡ None ∷ Some (HasSupport 2) ∷ Some NotStanding ∷ [] }
 {}
 
 /// Why splits and empty cells are refused: another value has to stand beside the one that is tried, and the least value
 /// that stands is named.
 pub fn splits_by_example()
-    ensures splits { map (node_fault wide (cut (in_base wide) (Is 2 0)))
+    ensures splits { map (wide_fault_after (Is 2 0))
         (splits 0 2 ∷ splits 0 1 ∷ splits 1 2 ∷ splits 2 2 ∷ splits 0 3 ∷ [])
         ≡ Some OnlyValue ∷ Some NotStanding ∷ None ∷ Some IndexRange ∷ Some IndexRange ∷ [] }
-    ensures empties { map (node_fault wide (cut (in_base wide) (Is 2 0))) (empties 0 ∷ empties 1 ∷ empties 2 ∷ [])
+    ensures empties { map (wide_fault_after (Is 2 0)) (empties 0 ∷ empties 1 ∷ empties 2 ∷ [])
         ≡ Some (NotEmpty 2) ∷ Some (NotEmpty 0) ∷ Some IndexRange ∷ [] }
 {}
 
@@ -185,7 +182,8 @@ pub fn splits_by_example()
 pub fn proofs_by_example()
     ensures span { from_base (Span 0 0 1 2 ∷ Empty 0 ∷ End ∷ []) ≡ Ok ended }
     ensures removals { from_base (Remove 0 0 2 ∷ Remove 0 1 2 ∷ Empty 0 ∷ End ∷ []) ≡ Ok ended }
-    ensures branches { from_base (Try 0 1 ∷ Remove 0 1 2 ∷ Empty 0 ∷ Remove 0 0 2 ∷ Empty 0 ∷ End ∷ []) ≡ Ok ended }
+    ensures branches { from_base
+        (Try 0 1 ∷ Remove 0 1 2 ∷ Empty 0 ∷ Remove 0 0 2 ∷ Empty 0 ∷ End ∷ []) ≡ Ok ended }
     ensures one_branch { from_base (Try 0 1 ∷ Remove 0 1 2 ∷ Empty 0 ∷ End ∷ []) ≡ Err NotClosed }
     ensures found { from_base (Found ∷ []) ≡ Err NotClosed }
     ensures closed_twice { from_base (Span 0 0 1 2 ∷ Empty 0 ∷ Empty 0 ∷ []) ≡ Err AfterEnd }
@@ -210,7 +208,7 @@ pub fn texts_by_example()
     ensures empties { line_text (Empty 0) ≡ codes "x 0" }
     ensures ends { map line_text (End ∷ Found ∷ Out ∷ []) ≡ codes "q" ∷ codes "s" ∷ codes "o" ∷ [] }
     ensures head { head_text 12 3 ≡ codes "wfc-refutation 1\ncells 12 values 3\n" }
-    ensures head_2 { head_2_text (record { n = 2; width = 3; height = 4; depth = 1; symmetry = 8; wrap_in = true; wrap_out = false }) 12 5
+    ensures head_2 { head_2_text wrapped_shape 12 5
         ≡ codes "wfc-refutation 2\ncells 12 values 5\nfor 2 3 4 1 8 1 0\n" }
 {}
 
@@ -220,11 +218,12 @@ pub fn readings_by_example()
     ensures removes { line_of (codes "r 10 2 3") ≡ Ok (Remove 10 2 3) }
     ensures spans { line_2_of (codes "r 10 2 4 3") ≡ Ok (Span 10 2 4 3) }
     ensures one { line_2_of (codes "r 10 4 4 3") ≡ Ok (Span 10 4 4 3) }
-    ensures other_format { (line_of (codes "r 10 2 4 3") ≡ Err BadLine) × (line_2_of (codes "r 10 2 3") ≡ Err BadLine) }
+    ensures other_format { (line_of (codes "r 10 2 4 3") ≡ Err BadLine)
+        × (line_2_of (codes "r 10 2 3") ≡ Err BadLine) }
     ensures most { (line_of (codes "t 4294967295 65535") ≡ Ok (Try 4294967295 65535))
         × (line_2_of (codes "x 0") ≡ Ok (Empty 0)) }
-    ensures too_large { map line_of (codes "x 4294967296" ∷ codes "t 0 65536" ∷ codes "r 0 0 256" ∷ [])
-        ≡ Err BadLine ∷ Err BadLine ∷ Err BadLine ∷ [] }
+    ensures too_large { map line_of (codes "x 4294967296" ∷ codes "t 0 65536" ∷ codes "r 0 0 256"
+        ∷ []) ≡ Err BadLine ∷ Err BadLine ∷ Err BadLine ∷ [] }
     ensures blanks { map line_of (codes "x  0" ∷ codes " x 0" ∷ codes "x 0 " ∷ codes "q " ∷ [])
         ≡ Err BadLine ∷ Err BadLine ∷ Err BadLine ∷ Err BadLine ∷ [] }
     ensures digits { map line_of (codes "x 00" ∷ codes "x 07" ∷ codes "x +7" ∷ codes "x" ∷ [])
@@ -236,25 +235,24 @@ pub fn readings_by_example()
 
 /// Lines of heads, and lines that are none.
 pub fn heads_by_example()
-    ensures format { map format_of (codes "wfc-refutation 1" ∷ codes "wfc-refutation 2" ∷ codes "wfc-refutation 3" ∷ [])
-        ≡ Ok One ∷ Ok Two ∷ Err BadLine ∷ [] }
+    ensures format { map format_of (codes "wfc-refutation 1" ∷ codes "wfc-refutation 2"
+        ∷ codes "wfc-refutation 3" ∷ []) ≡ Ok One ∷ Ok Two ∷ Err BadLine ∷ [] }
     ensures numbers { numbers_of (codes "cells 12 values 4294967295")
         ≡ Ok (record { cells = 12; values = 4294967295 }) }
     ensures zero_first { numbers_of (codes "cells 02 values 1") ≡ Err BadLine }
     ensures exchanged { numbers_of (codes "values 2 cells 1") ≡ Err BadLine }
-    ensures shape { shape_of (codes "for 2 3 4 1 8 1 0")
-        ≡ Ok (record { n = 2; width = 3; height = 4; depth = 1; symmetry = 8; wrap_in = true; wrap_out = false }) }
-    ensures too_large { map shape_of (codes "for 7 3 4 1 8 1 0" ∷ codes "for 2 3 4 1 256 1 0" ∷ codes "for 2 3 4 1 8 2 0" ∷ [])
-        ≡ Err BadLine ∷ Err BadLine ∷ Err BadLine ∷ [] }
+    ensures shape { shape_of (codes "for 2 3 4 1 8 1 0") ≡ Ok wrapped_shape }
+    ensures too_large { map shape_of (codes "for 7 3 4 1 8 1 0" ∷ codes "for 2 3 4 1 256 1 0"
+        ∷ codes "for 2 3 4 1 8 2 0" ∷ []) ≡ Err BadLine ∷ Err BadLine ∷ Err BadLine ∷ [] }
     ensures too_few { shape_of (codes "for 2 3 4 1 8 1") ≡ Err BadLine }
     ensures most { shape_of (codes "for 6 4294967295 4294967295 4294967295 255 0 1")
-        ≡ Ok (record { n = 6; width = 4294967295; height = 4294967295; depth = 4294967295; symmetry = 255; wrap_in = false; wrap_out = true }) }
+        ≡ Ok greatest_shape }
 {}
 
 /// What is read of a text, in each format: behind its last line that is none of the format.
 pub fn texts_are_read()
-    ensures told { read_text One (codes "r 1\nr 0 2 3\nx 7\nr 1")
-        ≡ record { before = codes "r 1\n"; lines = Remove 0 2 3 ∷ Empty 7 ∷ []; part = codes "r 1" } }
+    ensures told { read_text One (codes "r 1\nr 0 2 3\nx 7\nr 1") ≡ record { before = codes "r 1\n";
+        lines = Remove 0 2 3 ∷ Empty 7 ∷ []; part = codes "r 1" } }
     ensures other_format { read_text Two (codes "r 0 2 3\nr 0 2 4 3\n")
         ≡ record { before = codes "r 0 2 3\n"; lines = Span 0 2 4 3 ∷ []; part = [] } }
     ensures anew { read_text One (codes "t 4 5\ncells 12 values 3\n")
@@ -266,7 +264,8 @@ pub fn texts_are_read()
 /// One line more stands behind the lines, or makes the last of them longer.
 pub fn one_more_by_example()
     ensures behind { AreWithOneMore (Try 1 5 ∷ []) (Span 1 6 6 2) (Try 1 5 ∷ Span 1 6 6 2 ∷ []) }
-    ensures longer { AreWithOneMore (Try 1 5 ∷ Span 1 4 5 2 ∷ []) (Span 1 6 6 2) (Try 1 5 ∷ Span 1 4 6 2 ∷ []) }
+    ensures longer { AreWithOneMore (Try 1 5 ∷ Span 1 4 5 2 ∷ []) (Span 1 6 6 2)
+        (Try 1 5 ∷ Span 1 4 6 2 ∷ []) }
     ensures alone { AreWithOneMore (Span 1 4 5 2 ∷ []) (Span 1 6 6 2) (Span 1 6 6 2 ∷ []) → ⊥ }
 {}
 
@@ -275,29 +274,26 @@ pub fn one_more_by_example()
 /// sink has taken a front of the text of those up to it, and has counted a fault; in format 2 what it took ends before the
 /// last of the joined lines does.
 pub fn sinks_take_what_is_told()
-    ensures lines { (name : GName) (started sink : SinkView) (refused : Option Line) (lines : List Line)
-        → IsAt One sink.told (refused_lines refused)
-        → journal_of name sink refused ≡ after_lines (begun name started) lines → sink ≡ after_bytes started (text_of lines) }
-    ensures lines_cut_off { (name : GName) (started sink : SinkView) (refused : Option Line) (lines : List Line)
-        → IsAt One sink.told (refused_lines refused)
+    ensures lines { (name : GName) (started sink : SinkView) (refused : Option Line)
+        (lines : List Line) → IsAt One sink.told (refused_lines refused)
+        → journal_of name sink refused ≡ after_lines (begun name started) lines
+        → sink ≡ after_bytes started (text_of lines) }
+    ensures lines_cut_off { (name : GName) (started sink : SinkView) (refused : Option Line)
+        (lines : List Line) → IsAt One sink.told (refused_lines refused)
         → IsCutOff (begun name started) (journal_of name sink refused) lines
-        → (count : ℕ) × (count ≤ length lines) × IsFaultAfterFront started sink (text_of (take count lines)) }
-    ensures spans { (name : GName) (started sink : SinkView) (kept refused : Option Line) (lines : List Line)
-        → IsSpanning sink kept refused
-        → (join_on nothing_joined lines).kept ≡ None → spans_of name sink kept refused ≡ after_lines (begun name started) lines
+        → IsFaultAfterLines started sink lines }
+    ensures spans { (name : GName) (started sink : SinkView) (kept refused : Option Line)
+        (lines : List Line) → IsSpanning sink kept refused → AreSettled lines
+        → spans_of name sink kept refused ≡ after_lines (begun name started) lines
         → sink ≡ after_bytes started (text_of (in_spans lines)) }
-    ensures spans_cut_off { (name : GName) (started sink : SinkView) (kept refused : Option Line) (lines : List Line)
-        → IsSpanning sink kept refused
+    ensures spans_cut_off { (name : GName) (started sink : SinkView) (kept refused : Option Line)
+        (lines : List Line) → IsSpanning sink kept refused
         → IsCutOff (begun name started) (spans_of name sink kept refused) lines
-        → (count : ℕ) × (count ≤ length lines) × IsCut started sink (text_of (in_spans (take count lines))) }
+        → IsCutInSpans started sink lines }
 {}
 
 /// A text of either format, brought to format 2.
 pub fn upgrades_by_example()
-    ensures one { upgraded_text dead (record { n = 2; width = 3; height = 4; depth = 1; symmetry = 8; wrap_in = true; wrap_out = false })
-        (codes "wfc-refutation 1\ncells 2 values 3\nr 0 0 2\nr 0 1 2\nx 0\nq\n")
-        ≡ codes "wfc-refutation 2\ncells 2 values 3\nfor 2 3 4 1 8 1 0\nr 0 0 1 2\nx 0\nq\n" }
-    ensures two { upgraded_text dead (record { n = 2; width = 3; height = 4; depth = 1; symmetry = 8; wrap_in = true; wrap_out = false })
-        (codes "wfc-refutation 2\ncells 2 values 3\nfor 2 3 4 1 8 1 0\nr 0 0 0 2\nr 0 1 1 2\nx 0\nq\n")
-        ≡ codes "wfc-refutation 2\ncells 2 values 3\nfor 2 3 4 1 8 1 0\nr 0 0 1 2\nx 0\nq\n" }
+    ensures one { upgraded_text dead wrapped_shape dead_text ≡ dead_text_joined }
+    ensures two { upgraded_text dead wrapped_shape dead_text_apart ≡ dead_text_joined }
 {}

@@ -121,7 +121,8 @@ fn put_behind<S: Sink>(sink: &mut S, kept: Line, line: Line) -> Result<Option<Li
     requires spelled { as_span line ≡ line }
     requires kept { is_span kept ≡ true }
     ensures ok { IfOk result (PutsApart (S.seen sink.old) (S.seen sink.new) (Some kept) line) }
-    ensures failed { IfErr result (IsCutApart (S.seen sink.old) (S.seen sink.new) (Some kept) line) }
+    ensures failed { IfErr result
+        (IsCutApart (S.seen sink.old) (S.seen sink.new) (Some kept) line) }
 {
     match put_line(sink, kept) {
         Ok(()) => put_settled(sink, line),

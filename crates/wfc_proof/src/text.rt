@@ -4,7 +4,8 @@
 //! `r C V D` is of one value, and in format 2 `r C V W D` is of the values from V to W.
 
 ghost use Rattle.std.specs.Prelude.{◌≡◌};
-ghost use Rattle.wfc_proof.specs.Text.{line_of, line_2_of, line_of_words, line_2_of_words, either_of, removal_of, span_of, trial_of, empty_of, mark_of, line_of_mark};
+ghost use Rattle.wfc_proof.specs.Text.{line_of, line_2_of, line_of_words, line_2_of_words, either_of, removal_of};
+ghost use Rattle.wfc_proof.specs.Text.{span_of, trial_of, empty_of, mark_of, line_of_mark};
 
 use crate::Line;
 use crate::words::{Words, decimal8, decimal16, decimal32, is_word};

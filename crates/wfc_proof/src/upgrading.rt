@@ -3,13 +3,11 @@
 ghost use Rattle.std.specs.Prelude.{◌≡◌, ◌≤◌, ◌<◌, ℕ, List, length, IfOk, OnErr, true};
 ghost use Rattle.wfc_outside.specs.Sink.{Puts};
 ghost use Rattle.wfc_proof.specs.Journal.{IsWhole};
-ghost use Rattle.wfc_proof.specs.Proof.{Proof};
-ghost use Rattle.wfc_proof.specs.ProofText.{IsProofText, IsTextOf};
+ghost use Rattle.wfc_proof.specs.ProofText.{IsProofText};
 ghost use Rattle.wfc_proof.specs.Spans.{counted, in_spans, is_kept, lines_of};
 ghost use Rattle.wfc_proof.specs.Telling.{PutsOrCuts, line_in, text_of};
-ghost use Rattle.wfc_proof.specs.Upgrade.{TakesFront, TakesLine, behind_head, behind_line, format_at, line_at, lines_in, upgraded_text};
-ghost use Rattle.wfc_proof.specs.declared.heads.Format.{Format};
-ghost use Rattle.wfc_proof.specs.declared.heads.Format.TheVariants.{Two};
+ghost use Rattle.wfc_proof.specs.Upgrade.{HasUpgradedProofs, TakesFront, TakesLine, behind_head, behind_line, format_at, line_at};
+ghost use Rattle.wfc_proof.specs.Upgrade.{lines_in, upgraded_text};
 
 use crate::heads::{read_format, write_header_2};
 use crate::spans::{as_span, joined, put_apart};
@@ -30,9 +28,9 @@ pub fn upgrade<S: Sink>(
 ) -> Result<(), SinkFault>
     requires proof { IsProofText problem.now shape.now bytes.now }
     requires limit { shape.now.n ≤ 6 }
-    ensures put { Puts (S.seen sink.old) (S.seen sink.new) (upgraded_text problem.now shape.now bytes.now) result }
-    ensures same_proof { (format : Format) (proof : Proof) → IsTextOf problem.now shape.now format proof bytes.now
-        → IsTextOf problem.now shape.now Two proof (upgraded_text problem.now shape.now bytes.now) }
+    ensures put { Puts (S.seen sink.old) (S.seen sink.new)
+        (upgraded_text problem.now shape.now bytes.now) result }
+    ensures same_proof { HasUpgradedProofs problem.now shape.now bytes.now }
 {
     upgrade_to(bytes, problem, *shape, sink)
 }
@@ -46,9 +44,9 @@ fn upgrade_to<S: Sink>(
 ) -> Result<(), SinkFault>
     requires proof { IsProofText problem.now shape bytes.now }
     requires limit { shape.n ≤ 6 }
-    ensures put { Puts (S.seen sink.old) (S.seen sink.new) (upgraded_text problem.now shape bytes.now) result }
-    ensures same_proof { (format : Format) (proof : Proof) → IsTextOf problem.now shape format proof bytes.now
-        → IsTextOf problem.now shape Two proof (upgraded_text problem.now shape bytes.now) }
+    ensures put { Puts (S.seen sink.old) (S.seen sink.new)
+        (upgraded_text problem.now shape bytes.now) result }
+    ensures same_proof { HasUpgradedProofs problem.now shape bytes.now }
 {
     let _limits = (shape.width, shape.height, shape.depth, shape.symmetry);
     match write_header_2(sink, &shape, problem.cells(), problem.values()) {
@@ -62,8 +60,8 @@ fn upgrade_proof<S: Sink>(bytes: &[u8], sink: &mut S) -> Result<(), SinkFault>
     requires lines { text_of
         (lines_in (format_at bytes.now) (behind_head (format_at bytes.now) bytes.now))
         ≡ behind_head (format_at bytes.now) bytes.now }
-    ensures put { Puts (S.seen sink.old) (S.seen sink.new)
-        (text_of (in_spans (counted (lines_in (format_at bytes.now) (behind_head (format_at bytes.now) bytes.now))))) result }
+    ensures put { Puts (S.seen sink.old) (S.seen sink.new) (text_of (in_spans (counted
+        (lines_in (format_at bytes.now) (behind_head (format_at bytes.now) bytes.now))))) result }
 {
     let format = format_at(bytes);
     upgrade_lines(behind_head(format, bytes), format, sink)

@@ -114,7 +114,8 @@ fn put_alone<S: Sink>(sink: &mut S, line: Line) -> Result<(), Line>
 /// Puts the removals of a span.
 fn put_span<S: Sink>(sink: &mut S, cell: u32, first: u16, last: u16, dir: u8) -> Result<(), Line>
     requires whole { first ≤ last }
-    ensures put { PutsCounted (S.seen sink.old) (S.seen sink.new) (Span cell first last dir) result }
+    ensures put { PutsCounted (S.seen sink.old) (S.seen sink.new)
+        (Span cell first last dir) result }
     ensures format { AreOfFormat One (counted_as (Span cell first last dir)) }
 {
     let mut next = u32::from(first);

@@ -23,6 +23,7 @@ IsNoRefutation space asked files text =
     (fault : CheckFault) × IsCheckTask space asked files (Some fault)
     × (text ≡ text_of_check fault (refutation_name asked))
 
+-- the command that checks refutations, for the problems of a kind of maps
 abbrev pub checks : ProofKind → Command
 checks space = record {
   Task = CheckTask;

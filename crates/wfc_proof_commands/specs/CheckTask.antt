@@ -18,6 +18,7 @@ check_plan space asked =
     and_then (refutation_plan (space.shape_of asked) asked P) (λ found.
     done (check found)))
 
+-- what the code finds in a refutation, as the task of `check`, or the fault
 abbrev pub check_made : Result (Option CheckFault) Fault → Result CheckTask Fault
 check_made (Ok found) = Ok (check found)
 check_made (Err fault) = Err fault

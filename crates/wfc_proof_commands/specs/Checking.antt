@@ -42,6 +42,7 @@ shape_by Tiles asked = record {
   wrap_out = asked.wrap_out;
 }
 
+-- the shape that the head of a refutation has to tell for a request
 abbrev pub shape_of : RequestView → Shape
 shape_of asked = shape_by asked.source asked
 
@@ -56,6 +57,7 @@ pub data CheckCause : Type 0 where
   file_fault : ReadFault → CheckCause
   memory_fault : CheckCause
 
+-- what each fault of a check is of
 abbrev pub check_cause : CheckFault → CheckCause
 check_cause (faults.Rejected line reject) = text_fault
 check_cause (faults.BadLine line) = text_fault

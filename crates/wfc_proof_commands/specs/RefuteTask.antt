@@ -19,6 +19,7 @@ refute_plan space kinds asked =
     and_then (space.plan asked) (λ P.
     done (refute P)))
 
+-- the problem that the code makes, as the task of `refute`, or the fault
 abbrev pub refute_made : Result Network Fault → Result RefuteTask Fault
 refute_made (Ok P) = Ok (refute P)
 refute_made (Err fault) = Err fault

@@ -27,7 +27,11 @@ pub record RefutesWhole (space : ProofKind) (rule : Rule) (asked : RequestView) 
   pub outcome : Outcome
   pub lines : List Line
   pub told : IsToldBy rule asked.budget P (start (words_of_seed asked.seed)) outcome lines
-  pub is : answered ≡ record { verdict = refute_verdict asked.budget outcome; text = Some (refutation_text space asked P lines); whole = true }
+  pub is : answered ≡ record {
+    verdict = refute_verdict asked.budget outcome;
+    text = Some (refutation_text space asked P lines);
+    whole = true;
+  }
 
 -- a front of the text of the first lines of a run, up to one that was refused; a failed sink took no more than it
 pub record RefutesFront (space : ProofKind) (rule : Rule) (asked : RequestView) (P : Network) (answered : Answered) : Type 0 where

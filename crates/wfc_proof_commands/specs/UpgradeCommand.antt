@@ -21,6 +21,7 @@ IsNotUpgraded asked files text =
     (work : UpgradeWork asked files) × (fault : CheckFault) × (first_fault asked work.P work.bytes ≡ Some fault)
     × (text ≡ text_of_check fault (refutation_name asked))
 
+-- the command that writes a refutation in format 2 once it is checked
 abbrev pub upgrade_command : Command
 upgrade_command = record {
   Task = UpgradeTask;

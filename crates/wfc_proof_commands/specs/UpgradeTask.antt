@@ -25,6 +25,7 @@ upgrade_plan asked =
     and_then (refutation_file_plan asked) (λ bytes.
     done (upgrade P bytes)))
 
+-- what the code makes for `upgrade`, as its task, or the fault
 abbrev pub upgrade_made : Result Upgrading Fault → Result UpgradeTask Fault
 upgrade_made (Ok made) = Ok (upgrade made.problem made.refutation.items)
 upgrade_made (Err fault) = Err fault

@@ -57,9 +57,8 @@ pub fn refutations_by_example()
     ensures two { written_format 2 ≡ Two }
     ensures plain { lines_in One (Remove 0 0 2 ∷ Remove 0 1 2 ∷ Empty 0 ∷ [])
         ≡ Remove 0 0 2 ∷ Remove 0 1 2 ∷ Empty 0 ∷ [] }
-    ensures joined { lines_in Two
-        (Try 1 3 ∷ Remove 0 0 2 ∷ Remove 0 1 2 ∷ Remove 0 2 1 ∷ Remove 4 3 1 ∷ Remove 4 5 1
-        ∷ Empty 0 ∷ End ∷ [])
+    ensures joined { lines_in Two (Try 1 3 ∷ Remove 0 0 2 ∷ Remove 0 1 2 ∷ Remove 0 2 1
+        ∷ Remove 4 3 1 ∷ Remove 4 5 1 ∷ Empty 0 ∷ End ∷ [])
         ≡ Try 1 3 ∷ Span 0 0 1 2 ∷ Span 0 2 2 1 ∷ Span 4 3 3 1 ∷ Span 4 5 5 1 ∷ Empty 0 ∷ End ∷ [] }
     ensures map { verdict_status (refute_verdict 7 outcomes.Map) ≡ 1 }
     ensures no_map { verdict_status (refute_verdict 7 outcomes.NoMap) ≡ 0 }

@@ -1,71 +1,65 @@
 //! Laws of the order of refusals, each a function with no body whose contract is the law. They run nothing.
 
-ghost use Rattle.std.specs.Prelude.{Err, List, Ok, [], codes, ◌↔◌, ◌≡◌};
+ghost use Rattle.std.specs.Prelude.{Err, List, [], codes, ◌≡◌};
 ghost use Rattle.wfc_choose.specs.declared.RuleKind.{RuleKind};
 ghost use Rattle.wfc_choose.specs.declared.RuleKind.TheVariants.{Fewest};
 ghost use Rattle.wfc_outside.specs.Folder.{File};
 ghost use Rattle.wfc_outside.specs.declared.whole.ReadFault.TheVariants.{Missing};
 ghost use Rattle.wfc_pins.specs.declared.fault.BuildFault.TheVariants as builds;
-ghost use Rattle.wfc_plan.specs.Order.{AreInOrder, IsFirstFault};
 ghost use Rattle.wfc_plan.specs.Plan.{outcome};
-ghost use Rattle.wfc_plan.specs.declared.fault.Fault.{Fault};
+ghost use Rattle.wfc_plan.specs.Refusing.{IsMadeInOrder, IsRefusedInOrder};
 ghost use Rattle.wfc_plan.specs.declared.fault.Fault.TheVariants.{Refused, Unread};
 ghost use Rattle.wfc_plan.specs.declared.fault.Refusal.TheVariants as refusals;
 ghost use Rattle.wfc_plan.specs.declared.fault.Source.TheVariants.{Pins, Refutation, Steps};
 ghost use Rattle.wfc_proof_commands.specs.Checking.{flat_proofs};
 ghost use Rattle.wfc_proof_commands.specs.CheckOrder.{check_order};
-ghost use Rattle.wfc_proof_commands.specs.CheckTask.{CheckTask, check_plan};
+ghost use Rattle.wfc_proof_commands.specs.CheckTask.{check_plan};
 ghost use Rattle.wfc_proof_commands.specs.RefuteOrder.{refute_order};
-ghost use Rattle.wfc_proof_commands.specs.RefuteTask.{RefuteTask, refute_plan};
+ghost use Rattle.wfc_proof_commands.specs.RefuteTask.{refute_plan};
 ghost use Rattle.wfc_proof_commands.specs.UpgradeOrder.{upgrade_order};
-ghost use Rattle.wfc_proof_commands.specs.UpgradeTask.{UpgradeTask, upgrade_plan};
+ghost use Rattle.wfc_proof_commands.specs.UpgradeTask.{upgrade_plan};
 ghost use Rattle.wfc_render.specs.declared.form.Form.TheVariants.{P6};
 ghost use Rattle.wfc_task.specs.Small.{sample_asked, with_pins, with_sample};
 ghost use Rattle.wfc_words.specs.RequestView.{RequestView};
 
 /// So it is with `refute`: the chooser before the problem.
 pub fn refute_refuses_in_order()
-    ensures refused { (kinds : List RuleKind) (asked : RequestView) (files : List File)
-        (fault : Fault) → (outcome (refute_plan flat_proofs kinds asked) files ≡ Err fault)
-        ↔ IsFirstFault (refute_order flat_proofs kinds asked files) fault }
-    ensures made { (kinds : List RuleKind) (asked : RequestView) (files : List File) →
-        ((task : RefuteTask) × (outcome (refute_plan flat_proofs kinds asked) files ≡ Ok task))
-        ↔ AreInOrder (refute_order flat_proofs kinds asked files) }
+    ensures refused { (kinds : List RuleKind) (asked : RequestView) (files : List File) →
+        IsRefusedInOrder (refute_plan flat_proofs kinds asked) files
+        (refute_order flat_proofs kinds asked files) }
+    ensures made { (kinds : List RuleKind) (asked : RequestView) (files : List File) → IsMadeInOrder
+        (refute_plan flat_proofs kinds asked) files (refute_order flat_proofs kinds asked files) }
 {}
 
 /// So it is with `check`: the problem before the refutation.
 pub fn check_refuses_in_order()
-    ensures refused { (asked : RequestView) (files : List File) (fault : Fault) →
-        (outcome (check_plan flat_proofs asked) files ≡ Err fault)
-        ↔ IsFirstFault (check_order flat_proofs asked files) fault }
+    ensures refused { (asked : RequestView) (files : List File) → IsRefusedInOrder
+        (check_plan flat_proofs asked) files (check_order flat_proofs asked files) }
     ensures made { (asked : RequestView) (files : List File) →
-        ((task : CheckTask) × (outcome (check_plan flat_proofs asked) files ≡ Ok task))
-        ↔ AreInOrder (check_order flat_proofs asked files) }
+        IsMadeInOrder (check_plan flat_proofs asked) files (check_order flat_proofs asked files) }
 {}
 
 /// So it is with `upgrade`: the problem before the refutation.
 pub fn upgrade_refuses_in_order()
-    ensures refused { (asked : RequestView) (files : List File) (fault : Fault) →
-        (outcome (upgrade_plan asked) files ≡ Err fault)
-        ↔ IsFirstFault (upgrade_order asked files) fault }
+    ensures refused { (asked : RequestView) (files : List File) →
+        IsRefusedInOrder (upgrade_plan asked) files (upgrade_order asked files) }
     ensures made { (asked : RequestView) (files : List File) →
-        ((task : UpgradeTask) × (outcome (upgrade_plan asked) files ≡ Ok task))
-        ↔ AreInOrder (upgrade_order asked files) }
+        IsMadeInOrder (upgrade_plan asked) files (upgrade_order asked files) }
 {}
 
 /// Of several faults at once the first in the order is named: the chooser before the problem, and the problem before the
 /// refutation, which no layout is looked at for.
 pub fn first_of_several_faults()
-    ensures chooser_and_pins { outcome (refute_plan flat_proofs [] (sample_asked 2 P6)) (with_sample [])
-        ≡ Err (Refused (refusals.Chooser Fewest)) }
-    ensures size_and_refutation { outcome (check_plan flat_proofs (sample_asked 2 P6)) (with_pins (codes ""))
-        ≡ Err (Refused (refusals.Build builds.SizeBelowN)) }
+    ensures chooser_and_pins { outcome (refute_plan flat_proofs [] (sample_asked 2 P6))
+        (with_sample []) ≡ Err (Refused (refusals.Chooser Fewest)) }
+    ensures size_and_refutation { outcome (check_plan flat_proofs (sample_asked 2 P6))
+        (with_pins (codes "")) ≡ Err (Refused (refusals.Build builds.SizeBelowN)) }
     ensures refutation { outcome (check_plan flat_proofs (sample_asked 1 P6)) (with_pins (codes ""))
         ≡ Err (Unread Refutation Missing) }
     ensures size_and_upgrade { outcome (upgrade_plan (sample_asked 2 P6)) (with_pins (codes ""))
         ≡ Err (Refused (refusals.Build builds.SizeBelowN)) }
     ensures upgrade { outcome (upgrade_plan (sample_asked 1 P6)) (with_pins (codes ""))
         ≡ Err (Unread Refutation Missing) }
-    ensures nothing { (asked : RequestView) (files : List File) →
-        outcome (refute_plan flat_proofs [] asked) files ≡ Err (Refused (refusals.Chooser asked.rule)) }
+    ensures nothing { (asked : RequestView) (files : List File) → outcome
+        (refute_plan flat_proofs [] asked) files ≡ Err (Refused (refusals.Chooser asked.rule)) }
 {}

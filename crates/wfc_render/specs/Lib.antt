@@ -7,6 +7,7 @@ pub mod Learned
 pub mod LearnedTiles
 pub mod Map
 pub mod Numbers
+pub mod Small
 pub mod SmallTiles
 pub mod Tiled
 pub use Rattle.wfc_domains.specs.Domains

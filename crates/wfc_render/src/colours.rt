@@ -70,7 +70,8 @@ pub(crate) fn push_head(
     height: u32,
     maxval: u16,
 ) -> Result<(), NoMemory>
-    ensures head { OnOk result (text.new.items ≡ text.old.items ++ head_in form width height maxval) }
+    ensures head { OnOk result (text.new.items
+        ≡ text.old.items ++ head_in form width height maxval) }
 {
     match form {
         Form::P3 => push_p3_head(text, width, height, maxval),

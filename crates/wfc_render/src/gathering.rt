@@ -83,7 +83,8 @@ pub(crate) fn flush<S: Sink>(sink: &mut S, piece: &mut Piece) -> Result<(), Sink
 #[inline]
 pub(crate) fn put<S: Sink>(sink: &mut S, piece: &mut Piece, bytes: &[u8]) -> Result<(), SinkFault>
     requires short { length bytes.now ≤ PIECE }
-    ensures gathered { Gathers (S.seen sink.old) (S.seen sink.new) piece.old bytes.now piece.new result }
+    ensures gathered { Gathers (S.seen sink.old) (S.seen sink.new)
+        piece.old bytes.now piece.new result }
 {
     if piece.room() < bytes.len() {
         flush(sink, piece)?;
@@ -95,7 +96,8 @@ pub(crate) fn put<S: Sink>(sink: &mut S, piece: &mut Piece, bytes: &[u8]) -> Res
 /// Gathers the digits of a number.
 #[inline]
 pub(crate) fn put_number<S: Sink>(sink: &mut S, piece: &mut Piece, n: u32) -> Result<(), SinkFault>
-    ensures gathered { Gathers (S.seen sink.old) (S.seen sink.new) piece.old (decimal n) piece.new result }
+    ensures gathered { Gathers (S.seen sink.old) (S.seen sink.new)
+        piece.old (decimal n) piece.new result }
 {
     let mut buffer = Buffer::new();
     put(sink, piece, buffer.format(n).as_bytes())

@@ -11,6 +11,8 @@ ghost use Rattle.wfc_render.specs.Learned.{learned_text};
 ghost use Rattle.wfc_render.specs.LearnedTiles.{learned_tiles_text};
 ghost use Rattle.wfc_render.specs.Tiled.{tiles_in};
 ghost use Rattle.wfc_tileset.specs.Samples.{lines, one_taken};
+ghost use Rattle.wfc_render.specs.Small.{blank_and_colour, letters_and_blank, map_across, map_down, map_of_one};
+ghost use Rattle.wfc_render.specs.Small.{map_of_six, pair_of_patterns, two_colours};
 ghost use Rattle.wfc_render.specs.SmallTiles.{four_shown_tiles};
 ghost use Rattle.wfc_model.specs.Raster.{raster_of};
 ghost use Rattle.wfc_render.specs.Map.{is_of_kind, symbol_at, text_in};
@@ -20,12 +22,11 @@ ghost use Rattle.wfc_render.specs.declared.form.Form.TheVariants.{P6, P3, Grid, 
 ghost use Rattle.wfc_render.specs.declared.form.Layout.{Layout};
 ghost use Rattle.wfc_render.specs.declared.form.RenderFault.TheVariants.{FormDiffers, TooLarge};
 
-use crate::layouts::{MAX_MAP_PIXELS, MAX_OUTPUT_SIDE, MAX_TILE_SIDE};
+use crate::layouts::{MAX_MAP_PIXELS, MAX_OUTPUT_SIDE};
 
 /// The limits as plain numbers.
 pub fn limits_are()
     ensures output { MAX_OUTPUT_SIDE ≡ 4096 }
-    ensures tile { MAX_TILE_SIDE ≡ 64 }
     ensures pixels { MAX_MAP_PIXELS ≡ 16777216 }
 {}
 
@@ -69,39 +70,37 @@ pub fn layouts_by_example()
 /// Which symbols a kind of sample can show: a grid the printable bytes.
 pub fn kinds_by_example()
     ensures printable { map (is_of_kind kinds.Grid) (Char 32 ∷ Char 126 ∷ []) ≡ true ∷ true ∷ [] }
-    ensures others { map (is_of_kind kinds.Grid) (Char 31 ∷ Char 127 ∷ rgb 1 2 3 ∷ []) ≡ false ∷ false ∷ false ∷ [] }
+    ensures others { map (is_of_kind kinds.Grid) (Char 31 ∷ Char 127 ∷ rgb 1 2 3 ∷ [])
+        ≡ false ∷ false ∷ false ∷ [] }
     ensures plain { is_of_kind kinds.Plain (Char 97) ≡ false }
     ensures colours { map (is_of_kind (kinds.Ppm 9)) (rgb 9 0 9 ∷ rgb 0 10 0 ∷ Char 97 ∷ [])
         ≡ true ∷ false ∷ false ∷ [] }
-    ensures symbol { map (symbol_at (Char 98 ∷ rgb 1 2 3 ∷ [])) (1 ∷ 0 ∷ 2 ∷ []) ≡ rgb 1 2 3 ∷ Char 98 ∷ Char 32 ∷ [] }
+    ensures symbol { map (symbol_at (Char 98 ∷ rgb 1 2 3 ∷ [])) (1 ∷ 0 ∷ 2 ∷ [])
+        ≡ rgb 1 2 3 ∷ Char 98 ∷ Char 32 ∷ [] }
 {}
 
 /// A map of three by two in both forms: row by row the bytes of the symbols, or the numbers with one blank between each two.
 pub fn maps_by_example()
-    ensures grid { text_in kinds.Grid Grid (Char 98 ∷ Char 97 ∷ Char 32 ∷ [])
-        (record { width = 3; rows = (0 ∷ 1 ∷ 2 ∷ []) ∷ (1 ∷ 1 ∷ 0 ∷ []) ∷ [] }) ≡ codes "ba \naab\n" }
-    ensures cells { text_in kinds.Grid Cells (Char 98 ∷ Char 97 ∷ Char 32 ∷ [])
-        (record { width = 3; rows = (0 ∷ 1 ∷ 2 ∷ []) ∷ (1 ∷ 1 ∷ 0 ∷ []) ∷ [] }) ≡ codes "0 1 2\n1 1 0\n" }
+    ensures grid { text_in kinds.Grid Grid letters_and_blank map_of_six ≡ codes "ba \naab\n" }
+    ensures cells { text_in kinds.Grid Cells letters_and_blank map_of_six ≡ codes "0 1 2\n1 1 0\n" }
     ensures numbers { spaced_numbers (10 ∷ 0 ∷ 4095 ∷ []) ≡ codes "10 0 4095" }
     ensures one { spaced_numbers (7 ∷ []) ≡ codes "7" }
 {}
 
 /// A map of two by one of colours, raw and in decimal; samples of two bytes have the most significant first.
 pub fn maps_of_colours_by_example()
-    ensures raw { text_in (kinds.Ppm 255) P6 (rgb 1 2 3 ∷ rgb 70 80 90 ∷ []) (record { width = 2; rows = (1 ∷ 0 ∷ []) ∷ [] })
+    ensures raw { text_in (kinds.Ppm 255) P6 two_colours map_across
         ≡ codes "P6\n2 1\n255\n" ++ 70 ∷ 80 ∷ 90 ∷ 1 ∷ 2 ∷ 3 ∷ [] }
-    ensures wide { text_in (kinds.Ppm 256) P6 (rgb 1 2 256 ∷ []) (record { width = 1; rows = (0 ∷ []) ∷ [] })
+    ensures wide { text_in (kinds.Ppm 256) P6 (rgb 1 2 256 ∷ []) map_of_one
         ≡ codes "P6\n1 1\n256\n" ++ 0 ∷ 1 ∷ 0 ∷ 2 ∷ 1 ∷ 0 ∷ [] }
-    ensures plain { text_in (kinds.Ppm 99) P3 (rgb 1 2 3 ∷ rgb 70 80 90 ∷ []) (record { width = 1; rows = (1 ∷ []) ∷ (0 ∷ []) ∷ [] })
+    ensures plain { text_in (kinds.Ppm 99) P3 two_colours map_down
         ≡ codes "P3\n1 2\n99\n70 80 90\n1 2 3\n" }
 {}
 
 /// Two patterns of side 2 over a blank and a colour.
 pub fn learned_by_example()
-    ensures two { learned_text
-        (record { n = 2; windows = (0 ∷ 1 ∷ 1 ∷ 1 ∷ []) ∷ (1 ∷ 0 ∷ 0 ∷ 1 ∷ []) ∷ []; weights = 12 ∷ 3 ∷ [] })
-        (Char 32 ∷ rgb 1 20 3 ∷ []) ≡ codes "overlap 2\ncolours 2\n0 " ++ 92
-        ∷ codes "s\n1 1,20,3\npatterns 2\n0 12: 0 1 1 1\n1 3: 1 0 0 1\n" }
+    ensures two { learned_text pair_of_patterns blank_and_colour ≡ codes "overlap 2\ncolours 2\n0 "
+        ++ 92 ∷ codes "s\n1 1,20,3\npatterns 2\n0 12: 0 1 1 1\n1 3: 1 0 0 1\n" }
 {}
 
 /// Blocks of three values and two cells, where a value stands at each cell below it, and of dead domains.
@@ -115,8 +114,10 @@ pub fn blocks_by_example()
 
 /// A map of tiles by example: the second variant of a tile of four characters and a hole.
 pub fn tile_maps_by_example()
-    ensures grid { tiles_in Grid four_shown_tiles (raster_of 2 1 (1 ∷ 65535 ∷ [])) ≡ codes "bd  \nac  \n" }
-    ensures cells { tiles_in Cells four_shown_tiles (raster_of 2 1 (1 ∷ 65535 ∷ [])) ≡ codes "1 -\n" }
+    ensures grid { tiles_in Grid four_shown_tiles (raster_of 2 1 (1 ∷ 65535 ∷ []))
+        ≡ codes "bd  \nac  \n" }
+    ensures cells { tiles_in Cells four_shown_tiles (raster_of 2 1 (1 ∷ 65535 ∷ []))
+        ≡ codes "1 -\n" }
     ensures plain { tiles_in P3 one_taken (raster_of 1 2 (65535 ∷ 0 ∷ []))
         ≡ codes "P3\n1 2\n9\n0 0 0\n1 2 3\n" }
 {}

@@ -87,7 +87,8 @@ pub(crate) fn byte_of(symbol: Symbol) -> u8
 
 /// The numbers row by row, each row with its end.
 fn number_rows(alloc: Global, picture: &Picture) -> Result<Vec<u8>, NoMemory>
-    ensures text { IfOk result (λ text. text.items ≡ grid_text (map spaced_numbers picture.now.rows)) }
+    ensures text { IfOk result (λ text.
+        text.items ≡ grid_text (map spaced_numbers picture.now.rows)) }
 {
     let height = picture.height();
     let mut text = Vec::new(alloc);

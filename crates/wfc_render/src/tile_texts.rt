@@ -1,7 +1,8 @@
 //! The text of a tile set.
 
 ghost use Rattle.std.specs.Prelude.{◌≡◌, ◌<◌, ◌≤◌, ◌++◌, [], if◌then◌else◌, length, IfOk, OnOk};
-ghost use Rattle.wfc_render.specs.LearnedTiles.{allowed_behind, is_allowed, learned_tiles_text, pair_count, pair_line, pair_lines, pairs_text, variant_line, variants_text};
+ghost use Rattle.wfc_render.specs.LearnedTiles.{allowed_behind, is_allowed, learned_tiles_text, pair_count};
+ghost use Rattle.wfc_render.specs.LearnedTiles.{pair_line, pair_lines, pairs_text, variant_line, variants_text};
 ghost use Rattle.wfc_tileset.specs.Tiles.{spelling, variant_at, variant_total};
 
 use crate::learned::push_head;
@@ -70,7 +71,8 @@ fn push_spelling(text: &mut Vec<u8>, tiles: &TileSet, v: u16) -> Result<(), NoMe
 
 /// Writes the pairs of variants behind the text.
 fn push_pairs(text: &mut Vec<u8>, word: &[u8], way: Way, tiles: &TileSet) -> Result<(), NoMemory>
-    ensures pairs { OnOk result (text.new.items ≡ text.old.items ++ pairs_text word.now way tiles.now) }
+    ensures pairs { OnOk result (text.new.items
+        ≡ text.old.items ++ pairs_text word.now way tiles.now) }
 {
     push_head(text, word, u64::from(count_pairs(way, tiles)))?;
     for v in 0..tiles.variants() {

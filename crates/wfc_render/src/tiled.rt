@@ -38,7 +38,8 @@ pub fn tile_bytes(
 
 /// The numbers of variants row by row, each row with its end.
 fn cell_rows(alloc: Global, picture: &Picture) -> Result<Vec<u8>, NoMemory>
-    ensures text { IfOk result (λ text. text.items ≡ grid_text (map spaced_cells picture.now.rows)) }
+    ensures text { IfOk result (λ text.
+        text.items ≡ grid_text (map spaced_cells picture.now.rows)) }
 {
     let height = picture.height();
     let mut text = Vec::new(alloc);
@@ -179,7 +180,8 @@ fn push_place(
     requires pictured { IsPictured tiles.now }
     requires number { IsVariantOrHole tiles.now number }
     requires j_in { j < side_of tiles.now.pictures }
-    ensures place { OnOk result (text.new.items ≡ text.old.items ++ place_in form tiles.now j number) }
+    ensures place { OnOk result (text.new.items
+        ≡ text.old.items ++ place_in form tiles.now j number) }
 {
     let maxval = maxval_of(tiles.kind());
     let side = tiles.side();

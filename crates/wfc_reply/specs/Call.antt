@@ -1,5 +1,5 @@
 -- A call of the program.
-use Rattle.std.specs.Prelude.{List, map, ℕ}
+use Rattle.std.specs.Prelude.{List, [], map, ℕ}
 use Rattle.std.specs.declared.alloc.Global.{Global}
 use Rattle.std.specs.declared.string.String.{String}
 use Rattle.wfc_choose.specs.Pick.{Rule}
@@ -13,6 +13,7 @@ pub record Devices : Type 0 where
   pub out : SinkView
   pub err : SinkView
 
+-- this folder, sink of the answer and error stream, as devices
 abbrev pub devices : FolderView → SinkView → SinkView → Devices
 devices folder out err = record { folder = folder; out = out; err = err }
 
@@ -35,6 +36,13 @@ call_of rule choosers words folder folder_old folder_new out out_old out_new err
   after = devices (folder folder_new) (out out_new) (err err_new);
   status = status;
 }
+
+-- the call without words whose choosers, folder and sinks are given as they are seen
+abbrev pub plain_call : List Rule → FolderView → FolderView → SinkView → SinkView → SinkView
+    → SinkView → ℕ → Call
+plain_call rules f g a b c d status =
+    call_of (λ (r : Rule). r) rules [] (λ (s : FolderView). s) f g (λ (s : SinkView). s) a b
+    (λ (s : SinkView). s) c d status
 
 -- the same devices with another error stream
 abbrev pub with_err : Devices → SinkView → Devices

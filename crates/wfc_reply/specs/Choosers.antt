@@ -5,6 +5,10 @@ use Rattle.wfc_choose.specs.Pick.{Rule}
 use Rattle.wfc_choose.specs.declared.RuleKind.{RuleKind}
 use Rattle.wfc_plan.specs.Kinds.{same_rule}
 
+-- the rule of a kind that goes by these ranks
+abbrev pub rule_with : RuleKind → List ℕ → Rule
+rule_with kind ranks = record { kind = kind; ranks = ranks }
+
 -- the kinds of rules
 abbrev pub kinds_of : List Rule → List RuleKind
 kinds_of rules = map (λ (rule : Rule). rule.kind) rules

@@ -49,6 +49,7 @@ PutsFrom format s words outcome old new =
     PutsRun format s.chooser.rule s.course.budget s.problem
     (state_at s.store s.course 0 words) outcome old new
 
+-- so from the state that a search is at, where a fault cut the lines off
 abbrev pub CutsFrom : Format → SearchView → Stream → SinkView → SinkView → Type 0
 CutsFrom format s words old new =
     CutsRun format s.chooser.rule s.course.budget s.problem

@@ -15,6 +15,7 @@ text_view (Some text) = Some text.items
 abbrev pub answer_view : Answer → Answered
 answer_view answer = record { verdict = answer.verdict; text = text_view answer.text; whole = true }
 
+-- the reply that a result of the code stands for: its answer, or its fault
 abbrev pub reply_view : Result Answer Fault → Reply
 reply_view (Ok answer) = Ok (answer_view answer)
 reply_view (Err fault) = Err fault

@@ -6,8 +6,8 @@ ghost use Rattle.wfc_choose.specs.declared.RuleKind.TheVariants as rules;
 ghost use Rattle.wfc_outside.specs.Folder.{FolderView};
 ghost use Rattle.wfc_outside.specs.Sink.{SinkView};
 ghost use Rattle.wfc_plan.specs.Plan.{done};
-ghost use Rattle.wfc_reply.specs.Call.{Call, beside, call_of, devices};
-ghost use Rattle.wfc_reply.specs.Choosers.{first_rule};
+ghost use Rattle.wfc_reply.specs.Call.{Call, beside, devices, plain_call};
+ghost use Rattle.wfc_reply.specs.Choosers.{first_rule, rule_with};
 ghost use Rattle.wfc_reply.specs.Outcomes.{outcome_status};
 ghost use Rattle.wfc_reply.specs.Reply.{HasAnswer, verdict_status};
 ghost use Rattle.wfc_reply.specs.declared.reply.Verdict.TheVariants as verdicts;
@@ -33,26 +33,20 @@ pub fn statuses_are()
 
 /// The first rule of a kind is used, by example.
 pub fn first_rules_are_taken()
-    ensures first { first_rule rules.Fewest
-        (record { kind = rules.Ranked; ranks = 5 ∷ [] }
-        ∷ record { kind = rules.Fewest; ranks = 1 ∷ [] }
-        ∷ record { kind = rules.Fewest; ranks = 2 ∷ [] } ∷ [])
-        ≡ Some (record { kind = rules.Fewest; ranks = 1 ∷ [] }) }
-    ensures none { first_rule rules.Scanline (record { kind = rules.Fewest; ranks = [] } ∷ [])
-        ≡ None }
+    ensures first { first_rule rules.Fewest (rule_with rules.Ranked (5 ∷ [])
+        ∷ rule_with rules.Fewest (1 ∷ []) ∷ rule_with rules.Fewest (2 ∷ []) ∷ [])
+        ≡ Some (rule_with rules.Fewest (1 ∷ [])) }
+    ensures none { first_rule rules.Scanline (rule_with rules.Fewest [] ∷ []) ≡ None }
 {}
 
 /// What a call is made of: its devices are seen before it and after it, in their order, and another error stream changes nothing else.
 pub fn calls_are_seen_before_and_after()
     ensures before { (rules : List Rule) (f g : FolderView) (a b c d : SinkView) →
-        (call_of (λ (r : Rule). r) rules [] (λ (s : FolderView). s) f g (λ (s : SinkView). s) a b
-        (λ (s : SinkView). s) c d 5).before ≡ devices f a c }
+        (plain_call rules f g a b c d 5).before ≡ devices f a c }
     ensures after { (rules : List Rule) (f g : FolderView) (a b c d : SinkView) →
-        (call_of (λ (r : Rule). r) rules [] (λ (s : FolderView). s) f g (λ (s : SinkView). s) a b
-        (λ (s : SinkView). s) c d 5).after ≡ devices g b d }
+        (plain_call rules f g a b c d 5).after ≡ devices g b d }
     ensures status { (rules : List Rule) (f g : FolderView) (a b c d : SinkView) →
-        (call_of (λ (r : Rule). r) rules [] (λ (s : FolderView). s) f g (λ (s : SinkView). s) a b
-        (λ (s : SinkView). s) c d 5).status ≡ 5 }
+        (plain_call rules f g a b c d 5).status ≡ 5 }
     ensures before_beside { (call : Call) (old new : SinkView) →
         (beside call old new).before ≡ devices call.before.folder call.before.out old }
     ensures after_beside { (call : Call) (old new : SinkView) →

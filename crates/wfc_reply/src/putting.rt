@@ -202,9 +202,8 @@ fn put_lines<R: Rng, O: Sink, L: Ledger>(
     ensures put { IfOk result (λ outcome. PutsFrom One
         (search_view (λ v. (⟦<dyn Chooser as Chooser>⟧ v).told) search.old)
         (R.stream words.old) outcome (O.seen out.old) (O.seen out.new)) }
-    ensures cut { OnErr result (CutsFrom One
-        (search_view (λ v. (⟦<dyn Chooser as Chooser>⟧ v).told) search.old)
-        (R.stream words.old) (O.seen out.old) (O.seen out.new)) }
+    ensures cut { OnErr result (CutsFrom One (search_view (λ v. (⟦<dyn Chooser as Chooser>⟧ v).told)
+        search.old) (R.stream words.old) (O.seen out.old) (O.seen out.new)) }
 {
     let mut journal = ProofJournal::behind_head(out);
     search.run(words, &mut journal, steps)
@@ -224,9 +223,8 @@ fn put_spans<R: Rng, O: Sink, L: Ledger>(
     ensures put { IfOk result (λ outcome. PutsFrom Two
         (search_view (λ v. (⟦<dyn Chooser as Chooser>⟧ v).told) search.old)
         (R.stream words.old) outcome (O.seen out.old) (O.seen out.new)) }
-    ensures cut { OnErr result (CutsFrom Two
-        (search_view (λ v. (⟦<dyn Chooser as Chooser>⟧ v).told) search.old)
-        (R.stream words.old) (O.seen out.old) (O.seen out.new)) }
+    ensures cut { OnErr result (CutsFrom Two (search_view (λ v. (⟦<dyn Chooser as Chooser>⟧ v).told)
+        search.old) (R.stream words.old) (O.seen out.old) (O.seen out.new)) }
 {
     let mut journal = SpanJournal::behind_head(out);
     search.run(words, &mut journal, steps)

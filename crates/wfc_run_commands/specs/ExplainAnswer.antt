@@ -63,6 +63,7 @@ abbrev pub answer_to : RequestView → List ℕ → Explained → Answered
 answer_to asked numbers said =
     record { verdict = explain_verdict asked.budget said; text = explain_text numbers said; whole = true }
 
+-- the answer to an explanation, if there is one
 abbrev pub explain_answer : RequestView → List ℕ → Option Explained → Option Answered
 explain_answer asked numbers None = None
 explain_answer asked numbers (Some said) = Some (answer_to asked numbers said)

@@ -56,5 +56,6 @@ explain_order_by Tiles kinds asked files =
     ∷ IsTilePinFault asked files
     ∷ []
 
+-- what is looked at for the explanation that a request asks for
 abbrev pub explain_order : List RuleKind → RequestView → List File → List TaskStage
 explain_order kinds asked files = explain_order_by asked.source kinds asked files

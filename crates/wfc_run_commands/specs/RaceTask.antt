@@ -32,6 +32,7 @@ race_plan kinds asked =
     and_then (step (race_fits asked.seeds P)) (λ _.
     done (race P))))
 
+-- the problem that the code makes, as the task of `race`, or the fault
 abbrev pub race_made : Result Network Fault → Result RaceTask Fault
 race_made (Ok P) = Ok (race P)
 race_made (Err fault) = Err fault

@@ -30,8 +30,7 @@ ghost use Rattle.wfc_words.specs.RequestView.{RequestView};
 /// race isn't too large.
 pub fn race_tasks_are_given()
     ensures task { (kinds : List RuleKind) (asked : RequestView) (files : List File) (P : Network) →
-        (outcome (race_plan kinds asked) files ≡ Ok (race P))
-        ↔ IsRaceTask kinds asked files P }
+        (outcome (race_plan kinds asked) files ≡ Ok (race P)) ↔ IsRaceTask kinds asked files P }
     ensures limit { MAX_RACE ≡ 8388608 }
 {}
 
@@ -71,9 +70,8 @@ pub fn entrants_by_example()
 /// What is written of a race and of a core, by example: the numbers of the lines are those of the file.
 pub fn answers_by_example()
     ensures race { race_line 7 12 (codes "no map") ≡ codes "seed 7 retractions 12 no map\n" }
-    ensures core { core_text (3 ∷ 4 ∷ 9 ∷ [])
-        (record { index = 0; mark = Undecided } ∷ record { index = 2; mark = Needed } ∷ [])
-        ≡ codes "core 2\nundecided 3\nneeded 9\n" }
+    ensures core { core_text (3 ∷ 4 ∷ 9 ∷ []) (record { index = 0; mark = Undecided }
+        ∷ record { index = 2; mark = Needed } ∷ []) ≡ codes "core 2\nundecided 3\nneeded 9\n" }
     ensures none { core_text (3 ∷ []) [] ≡ codes "core 0\n" }
 {}
 

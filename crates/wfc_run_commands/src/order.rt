@@ -1,43 +1,38 @@
 //! Laws of the order of refusals, each a function with no body whose contract is the law. They run nothing.
 
-ghost use Rattle.std.specs.Prelude.{Err, List, Ok, [], ◌↔◌, ◌∷◌, ◌≡◌, ◌≤◌};
+ghost use Rattle.std.specs.Prelude.{Err, List, [], ◌∷◌, ◌≡◌, ◌≤◌};
 ghost use Rattle.wfc_choose.specs.declared.RuleKind.{RuleKind};
 ghost use Rattle.wfc_choose.specs.declared.RuleKind.TheVariants.{Fewest};
 ghost use Rattle.wfc_outside.specs.Folder.{File};
 ghost use Rattle.wfc_outside.specs.declared.whole.ReadFault.TheVariants.{Missing};
-ghost use Rattle.wfc_plan.specs.Order.{AreInOrder, IsFirstFault};
 ghost use Rattle.wfc_plan.specs.Plan.{outcome};
-ghost use Rattle.wfc_plan.specs.declared.fault.Fault.{Fault};
+ghost use Rattle.wfc_plan.specs.Refusing.{IsMadeInOrder, IsRefusedInOrder};
 ghost use Rattle.wfc_plan.specs.declared.fault.Fault.TheVariants.{Refused, Unread};
 ghost use Rattle.wfc_plan.specs.declared.fault.Refusal.TheVariants as refusals;
 ghost use Rattle.wfc_plan.specs.declared.fault.Source.TheVariants.{Pins};
 ghost use Rattle.wfc_render.specs.declared.form.Form.TheVariants.{P6};
 ghost use Rattle.wfc_run_commands.specs.ExplainOrder.{explain_order};
-ghost use Rattle.wfc_run_commands.specs.ExplainTask.{ExplainTask, explain_plan};
+ghost use Rattle.wfc_run_commands.specs.ExplainTask.{explain_plan};
 ghost use Rattle.wfc_run_commands.specs.RaceOrder.{race_order};
-ghost use Rattle.wfc_run_commands.specs.RaceTask.{RaceTask, race_plan};
+ghost use Rattle.wfc_run_commands.specs.RaceTask.{race_plan};
 ghost use Rattle.wfc_task.specs.Small.{sample_asked, with_sample};
 ghost use Rattle.wfc_words.specs.RequestView.{RequestView};
 
 /// `race` has a fault exactly where it is that of the first stage at fault, and comes to a task exactly where all are in
 /// order: the choosers before the problem, and the problem before its measure.
 pub fn race_refuses_in_order()
-    ensures refused { (kinds : List RuleKind) (asked : RequestView) (files : List File)
-        (fault : Fault) → (outcome (race_plan kinds asked) files ≡ Err fault)
-        ↔ IsFirstFault (race_order kinds asked files) fault }
+    ensures refused { (kinds : List RuleKind) (asked : RequestView) (files : List File) →
+        IsRefusedInOrder (race_plan kinds asked) files (race_order kinds asked files) }
     ensures made { (kinds : List RuleKind) (asked : RequestView) (files : List File) →
-        ((task : RaceTask) × (outcome (race_plan kinds asked) files ≡ Ok task))
-        ↔ AreInOrder (race_order kinds asked files) }
+        IsMadeInOrder (race_plan kinds asked) files (race_order kinds asked files) }
 {}
 
 /// The same of `explain`: the lines of the pins file are counted behind their form, before the mask and the problem.
 pub fn explain_refuses_in_order()
-    ensures refused { (kinds : List RuleKind) (asked : RequestView) (files : List File)
-        (fault : Fault) → (outcome (explain_plan kinds asked) files ≡ Err fault)
-        ↔ IsFirstFault (explain_order kinds asked files) fault }
+    ensures refused { (kinds : List RuleKind) (asked : RequestView) (files : List File) →
+        IsRefusedInOrder (explain_plan kinds asked) files (explain_order kinds asked files) }
     ensures made { (kinds : List RuleKind) (asked : RequestView) (files : List File) →
-        ((task : ExplainTask) × (outcome (explain_plan kinds asked) files ≡ Ok task))
-        ↔ AreInOrder (explain_order kinds asked files) }
+        IsMadeInOrder (explain_plan kinds asked) files (explain_order kinds asked files) }
 {}
 
 /// Of several faults at once the first in the order is named.
@@ -46,8 +41,8 @@ pub fn first_of_several_faults()
         (race_plan (Fewest ∷ []) (record (sample_asked 2 P6) { seeds = 2 })) (with_sample [])
         ≡ Err (Refused (refusals.Chooser Fewest)) }
     ensures pins { outcome
-        (race_plan (Fewest ∷ Fewest ∷ []) (record (sample_asked 2 P6) { seeds = 2 })) (with_sample [])
-        ≡ Err (Unread Pins Missing) }
+        (race_plan (Fewest ∷ Fewest ∷ []) (record (sample_asked 2 P6) { seeds = 2 }))
+        (with_sample []) ≡ Err (Unread Pins Missing) }
     ensures nothing { (asked : RequestView) (files : List File) → 1 ≤ asked.seeds →
         outcome (race_plan [] asked) files ≡ Err (Refused (refusals.Chooser asked.rule)) }
 {}

@@ -79,9 +79,8 @@ fn raced<L: Ledger>(
     requires few { length runners.items ≤ MAX_RUNNERS }
     requires fits { request.now.seed + length runners.items ≤ 2 ^ 64 }
     requires quantum { 1 ≤ request.now.quantum }
-    ensures raced { IfOk result (IsRaced problem.now
-        (map (λ chooser. (told chooser).rule) runners.items)
-        request.now.budget request.now.seed request.now.quantum) }
+    ensures raced { IfOk result (IsRaced problem.now (map (λ chooser. (told chooser).rule)
+        runners.items) request.now.budget request.now.seed request.now.quantum) }
 {
     let mut steps = Steps::<L>::new(blank);
     races::race(

@@ -1,9 +1,9 @@
 //! A race of seeds over a problem.
 
 ghost use Rattle.std.specs.Prelude.{All, IfOk, length, map, ◌+◌, ◌-◌, ◌<◌, ◌^◌, ◌≡◌, ◌≤◌};
-ghost use Rattle.wfc_race.specs.Race.{IsTrueRaceEnd};
 ghost use Rattle.wfc_race.specs.Racers.{entered};
-ghost use Rattle.wfc_race.specs.Seen.{IsRunner, problem_of, racer_of, racers_of, seen, seens};
+ghost use Rattle.wfc_race.specs.Seen.{IsRunner, racer_of, racers_of, seen, seens};
+ghost use Rattle.wfc_race.specs.Standing.{EndsTruly};
 ghost use Rattle.wfc_race.specs.declared.TheConstants.{MAX_RUNNERS};
 ghost use Rattle.wfc_run_commands.specs.Races.{AnswersTo, IsRaced, entrants};
 ghost use Rattle.wfc_runs.specs.Words.{words_of, words_of_seed};
@@ -64,8 +64,8 @@ fn runners<'p>(
     seed: u64,
 ) -> Result<Vec<Runner<'p, Ac4<'p>, Pcg64>>, NoMemory>
     requires fits { seed + length choosers.items ≤ 2 ^ 64 }
-    ensures runners { IfOk result (λ made. All (IsRunner problem.now)
-        (map (seen (λ store. store) words_of (λ v. (⟦<dyn Chooser as Chooser>⟧ v).told)) made.items)) }
+    ensures runners { IfOk result (λ made. All (IsRunner problem.now) (map
+        (seen (λ store. store) words_of (λ v. (⟦<dyn Chooser as Chooser>⟧ v).told)) made.items)) }
     ensures entered { IfOk result (λ made. racers_of
         (map (seen (λ store. store) words_of (λ v. (⟦<dyn Chooser as Chooser>⟧ v).told)) made.items)
         ≡ entrants (map (λ chooser. (told chooser).rule) choosers.items) budget seed) }
@@ -82,11 +82,10 @@ fn runners<'p>(
 
 /// What is told of the end of a race.
 fn told_of(race: &Race<'_, Ac4<'_>, Pcg64>, end: RaceEnd) -> Raced
-    requires true_end { IsTrueRaceEnd
-        (problem_of (seens (λ store. store) words_of (λ v. (⟦<dyn Chooser as Chooser>⟧ v).told) race.now))
-        (racers_of (seens (λ store. store) words_of (λ v. (⟦<dyn Chooser as Chooser>⟧ v).told) race.now)) end }
-    ensures answers { AnswersTo end
-        (racers_of (seens (λ store. store) words_of (λ v. (⟦<dyn Chooser as Chooser>⟧ v).told) race.now)) result }
+    requires true_end { EndsTruly (λ store. store) words_of
+        (λ v. (⟦<dyn Chooser as Chooser>⟧ v).told) race.now end }
+    ensures answers { AnswersTo end (racers_of (seens (λ store. store) words_of
+        (λ v. (⟦<dyn Chooser as Chooser>⟧ v).told) race.now)) result }
 {
     match end {
         RaceEnd::Map { runner } => Raced::Map {

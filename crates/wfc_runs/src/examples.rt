@@ -14,7 +14,8 @@ use crate::End;
 
 /// The first words of a generator from a small state, as the published generator gives them.
 pub fn first_words()
-    ensures first { (words_of (record { state = 7; increment = 5 })).u64_after [] ≡ 8681540523656324265 }
+    ensures first { (words_of (record { state = 7; increment = 5 })).u64_after []
+        ≡ 8681540523656324265 }
     ensures second { (words_of (record { state = 7; increment = 5 })).u64_after (u64_call ∷ [])
         ≡ 4369254870819524095 }
 {}

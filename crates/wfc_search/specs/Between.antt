@@ -7,6 +7,7 @@ use Rattle.wfc_problem.specs.Rounds.{greatest, depth_of}
 use Rattle.wfc_problem.specs.declared.Literal.{Literal}
 use Rattle.wfc_problem.specs.declared.Literal.TheVariants.{Is, Not}
 use Rattle.wfc_problem.specs.Sizes.{size_at}
+use Rattle.wfc_search.specs.Run.{State}
 use Rattle.wfc_search.specs.Volume.{ways, volume_of, at_least_one}
 
 -- a literal takes something away: what is ruled out stands, and so does what is chosen, beside another value
@@ -53,6 +54,10 @@ pub record IsBetween (P : Network) (budget : ℕ) (standing : List Literal) (ret
   pub reasoned : IsReasoned P standing
   pub within : retractions ≤ budget
   pub counted : retractions + ways_left P standing ≤ at_least_one (volume_of P)
+
+-- what holds between the turns of a run with this budget holds of this state
+abbrev pub IsRunState : Network → ℕ → State → Type 0
+IsRunState P budget s = IsBetween P budget s.standing s.retractions
 
 -- at most so many turns come after the next one
 abbrev pub work_left : Network → ℕ → List Literal → ℕ → ℕ

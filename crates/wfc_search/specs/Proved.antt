@@ -1,5 +1,6 @@
 -- What the lines of a whole run are: a proof that closes the base domains, or one of which a branch is left open.
-use Rattle.std.specs.Prelude.{◌≡◌, ℕ, ◌+◌, Bool, true, List, [], ◌∷◌, ◌++◌, if◌then◌else◌}
+use Rattle.std.specs.Prelude.{◌≡◌, ℕ, ◌+◌, Bool, true, List, [], ◌∷◌, ◌++◌}
+pub use Rattle.wfc_lists.specs.Counts.{one_if}
 use Rattle.wfc_choose.specs.Pick.{Rule}
 use Rattle.wfc_problem.specs.Network.{Network, in_base}
 use Rattle.wfc_problem.specs.Rounds.{greatest}
@@ -70,10 +71,6 @@ choice_by (Ended outcome) = []
 abbrev pub choices_of : Network → Rule → ℕ → State → List State → List (ℕ × ℕ)
 choices_of P rule budget s [] = []
 choices_of P rule budget s (t ∷ later) = choice_by (turn_of P rule budget s).0 ++ choices_of P rule budget t later
-
--- 1 for what holds
-abbrev pub one_if : Bool → ℕ
-one_if b = if b then 1 else 0
 
 -- at how many of these states some cell is empty
 abbrev pub deaths_of : Network → List State → ℕ

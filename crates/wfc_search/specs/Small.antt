@@ -3,6 +3,10 @@ use Rattle.std.specs.Prelude.{ℕ, true, List, [], ◌∷◌, Option, Some, None
 use Rattle.rand_core.specs.Stream.{Stream}
 use Rattle.wfc_choose.specs.Pick.{Rule}
 use Rattle.wfc_choose.specs.declared.RuleKind.TheVariants.{Scanline}
+use Rattle.wfc_domains.specs.Store.{StoreView}
+use Rattle.wfc_domains.specs.declared.Cause.TheVariants.{Arc}
+use Rattle.wfc_domains.specs.declared.Removal.{Removal}
+use Rattle.wfc_domains.specs.declared.Verdict.{Verdict}
 use Rattle.wfc_problem.specs.declared.TheConstants.{NO_CELL}
 use Rattle.wfc_problem.specs.declared.Literal.{Literal}
 use Rattle.wfc_problem.specs.Network.{Network}
@@ -29,6 +33,21 @@ ring = record {
   weights = 1 ∷ 3 ∷ [];
   supports = (1 ∷ []) ∷ [] ∷ (1 ∷ []) ∷ [] ∷ (0 ∷ []) ∷ [] ∷ (0 ∷ []) ∷ [] ∷ [];
   base = true ∷ true ∷ true ∷ true ∷ true ∷ true ∷ [];
+}
+
+-- the value 1 was removed at cell 5 for want of support in direction 3
+abbrev pub one_removal : Removal
+one_removal = record { cell = 5; value = 1; before = 2; cause = Arc 3 }
+
+-- a store of the ring with these literals, room, marks, verdict and removals
+abbrev pub ring_store : List Literal → ℕ → List ℕ → Verdict → List Removal → StoreView
+ring_store standing spare marks verdict removals = record {
+  problem = ring;
+  standing = standing;
+  spare = spare;
+  removals = removals;
+  marks = marks;
+  verdict = verdict;
 }
 
 -- each word is 2

@@ -12,7 +12,7 @@ ghost use Rattle.wfc_search.specs.Between.{Cuts, IsBetween, ways_left, work_left
 ghost use Rattle.wfc_search.specs.Last.{choice_in};
 ghost use Rattle.wfc_search.specs.Run.{last_choice, most_turns, outcome_of};
 ghost use Rattle.wfc_search.specs.Search.{draws_after, outcome_after};
-ghost use Rattle.wfc_search.specs.Small.{pair, ring, twos, scanline, summary};
+ghost use Rattle.wfc_search.specs.Small.{one_removal, pair, ring, ring_store, scanline, summary, twos};
 ghost use Rattle.wfc_search.specs.Telling.{end_line, level_lines, opening_lines, removal_lines, turn_lines};
 ghost use Rattle.wfc_search.specs.Volume.{at_least_one, product, volume_of};
 ghost use Rattle.wfc_search.specs.declared.Outcome.TheVariants.{Map, NoMap, Spent};
@@ -64,66 +64,33 @@ pub fn literals_cut()
     ensures too_many { IsBetween ring 1 [] 2 → ⊥ }
     ensures ways { ways_left ring [] ∷ ways_left ring (Is 1 0 ∷ []) ∷ ways_left ring (Not 1 0 ∷ [])
         ∷ [] ≡ 8 ∷ 2 ∷ 1 ∷ [] }
-    ensures work { work_left ring 1 (Is 1 0 ∷ []) 0 ∷ work_left ring 1 (Not 1 0 ∷ []) 1 ∷ [] ≡ 12 ∷ 5 ∷ [] }
+    ensures work { work_left ring 1 (Is 1 0 ∷ []) 0 ∷ work_left ring 1 (Not 1 0 ∷ []) 1 ∷ []
+        ≡ 12 ∷ 5 ∷ [] }
 {}
 
 /// Of the removals those for want of support are told, in their order, and then the cell that is empty. Before the first
 /// turn the opening is told; a choice tells its value first, a retraction no line of its own, and an end its line.
 pub fn lines_are_told()
     ensures removals { removal_lines (record { cell = 4; value = 2; before = 3; cause = Assumed }
-        ∷ record { cell = 5; value = 1; before = 2; cause = Arc 3 } ∷ record { cell = 5; value = 0; before = 1; cause = Arc 0 } ∷ [])
+        ∷ one_removal ∷ record { cell = 5; value = 0; before = 1; cause = Arc 0 } ∷ [])
         ≡ Remove 5 1 3 ∷ Remove 5 0 0 ∷ [] }
-    ensures level { level_lines (record {
-      problem = ring;
-      standing = Not 1 0 ∷ [];
-      spare = 5;
-      marks = 1 ∷ [];
-      verdict = Dead 6;
-      removals = record { cell = 7; value = 7; before = 2; cause = Arc 1 } ∷ record { cell = 5; value = 1; before = 2; cause = Arc 3 } ∷ [];
-    })
+    ensures level { level_lines (ring_store (Not 1 0 ∷ []) 5 (1 ∷ []) (Dead 6)
+        (record { cell = 7; value = 7; before = 2; cause = Arc 1 } ∷ one_removal ∷ []))
         ≡ Remove 5 1 3 ∷ Empty 6 ∷ [] }
-    ensures opening { opening_lines (record {
-      problem = ring;
-      standing = [];
-      spare = 6;
-      marks = [];
-      verdict = Alive;
-      removals = record { cell = 5; value = 1; before = 2; cause = Arc 3 } ∷ [];
-    }) ≡ Remove 5 1 3 ∷ [] }
-    ensures no_opening { opening_lines (record {
-      problem = ring;
-      standing = Not 1 0 ∷ [];
-      spare = 6;
-      marks = 0 ∷ [];
-      verdict = Alive;
-      removals = record { cell = 5; value = 1; before = 2; cause = Arc 3 } ∷ [];
-    }) ≡ [] }
-    ensures choice { turn_lines (Chose 3 8) (record {
-      problem = ring;
-      standing = Is 8 3 ∷ [];
-      spare = 6;
-      marks = 0 ∷ [];
-      verdict = Dead 6;
-      removals = record { cell = 5; value = 1; before = 2; cause = Arc 3 } ∷ [];
-    }) ≡ Try 3 8 ∷ Remove 5 1 3 ∷ Empty 6 ∷ [] }
-    ensures retraction { turn_lines (Retracted 3 8) (record {
-      problem = ring;
-      standing = Not 8 3 ∷ [];
-      spare = 6;
-      marks = 0 ∷ [];
-      verdict = Alive;
-      removals = record { cell = 5; value = 1; before = 2; cause = Arc 3 } ∷ [];
-    }) ≡ Remove 5 1 3 ∷ [] }
+    ensures opening { opening_lines (ring_store [] 6 [] Alive (one_removal ∷ []))
+        ≡ Remove 5 1 3 ∷ [] }
+    ensures no_opening { opening_lines
+        (ring_store (Not 1 0 ∷ []) 6 (0 ∷ []) Alive (one_removal ∷ [])) ≡ [] }
+    ensures choice { turn_lines (Chose 3 8)
+        (ring_store (Is 8 3 ∷ []) 6 (0 ∷ []) (Dead 6) (one_removal ∷ []))
+        ≡ Try 3 8 ∷ Remove 5 1 3 ∷ Empty 6 ∷ [] }
+    ensures retraction { turn_lines (Retracted 3 8)
+        (ring_store (Not 8 3 ∷ []) 6 (0 ∷ []) Alive (one_removal ∷ [])) ≡ Remove 5 1 3 ∷ [] }
     ensures ends { map end_line (Map ∷ NoMap ∷ Spent ∷ []) ≡ Found ∷ End ∷ Out ∷ [] }
-    ensures end { turn_lines (Ended Spent) (record {
-      problem = ring;
-      standing = [];
-      spare = 6;
-      marks = [];
-      verdict = Dead 6;
-      removals = record { cell = 5; value = 1; before = 2; cause = Arc 3 } ∷ [];
-    }) ≡ Out ∷ [] }
-    ensures draws { map (λ turn. draws_after turn 7) (Chose 3 8 ∷ Retracted 3 8 ∷ Ended Map ∷ []) ≡ 8 ∷ 7 ∷ 7 ∷ [] }
+    ensures end { turn_lines (Ended Spent) (ring_store [] 6 [] (Dead 6) (one_removal ∷ []))
+        ≡ Out ∷ [] }
+    ensures draws { map (λ turn. draws_after turn 7) (Chose 3 8 ∷ Retracted 3 8 ∷ Ended Map ∷ [])
+        ≡ 8 ∷ 7 ∷ 7 ∷ [] }
     ensures outcomes { map outcome_after (Chose 3 8 ∷ Retracted 3 8 ∷ Ended Spent ∷ [])
         ≡ None ∷ None ∷ Some Spent ∷ [] }
 {}

@@ -1,18 +1,20 @@
 //! Laws of the run, each a function with no body whose contract is the law. They run nothing.
 
-ghost use Rattle.std.specs.Prelude.{◌≡◌, ◌≢◌, ℕ, ◌+◌, ◌<◌, ◌≤◌, ◌↔◌, ◌⊎◌, List, [], Contains, IsTrue, false, length, Option, Some, None, slice_index};
+ghost use Rattle.std.specs.Prelude.{◌≡◌, ◌≢◌, ℕ, ◌+◌, ◌<◌, ◌≤◌, ◌↔◌, ◌⊎◌, List, [], Contains};
+ghost use Rattle.std.specs.Prelude.{IsTrue, false, length, Option, Some, None, slice_index};
 ghost use Rattle.std.specs.List.Sorted.{IsStrictlyIncreasing};
 ghost use Rattle.rand_core.specs.Stream.{Stream};
 ghost use Rattle.wfc_problem.specs.Assignment.{IsLegalAssignment};
-ghost use Rattle.wfc_problem.specs.Domains.{Test, Within, IsDead, HasOnly};
+ghost use Rattle.wfc_problem.specs.Domains.{Test, Within, IsDead};
 ghost use Rattle.wfc_problem.specs.Network.{Network, IsProblem, in_base};
-ghost use Rattle.wfc_problem.specs.Rounds.{greatest, depth_of};
+ghost use Rattle.wfc_problem.specs.Rounds.{depth_of};
 ghost use Rattle.wfc_problem.specs.declared.Literal.{Literal};
-ghost use Rattle.wfc_search.specs.Between.{IsBetween, IsGrown, work_left};
+ghost use Rattle.wfc_search.specs.Between.{IsBetween, IsGrown, IsRunState, work_left};
 ghost use Rattle.wfc_choose.specs.Draw.{drawn};
 ghost use Rattle.wfc_choose.specs.Pick.{Rule, picked, urge};
 ghost use Rattle.wfc_search.specs.Run.{State, start, turn_of, LeadsTo, IsRun, last_of, most_turns, end_from, outcome_of};
-ghost use Rattle.wfc_problem.specs.Sizes.{is_dead, sizes_of, values_at, first_values};
+ghost use Rattle.wfc_problem.specs.Sizes.{is_dead, sizes_of, values_at};
+ghost use Rattle.wfc_search.specs.Search.{IsTrueEnd};
 ghost use Rattle.wfc_search.specs.Volume.{volume_of};
 ghost use Rattle.wfc_domains.specs.Store.{StoreView};
 ghost use Rattle.wfc_proof.specs.declared.Line.{Line};
@@ -34,12 +36,11 @@ pub fn cuts_are_few()
 pub fn turns_keep()
     ensures start { (P : Network) (budget : ℕ) → IsBetween P budget [] 0 }
     ensures next { (P : Network) → IsProblem P → (rule : Rule) (budget : ℕ) (s t : State) →
-        IsBetween P budget s.standing s.retractions → LeadsTo (turn_of P rule budget s) t →
-        IsBetween P budget t.standing t.retractions }
+        IsRunState P budget s → LeadsTo (turn_of P rule budget s) t → IsRunState P budget t }
     ensures few { (P : Network) → IsProblem P → (budget retractions : ℕ) (standing : List Literal) →
         IsBetween P budget standing retractions → length standing ≤ depth_of P }
     ensures falls { (P : Network) → IsProblem P → (rule : Rule) (budget : ℕ) (s t : State) →
-        IsBetween P budget s.standing s.retractions → LeadsTo (turn_of P rule budget s) t →
+        IsRunState P budget s → LeadsTo (turn_of P rule budget s) t →
         work_left P budget t.standing t.retractions < work_left P budget s.standing s.retractions }
     ensures most { (P : Network) (budget retractions : ℕ) (standing : List Literal) →
         work_left P budget standing retractions < most_turns P budget }
@@ -48,28 +49,28 @@ pub fn turns_keep()
 /// The end from a state is that of its turn, if the turn ends, and else that from the next state. It is reached at a
 /// state whose turn ends.
 pub fn ends_carry_over()
-    ensures ended { (P : Network) → IsProblem P → (rule : Rule) (budget : ℕ) (s u : State) (outcome : Outcome) →
-        IsBetween P budget s.standing s.retractions → turn_of P rule budget s ≡ (Ended outcome, u) →
+    ensures ended { (P : Network) → IsProblem P → (rule : Rule) (budget : ℕ) (s u : State)
+        (outcome : Outcome) → IsRunState P budget s →
+        turn_of P rule budget s ≡ (Ended outcome, u) →
         end_from P rule budget s ≡ Some (outcome, u) }
     ensures next { (P : Network) → IsProblem P → (rule : Rule) (budget : ℕ) (s t : State) →
-        IsBetween P budget s.standing s.retractions → LeadsTo (turn_of P rule budget s) t →
+        IsRunState P budget s → LeadsTo (turn_of P rule budget s) t →
         end_from P rule budget s ≡ end_from P rule budget t }
-    ensures reached { (P : Network) → IsProblem P → (rule : Rule) (budget : ℕ) (s t : State) (outcome : Outcome) →
-        IsBetween P budget s.standing s.retractions → end_from P rule budget s ≡ Some (outcome, t) →
-        IsBetween P budget t.standing t.retractions × (turn_of P rule budget t ≡ (Ended outcome, t)) }
+    ensures reached { (P : Network) → IsProblem P → (rule : Rule) (budget : ℕ) (s t : State)
+        (outcome : Outcome) → IsRunState P budget s →
+        end_from P rule budget s ≡ Some (outcome, t) →
+        IsRunState P budget t × (turn_of P rule budget t ≡ (Ended outcome, t)) }
 {}
 
 /// What a turn that ends says, at any state of a run.
 pub fn ends_tell()
     ensures map { (P : Network) → IsProblem P → (rule : Rule) (budget : ℕ) (s u : State) →
-        turn_of P rule budget s ≡ (Ended Map, u) →
-        HasOnly P (greatest P s.standing) (first_values P (greatest P s.standing))
-        × IsLegalAssignment P (first_values P (greatest P s.standing)) }
+        turn_of P rule budget s ≡ (Ended Map, u) → IsTrueEnd P budget s.standing Map }
     ensures no_map { (P : Network) → IsProblem P → (rule : Rule) (budget : ℕ) (s u : State) →
-        IsBetween P budget s.standing s.retractions → turn_of P rule budget s ≡ (Ended NoMap, u) →
+        IsRunState P budget s → turn_of P rule budget s ≡ (Ended NoMap, u) →
         (a : List ℕ) → IsLegalAssignment P a → ⊥ }
     ensures spent { (P : Network) → IsProblem P → (rule : Rule) (budget : ℕ) (s u : State) →
-        IsBetween P budget s.standing s.retractions → turn_of P rule budget s ≡ (Ended Spent, u) →
+        IsRunState P budget s → turn_of P rule budget s ≡ (Ended Spent, u) →
         (s.retractions ≡ budget) × (budget < volume_of P) }
 {}
 
@@ -78,39 +79,40 @@ pub fn ends_tell()
 pub fn runs_end()
     ensures exists { (P : Network) → IsProblem P → (rule : Rule) (budget : ℕ) (words : Stream) →
         (later : List State) × (outcome : Outcome) × IsRun P rule budget words later outcome }
-    ensures one { (P : Network) (rule : Rule) (budget : ℕ) (words : Stream) (later other : List State)
-        (x y : Outcome) → IsRun P rule budget words later x → IsRun P rule budget words other y →
-        (later ≡ other) × (x ≡ y) }
-    ensures turns { (P : Network) → IsProblem P → (rule : Rule) (budget : ℕ) (words : Stream) (later : List State)
-        (outcome : Outcome) → IsRun P rule budget words later outcome → length later + 1 ≤ most_turns P budget }
-    ensures outcome { (P : Network) → IsProblem P → (rule : Rule) (budget : ℕ) (words : Stream) (later : List State)
-        (outcome : Outcome) → IsRun P rule budget words later outcome →
+    ensures one { (P : Network) (rule : Rule) (budget : ℕ) (words : Stream)
+        (later other : List State) (x y : Outcome) → IsRun P rule budget words later x →
+        IsRun P rule budget words other y → (later ≡ other) × (x ≡ y) }
+    ensures turns { (P : Network) → IsProblem P → (rule : Rule) (budget : ℕ) (words : Stream)
+        (later : List State) (outcome : Outcome) → IsRun P rule budget words later outcome →
+        length later + 1 ≤ most_turns P budget }
+    ensures outcome { (P : Network) → IsProblem P → (rule : Rule) (budget : ℕ) (words : Stream)
+        (later : List State) (outcome : Outcome) → IsRun P rule budget words later outcome →
         outcome_of P rule budget words ≡ Some (outcome, last_of (start words) later) }
 {}
 
 /// A run that ends in `Map` gives a legal assignment, and one that ends in `NoMap` says that there is none.
 pub fn outcomes_tell()
-    ensures map { (P : Network) → IsProblem P → (rule : Rule) (budget : ℕ) (words : Stream) (s : State) →
-        outcome_of P rule budget words ≡ Some (Map, s) →
-        HasOnly P (greatest P s.standing) (first_values P (greatest P s.standing))
-        × IsLegalAssignment P (first_values P (greatest P s.standing)) }
-    ensures no_map { (P : Network) → IsProblem P → (rule : Rule) (budget : ℕ) (words : Stream) (s : State) →
-        outcome_of P rule budget words ≡ Some (NoMap, s) → (a : List ℕ) → IsLegalAssignment P a → ⊥ }
-    ensures spent { (P : Network) → IsProblem P → (rule : Rule) (budget : ℕ) (words : Stream) (s : State) →
-        outcome_of P rule budget words ≡ Some (Spent, s) → s.retractions ≡ budget }
+    ensures map { (P : Network) → IsProblem P → (rule : Rule) (budget : ℕ) (words : Stream)
+        (s : State) → outcome_of P rule budget words ≡ Some (Map, s) →
+        IsTrueEnd P budget s.standing Map }
+    ensures no_map { (P : Network) → IsProblem P → (rule : Rule) (budget : ℕ) (words : Stream)
+        (s : State) → outcome_of P rule budget words ≡ Some (NoMap, s) →
+        (a : List ℕ) → IsLegalAssignment P a → ⊥ }
+    ensures spent { (P : Network) → IsProblem P → (rule : Rule) (budget : ℕ) (words : Stream)
+        (s : State) → outcome_of P rule budget words ≡ Some (Spent, s) → s.retractions ≡ budget }
 {}
 
 /// A budget of the volume is enough: where the product of all sizes of the first domains is at most the budget, the
 /// run isn't spent.
 pub fn volume_is_enough()
-    ensures enough { (P : Network) → IsProblem P → (rule : Rule) (budget : ℕ) (words : Stream) (s : State) →
-        volume_of P ≤ budget → outcome_of P rule budget words ≢ Some (Spent, s) }
+    ensures enough { (P : Network) → IsProblem P → (rule : Rule) (budget : ℕ) (words : Stream)
+        (s : State) → volume_of P ≤ budget → outcome_of P rule budget words ≢ Some (Spent, s) }
 {}
 
 /// Of two runs over one problem never does one end in `Map` and the other in `NoMap`.
 pub fn outcomes_agree()
-    ensures agree { (P : Network) → IsProblem P → (rule other : Rule) (budget most : ℕ) (words more : Stream)
-        (s t : State) → outcome_of P rule budget words ≡ Some (Map, s) →
+    ensures agree { (P : Network) → IsProblem P → (rule other : Rule) (budget most : ℕ)
+        (words more : Stream) (s t : State) → outcome_of P rule budget words ≡ Some (Map, s) →
         outcome_of P other most more ≢ Some (NoMap, t) }
 {}
 
@@ -118,14 +120,18 @@ pub fn outcomes_agree()
 /// and its end; at another end a proof that follows from them, of which a branch is left open, and the line of that end.
 /// Its trials are the run's choices in order, and it names an empty cell for each dead state.
 pub fn runs_tell_proofs()
-    ensures told { (P : Network) (rule : Rule) (budget : ℕ) (s : State) (first : StoreView) (outcome : Outcome) (lines : List Line) →
-        s.standing ≡ [] → IsStoreAt P s first → TellsRun P rule budget s first outcome lines → AreProof P outcome lines }
-    ensures counts { (P : Network) (rule : Rule) (budget : ℕ) (s : State) (first : StoreView) (outcome : Outcome) (lines : List Line) →
-        s.standing ≡ [] → IsStoreAt P s first → TellsRun P rule budget s first outcome lines → HasCounts P rule budget s outcome lines }
+    ensures told { (P : Network) (rule : Rule) (budget : ℕ) (s : State) (first : StoreView)
+        (outcome : Outcome) (lines : List Line) → s.standing ≡ [] → IsStoreAt P s first →
+        TellsRun P rule budget s first outcome lines → AreProof P outcome lines }
+    ensures counts { (P : Network) (rule : Rule) (budget : ℕ) (s : State) (first : StoreView)
+        (outcome : Outcome) (lines : List Line) → s.standing ≡ [] → IsStoreAt P s first →
+        TellsRun P rule budget s first outcome lines → HasCounts P rule budget s outcome lines }
 {}
 
 /// The trials of lines are in their order, the cell before the value, and each empty cell counts once.
 pub fn tellings_by_example()
-    ensures tries { tries_in (Remove 9 8 1 ∷ Try 1 2 ∷ Empty 5 ∷ Try 4 3 ∷ Found ∷ []) ≡ (1, 2) ∷ (4, 3) ∷ [] }
-    ensures empties { empties_in (Empty 5 ∷ Try 1 2 ∷ Remove 9 8 1 ∷ Empty 5 ∷ Empty 6 ∷ End ∷ []) ≡ 3 }
+    ensures tries { tries_in (Remove 9 8 1 ∷ Try 1 2 ∷ Empty 5 ∷ Try 4 3 ∷ Found ∷ [])
+        ≡ (1, 2) ∷ (4, 3) ∷ [] }
+    ensures empties { empties_in (Empty 5 ∷ Try 1 2 ∷ Remove 9 8 1 ∷ Empty 5 ∷ Empty 6 ∷ End ∷ [])
+        ≡ 3 }
 {}

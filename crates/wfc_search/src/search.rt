@@ -1,6 +1,7 @@
 //! A search over a store, with a chooser that is handed in.
 
-ghost use Rattle.std.specs.Prelude.{◌≡◌, ◌≢◌, ◌≤◌, ◌<◌, ◌+◌, ◌^◌, ◌↔◌, ◌++◌, ◌∷◌, [], ℕ, List, length, take, All, false, true, None, Some, slice_get, slice_index, IfOk, OnOk, OnErr, IsErr, IsOk, IsTrue, Ok};
+ghost use Rattle.std.specs.Prelude.{◌≡◌, ◌≢◌, ◌≤◌, ◌<◌, ◌+◌, ◌^◌, ◌↔◌, ◌++◌, ◌∷◌, [], ℕ, List, length, take, All, false, true};
+ghost use Rattle.std.specs.Prelude.{None, Some, slice_get, slice_index, IfOk, OnOk, OnErr, IsErr, IsOk, IsTrue, Ok};
 ghost use Rattle.std.specs.Option.{ForSome};
 ghost use Rattle.rand_core.specs.Stream.{Stream};
 ghost use Rattle.wfc_choose.specs.Pick.{picked};
@@ -13,7 +14,8 @@ ghost use Rattle.wfc_problem.specs.Rounds.{greatest, depth_of};
 ghost use Rattle.wfc_problem.specs.Sizes.{is_dead, sizes_of};
 ghost use Rattle.wfc_search.specs.Last.{choice_in};
 ghost use Rattle.wfc_search.specs.Run.{last_choice};
-ghost use Rattle.wfc_search.specs.Search.{state_at, outcome_after, IsTurn, IsWordless, Turns, Ends, SaysTrue, IsReady, IsGoing, IsOnward, assignment_of};
+ghost use Rattle.wfc_search.specs.Search.{state_at, outcome_after, IsTurn, IsWordless, Turns, Ends};
+ghost use Rattle.wfc_search.specs.Search.{SaysTrue, IsReady, IsGoing, IsOnward, assignment_of};
 ghost use Rattle.wfc_search.specs.Telling.{IsStepTold, StepFails, IsRunTold, RunFails};
 ghost use Rattle.wfc_search.specs.Volume.{volume_of};
 

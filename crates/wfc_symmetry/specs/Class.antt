@@ -1,5 +1,6 @@
 -- The classes of tiles, and the eight actions of the square on the variants of a class.
-use Rattle.std.specs.Prelude.{ℕ, zero, suc, ◌+◌, ◌-◌, ◌*◌, ◌/◌, ◌%◌, ◌==◌, nat_lt, if◌then◌else◌}
+use Rattle.std.specs.Prelude.{ℕ, zero, suc, ◌+◌, ◌-◌, ◌*◌, ◌/◌, ◌%◌, ◌==◌, nat_lt, List, if◌then◌else◌}
+use Rattle.wfc_model.specs.Image.{image}
 use Rattle.wfc_symmetry.specs.declared.class.Class.{Class}
 use Rattle.wfc_symmetry.specs.declared.class.Class.TheVariants.{X, I, L, T, F, Slash}
 
@@ -48,3 +49,7 @@ action_behind second first =
 -- the image of a window that an action makes: two images for each quarter turn, the reflected one second
 abbrev pub image_number : ℕ → ℕ
 image_number k = k % 4 * 2 + k / 4
+
+-- a window of n by n numbers after an action
+abbrev pub acted_image : ℕ → List ℕ → ℕ → List ℕ
+acted_image n w k = image n w (image_number k)

@@ -2,8 +2,8 @@
 
 ghost use Rattle.std.specs.Prelude.{◌≡◌, ℕ, ◌*◌, ◌<◌, List, [], ◌∷◌, length, map};
 ghost use Rattle.std.specs.List.{range_with_len};
-ghost use Rattle.wfc_model.specs.Image.{image};
-ghost use Rattle.wfc_symmetry.specs.Class.{variant_count, turned_variant, reflected_variant, acted, action_behind, image_number};
+ghost use Rattle.wfc_symmetry.specs.Class.{variant_count, turned_variant, reflected_variant, acted, acted_image};
+ghost use Rattle.wfc_symmetry.specs.Class.{action_behind, image_number};
 ghost use Rattle.wfc_symmetry.specs.declared.class.Class.{Class};
 ghost use Rattle.wfc_symmetry.specs.declared.class.Class.TheVariants.{X, I, L, T, F, Slash};
 
@@ -17,10 +17,13 @@ pub fn variants_by_table()
     ensures straight_over { map (reflected_variant I) (range_with_len 0 2) ≡ 0 ∷ 1 ∷ [] }
     ensures diagonal { map (turned_variant Slash) (range_with_len 0 2) ≡ 1 ∷ 0 ∷ [] }
     ensures diagonal_over { map (reflected_variant Slash) (range_with_len 0 2) ≡ 1 ∷ 0 ∷ [] }
-    ensures eight { map (turned_variant F) (range_with_len 0 8) ≡ 1 ∷ 2 ∷ 3 ∷ 0 ∷ 7 ∷ 4 ∷ 5 ∷ 6 ∷ [] }
-    ensures eight_over { map (reflected_variant F) (range_with_len 0 8) ≡ 4 ∷ 5 ∷ 6 ∷ 7 ∷ 0 ∷ 1 ∷ 2 ∷ 3 ∷ [] }
+    ensures eight { map (turned_variant F) (range_with_len 0 8)
+        ≡ 1 ∷ 2 ∷ 3 ∷ 0 ∷ 7 ∷ 4 ∷ 5 ∷ 6 ∷ [] }
+    ensures eight_over { map (reflected_variant F) (range_with_len 0 8)
+        ≡ 4 ∷ 5 ∷ 6 ∷ 7 ∷ 0 ∷ 1 ∷ 2 ∷ 3 ∷ [] }
     ensures cross { map (acted X 0) (range_with_len 0 8) ≡ 0 ∷ 0 ∷ 0 ∷ 0 ∷ 0 ∷ 0 ∷ 0 ∷ 0 ∷ [] }
-    ensures counts { map variant_count (X ∷ I ∷ Slash ∷ L ∷ T ∷ F ∷ []) ≡ 1 ∷ 2 ∷ 2 ∷ 4 ∷ 4 ∷ 8 ∷ [] }
+    ensures counts { map variant_count (X ∷ I ∷ Slash ∷ L ∷ T ∷ F ∷ [])
+        ≡ 1 ∷ 2 ∷ 2 ∷ 4 ∷ 4 ∷ 8 ∷ [] }
 {}
 
 /// The eight actions on the first variant of a junction, and on the second of a bend.
@@ -61,7 +64,7 @@ pub fn the_group_acts_on_classes()
 
 /// The images of a window compose as the actions do.
 pub fn images_compose_as_actions()
-    ensures first { (n : ℕ) (w : List ℕ) → image n w (image_number 0) ≡ w }
+    ensures first { (n : ℕ) (w : List ℕ) → acted_image n w 0 ≡ w }
     ensures behind { (n a b : ℕ) (w : List ℕ) → length w ≡ n * n → a < 8 → b < 8
-        → image n (image n w (image_number b)) (image_number a) ≡ image n w (image_number (action_behind a b)) }
+        → acted_image n (acted_image n w b) a ≡ acted_image n w (action_behind a b) }
 {}

@@ -17,6 +17,7 @@ abbrev pub AskedBy : SourceModel → RequestView → Type 0
 AskedBy (Overlap n) asked = IsSampleAsked asked
 AskedBy Tiles asked = Unit {0}
 
+-- the request asks for tiles, or for windows of a sample within these limits
 abbrev pub IsSourceAsked : RequestView → Type 0
 IsSourceAsked asked = AskedBy asked.source asked
 

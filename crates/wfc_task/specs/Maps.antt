@@ -53,6 +53,7 @@ abbrev pub map_by : (source : SourceModel) (asked : RequestView) (files : List F
 map_by (Overlap n) asked files P of a = picture_of of.patterns (output_of asked) a
 map_by Tiles asked files P of a = tile_map of.mask a
 
+-- the map that an assignment makes for a request, of windows or of tiles as it says
 abbrev pub map_of : (asked : RequestView) (files : List File) (P : Network) → Posed asked files P → List ℕ → Raster
 map_of asked files P posed a = map_by asked.source asked files P posed a
 
@@ -62,6 +63,7 @@ abbrev pub map_text_by : (source : SourceModel) (asked : RequestView) (files : L
 map_text_by (Overlap n) asked files P of layout m = map_text layout of.palette m
 map_text_by Tiles asked files P of layout m = tile_text layout of.set m
 
+-- the text of a map of a request in a layout, of windows or of tiles as it says
 abbrev pub text_of_map : (asked : RequestView) (files : List File) (P : Network)
     → Posed asked files P → Layout → Raster → List ℕ
 text_of_map asked files P posed layout m = map_text_by asked.source asked files P posed layout m
@@ -73,6 +75,7 @@ IsLaidBy (Overlap n) asked files P of layout = layout_of of.kind asked.form aske
 IsLaidBy Tiles asked files P of layout =
     layout_of (kind_of of.set.pictures) asked.form asked.width asked.height (side_of of.set.pictures) ≡ Ok layout
 
+-- the layout is the one in which the map of the request is to be written
 abbrev pub IsLaid : (asked : RequestView) (files : List File) (P : Network) → Posed asked files P → Layout → Type 0
 IsLaid asked files P posed layout = IsLaidBy asked.source asked files P posed layout
 

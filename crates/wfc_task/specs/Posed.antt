@@ -29,6 +29,7 @@ abbrev pub posed_plan_by : SourceModel → RequestView → Plan Network
 posed_plan_by (Overlap n) asked = sample_problem_plan asked
 posed_plan_by Tiles asked = tile_problem_plan asked
 
+-- what is read and refused for the problem of a request
 abbrev pub posed_plan : RequestView → Plan Network
 posed_plan asked = posed_plan_by asked.source asked
 
@@ -47,6 +48,7 @@ pub record OfTiles (asked : RequestView) (files : List File) (P : Network) : Typ
   pub mask : MaskView
   pub problem : IsTileProblemOf asked files set mask P
 
+-- this is the problem of the request over these files, for a map that is made of this
 abbrev pub PosedBy : SourceModel → RequestView → List File → Network → Type 0
 PosedBy (Overlap n) asked files P = OfSample asked files P
 PosedBy Tiles asked files P = OfTiles asked files P

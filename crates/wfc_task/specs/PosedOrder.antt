@@ -35,5 +35,6 @@ posed_order_by Tiles asked files =
     ∷ IsTilePinFault asked files
     ∷ []
 
+-- what is looked at for the problem of a request
 abbrev pub posed_order : RequestView → List File → List TaskStage
 posed_order asked files = posed_order_by asked.source asked files

@@ -31,10 +31,11 @@ sample_plan asked =
     and_then (step (taught asked made.1)) (λ patterns.
     done (record { kind = made.0; palette = made.2; patterns = patterns })))
 
--- the pins file is read, if one is named
+-- the pins file of this name is read
 abbrev pub pins_file_plan : List ℕ → Plan (List PinView)
 pins_file_plan name = and_then (file_plan Pins name) (λ bytes. step (pins_in bytes))
 
+-- the pins file is read, if one is named; else there are no pins and bans
 abbrev pub pins_plan : Option (List ℕ) → Plan (List PinView)
 pins_plan None = done []
 pins_plan (Some name) = pins_file_plan name

@@ -89,6 +89,7 @@ pub record IsBelowFault (asked : RequestView) (side : ℕ) (fault : Fault) : Typ
   pub below : (asked.width < side) ⊎ (asked.height < side)
   pub is : fault ≡ Refused (refusals.Build SizeBelowN)
 
+-- a side of the map is below that of the windows that the sample teaches
 abbrev pub IsSizeFault : RequestView → List File → TaskStage
 IsSizeFault asked files fault =
     (lesson : Taught) × Teaches asked files lesson × IsBelowFault asked lesson.patterns.n fault

@@ -40,6 +40,7 @@ abbrev pub shown_in : Bool → List ℕ → Result SampledView Refusal
 shown_in true text = result_map of_ppm (ppm_in Sample text)
 shown_in false text = result_map of_grid (grid_in Sample text)
 
+-- what the bytes of the sample of a request show, by the name of its file
 abbrev pub sampled_in : RequestView → List ℕ → Result SampledView Refusal
 sampled_in asked text = shown_in (is_picture_name asked.file) text
 

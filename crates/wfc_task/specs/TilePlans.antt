@@ -47,6 +47,7 @@ abbrev pub mask_plan_by : Option (List ℕ) → RequestView → Plan MaskView
 mask_plan_by None asked = done (plain_mask asked.width asked.height)
 mask_plan_by (Some name) asked = mask_file_plan asked name
 
+-- the mask of a request is read, if it names one; else there are no holes
 abbrev pub mask_plan : RequestView → Plan MaskView
 mask_plan asked = mask_plan_by asked.mask asked
 

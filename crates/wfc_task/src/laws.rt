@@ -54,7 +54,8 @@ pub fn long_files_are_refused()
     ensures document { (asked : RequestView) (files : List File) → IsLong files asked.file
         → outcome (document_plan asked) files ≡ Err (Unread Sample TooLong) }
     ensures picture { (set : TileSetView) (files : List File) (name : List ℕ) → IsLong files name
-        → outcome (picture_plan (Some name) set) files ≡ Err (Unread (Picture (length set.pictures)) TooLong) }
+        → outcome (picture_plan (Some name) set) files
+        ≡ Err (Unread (Picture (length set.pictures)) TooLong) }
     ensures pins { (files : List File) (name : List ℕ) → IsLong files name
         → outcome (pins_plan (Some name)) files ≡ Err (Unread Pins TooLong) }
     ensures mask { (asked : RequestView) (files : List File) (name : List ℕ) → IsLong files name
@@ -64,6 +65,8 @@ pub fn long_files_are_refused()
 /// A mask has the sides of the map that is asked for, and not the other way round.
 pub fn sides_of_masks()
     ensures sides { HasSides (record tiles_asked { width = 3; height = 2 }) (plain_mask 3 2) }
-    ensures exchanged { HasSides (record tiles_asked { width = 3; height = 2 }) (plain_mask 2 3) → ⊥ }
-    ensures higher { HasSides (record tiles_asked { width = 3; height = 2 }) (plain_mask 3 1) → ⊥ }
+    ensures exchanged { HasSides (record tiles_asked { width = 3; height = 2 })
+        (plain_mask 2 3) → ⊥ }
+    ensures higher { HasSides (record tiles_asked { width = 3; height = 2 })
+        (plain_mask 3 1) → ⊥ }
 {}

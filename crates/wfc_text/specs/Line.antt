@@ -10,6 +10,10 @@ pub record LineView : Type 0 where
   pub bytes : List ℕ
   pub ended : Bool
 
+-- a line that has an end
+abbrev pub ended_line : ℕ → List ℕ → LineView
+ended_line number bytes = record { number = number; bytes = bytes; ended = true }
+
 -- whether a byte is the line feed
 abbrev pub is_line_feed : ℕ → Bool
 is_line_feed byte = byte == 10

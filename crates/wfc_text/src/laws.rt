@@ -1,7 +1,7 @@
 //! Laws of the definitions, each a function with no body whose contract is the law. They run nothing.
 
-ghost use Rattle.std.specs.Prelude.{◌≡◌, ℕ, ◌^◌, ◌<◌, ◌≤◌, [], ◌∷◌, ◌++◌, true, false, codes, replicate, decimal, Ok, Err};
-ghost use Rattle.wfc_text.specs.Line.{lines_of};
+ghost use Rattle.std.specs.Prelude.{◌≡◌, ℕ, ◌^◌, ◌<◌, ◌≤◌, [], ◌∷◌, ◌++◌, false, codes, replicate, decimal, Ok, Err};
+ghost use Rattle.wfc_text.specs.Line.{ended_line, lines_of};
 ghost use Rattle.wfc_text.specs.Number.{number_of};
 ghost use Rattle.wfc_text.specs.declared.numeral.NumberFault.TheVariants.{Empty, NotDigit, OutOfRange};
 
@@ -24,10 +24,8 @@ pub fn numbers_by_example()
 /// Each line feed ends a line, one carriage return before it goes, and what stands behind the last is a line without
 /// its end, if it has a byte.
 pub fn lines_by_example()
-    ensures three { lines_of (codes "ab\r\n\nc\r")
-        ≡ record { number = 1; bytes = codes "ab"; ended = true }
-        ∷ record { number = 2; bytes = []; ended = true }
+    ensures three { lines_of (codes "ab\r\n\nc\r") ≡ ended_line 1 (codes "ab") ∷ ended_line 2 []
         ∷ record { number = 3; bytes = codes "c\r"; ended = false } ∷ [] }
-    ensures ended { lines_of (codes "ab\n") ≡ record { number = 1; bytes = codes "ab"; ended = true } ∷ [] }
+    ensures ended { lines_of (codes "ab\n") ≡ ended_line 1 (codes "ab") ∷ [] }
     ensures none { lines_of [] ≡ [] }
 {}

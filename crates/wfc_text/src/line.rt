@@ -69,7 +69,8 @@ impl<'a> Iterator for Lines<'a> {
 /// The first line of a text that has a byte, and the text behind it.
 fn first_line(number: u32, text: &[u8]) -> (TextLine<'_>, &[u8])
     requires some { 0 < length text.now }
-    ensures first { lines_from number text.now ≡ line_view result.0 ∷ lines_from (number + 1) result.1.now }
+    ensures first { lines_from number text.now
+        ≡ line_view result.0 ∷ lines_from (number + 1) result.1.now }
     ensures shorter { length result.1.now < length text.now }
 {
     match memchr(b'\n', text) {

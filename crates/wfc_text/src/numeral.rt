@@ -52,7 +52,8 @@ fn first_other(text: &[u8]) -> Option<usize>
 /// The number that digits write, if it fits.
 fn value(digits: &[u8]) -> Option<u64>
     requires digits { AllPass is_ascii_digit digits.now }
-    ensures value { SomeIff result (digits_value 10 digits.now < 2 ^ 64) (digits_value 10 digits.now) }
+    ensures value { SomeIff result
+        (digits_value 10 digits.now < 2 ^ 64) (digits_value 10 digits.now) }
 {
     let mut n = 0;
     for digit in digits {
@@ -65,7 +66,8 @@ fn value(digits: &[u8]) -> Option<u64>
 #[inline]
 fn with_digit(n: u64, digit: u8) -> Option<u64>
     requires digit { is_ascii_digit digit ≡ true }
-    ensures value { SomeIff result (n * 10 + digit_value digit < 2 ^ 64) (n * 10 + digit_value digit) }
+    ensures value { SomeIff result
+        (n * 10 + digit_value digit < 2 ^ 64) (n * 10 + digit_value digit) }
 {
     n.checked_mul(10)?.checked_add(u64::from(digit - b'0'))
 }

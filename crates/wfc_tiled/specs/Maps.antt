@@ -38,6 +38,7 @@ pub record IsPlaced (mask : MaskView) (pin : Pin) : Type 0 where
   pub row_in : pin.row < mask.height
   pub place : IsPlace mask pin.column pin.row
 
+-- each pin's place is inside and no hole
 abbrev pub ArePlaced : MaskView → List Pin → Type 0
 ArePlaced mask pins = All (IsPlaced mask) pins
 

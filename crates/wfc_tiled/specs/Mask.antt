@@ -1,5 +1,6 @@
 -- Which places of a tile map have a tile.
-use Rattle.std.specs.Prelude.{ℕ, ◌+◌, ◌*◌, ◌/◌, ◌%◌, ◌<◌, ◌≤◌, ◌==◌, nat_eq, ◌||◌, ◌&&◌, Bool, not, List, [], length, filter, position, slice_index, Option, None, Some, Result, Ok, Err, Contains, All, if◌then◌else◌}
+use Rattle.std.specs.Prelude.{ℕ, ◌+◌, ◌*◌, ◌/◌, ◌%◌, ◌<◌, ◌≤◌, ◌==◌, nat_eq, ◌||◌, ◌&&◌, Bool, not, List, [], length, filter}
+use Rattle.std.specs.Prelude.{position, slice_index, Option, None, Some, Result, Ok, Err, Contains, All, if◌then◌else◌}
 use Rattle.std.specs.List.{range_with_len}
 use Rattle.std.specs.List.Sorted.{IsStrictlyIncreasing}
 use Rattle.wfc_grid.specs.Grid.{GridView}

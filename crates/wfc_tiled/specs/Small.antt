@@ -1,5 +1,5 @@
 -- Small tile sets and masks without symmetry, on which laws try the definitions.
-use Rattle.std.specs.Prelude.{ℕ, Bool, List, [], ◌∷◌, codes, None}
+use Rattle.std.specs.Prelude.{ℕ, Bool, true, false, List, [], ◌∷◌, codes, None}
 use Rattle.wfc_model.specs.Raster.{Raster, raster_of}
 use Rattle.wfc_grid.specs.Grid.{GridView}
 use Rattle.wfc_pins.specs.PinView.{PinView}
@@ -28,6 +28,13 @@ line_and_cross = record {
 -- a line of a pins file
 abbrev pub line_of : ℕ → Bool → ℕ → ℕ → List ℕ → PinView
 line_of number keep x y symbol = record { line = number; keep = keep; x = x; y = y; symbol = symbol }
+
+-- lines for a map with two holes: the first two lie outside, the third in a hole, and there is no variant that
+-- the last names
+abbrev pub faulty_lines : List PinView
+faulty_lines =
+    line_of 1 true 3 0 (codes "y") ∷ line_of 2 true 0 2 (codes "x/0")
+    ∷ line_of 3 false 2 1 (codes "y") ∷ line_of 4 true 0 0 (codes "x/1") ∷ []
 
 -- four by two places: the first two and the last of the upper row, and the last of the lower, are no holes
 abbrev pub four_places : MaskView

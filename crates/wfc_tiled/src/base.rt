@@ -52,8 +52,9 @@ fn cut(flags: &mut [bool], tiles: &TileSet, mask: &Mask, mark: &Mark)
     requires row_in { mark.now.row < mask.now.height }
     requires table { length flags.old ≡ length mask.now.places * variant_total tiles.now.tiles }
     ensures mask { IsMask mask.now }
-    ensures cut { IfSome (cell_number mask.now (cell_of mask.now.width mark.now.column mark.now.row))
-        (λ cell. IsRowCut (variant_total tiles.now.tiles) flags.old flags.new cell (suits mark.now)) }
+    ensures cut { IfSome
+        (cell_number mask.now (cell_of mask.now.width mark.now.column mark.now.row)) (λ cell.
+        IsRowCut (variant_total tiles.now.tiles) flags.old flags.new cell (suits mark.now)) }
 {
     if let Some(cell) = mask.cell(mark.column, mark.row) {
         cut_row(flags, tiles.variants(), mark, cell as usize);

@@ -13,7 +13,7 @@ ghost use Rattle.wfc_tiled.specs.Mask.{MaskView, mask_of, plain_mask};
 ghost use Rattle.wfc_tiled.specs.Maps.{IsLegalTileMap, IsNext, numbers_of_places, tile_map};
 ghost use Rattle.wfc_tiled.specs.Subject.{HoldsPinAt, cell_column, cell_row};
 ghost use Rattle.wfc_tiled.specs.Tiles.{base_table, fitting, neighbour_table, support_table, weights_of};
-ghost use Rattle.wfc_tiled.specs.Small.{four_places, four_tiles, four_with, grid_of, line_and_cross, line_of, two_holes};
+ghost use Rattle.wfc_tiled.specs.Small.{faulty_lines, four_places, four_tiles, four_with, grid_of, line_and_cross, line_of, two_holes};
 ghost use Rattle.wfc_tiled.specs.declared.reading.MaskFault.TheVariants as mask_faults;
 ghost use Rattle.wfc_pins.specs.declared.fault.BuildFault.TheVariants as build_faults;
 ghost use Rattle.wfc_problem.specs.declared.TheConstants.{MAX_PAIRS, NO_CELL};
@@ -24,9 +24,8 @@ pub fn neighbours_by_example()
     ensures flat { neighbour_table two_holes false
         ≡ NO_CELL ∷ 2 ∷ NO_CELL ∷ NO_CELL ∷ NO_CELL ∷ NO_CELL ∷ NO_CELL ∷ NO_CELL
         ∷ NO_CELL ∷ NO_CELL ∷ 3 ∷ 0 ∷ 2 ∷ NO_CELL ∷ NO_CELL ∷ NO_CELL ∷ [] }
-    ensures wrapped { neighbour_table two_holes true
-        ≡ 1 ∷ 2 ∷ NO_CELL ∷ 2 ∷ NO_CELL ∷ NO_CELL ∷ 0 ∷ NO_CELL
-        ∷ NO_CELL ∷ 0 ∷ 3 ∷ 0 ∷ 2 ∷ NO_CELL ∷ NO_CELL ∷ NO_CELL ∷ [] }
+    ensures wrapped { neighbour_table two_holes true ≡ 1 ∷ 2 ∷ NO_CELL ∷ 2 ∷ NO_CELL ∷ NO_CELL ∷ 0
+        ∷ NO_CELL ∷ NO_CELL ∷ 0 ∷ 3 ∷ 0 ∷ 2 ∷ NO_CELL ∷ NO_CELL ∷ NO_CELL ∷ [] }
     ensures own_neighbour { neighbour_table (plain_mask 1 2) true
         ≡ 0 ∷ 1 ∷ 0 ∷ 1 ∷ 1 ∷ 0 ∷ 1 ∷ 0 ∷ [] }
 {}
@@ -46,12 +45,9 @@ pub fn supports_by_example()
 pub fn pins_by_example()
     ensures base { base_table lines two_holes (kept_pin 0 1 1 ∷ banned_pin 2 0 0 ∷ [])
         ≡ true ∷ true ∷ false ∷ true ∷ false ∷ true ∷ true ∷ true ∷ [] }
-    ensures read { pins_in line_and_cross.tiles two_holes
-        (line_of 4 true 2 0 (codes "line/1") ∷ line_of 7 false 1 1 (codes "x/0") ∷ [])
-        ≡ Ok (kept_pin 2 0 1 ∷ banned_pin 1 1 2 ∷ []) }
-    ensures faults { map (λ line. pins_in line_and_cross.tiles two_holes (line ∷ []))
-        (line_of 1 true 3 0 (codes "y") ∷ line_of 2 true 0 2 (codes "x/0")
-        ∷ line_of 3 false 2 1 (codes "y") ∷ line_of 4 true 0 0 (codes "x/1") ∷ [])
+    ensures read { pins_in line_and_cross.tiles two_holes (line_of 4 true 2 0 (codes "line/1")
+        ∷ line_of 7 false 1 1 (codes "x/0") ∷ []) ≡ Ok (kept_pin 2 0 1 ∷ banned_pin 1 1 2 ∷ []) }
+    ensures faults { map (λ line. pins_in line_and_cross.tiles two_holes (line ∷ [])) faulty_lines
         ≡ Err (build_faults.PinOutside 1) ∷ Err (build_faults.PinOutside 2)
         ∷ Err (build_faults.PinInHole 3) ∷ Err (build_faults.UnknownSymbol 4) ∷ [] }
 {}
@@ -61,9 +57,8 @@ pub fn pins_by_example()
 pub fn builds_by_pairs()
     ensures counted { pairs line_and_cross two_holes ≡ 12 }
     ensures roomy { roomy_mask line_and_cross two_holes ≡ Ok two_holes }
-    ensures pins { built_pins line_and_cross two_holes
-        (line_of 4 true 2 0 (codes "line/1") ∷ line_of 7 false 1 1 (codes "x/0") ∷ [])
-        ≡ Ok (kept_pin 2 0 1 ∷ banned_pin 1 1 2 ∷ []) }
+    ensures pins { built_pins line_and_cross two_holes (line_of 4 true 2 0 (codes "line/1")
+        ∷ line_of 7 false 1 1 (codes "x/0") ∷ []) ≡ Ok (kept_pin 2 0 1 ∷ banned_pin 1 1 2 ∷ []) }
     ensures line { built_pins line_and_cross two_holes (line_of 3 true 1 0 (codes "x/0") ∷ [])
         ≡ Err (build_faults.PinInHole 3) }
     ensures crowded_mask { (set : TileSetView) (mask : MaskView) → MAX_PAIRS < pairs set mask
@@ -109,8 +104,10 @@ pub fn legal_maps_by_example()
     ensures down { IsLegalTileMap crossing four_places false [] (four_with HOLE 5 9 4 10) → ⊥ }
     ensures wrapped { IsLegalTileMap crossing four_places true [] four_tiles → ⊥ }
     ensures in_a_hole { IsLegalTileMap crossing four_places false [] (four_with 5 5 9 10 4) → ⊥ }
-    ensures no_tile { IsLegalTileMap crossing four_places false [] (four_with HOLE 5 9 10 HOLE) → ⊥ }
-    ensures other_pin { IsLegalTileMap crossing four_places false (kept_pin 0 0 9 ∷ []) four_tiles → ⊥ }
+    ensures no_tile { IsLegalTileMap crossing four_places false []
+        (four_with HOLE 5 9 10 HOLE) → ⊥ }
+    ensures other_pin { IsLegalTileMap crossing four_places false (kept_pin 0 0 9 ∷ [])
+        four_tiles → ⊥ }
     ensures pin_in_a_hole { IsLegalTileMap crossing four_places false (banned_pin 2 0 9 ∷ [])
         four_tiles → ⊥ }
 {}

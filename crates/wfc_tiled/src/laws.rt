@@ -1,20 +1,18 @@
 //! Laws of the problem of a tile set, each a function with no body whose contract is the law. They
 //! run nothing.
 
-ghost use Rattle.std.specs.Prelude.{◌≡◌, ◌<◌, ◌≤◌, ◌↔◌, ℕ, All, Bool, Contains, IsTrue, List, Some, length};
+ghost use Rattle.std.specs.Prelude.{◌≡◌, ◌<◌, ◌≤◌, ◌↔◌, ℕ, All, Bool, IsTrue, List, Some, length};
 ghost use Rattle.wfc_model.specs.Raster.{Raster};
 ghost use Rattle.wfc_model.specs.Legal.{Pin};
-ghost use Rattle.wfc_places.specs.Steps.{IsStepFrom};
-ghost use Rattle.wfc_problem.specs.Network.{IsProblem, in_base, neighbour, supports_of};
+ghost use Rattle.wfc_problem.specs.Network.{IsProblem, in_base, neighbour};
 ghost use Rattle.wfc_problem.specs.Assignment.{IsLegalAssignment};
 ghost use Rattle.wfc_problem.specs.declared.TheConstants.{MAX_PAIRS};
-ghost use Rattle.wfc_tileset.specs.Allowed.{IsAcross, IsDown};
-ghost use Rattle.wfc_tileset.specs.Tiles.{TileSetView, variant_at, variant_total};
+ghost use Rattle.wfc_tileset.specs.Tiles.{TileSetView, variant_total};
 ghost use Rattle.wfc_tileset.specs.TileSets.{IsTileSet};
 ghost use Rattle.wfc_tiled.specs.Built.{pairs};
 ghost use Rattle.wfc_tiled.specs.Mask.{IsMask, MaskView};
 ghost use Rattle.wfc_tiled.specs.Maps.{ArePlaced, IsLegalTileMap, numbers_of_places, tile_map};
-ghost use Rattle.wfc_tiled.specs.Subject.{HoldsPinAt, cell_column, cell_row};
+ghost use Rattle.wfc_tiled.specs.Subject.{AreAcross, AreDown, HoldsPinAt, IsCellStep, IsTileSupport, cell_column, cell_row};
 ghost use Rattle.wfc_tiled.specs.Tiles.{problem_of_tiles};
 
 /// A tile set, a mask and pins make a problem, where there are few enough pairs of a place and a
@@ -58,33 +56,24 @@ pub fn neighbours_are_a_step_away()
     ensures exactly { (set : TileSetView) (mask : MaskView) (wrap : Bool) (pins : List Pin) →
         IsMask mask → (c m d : ℕ) → c < length mask.places → m < length mask.places → d < 4 →
         (neighbour (problem_of_tiles set mask wrap pins) c d ≡ Some m)
-        ↔ IsStepFrom wrap mask.width mask.height d
-        (cell_column mask c) (cell_row mask c) (cell_column mask m) (cell_row mask m) }
+        ↔ IsCellStep mask wrap d c m }
 {}
 
 /// What may stand beside a variant are exactly the variants that are allowed there: to the left,
 /// below, to the right and above.
 pub fn supports_are_allowed()
     ensures left { (set : TileSetView) (mask : MaskView) (wrap : Bool) (pins : List Pin)
-        (v w : ℕ) → v < variant_total set.tiles →
-        Contains (supports_of (problem_of_tiles set mask wrap pins) v 0) w ↔
-        ((w < variant_total set.tiles)
-        × IsAcross set (variant_at set.tiles w) (variant_at set.tiles v)) }
+        (v w : ℕ) → v < variant_total set.tiles → IsTileSupport set mask wrap pins v 0 w ↔
+        ((w < variant_total set.tiles) × AreAcross set w v) }
     ensures below { (set : TileSetView) (mask : MaskView) (wrap : Bool) (pins : List Pin)
-        (v w : ℕ) → v < variant_total set.tiles →
-        Contains (supports_of (problem_of_tiles set mask wrap pins) v 1) w ↔
-        ((w < variant_total set.tiles)
-        × IsDown set (variant_at set.tiles v) (variant_at set.tiles w)) }
+        (v w : ℕ) → v < variant_total set.tiles → IsTileSupport set mask wrap pins v 1 w ↔
+        ((w < variant_total set.tiles) × AreDown set v w) }
     ensures right { (set : TileSetView) (mask : MaskView) (wrap : Bool) (pins : List Pin)
-        (v w : ℕ) → v < variant_total set.tiles →
-        Contains (supports_of (problem_of_tiles set mask wrap pins) v 2) w ↔
-        ((w < variant_total set.tiles)
-        × IsAcross set (variant_at set.tiles v) (variant_at set.tiles w)) }
+        (v w : ℕ) → v < variant_total set.tiles → IsTileSupport set mask wrap pins v 2 w ↔
+        ((w < variant_total set.tiles) × AreAcross set v w) }
     ensures above { (set : TileSetView) (mask : MaskView) (wrap : Bool) (pins : List Pin)
-        (v w : ℕ) → v < variant_total set.tiles →
-        Contains (supports_of (problem_of_tiles set mask wrap pins) v 3) w ↔
-        ((w < variant_total set.tiles)
-        × IsDown set (variant_at set.tiles w) (variant_at set.tiles v)) }
+        (v w : ℕ) → v < variant_total set.tiles → IsTileSupport set mask wrap pins v 3 w ↔
+        ((w < variant_total set.tiles) × AreDown set w v) }
 {}
 
 /// A variant is in the base of a cell exactly where it holds each pin and ban there.

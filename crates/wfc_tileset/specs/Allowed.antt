@@ -27,18 +27,20 @@ stacked tiles upper lower =
     ∷ (moved tiles lower 2, moved tiles upper 2)
     ∷ []
 
--- what a declared pair allows: a quarter turn brings its right end up
+-- the pairs of a left and a right variant that a declared pair allows
 abbrev pub beside_by : List TileView → Pair → List (Variant × Variant)
 beside_by tiles pair = beside tiles (named_variant tiles pair.left) (named_variant tiles pair.right)
 
+-- the pairs of an upper and a lower variant that a declared pair allows: a quarter turn brings its right end up
 abbrev pub stacked_by : List TileView → Pair → List (Variant × Variant)
 stacked_by tiles pair =
     stacked tiles (moved tiles (named_variant tiles pair.right) 1) (moved tiles (named_variant tiles pair.left) 1)
 
--- all allowed pairs of a left and a right variant, and of an upper and a lower one
+-- all allowed pairs of a left and a right variant
 abbrev pub across_pairs : TileSetView → List (Variant × Variant)
 across_pairs set = flat_map (beside_by set.tiles) set.pairs
 
+-- all allowed pairs of an upper and a lower variant
 abbrev pub down_pairs : TileSetView → List (Variant × Variant)
 down_pairs set = flat_map (stacked_by set.tiles) set.pairs
 
@@ -58,10 +60,11 @@ same_variant v w = v.0 == w.0 && v.1 == w.1
 abbrev pub has_pair : List (Variant × Variant) → Variant → Variant → Bool
 has_pair pairs v w = list_any (λ p. same_variant p.0 v && same_variant p.1 w) pairs
 
--- whether the first of two variants, by their numbers, may stand to the left of the second, or above it
+-- whether the first of two variants, by their numbers, may stand to the left of the second
 abbrev pub may_be_left : TileSetView → ℕ → ℕ → Bool
 may_be_left set v w = has_pair (across_pairs set) (variant_at set.tiles v) (variant_at set.tiles w)
 
+-- whether the first of two variants, by their numbers, may stand above the second
 abbrev pub may_be_above : TileSetView → ℕ → ℕ → Bool
 may_be_above set v w = has_pair (down_pairs set) (variant_at set.tiles v) (variant_at set.tiles w)
 
@@ -70,6 +73,7 @@ pub record IsEnd (tiles : List TileView) (end : End) : Type 0 where
   pub tile_in : end.tile < length tiles
   pub turn_in : end.turn < 8
 
+-- a pair of two ends, each of which names one of these tiles and an action
 pub record IsPair (tiles : List TileView) (pair : Pair) : Type 0 where
   pub left_in : IsEnd tiles pair.left
   pub right_in : IsEnd tiles pair.right

@@ -1,5 +1,6 @@
 -- What a document says of a tile set, or the first thing that is wrong with it. Pictures are named and not read.
-use Rattle.std.specs.Prelude.{ℕ, ◌-◌, Bool, true, false, not, ◌&&◌, ◌||◌, ◌==◌, nat_le, nat_eq, if◌then◌else◌, List, [], ◌∷◌, ◌++◌, length, take, drop, codes, ℤ, pos, negsuc, Option, Some, None, Result, Ok, Err}
+use Rattle.std.specs.Prelude.{ℕ, ◌-◌, Bool, true, false, not, ◌&&◌, ◌||◌, ◌==◌, nat_le, nat_eq, if◌then◌else◌, List, []}
+use Rattle.std.specs.Prelude.{◌∷◌, ◌++◌, length, take, drop, codes, ℤ, pos, negsuc, Option, Some, None, Result, Ok, Err}
 use Rattle.std.specs.Option.{ok_or}
 use Rattle.std.specs.List.{list_all, list_any, position, position_or_len, ends_with}
 use Rattle.std.specs.Str.{bytes_eq, is_utf8}
@@ -24,6 +25,7 @@ and_then (Ok x) f = f x
 and_then (Err e) f = Err e
 
 infixl 10 ◌>>=◌
+-- the same, written between the two steps
 abbrev ◌>>=◌ : {A B : Type 0} → Result A TileFault → (A → Result B TileFault) → Result B TileFault
 r >>= f = and_then r f
 
@@ -55,9 +57,11 @@ is_name_byte b =
 abbrev pub is_name : List ℕ → Bool
 is_name name = (nat_le 1 (length name) && nat_le (length name) 64) && list_all is_name_byte name
 
+-- whether a tile has this name
 abbrev pub has_name : List ℕ → TileView → Bool
 has_name name tile = bytes_eq tile.name name
 
+-- the name of a tile behind those before it: it has to be there, to be a name, and to be none of theirs
 abbrev pub name_in : List TileView → Option Data → Result (List ℕ) TileFault
 name_in before d =
     text_in (place.Tile (length before)) key.Name d >>= (λ name.
@@ -72,6 +76,7 @@ class_of text =
     else if bytes_eq text (codes "L") then Some L else if bytes_eq text (codes "T") then Some T
     else if bytes_eq text (codes "F") then Some F else None
 
+-- the class of tile t, which has to be there
 abbrev pub class_in : ℕ → Option Data → Result Class TileFault
 class_in t d = text_in (place.Tile t) key.Class d >>= (λ text. ok_or (class_of text) (fault.BadClass t))
 
@@ -80,6 +85,7 @@ abbrev pub weight_of : ℤ → Option ℕ
 weight_of (pos n) = if nat_le 1 n && nat_le n 1000000 then Some n else None
 weight_of (negsuc n) = None
 
+-- the weight of tile t, which is 1 where none is said
 abbrev pub weight_in : ℕ → Option Data → Result ℕ TileFault
 weight_in t None = Ok 1
 weight_in t (Some d) =
@@ -108,9 +114,11 @@ abbrev pub fits_first : List TileView → Option (List ℕ) → Bool
 fits_first [] picture = true
 fits_first (first ∷ before) picture = same_kind first.picture picture
 
+-- a tile with these parts
 abbrev pub tile_with : List ℕ → Class → ℕ → Option (List ℕ) → TileView
 tile_with name class weight picture = record { name = name; class = class; weight = weight; picture = picture }
 
+-- the tile that a table says, behind those before it: its name, class, weight and picture are looked at in this order
 abbrev pub tile_from : List TileView → Members → Result TileView TileFault
 tile_from before ms =
     name_in before (get_member (codes "name") ms) >>= (λ name.
@@ -140,6 +148,7 @@ turn_of (blank ∷ digit ∷ more ∷ rest) = None
 abbrev pub name_length : List ℕ → ℕ
 name_length text = position_or_len (λ b. b == 32) text
 
+-- an end of a pair with these parts: the number of a tile, and an action
 abbrev pub end_with : ℕ → ℕ → End
 end_with tile turn = record { tile = tile; turn = turn }
 
@@ -149,12 +158,15 @@ end_from tiles pair text =
     ok_or (position (has_name (take (name_length text) text)) tiles) (fault.UnknownTile pair) >>= (λ tile.
     ok_or (turn_of (drop (name_length text) text)) (fault.BadTurn pair) >>= (λ turn. Ok (end_with tile turn)))
 
+-- an end of a pair under its key, which has to be there
 abbrev pub end_in : List TileView → ℕ → Key → Option Data → Result End TileFault
 end_in tiles pair key d = text_in (place.Pair pair) key d >>= end_from tiles pair
 
+-- a pair with these two ends
 abbrev pub pair_with : End → End → Pair
 pair_with left right = record { left = left; right = right }
 
+-- the pair that a table says, the left end looked at first
 abbrev pub pair_from : List TileView → ℕ → Members → Result Pair TileFault
 pair_from tiles pair ms =
     end_in tiles pair key.Left (get_member (codes "left") ms) >>= (λ left.

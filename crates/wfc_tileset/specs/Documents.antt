@@ -1,9 +1,13 @@
 -- Small documents for laws.
-use Rattle.std.specs.Prelude.{ℕ, List, [], ◌∷◌, codes, pos, None}
+use Rattle.std.specs.Prelude.{ℕ, List, [], ◌∷◌, codes, pos, true, None, Result, Err}
 use Rattle.wfc_symmetry.specs.declared.class.Class.TheVariants.{F, T}
 use Rattle.wfc_tileset.specs.Document.{tile_with}
-use Rattle.wfc_tileset.specs.Tiles.{TileView}
-use Rattle.toml.specs.Data.{Data, string, integer, array, table, Items, no_items, item, Members, no_members, member}
+use Rattle.wfc_tileset.specs.declared.fault.Place.TheVariants as place
+use Rattle.wfc_tileset.specs.declared.fault.Key.TheVariants as key
+use Rattle.wfc_tileset.specs.declared.fault.TileFault.{TileFault}
+use Rattle.wfc_tileset.specs.declared.fault.TileFault.TheVariants as fault
+use Rattle.wfc_tileset.specs.Tiles.{TileView, TileSetView}
+use Rattle.toml.specs.Data.{Data, string, integer, boolean, array, table, Items, no_items, item, Members, no_members, member}
 
 -- a tile with a name and a class
 abbrev pub tile_data : List ℕ → List ℕ → Data
@@ -30,10 +34,11 @@ document_of tiles pairs =
     member (codes "pair") (array (items_of pairs))
     (member (codes "tile") (array (items_of tiles)) no_members)
 
--- tiles without symmetry, a junction, and pairs of them
+-- two tiles as elements of an array: one without symmetry, and a junction
 abbrev pub tiles_f_t : List Data
 tiles_f_t = tile_data (codes "f") (codes "F") ∷ tile_data (codes "t") (codes "T") ∷ []
 
+-- a document of those two tiles and a pair with these ends
 abbrev pub with_pair : List ℕ → List ℕ → Members
 with_pair left right = document_of tiles_f_t (pair_data left right ∷ [])
 
@@ -46,3 +51,57 @@ table_of_tile name class weight =
 -- tiles without symmetry and a junction
 abbrev pub two_tiles : List TileView
 two_tiles = tile_with (codes "f") F 1 None ∷ tile_with (codes "t") T 1 None ∷ []
+
+-- documents of which a pair has a fault
+abbrev pub wrong_pairs : List Members
+wrong_pairs =
+    with_pair (codes "f 8") (codes "g")
+    ∷ with_pair (codes "g 8") (codes "f 8")
+    ∷ with_pair (codes "f ") (codes "t")
+    ∷ with_pair (codes "f 1 ") (codes "t")
+    ∷ with_pair (codes "f") (codes "t  1")
+    ∷ with_pair (codes "f") (codes "")
+    ∷ document_of tiles_f_t (pair_data (codes "f") (codes "t") ∷ boolean true ∷ [])
+    ∷ document_of tiles_f_t
+    (table (member (codes "right") (string (codes "f")) no_members) ∷ [])
+    ∷ document_of tiles_f_t (table (member (codes "left") (integer (pos 7)) no_members) ∷ [])
+    ∷ []
+
+-- the first fault of each of these
+abbrev pub wrong_pair_faults : List (Result TileSetView TileFault)
+wrong_pair_faults =
+    Err (fault.BadTurn 0) ∷ Err (fault.UnknownTile 0) ∷ Err (fault.BadTurn 0)
+    ∷ Err (fault.BadTurn 0)
+    ∷ Err (fault.BadTurn 0) ∷ Err (fault.UnknownTile 0)
+    ∷ Err (fault.WrongKind (place.Pair 1) key.Pair)
+    ∷ Err (fault.MissingKey (place.Pair 0) key.Left)
+    ∷ Err (fault.WrongKind (place.Pair 0) key.Left) ∷ []
+
+-- documents of which a tile, or one of the two arrays, has a fault
+abbrev pub wrong_tiles : List Members
+wrong_tiles =
+    document_of [] (boolean true ∷ [])
+    ∷ member (codes "pair") (boolean true) no_members
+    ∷ member (codes "pair") (boolean true) (member (codes "tile") (boolean true) no_members)
+    ∷ document_of (tile_data (codes "f") (codes "Y") ∷ boolean true ∷ []) []
+    ∷ document_of
+    (tile_data (codes "f") (codes "F") ∷ tile_data (codes "f") (codes "Y") ∷ []) []
+    ∷ document_of
+    (tile_data (codes "f") (codes "F") ∷ tile_data (codes "f.") (codes "Y") ∷ []) []
+    ∷ document_of (table no_members ∷ []) (boolean true ∷ [])
+    ∷ document_of (drawn_data (codes "a") (codes "b") 0 ∷ []) []
+    ∷ document_of (drawn_data (codes "a") (codes "b.ppm") 1
+    ∷ drawn_data (codes "c") (codes "d.PPM") 1000000
+    ∷ tile_data (codes "e") (codes "X") ∷ []) []
+    ∷ document_of (drawn_data (codes "a") (codes "b.txt") 1
+    ∷ drawn_data (codes "c") (codes "d.PPM") 1 ∷ []) []
+    ∷ []
+
+-- the first fault of each of these
+abbrev pub wrong_tile_faults : List (Result TileSetView TileFault)
+wrong_tile_faults =
+    Err fault.NoTiles ∷ Err (fault.WrongKind place.Top key.Pair)
+    ∷ Err (fault.WrongKind place.Top key.Tile)
+    ∷ Err (fault.BadClass 0) ∷ Err (fault.DoubleName 1) ∷ Err (fault.BadName 1)
+    ∷ Err (fault.MissingKey (place.Tile 0) key.Name)
+    ∷ Err (fault.BadWeight 0) ∷ Err (fault.MixedKinds 2) ∷ Err (fault.MixedKinds 1) ∷ []

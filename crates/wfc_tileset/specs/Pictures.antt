@@ -1,5 +1,7 @@
 -- Pictures of tiles: what a file is as one, which are taken, and what a variant shows.
-use Rattle.std.specs.Prelude.{◌≡◌, ℕ, zero, suc, ◌+◌, ◌-◌, ◌*◌, ◌<◌, ◌≤◌, Bool, true, false, not, ◌&&◌, ◌==◌, nat_lt, nat_le, if◌then◌else◌, List, [], ◌∷◌, ◌++◌, length, map, slice_index_or, Option, None, Some, IsSome, Result, Ok, Err}
+use Rattle.std.specs.Prelude.{◌≡◌, ℕ, zero, suc, ◌+◌, ◌-◌, ◌*◌, ◌<◌, ◌≤◌, Bool, true, false, not, ◌&&◌, ◌==◌, nat_lt}
+use Rattle.std.specs.Prelude.{nat_le, if◌then◌else◌, List, [], ◌∷◌, ◌++◌, length, map, slice_index_or, Option, None}
+use Rattle.std.specs.Prelude.{Some, IsSome, Result, Ok, Err}
 use Rattle.std.specs.List.{All, AllPass}
 use Rattle.std.specs.Option.{unwrap_or}
 use Rattle.wfc_grid.specs.Grid.{GridView}

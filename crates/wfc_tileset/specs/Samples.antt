@@ -39,6 +39,18 @@ four_shown picture i =
     variant_pixel picture i 0 0 ∷ variant_pixel picture i 1 0 ∷ variant_pixel picture i 0 1
     ∷ variant_pixel picture i 1 1 ∷ []
 
+-- what each of the eight variants of a tile with the picture of four characters shows, row by row
+abbrev pub four_variants : List (List Symbol)
+four_variants =
+    (Char 97 ∷ Char 98 ∷ Char 99 ∷ Char 100 ∷ [])
+    ∷ (Char 98 ∷ Char 100 ∷ Char 97 ∷ Char 99 ∷ [])
+    ∷ (Char 100 ∷ Char 99 ∷ Char 98 ∷ Char 97 ∷ [])
+    ∷ (Char 99 ∷ Char 97 ∷ Char 100 ∷ Char 98 ∷ [])
+    ∷ (Char 98 ∷ Char 97 ∷ Char 100 ∷ Char 99 ∷ [])
+    ∷ (Char 100 ∷ Char 98 ∷ Char 99 ∷ Char 97 ∷ [])
+    ∷ (Char 99 ∷ Char 100 ∷ Char 97 ∷ Char 98 ∷ [])
+    ∷ (Char 97 ∷ Char 99 ∷ Char 98 ∷ Char 100 ∷ []) ∷ []
+
 -- a picture of one colour
 abbrev pub one_colour : ℕ → PictureView
 one_colour maxval = record { kind = kinds.Ppm maxval; side = 1; pixels = Rgb (record { r = 1; g = 2; b = 3 }) ∷ [] }

@@ -1,15 +1,16 @@
 //! Laws of documents, each a function with no body whose contract is the law. They run nothing.
 
 ghost use Rattle.std.specs.Prelude.{◌≡◌, ℕ, List, [], ◌∷◌, map, replicate, codes, pos, negsuc, true, false, Some, None, Ok, Err};
-ghost use Rattle.toml.specs.Data.{Members, string, integer, boolean, array, table, no_members, member};
+ghost use Rattle.toml.specs.Data.{Members, array, no_members, member};
 ghost use Rattle.wfc_symmetry.specs.declared.class.Class.TheVariants.{X, I, L, T, F, Slash};
-ghost use Rattle.wfc_tileset.specs.declared.fault.Place.TheVariants as place;
-ghost use Rattle.wfc_tileset.specs.declared.fault.Key.TheVariants as key;
 ghost use Rattle.wfc_tileset.specs.declared.fault.TileFault.TheVariants as fault;
 ghost use Rattle.wfc_tileset.specs.Tiles.{TileView, TileSetView, IsWeighed, variant_total};
-ghost use Rattle.wfc_tileset.specs.Document.{parsed, set_from, set_of, class_of, weight_of, is_name, is_name_byte, same_kind, few_variants, tile_with, set_with, pair_with, end_with};
+ghost use Rattle.wfc_tileset.specs.Document.{parsed, set_from, set_of, class_of, weight_of, is_name, is_name_byte};
+ghost use Rattle.wfc_tileset.specs.Document.{same_kind, few_variants, tile_with, set_with, pair_with, end_with};
 ghost use Rattle.wfc_tileset.specs.Says.{AreNamedBehind, SaysEnd, SaysSet, SaysTile};
-ghost use Rattle.wfc_tileset.specs.Documents.{two_tiles, table_of_tile, tile_data, drawn_data, pair_data, document_of, items_of, tiles_f_t, with_pair};
+ghost use Rattle.wfc_tileset.specs.Documents.{wrong_pairs, wrong_pair_faults, wrong_tiles, wrong_tile_faults};
+ghost use Rattle.wfc_tileset.specs.Documents.{two_tiles, table_of_tile, drawn_data, document_of, items_of};
+ghost use Rattle.wfc_tileset.specs.Documents.{tiles_f_t, with_pair};
 
 use crate::document::MAX_ELEMENTS;
 use crate::{HOLE, MAX_DOCUMENT_BYTES, MAX_VARIANTS};
@@ -17,63 +18,23 @@ use crate::{HOLE, MAX_DOCUMENT_BYTES, MAX_VARIANTS};
 /// What a document says of two tiles and a pair: an action stands behind a blank, and none is
 /// action 0.
 pub fn documents_by_example()
-    ensures pair { set_from (with_pair (codes "f 5") (codes "t")) ≡ Ok (set_with
-        (tile_with (codes "f") F 1 None ∷ tile_with (codes "t") T 1 None ∷ [])
-        (pair_with (end_with 0 5) (end_with 1 0) ∷ [])) }
+    ensures pair { set_from (with_pair (codes "f 5") (codes "t"))
+        ≡ Ok (set_with two_tiles (pair_with (end_with 0 5) (end_with 1 0) ∷ [])) }
     ensures picture { set_from (document_of (drawn_data (codes "a") (codes "b") 70 ∷ []) [])
-        ≡ Ok (set_with
-        (tile_with (codes "a") T 70 (Some (codes "b")) ∷ []) []) }
-    ensures without_pairs { set_from (member (codes "tile") (array (items_of tiles_f_t)) no_members) ≡ Ok (set_with
-        (tile_with (codes "f") F 1 None ∷ tile_with (codes "t") T 1 None ∷ []) []) }
+        ≡ Ok (set_with (tile_with (codes "a") T 70 (Some (codes "b")) ∷ []) []) }
+    ensures without_pairs { set_from (member (codes "tile") (array (items_of tiles_f_t)) no_members)
+        ≡ Ok (set_with two_tiles []) }
 {}
 
 /// The first fault of a pair: the left end comes first, its name before its action.
 pub fn faults_of_pairs()
-    ensures first { map set_from
-        (with_pair (codes "f 8") (codes "g")
-        ∷ with_pair (codes "g 8") (codes "f 8")
-        ∷ with_pair (codes "f ") (codes "t")
-        ∷ with_pair (codes "f 1 ") (codes "t")
-        ∷ with_pair (codes "f") (codes "t  1")
-        ∷ with_pair (codes "f") (codes "")
-        ∷ document_of tiles_f_t (pair_data (codes "f") (codes "t") ∷ boolean true ∷ [])
-        ∷ document_of tiles_f_t
-        (table (member (codes "right") (string (codes "f")) no_members) ∷ [])
-        ∷ document_of tiles_f_t (table (member (codes "left") (integer (pos 7)) no_members) ∷ [])
-        ∷ [])
-        ≡ Err (fault.BadTurn 0) ∷ Err (fault.UnknownTile 0) ∷ Err (fault.BadTurn 0)
-        ∷ Err (fault.BadTurn 0)
-        ∷ Err (fault.BadTurn 0) ∷ Err (fault.UnknownTile 0)
-        ∷ Err (fault.WrongKind (place.Pair 1) key.Pair)
-        ∷ Err (fault.MissingKey (place.Pair 0) key.Left)
-        ∷ Err (fault.WrongKind (place.Pair 0) key.Left) ∷ [] }
+    ensures first { map set_from wrong_pairs ≡ wrong_pair_faults }
 {}
 
 /// The first fault of the tiles, which come before any pair, and of the two arrays, which come
 /// before any tile.
 pub fn faults_of_tiles()
-    ensures first { map set_from
-        (document_of [] (boolean true ∷ [])
-        ∷ member (codes "pair") (boolean true) no_members
-        ∷ member (codes "pair") (boolean true) (member (codes "tile") (boolean true) no_members)
-        ∷ document_of (tile_data (codes "f") (codes "Y") ∷ boolean true ∷ []) []
-        ∷ document_of
-        (tile_data (codes "f") (codes "F") ∷ tile_data (codes "f") (codes "Y") ∷ []) []
-        ∷ document_of
-        (tile_data (codes "f") (codes "F") ∷ tile_data (codes "f.") (codes "Y") ∷ []) []
-        ∷ document_of (table no_members ∷ []) (boolean true ∷ [])
-        ∷ document_of (drawn_data (codes "a") (codes "b") 0 ∷ []) []
-        ∷ document_of (drawn_data (codes "a") (codes "b.ppm") 1
-        ∷ drawn_data (codes "c") (codes "d.PPM") 1000000
-        ∷ tile_data (codes "e") (codes "X") ∷ []) []
-        ∷ document_of (drawn_data (codes "a") (codes "b.txt") 1
-        ∷ drawn_data (codes "c") (codes "d.PPM") 1 ∷ []) []
-        ∷ [])
-        ≡ Err fault.NoTiles ∷ Err (fault.WrongKind place.Top key.Pair)
-        ∷ Err (fault.WrongKind place.Top key.Tile)
-        ∷ Err (fault.BadClass 0) ∷ Err (fault.DoubleName 1) ∷ Err (fault.BadName 1)
-        ∷ Err (fault.MissingKey (place.Tile 0) key.Name)
-        ∷ Err (fault.BadWeight 0) ∷ Err (fault.MixedKinds 2) ∷ Err (fault.MixedKinds 1) ∷ [] }
+    ensures first { map set_from wrong_tiles ≡ wrong_tile_faults }
 {}
 
 /// The limits are these numbers: the bytes of a document, the elements of an array, and the variants
@@ -123,12 +84,15 @@ pub fn read_sets_are_said()
 /// What is said of a tile and of an end of a pair, and what is not: a weight that is not the table's, an action of another
 /// digit, a tile of another name.
 pub fn said_by_example()
-    ensures weight { SaysTile (table_of_tile (codes "a") (codes "T") 70) (tile_with (codes "a") T 1 None) → ⊥ }
-    ensures class { SaysTile (table_of_tile (codes "a") (codes "T") 70) (tile_with (codes "a") F 70 None) → ⊥ }
+    ensures weight { SaysTile (table_of_tile (codes "a") (codes "T") 70)
+        (tile_with (codes "a") T 1 None) → ⊥ }
+    ensures class { SaysTile (table_of_tile (codes "a") (codes "T") 70)
+        (tile_with (codes "a") F 70 None) → ⊥ }
     ensures turn { SaysEnd two_tiles (codes "t 3") (end_with 1 3) }
     ensures no_turn { SaysEnd two_tiles (codes "f") (end_with 0 0) }
     ensures other_turn { SaysEnd two_tiles (codes "t 3") (end_with 1 2) → ⊥ }
     ensures other_tile { SaysEnd two_tiles (codes "t 3") (end_with 0 3) → ⊥ }
     ensures past { SaysEnd two_tiles (codes "t 8") (end_with 1 8) → ⊥ }
-    ensures named_twice { AreNamedBehind [] (tile_with (codes "a") T 1 None ∷ tile_with (codes "a") F 2 None ∷ []) → ⊥ }
+    ensures named_twice { AreNamedBehind []
+        (tile_with (codes "a") T 1 None ∷ tile_with (codes "a") F 2 None ∷ []) → ⊥ }
 {}

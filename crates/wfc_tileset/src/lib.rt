@@ -10,7 +10,8 @@ ghost use Rattle.wfc_tileset.specs.Tiles.{moved, variant_total, variant_at, vari
 ghost use Rattle.wfc_tileset.specs.Allowed.{IsAcross, IsDown, IsEnd, may_be_above, may_be_left, named_variant};
 ghost use Rattle.wfc_tileset.specs.Names.{AreNames};
 ghost use Rattle.wfc_tileset.specs.Numbers.{number_of};
-ghost use Rattle.wfc_tileset.specs.Pictures.{IsPicture, IsPictured, kind_of, next_name, picture_for, picture_name, picture_taken, pixel_at, side_of};
+ghost use Rattle.wfc_tileset.specs.Pictures.{IsPicture, IsPictured, kind_of, next_name, picture_for, picture_name};
+ghost use Rattle.wfc_tileset.specs.Pictures.{picture_taken, pixel_at, side_of};
 ghost use Rattle.wfc_tileset.specs.Shown.{is_of_kind};
 ghost use Rattle.wfc_tileset.specs.TileSets.{IsTileSet};
 
@@ -70,14 +71,17 @@ impl Model for TileSet {
 
     ghost view = { λ s. record { tiles = s.variants; pairs = s.pairs.items; pictures = s.pictures.items } };
 
-    ghost invariant = { λ s. IsClosed (record { tiles = s.variants; pairs = s.pairs.items; pictures = s.pictures.items }) s.across.items s.down.items };
+    ghost invariant = { λ s. IsClosed
+        (record { tiles = s.variants; pairs = s.pairs.items; pictures = s.pictures.items })
+        s.across.items s.down.items };
 }
 
 impl TileSet {
     /// The tile set of tiles and declared pairs, of which no picture is taken. Its time is linear in
     /// the pairs and in the square of the number of variants.
     pub fn new(alloc: Global, tiles: Vec<Tile>, pairs: Vec<Pair>) -> Result<TileSet, NoMemory>
-        requires tile_set { IsTileSet (record { tiles = tiles.items; pairs = pairs.items; pictures = [] }) }
+        requires tile_set { IsTileSet
+            (record { tiles = tiles.items; pairs = pairs.items; pictures = [] }) }
         ensures ok { IfOk result (λ set. set
             ≡ record { tiles = tiles.items; pairs = pairs.items; pictures = [] }) }
     {

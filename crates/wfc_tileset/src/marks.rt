@@ -71,7 +71,8 @@ fn mark_beside(flags: &mut [bool], variants: &Variants, left: (u32, u8), right: 
     requires left { IsVariant variants.now left }
     requires right { IsVariant variants.now right }
     requires square { length flags.old ≡ variant_total variants.now * variant_total variants.now }
-    ensures marked { flags.new ≡ all_marked variants.now flags.old (beside variants.now left right) }
+    ensures marked { flags.new
+        ≡ all_marked variants.now flags.old (beside variants.now left right) }
 {
     mark(flags, variants, left, right);
     mark_image(flags, variants, left, right, 6);
@@ -84,7 +85,8 @@ fn mark_stacked(flags: &mut [bool], variants: &Variants, upper: (u32, u8), lower
     requires upper { IsVariant variants.now upper }
     requires lower { IsVariant variants.now lower }
     requires square { length flags.old ≡ variant_total variants.now * variant_total variants.now }
-    ensures marked { flags.new ≡ all_marked variants.now flags.old (stacked variants.now upper lower) }
+    ensures marked { flags.new
+        ≡ all_marked variants.now flags.old (stacked variants.now upper lower) }
 {
     mark(flags, variants, upper, lower);
     mark_image(flags, variants, lower, upper, 6);
@@ -98,7 +100,8 @@ fn mark_image(flags: &mut [bool], variants: &Variants, v: (u32, u8), w: (u32, u8
     requires w { IsVariant variants.now w }
     requires action_in { k < 8 }
     requires square { length flags.old ≡ variant_total variants.now * variant_total variants.now }
-    ensures marked { flags.new ≡ marked variants.now flags.old (moved variants.now v k, moved variants.now w k) }
+    ensures marked { flags.new
+        ≡ marked variants.now flags.old (moved variants.now v k, moved variants.now w k) }
 {
     mark(flags, variants, variants.moved(v, k), variants.moved(w, k));
 }

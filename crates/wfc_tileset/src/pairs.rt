@@ -39,8 +39,7 @@ pub fn pairs_from(alloc: Global, tiles: &[Tile], elements: &[Value]) -> Result<V
 /// The pair of an element.
 fn pair_in(names: &Names, tiles: &[Tile], pair: u32, element: &Value) -> Result<Pair, TileFault>
     requires names { AreNames names.now tiles.now }
-    ensures exact { result
-        ≡ and_then (table_in (place.Pair pair) key.Pair (view element.now))
+    ensures exact { result ≡ and_then (table_in (place.Pair pair) key.Pair (view element.now))
         (pair_from tiles.now pair) }
     ensures pair { IfOk result (IsPair tiles.now) }
 {

@@ -4,7 +4,9 @@ ghost use Rattle.std.specs.Prelude.{◌≡◌, ◌-◌, ◌<◌, ◌≤◌, ◌^
 ghost use Rattle.std.specs.Option.{option_map};
 ghost use Rattle.wfc_grid.specs.Reading.{grid_of};
 ghost use Rattle.wfc_ppm.specs.Reading.{ppm_of};
-ghost use Rattle.wfc_tileset.specs.Pictures.{IsPicture, fitting, fitting_first, if_read, is_tile_size, kind_of, of_grid, of_ppm, one_kind, picture_of, pixel_in, side_of, turned_pixel, variant_pixel};
+ghost use Rattle.wfc_tileset.specs.Pictures.{IsPicture, fitting, fitting_first, if_read, is_tile_size, kind_of};
+ghost use Rattle.wfc_tileset.specs.Pictures.{of_grid, of_ppm, one_kind, picture_of, pixel_in, side_of};
+ghost use Rattle.wfc_tileset.specs.Pictures.{turned_pixel, variant_pixel};
 ghost use Rattle.wfc_tileset.specs.Shown.{is_of_kind};
 
 use crate::fault::TileFault;
@@ -157,7 +159,8 @@ fn of_grid(alloc: Global, grid: Grid) -> Result<Option<TilePicture>, NoMemory>
 
 /// What characters show.
 fn characters(alloc: Global, bytes: &[u8]) -> Result<Vec<Symbol>, NoMemory>
-    ensures value { IfOk result (λ symbols. symbols.items ≡ map (λ byte. Symbol.Char byte) bytes.now) }
+    ensures value { IfOk result (λ symbols.
+        symbols.items ≡ map (λ byte. Symbol.Char byte) bytes.now) }
 {
     let mut symbols = Vec::with_capacity(alloc, bytes.len())?;
     for byte in bytes {
@@ -197,7 +200,8 @@ fn of_ppm(alloc: Global, ppm: Ppm) -> Result<Option<TilePicture>, NoMemory>
 
 /// What colours show.
 fn colours(alloc: Global, colours: &[Colour]) -> Result<Vec<Symbol>, NoMemory>
-    ensures value { IfOk result (λ symbols. symbols.items ≡ map (λ colour. Symbol.Rgb colour) colours.now) }
+    ensures value { IfOk result (λ symbols.
+        symbols.items ≡ map (λ colour. Symbol.Rgb colour) colours.now) }
 {
     let mut symbols = Vec::with_capacity(alloc, colours.len())?;
     for colour in colours {

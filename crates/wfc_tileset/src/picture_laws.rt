@@ -3,10 +3,9 @@
 
 ghost use Rattle.std.specs.Prelude.{◌≡◌, List, [], ◌∷◌, ◌++◌, codes, map, Some, None, Ok, Err};
 ghost use Rattle.std.specs.List.{range_with_len};
-ghost use Rattle.wfc_picture.specs.declared.symbol.Symbol.TheVariants.{Char};
 ghost use Rattle.wfc_tileset.specs.declared.fault.TileFault.TheVariants as fault;
 ghost use Rattle.wfc_tileset.specs.Pictures.{picture_of, picture_taken, pixel_at, with_picture};
-ghost use Rattle.wfc_tileset.specs.Samples.{four_characters, four_shown, one_colour, one_taken};
+ghost use Rattle.wfc_tileset.specs.Samples.{four_characters, four_shown, four_variants, one_colour, one_taken};
 ghost use Rattle.wfc_tileset.specs.Tiles.{PictureView};
 
 use crate::MAX_TILE_SIDE;
@@ -20,15 +19,7 @@ pub fn longest_side()
 /// counter-clockwise, of the one before, and each of the last four has the rows of the one four
 /// before the other way round.
 pub fn variants_by_example()
-    ensures shown { map (four_shown four_characters) (range_with_len 0 8)
-        ≡ (Char 97 ∷ Char 98 ∷ Char 99 ∷ Char 100 ∷ [])
-        ∷ (Char 98 ∷ Char 100 ∷ Char 97 ∷ Char 99 ∷ [])
-        ∷ (Char 100 ∷ Char 99 ∷ Char 98 ∷ Char 97 ∷ [])
-        ∷ (Char 99 ∷ Char 97 ∷ Char 100 ∷ Char 98 ∷ [])
-        ∷ (Char 98 ∷ Char 97 ∷ Char 100 ∷ Char 99 ∷ [])
-        ∷ (Char 100 ∷ Char 98 ∷ Char 99 ∷ Char 97 ∷ [])
-        ∷ (Char 99 ∷ Char 100 ∷ Char 97 ∷ Char 98 ∷ [])
-        ∷ (Char 97 ∷ Char 99 ∷ Char 98 ∷ Char 100 ∷ []) ∷ [] }
+    ensures shown { map (four_shown four_characters) (range_with_len 0 8) ≡ four_variants }
 {}
 
 /// What files are pictures of tiles: a grid where the name is not that of a PPM, square, and without
@@ -36,9 +27,8 @@ pub fn variants_by_example()
 pub fn files_by_example()
     ensures grid { picture_of (codes "t.txt") (codes "ab\ncd\n") ≡ Some four_characters }
     ensures ppm { picture_of (codes "t.ppm") (codes "P3 1 1 9 1 2 3") ≡ Some (one_colour 9) }
-    ensures others { map (picture_of (codes "t.ppm"))
-        (codes "ab\ncd\n" ∷ codes "P3 1 1 2 1 2 3" ∷ codes "P3 2 1 9 1 2 3 1 2 3" ∷ [])
-        ≡ None ∷ None ∷ None ∷ [] }
+    ensures others { map (picture_of (codes "t.ppm")) (codes "ab\ncd\n" ∷ codes "P3 1 1 2 1 2 3"
+        ∷ codes "P3 2 1 9 1 2 3 1 2 3" ∷ []) ≡ None ∷ None ∷ None ∷ [] }
     ensures not_square { map (picture_of (codes "t.txt")) (codes "ab" ∷ codes "a\nb" ∷ [] ∷ [])
         ≡ None ∷ None ∷ None ∷ [] }
 {}
@@ -48,8 +38,7 @@ pub fn files_by_example()
 pub fn taken_by_example()
     ensures taken { picture_taken one_taken (codes "P3 1 1 9 1 2 3")
         ≡ Ok (with_picture one_taken (one_colour 9)) }
-    ensures faults { map (picture_taken one_taken)
-        (codes "P3 1 1 0 1 2 3" ∷ codes "P3 2 2 8 1 2 3 1 2 3 1 2 3 1 2 3"
-        ∷ codes "P3 2 2 9 1 2 3 1 2 3 1 2 3 1 2 3" ∷ [])
+    ensures faults { map (picture_taken one_taken) (codes "P3 1 1 0 1 2 3"
+        ∷ codes "P3 2 2 8 1 2 3 1 2 3 1 2 3 1 2 3" ∷ codes "P3 2 2 9 1 2 3 1 2 3 1 2 3 1 2 3" ∷ [])
         ≡ Err (fault.BadPicture 1) ∷ Err (fault.MixedKinds 1) ∷ Err (fault.SizeDiffers 1) ∷ [] }
 {}

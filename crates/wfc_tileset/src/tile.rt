@@ -34,5 +34,10 @@ impl Model for Tile {
 
     ghost Value = { TileView };
 
-    ghost view = { λ t. record { name = string_bytes t.name; class = t.class; weight = t.weight; picture = option_map string_bytes t.picture } };
+    ghost view = { λ t. record {
+      name = string_bytes t.name;
+      class = t.class;
+      weight = t.weight;
+      picture = option_map string_bytes t.picture;
+    } };
 }

@@ -9,7 +9,8 @@ ghost use Rattle.toml.specs.View.{view, table_view, items_view};
 ghost use Rattle.wfc_tileset.specs.Tiles.{IsWeighed};
 ghost use Rattle.wfc_tileset.specs.TileSets.{AreAlike};
 ghost use Rattle.wfc_tileset.specs.Names.{AreNames};
-ghost use Rattle.wfc_tileset.specs.Document.{and_then, table_in, name_in, class_in, weight_in, picture_in, same_kind, fits_first, tile_from, tiles_from, tile_with, has_name};
+ghost use Rattle.wfc_tileset.specs.Document.{and_then, table_in, name_in, class_in, weight_in, picture_in, same_kind};
+ghost use Rattle.wfc_tileset.specs.Document.{fits_first, tile_from, tiles_from, tile_with, has_name};
 ghost use Rattle.wfc_tileset.specs.declared.fault.Place.TheVariants as place;
 ghost use Rattle.wfc_tileset.specs.declared.fault.Key.TheVariants as key;
 

@@ -8,7 +8,8 @@ use Rattle.clap.specs.declared.builder.action.ArgAction.TheVariants.{Set, SetTru
 use Rattle.wfc_words.specs.ValueWords.{word_of}
 use Rattle.wfc_words.specs.declared.fault.ValueName.TheVariants as names
 use Rattle.wfc_words.specs.declared.kinds.CommandKind.{CommandKind}
-use Rattle.wfc_words.specs.declared.kinds.CommandKind.TheVariants.{Learn, Fill, Domains, Refute, Check, Upgrade, Demo, Race, Explain, Grow, BoxFill, BoxRefute, BoxCheck}
+use Rattle.wfc_words.specs.declared.kinds.CommandKind.TheVariants.{Learn, Fill, Domains, Refute, Check, Upgrade, Demo}
+use Rattle.wfc_words.specs.declared.kinds.CommandKind.TheVariants.{Race, Explain, Grow, BoxFill, BoxRefute, BoxCheck}
 
 -- a word behind a command's name: a text that must be there, an option with one text, one that must be there, or a flag
 pub data Word : Type 0 where

@@ -6,6 +6,7 @@ pub mod Numbers
 pub mod Request
 pub mod RequestView
 pub mod Rows
+pub mod Small
 pub mod Usage
 pub mod ValueWords
 pub mod Values

@@ -2,7 +2,8 @@
 use Rattle.std.specs.Prelude.{codes}
 use Rattle.clap.specs.Walk.{Text}
 use Rattle.wfc_words.specs.declared.fault.ValueName.{ValueName}
-use Rattle.wfc_words.specs.declared.fault.ValueName.TheVariants.{Model, Width, Height, Symmetry, Seed, Budget, Rule, Form, Number, Format, Mask, Seeds, Quantum, Block, Depth}
+use Rattle.wfc_words.specs.declared.fault.ValueName.TheVariants.{Model, Width, Height, Symmetry, Seed, Budget, Rule, Form}
+use Rattle.wfc_words.specs.declared.fault.ValueName.TheVariants.{Number, Format, Mask, Seeds, Quantum, Block, Depth}
 
 -- the word by which the user gives a value
 abbrev pub word_of : ValueName → Text

@@ -6,7 +6,8 @@ use Rattle.wfc_choose.specs.declared.RuleKind.TheVariants.{Fewest}
 use Rattle.wfc_render.specs.declared.form.Form.{Form}
 use Rattle.wfc_words.specs.Commands.{word_text}
 use Rattle.wfc_words.specs.Named.{form_named, model_asked, number_in, rule_asked}
-use Rattle.wfc_words.specs.Numbers.{NumberRange, block_range, budget_range, depth_range, format_range, height_range, number_range, quantum_range, seed_range, seeds_range, symmetry_range, width_range}
+use Rattle.wfc_words.specs.Numbers.{NumberRange, block_range, budget_range, depth_range, format_range, height_range}
+use Rattle.wfc_words.specs.Numbers.{number_range, quantum_range, seed_range, seeds_range, symmetry_range, width_range}
 use Rattle.wfc_words.specs.ValueWords.{word_of}
 use Rattle.wfc_words.specs.declared.fault.CommandFault.{CommandFault}
 use Rattle.wfc_words.specs.declared.fault.CommandFault.TheVariants.{Value}

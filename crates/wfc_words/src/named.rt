@@ -1,7 +1,8 @@
 //! The values that are no numbers, by their texts.
 
 ghost use Rattle.std.specs.Prelude.{◌≡◌};
-ghost use Rattle.wfc_words.specs.Named.{form_named, is_rankable, model_asked, rule_asked, rule_named, source_of, takes_tiles, unranked, untiled};
+ghost use Rattle.wfc_words.specs.Named.{form_named, is_rankable, model_asked, rule_asked, rule_named, source_of};
+ghost use Rattle.wfc_words.specs.Named.{takes_tiles, unranked, untiled};
 
 use crate::kinds::{CommandKind, SourceModel};
 use wfc_choose::RuleKind;

@@ -4,7 +4,8 @@ ghost use Rattle.std.specs.Prelude.{◌≡◌, ◌≤◌, IfOk};
 ghost use Rattle.clap.specs.Matches.{found_of};
 ghost use Rattle.clap.specs.Walk.{rows_of};
 ghost use Rattle.wfc_words.specs.Rows.{range_view};
-ghost use Rattle.wfc_words.specs.Values.{form_value, map_values, model_value, number_value, race_values, rule_value, run_values, space_values, unless_masked, values_of, writing_values};
+ghost use Rattle.wfc_words.specs.Values.{form_value, map_values, model_value, number_value, race_values, rule_value};
+ghost use Rattle.wfc_words.specs.Values.{run_values, space_values, unless_masked, values_of, writing_values};
 
 use crate::fault::{CommandFault, ValueName};
 use crate::kinds::{CommandKind, SourceModel};

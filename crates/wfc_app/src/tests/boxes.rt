@@ -11,15 +11,18 @@ use wfc_outside::{MemoryFolder, MemorySink};
 pub(super) const FILES: [(&str, &str); 11] = [
     (
         "tower.toml",
-        "[[tile]]\nname = \"line\"\nclass = \"I\"\n\n[[pair]]\nleft = \"line 0\"\nright = \"line 0\"\n\n[[stack]]\nlower = \"line 0\"\nupper = \"line 1\"\n",
+        "[[tile]]\nname = \"line\"\nclass = \"I\"\n\n[[pair]]\nleft = \"line 0\"\nright = \"line 0\"\n\n\
+         [[stack]]\nlower = \"line 0\"\nupper = \"line 1\"\n",
     ),
     (
         "house.toml",
-        "tile = [{name = 'ground', class = 'X'}, {name = 'wall', class = 'X'}, {name = 'roof', class = 'X'}]\nstack = [{lower = 'ground', upper = 'wall'}, {lower = 'wall', upper = 'wall'}, {lower = 'wall', upper = 'roof'}]\n",
+        "tile = [{name = 'ground', class = 'X'}, {name = 'wall', class = 'X'}, {name = 'roof', class = 'X'}]\n\
+         stack = [{lower = 'ground', upper = 'wall'}, {lower = 'wall', upper = 'wall'}, {lower = 'wall', upper = 'roof'}]\n",
     ),
     (
         "piled.toml",
-        "[[tile]]\nname = \"corner\"\nclass = \"L\"\npicture = \"corner.txt\"\n\n[[pair]]\nleft = \"corner 1\"\nright = \"corner 2\"\n\n[[stack]]\nlower = \"corner\"\nupper = \"corner\"\n",
+        "[[tile]]\nname = \"corner\"\nclass = \"L\"\npicture = \"corner.txt\"\n\n[[pair]]\n\
+         left = \"corner 1\"\nright = \"corner 2\"\n\n[[stack]]\nlower = \"corner\"\nupper = \"corner\"\n",
     ),
     (
         "bent_tower.toml",

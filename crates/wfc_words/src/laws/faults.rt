@@ -23,8 +23,8 @@ pub fn ranges_by_example()
         ∷ codes "--budget" ∷ codes "1000000001" ∷ []) ≡ Err (Value names.Budget) }
     ensures rule { request_of (codes "fill" ∷ codes "a" ∷ codes "2" ∷ codes "3" ∷ codes "4"
         ∷ codes "--rule=least" ∷ []) ≡ Err (Value names.Rule) }
-    ensures explain_unranked { request_of (codes "explain" ∷ codes "a" ∷ codes "2" ∷ codes "3" ∷ codes "4"
-        ∷ codes "--pins=p" ∷ codes "--rule=ranked" ∷ []) ≡ Err (Value names.Rule) }
+    ensures explain_unranked { request_of (codes "explain" ∷ codes "a" ∷ codes "2" ∷ codes "3"
+        ∷ codes "4" ∷ codes "--pins=p" ∷ codes "--rule=ranked" ∷ []) ≡ Err (Value names.Rule) }
     ensures unranked { request_of (codes "race" ∷ codes "a" ∷ codes "2" ∷ codes "3" ∷ codes "4"
         ∷ codes "--seeds=1" ∷ codes "--rule=ranked" ∷ []) ≡ Err (Value names.Rule) }
     ensures form { request_of (codes "fill" ∷ codes "a" ∷ codes "2" ∷ codes "3" ∷ codes "4"
@@ -37,8 +37,7 @@ pub fn ranges_by_example()
     ensures seeds { request_of (codes "race" ∷ codes "a" ∷ codes "2" ∷ codes "3" ∷ codes "4"
         ∷ codes "--seeds=9" ∷ []) ≡ Err (Value names.Seeds) }
     ensures seeds_fit { request_of (codes "race" ∷ codes "a" ∷ codes "2" ∷ codes "3" ∷ codes "4"
-        ∷ codes "--seeds=8" ∷ codes "--seed=18446744073709551609" ∷ [])
-        ≡ Err (Value names.Seeds) }
+        ∷ codes "--seeds=8" ∷ codes "--seed=18446744073709551609" ∷ []) ≡ Err (Value names.Seeds) }
     ensures quantum { request_of (codes "race" ∷ codes "a" ∷ codes "2" ∷ codes "3" ∷ codes "4"
         ∷ codes "--seeds=1" ∷ codes "--quantum=1000001" ∷ []) ≡ Err (Value names.Quantum) }
     ensures untiled { request_of (codes "grow" ∷ codes "a" ∷ codes "tiles" ∷ codes "3"

@@ -1,16 +1,16 @@
 //! Laws of the request of words.
 
-ghost use Rattle.std.specs.Prelude.{◌≡◌, true, List, [], ◌∷◌, codes, Some, Ok, Err};
+ghost use Rattle.std.specs.Prelude.{◌≡◌, List, [], ◌∷◌, codes, Ok, Err};
 ghost use Rattle.clap.specs.Walk.{Text};
-ghost use Rattle.wfc_choose.specs.declared.RuleKind.TheVariants as rules;
-ghost use Rattle.wfc_render.specs.declared.form.Form.TheVariants as forms;
 ghost use Rattle.wfc_words.specs.Defaults.{HoldsDefaults};
 ghost use Rattle.wfc_words.specs.InRange.{IsInRange};
 ghost use Rattle.wfc_words.specs.Request.{request_of};
 ghost use Rattle.wfc_words.specs.RequestView.{RequestView, default_request};
+ghost use Rattle.wfc_words.specs.Small.{box_check_request, box_fill_request, box_refute_request, check_request};
+ghost use Rattle.wfc_words.specs.Small.{domains_request, explain_request, fill_request, grow_request};
+ghost use Rattle.wfc_words.specs.Small.{learn_request, race_request, refute_request, upgrade_request};
 ghost use Rattle.wfc_words.specs.declared.fault.CommandFault.TheVariants.{Refused};
 ghost use Rattle.wfc_words.specs.declared.kinds.CommandKind.TheVariants as kinds;
-ghost use Rattle.wfc_words.specs.declared.kinds.SourceModel.TheVariants as models;
 
 /// What is asked for is in its ranges.
 pub fn requests_are_in_range()
@@ -27,144 +27,39 @@ pub fn requests_hold_defaults()
 /// What a request is by example: each word goes to its own field, and the others hold their defaults.
 pub fn requests_by_example()
     ensures learn { request_of (codes "learn" ∷ codes "a" ∷ codes "6" ∷ codes "--symmetry=2" ∷ [])
-        ≡ Ok (record (default_request kinds.Learn) {
-          file = codes "a";
-          source = models.Overlap 6;
-          symmetry = 2;
-        }) }
+        ≡ Ok learn_request }
     ensures fill { request_of (codes "fill" ∷ codes "--pins=p.txt" ∷ codes "a.txt" ∷ codes "3"
         ∷ codes "--wrap-out" ∷ codes "40" ∷ codes "007" ∷ codes "--seed" ∷ codes "12"
-        ∷ codes "--rule=scanline" ∷ codes "--form=cells" ∷ [])
-        ≡ Ok (record (default_request kinds.Fill) {
-          file = codes "a.txt";
-          source = models.Overlap 3;
-          width = 40;
-          height = 7;
-          wrap_out = true;
-          pins = Some (codes "p.txt");
-          seed = 12;
-          rule = rules.Scanline;
-          form = Some forms.Cells;
-        }) }
-    ensures domains { request_of (codes "domains" ∷ codes "a" ∷ codes "2" ∷ codes "3"
-        ∷ codes "4096" ∷ codes "--steps=s" ∷ [])
-        ≡ Ok (record (default_request kinds.Domains) {
-          file = codes "a";
-          source = models.Overlap 2;
-          width = 3;
-          height = 4096;
-          steps = Some (codes "s");
-        }) }
-    ensures refute { request_of (codes "refute" ∷ codes "a" ∷ codes "tiles" ∷ codes "3"
-        ∷ codes "4" ∷ codes "--format=1" ∷ codes "--budget=0" ∷ codes "--rule" ∷ codes "ranked"
-        ∷ [])
-        ≡ Ok (record (default_request kinds.Refute) {
-          file = codes "a";
-          source = models.Tiles;
-          width = 3;
-          height = 4;
-          format = 1;
-          budget = 0;
-          rule = rules.Ranked;
-        }) }
+        ∷ codes "--rule=scanline" ∷ codes "--form=cells" ∷ []) ≡ Ok fill_request }
+    ensures domains { request_of (codes "domains" ∷ codes "a" ∷ codes "2" ∷ codes "3" ∷ codes "4096"
+        ∷ codes "--steps=s" ∷ []) ≡ Ok domains_request }
+    ensures refute { request_of (codes "refute" ∷ codes "a" ∷ codes "tiles" ∷ codes "3" ∷ codes "4"
+        ∷ codes "--format=1" ∷ codes "--budget=0" ∷ codes "--rule" ∷ codes "ranked" ∷ [])
+        ≡ Ok refute_request }
     ensures check { request_of (codes "check" ∷ codes "a" ∷ codes "tiles" ∷ codes "5" ∷ codes "6"
         ∷ codes "r.txt" ∷ codes "--symmetry" ∷ codes "8" ∷ codes "--wrap-in" ∷ codes "--mask"
-        ∷ codes "m" ∷ [])
-        ≡ Ok (record (default_request kinds.Check) {
-          file = codes "a";
-          source = models.Tiles;
-          width = 5;
-          height = 6;
-          symmetry = 8;
-          wrap_in = true;
-          refutation = Some (codes "r.txt");
-          mask = Some (codes "m");
-        }) }
+        ∷ codes "m" ∷ []) ≡ Ok check_request }
     ensures upgrade { request_of (codes "upgrade" ∷ codes "a" ∷ codes "1" ∷ codes "5" ∷ codes "6"
-        ∷ codes "r" ∷ codes "--pins" ∷ codes "q" ∷ [])
-        ≡ Ok (record (default_request kinds.Upgrade) {
-          file = codes "a";
-          source = models.Overlap 1;
-          width = 5;
-          height = 6;
-          refutation = Some (codes "r");
-          pins = Some (codes "q");
-        }) }
+        ∷ codes "r" ∷ codes "--pins" ∷ codes "q" ∷ []) ≡ Ok upgrade_request }
     ensures demo { request_of (codes "demo" ∷ codes "17" ∷ [])
         ≡ Ok (record (default_request kinds.Demo) { number = 17 }) }
     ensures race { request_of (codes "race" ∷ codes "a" ∷ codes "2" ∷ codes "9" ∷ codes "8"
         ∷ codes "--quantum=30" ∷ codes "--seeds" ∷ codes "8" ∷ codes "--seed=18446744073709551608"
-        ∷ codes "--rule=scanline" ∷ [])
-        ≡ Ok (record (default_request kinds.Race) {
-          file = codes "a";
-          source = models.Overlap 2;
-          width = 9;
-          height = 8;
-          seed = 18446744073709551608;
-          rule = rules.Scanline;
-          seeds = 8;
-          quantum = 30;
-        }) }
-    ensures explain { request_of (codes "explain" ∷ codes "a" ∷ codes "tiles" ∷ codes "4" ∷ codes "5"
-        ∷ codes "--mask=m" ∷ codes "--pins" ∷ codes "p" ∷ codes "--wrap-in" ∷ codes "--seed=7" ∷ [])
-        ≡ Ok (record (default_request kinds.Explain) {
-          file = codes "a";
-          source = models.Tiles;
-          width = 4;
-          height = 5;
-          wrap_in = true;
-          pins = Some (codes "p");
-          seed = 7;
-          mask = Some (codes "m");
-        }) }
+        ∷ codes "--rule=scanline" ∷ []) ≡ Ok race_request }
+    ensures explain { request_of (codes "explain" ∷ codes "a" ∷ codes "tiles" ∷ codes "4"
+        ∷ codes "5" ∷ codes "--mask=m" ∷ codes "--pins" ∷ codes "p" ∷ codes "--wrap-in"
+        ∷ codes "--seed=7" ∷ []) ≡ Ok explain_request }
     ensures grow { request_of (codes "grow" ∷ codes "a" ∷ codes "2" ∷ codes "90" ∷ codes "80"
         ∷ codes "--block=2" ∷ codes "--pins" ∷ codes "p" ∷ codes "--wrap-in" ∷ codes "--form=p3"
-        ∷ [])
-        ≡ Ok (record (default_request kinds.Grow) {
-          file = codes "a";
-          source = models.Overlap 2;
-          width = 90;
-          height = 80;
-          wrap_in = true;
-          pins = Some (codes "p");
-          form = Some forms.P3;
-          block = 2;
-        }) }
+        ∷ []) ≡ Ok grow_request }
     ensures box_fill { request_of (codes "box-fill" ∷ codes "a" ∷ codes "7" ∷ codes "6"
-        ∷ codes "256" ∷ codes "--wrap-out" ∷ codes "--rule=ranked" ∷ codes "--form"
-        ∷ codes "grid" ∷ [])
-        ≡ Ok (record (default_request kinds.BoxFill) {
-          file = codes "a";
-          width = 7;
-          height = 6;
-          wrap_out = true;
-          rule = rules.Ranked;
-          form = Some forms.Grid;
-          depth = 256;
-        }) }
-    ensures box_refute { request_of (codes "box-refute" ∷ codes "a" ∷ codes "--format=1"
-        ∷ codes "7" ∷ codes "6" ∷ codes "5" ∷ codes "--pins=p" ∷ codes "--seed=9"
-        ∷ codes "--budget" ∷ codes "3" ∷ [])
-        ≡ Ok (record (default_request kinds.BoxRefute) {
-          file = codes "a";
-          width = 7;
-          height = 6;
-          pins = Some (codes "p");
-          seed = 9;
-          budget = 3;
-          format = 1;
-          depth = 5;
-        }) }
+        ∷ codes "256" ∷ codes "--wrap-out" ∷ codes "--rule=ranked" ∷ codes "--form" ∷ codes "grid"
+        ∷ []) ≡ Ok box_fill_request }
+    ensures box_refute { request_of (codes "box-refute" ∷ codes "a" ∷ codes "--format=1" ∷ codes "7"
+        ∷ codes "6" ∷ codes "5" ∷ codes "--pins=p" ∷ codes "--seed=9" ∷ codes "--budget" ∷ codes "3"
+        ∷ []) ≡ Ok box_refute_request }
     ensures box_check { request_of (codes "box-check" ∷ codes "a" ∷ codes "7" ∷ codes "6"
-        ∷ codes "5" ∷ codes "r" ∷ codes "--wrap-out" ∷ [])
-        ≡ Ok (record (default_request kinds.BoxCheck) {
-          file = codes "a";
-          width = 7;
-          height = 6;
-          wrap_out = true;
-          refutation = Some (codes "r");
-          depth = 5;
-        }) }
+        ∷ codes "5" ∷ codes "r" ∷ codes "--wrap-out" ∷ []) ≡ Ok box_check_request }
 {}
 
 /// Words that are no request, by example.
@@ -180,8 +75,8 @@ pub fn refusals_by_example()
         ∷ codes "4" ∷ codes "--seed=1" ∷ codes "--seed=1" ∷ []) ≡ Err Refused }
     ensures option_missing { request_of (codes "race" ∷ codes "a" ∷ codes "2" ∷ codes "3"
         ∷ codes "4" ∷ []) ≡ Err Refused }
-    ensures pins_missing { request_of (codes "explain" ∷ codes "a" ∷ codes "2" ∷ codes "3" ∷ codes "4" ∷ [])
-        ≡ Err Refused }
+    ensures pins_missing { request_of (codes "explain" ∷ codes "a" ∷ codes "2" ∷ codes "3"
+        ∷ codes "4" ∷ []) ≡ Err Refused }
     ensures required_twice { request_of (codes "race" ∷ codes "a" ∷ codes "2" ∷ codes "3"
         ∷ codes "4" ∷ codes "--seeds=1" ∷ codes "--seeds" ∷ codes "1" ∷ []) ≡ Err Refused }
     ensures help { request_of (codes "demo" ∷ codes "--help" ∷ []) ≡ Err Refused }

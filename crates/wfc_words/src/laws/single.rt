@@ -1,11 +1,13 @@
 //! Laws of single values: the numbers, the names, and what stands for each where the words have none.
 
-ghost use Rattle.std.specs.Prelude.{◌≡◌, false, true, [], codes, None, Some};
+ghost use Rattle.std.specs.Prelude.{◌≡◌, true, codes, None, Some};
 ghost use Rattle.wfc_choose.specs.declared.RuleKind.TheVariants as rules;
 ghost use Rattle.wfc_render.specs.declared.form.Form.TheVariants as forms;
 ghost use Rattle.wfc_words.specs.Named.{form_named, is_rankable, model_asked, rule_asked, rule_named, source_of, takes_tiles};
-ghost use Rattle.wfc_words.specs.Numbers.{block_range, budget_range, depth_range, format_range, height_range, number_range, quantum_range, seed_range, seeds_range, symmetry_range, width_range};
+ghost use Rattle.wfc_words.specs.Numbers.{block_range, budget_range, depth_range, format_range, height_range};
+ghost use Rattle.wfc_words.specs.Numbers.{number_range, quantum_range, seed_range, seeds_range, symmetry_range, width_range};
 ghost use Rattle.wfc_words.specs.RequestView.{default_request};
+ghost use Rattle.wfc_words.specs.Small.{bare_learn_request};
 ghost use Rattle.wfc_words.specs.ValueWords.{word_of};
 ghost use Rattle.wfc_words.specs.declared.fault.ValueName.TheVariants as names;
 ghost use Rattle.wfc_words.specs.declared.kinds.CommandKind.TheVariants as kinds;
@@ -32,103 +34,34 @@ pub fn words_by_example()
 
 /// The limits of the numbers, and what stands for each where the words have none.
 pub fn numbers_by_example()
-    ensures width { width_range ≡ record {
-      name = names.Width;
-      least = 1;
-      most = 4096;
-      absent = 0;
-    } }
-    ensures height { height_range ≡ record {
-      name = names.Height;
-      least = 1;
-      most = 4096;
-      absent = 0;
-    } }
-    ensures symmetry { symmetry_range ≡ record {
-      name = names.Symmetry;
-      least = 1;
-      most = 8;
-      absent = 1;
-    } }
-    ensures seed { seed_range ≡ record {
-      name = names.Seed;
-      least = 0;
-      most = 18446744073709551615;
-      absent = 0;
-    } }
-    ensures budget { budget_range ≡ record {
-      name = names.Budget;
-      least = 0;
-      most = 1000000000;
-      absent = 1000000;
-    } }
-    ensures number { number_range ≡ record {
-      name = names.Number;
-      least = 0;
-      most = 1000000;
-      absent = 0;
-    } }
-    ensures format { format_range ≡ record {
-      name = names.Format;
-      least = 1;
-      most = 2;
-      absent = 2;
-    } }
-    ensures seeds { seeds_range 3 ≡ record {
-      name = names.Seeds;
-      least = 1;
-      most = 8;
-      absent = 0;
-    } }
+    ensures width { width_range
+        ≡ record { name = names.Width; least = 1; most = 4096; absent = 0 } }
+    ensures height { height_range
+        ≡ record { name = names.Height; least = 1; most = 4096; absent = 0 } }
+    ensures symmetry { symmetry_range
+        ≡ record { name = names.Symmetry; least = 1; most = 8; absent = 1 } }
+    ensures seed { seed_range
+        ≡ record { name = names.Seed; least = 0; most = 18446744073709551615; absent = 0 } }
+    ensures budget { budget_range
+        ≡ record { name = names.Budget; least = 0; most = 1000000000; absent = 1000000 } }
+    ensures number { number_range
+        ≡ record { name = names.Number; least = 0; most = 1000000; absent = 0 } }
+    ensures format { format_range
+        ≡ record { name = names.Format; least = 1; most = 2; absent = 2 } }
+    ensures seeds { seeds_range 3 ≡ record { name = names.Seeds; least = 1; most = 8; absent = 0 } }
     ensures last_seeds { (seeds_range 18446744073709551609).most ≡ 7 }
     ensures last_seed { (seeds_range 18446744073709551615).most ≡ 1 }
-    ensures quantum { quantum_range ≡ record {
-      name = names.Quantum;
-      least = 1;
-      most = 1000000;
-      absent = 1;
-    } }
-    ensures block { block_range (models.Overlap 5) ≡ record {
-      name = names.Block;
-      least = 5;
-      most = 4096;
-      absent = 512;
-    } }
+    ensures quantum { quantum_range
+        ≡ record { name = names.Quantum; least = 1; most = 1000000; absent = 1 } }
+    ensures block { block_range (models.Overlap 5)
+        ≡ record { name = names.Block; least = 5; most = 4096; absent = 512 } }
     ensures block_of_tiles { (block_range models.Tiles).least ≡ 1 }
-    ensures depth { depth_range ≡ record {
-      name = names.Depth;
-      least = 1;
-      most = 256;
-      absent = 0;
-    } }
+    ensures depth { depth_range ≡ record { name = names.Depth; least = 1; most = 256; absent = 0 } }
 {}
 
 /// What a request is where the words say nothing: each field by its name.
 pub fn defaults_by_example()
-    ensures learn { default_request kinds.Learn ≡ record {
-      command = kinds.Learn;
-      file = [];
-      source = models.Overlap 0;
-      width = 0;
-      height = 0;
-      symmetry = 1;
-      wrap_in = false;
-      wrap_out = false;
-      pins = None;
-      steps = None;
-      refutation = None;
-      seed = 0;
-      budget = 1000000;
-      rule = rules.Fewest;
-      form = None;
-      number = 0;
-      format = 2;
-      mask = None;
-      seeds = 0;
-      quantum = 1;
-      block = 512;
-      depth = 0;
-    } }
+    ensures learn { default_request kinds.Learn ≡ bare_learn_request }
 {}
 
 /// What stands for a model, a rule and a form.
