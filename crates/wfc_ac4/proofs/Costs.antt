@@ -8,12 +8,12 @@ use Rattle.wfc_lists.proofs.Ranges.{range_more}
 use Rattle.wfc_model.specs.Direction.{opposite}
 use Rattle.wfc_problem.specs.Network.{Network, neighbour, supports_of}
 use Rattle.wfc_domains.specs.declared.Removal.{Removal}
-use Rattle.wfc_domains.specs.Counters.{supports_at, cost_at, cost_of, place}
-use Rattle.wfc_ac4.specs.Places.{side_places, places_upto, places_of}
+use Rattle.wfc_domains.specs.Counters.{supports_at, cost_at, cost_of, counter_place}
+use Rattle.wfc_ac4.specs.Places.{side_places, places_upto, counter_places}
 
 length-side : (P : Network) (v d : ℕ) (o : Option ℕ) → length (side_places P v d o) ≡ supports_at P v d o
 length-side P v d None = refl
-length-side P v d (Some n) = length-map (supports_of P v d) (λ w. place P n w (opposite d))
+length-side P v d (Some n) = length-map (supports_of P v d) (λ w. counter_place P n w (opposite d))
 
 -- the counters in one direction more
 pub length-upto : (P : Network) (c v d : ℕ) → length (places_upto P c v (d + 1)) ≡ length (places_upto P c v d) + supports_at P v d (neighbour P c d)
@@ -37,7 +37,7 @@ upto-sum P c v (suc k) =
     f : ℕ → ℕ
     f d = supports_at P v d (neighbour P c d)
 
-pub cost-is : (P : Network) (c v : ℕ) → length (places_of P c v) ≡ cost_at P c v
+pub cost-is : (P : Network) (c v : ℕ) → length (counter_places P c v) ≡ cost_at P c v
 cost-is P c v = upto-sum P c v P.dirs
 
 pub cost-push : (P : Network) (rs : List Removal) (r : Removal) → cost_of P (rs ++ r ∷ []) ≡ cost_of P rs + cost_at P r.cell r.value

@@ -10,15 +10,15 @@ use Rattle.wfc_model.specs.Direction.{opposite}
 use Rattle.wfc_problem.specs.declared.TheConstants.{NO_CELL}
 use Rattle.wfc_problem.specs.Network.{Network, values, neighbour, named, beside, supports_of, IsProblem}
 use Rattle.wfc_problem.proofs.CallerLemmas.{beside_names, beside_length, few_cells}
-use Rattle.wfc_domains.specs.Counters.{Table, FitsTable, place, place_in, entry_of, with_count, counters_of, cost_at}
+use Rattle.wfc_domains.specs.Counters.{Table, FitsTable, counter_place, count_place, entry_of, with_count, counters_of, cost_at}
 use Rattle.wfc_domains.specs.declared.board.Board.{Board}
 use Rattle.wfc_domains.proofs.Places.{place-is}
 use Rattle.wfc_domains.proofs.Loading.{place_in-row}
 use Rattle.wfc_domains.proofs.Problems.{in_values, in_cells, back, opposite-in, supports-below, few_values, few_pairs, dirs-le}
-use Rattle.wfc_ac4.specs.Places.{side_places, places_upto, places_of, times}
+use Rattle.wfc_ac4.specs.Places.{side_places, places_upto, counter_places, times}
 use Rattle.wfc_ac4.specs.Links.{no_link, AreLinks, link_to, side_links, links_upto, links_of, all_upto, link_place, link_places}
 use Rattle.wfc_ac4.specs.State.{IsWorking, counted}
-use Rattle.wfc_ac4.specs.declared.links.Link.{Link}
+use Rattle.wfc_ac4.specs.declared.links.SupportLink.{SupportLink}
 use Rattle.wfc_ac4.specs.declared.links.Links.{Links}
 use Rattle.wfc_ac4.proofs.PlaceLemmas.{times-append}
 use Rattle.wfc_ac4.proofs.Costs.{cost-is}
@@ -82,25 +82,25 @@ offset-few P p v d k xs is_xs hd l =
     (mul-le-mul w dirs, omega (arith, opposite-in P p d hd))
 
 -- one link more of a side
-pub side_more : (P : Network) (v d k at turned : ℕ) (xs : List ℕ) (old now : List Link) → xs ≡ supports_of P v d → k < length xs → turned ≡ opposite d → at ≡ place P 0 (get_or xs k 0) (opposite d)
+pub side_more : (P : Network) (v d k at turned : ℕ) (xs : List ℕ) (old now : List SupportLink) → xs ≡ supports_of P v d → k < length xs → turned ≡ opposite d → at ≡ counter_place P 0 (get_or xs k 0) (opposite d)
     → now ≡ old ++ take k (side_links P v d) → now ++ record { offset = at; dir = d; back = turned } ∷ [] ≡ old ++ take (k + 1) (side_links P v d)
 side_more P v d k at turned xs old now is_xs l is_turned is_at is_now =
     let l' : k < length (supports_of P v d) = omega (arith, ap length is_xs) in
     let side = side_links P v d in
     let one : record { offset = at; dir = d; back = turned } ≡ get_or side k no_link =
-    ap (λ x. record { offset = x; dir = d; back = turned }) is_at ∙ ap (λ t. record { offset = place P 0 (get_or xs k 0) (opposite d); dir = d; back = t }) is_turned ∙ ap (λ ys. link_to P d (get_or ys k 0)) is_xs ∙ sym (get_or-map (link_to P d) (supports_of P v d) k 0 no_link l') in
+    ap (λ x. record { offset = x; dir = d; back = turned }) is_at ∙ ap (λ t. record { offset = counter_place P 0 (get_or xs k 0) (opposite d); dir = d; back = t }) is_turned ∙ ap (λ ys. link_to P d (get_or ys k 0)) is_xs ∙ sym (get_or-map (link_to P d) (supports_of P v d) k 0 no_link l') in
     ap (λ ls. ls ++ record { offset = at; dir = d; back = turned } ∷ []) is_now
     ∙ append_assoc old (take k side) _
     ∙ ap (λ x. old ++ (take k side ++ x ∷ [])) one
     ∙ ap (λ x. old ++ x) (sym (take_more side k no_link (omega (arith, length-map (supports_of P v d) (link_to P d)))))
 
 -- all links of a side
-pub side_whole : (P : Network) (v d k : ℕ) (xs : List ℕ) (old now : List Link) → xs ≡ supports_of P v d → length xs ≤ k → now ≡ old ++ take k (side_links P v d) → now ≡ old ++ side_links P v d
+pub side_whole : (P : Network) (v d k : ℕ) (xs : List ℕ) (old now : List SupportLink) → xs ≡ supports_of P v d → length xs ≤ k → now ≡ old ++ take k (side_links P v d) → now ≡ old ++ side_links P v d
 side_whole P v d k xs old now is_xs l is_now =
     is_now ∙ ap (λ x. old ++ x) (take_all k (side_links P v d) (omega (arith, length-map (supports_of P v d) (link_to P d), ap length is_xs)))
 
 -- one side more
-pub value_more : (P : Network) (v d : ℕ) (old now new : List Link) → now ≡ old ++ links_upto P v d → new ≡ now ++ side_links P v d → new ≡ old ++ links_upto P v (d + 1)
+pub value_more : (P : Network) (v d : ℕ) (old now new : List SupportLink) → now ≡ old ++ links_upto P v d → new ≡ now ++ side_links P v d → new ≡ old ++ links_upto P v (d + 1)
 value_more P v d old now new is_now is_new =
     is_new ∙ ap (λ ls. ls ++ side_links P v d) is_now ∙ append_assoc old (links_upto P v d) (side_links P v d)
     ∙ ap (λ k. old ++ links_upto P v k) (sym (add-one d))
@@ -108,10 +108,10 @@ value_more P v d old now new is_now is_new =
 -- ---- what is so of each link
 
 -- the link is one of v: its value is supported in its direction, and its counter is the one for the way back
-pub record IsLink (P : Network) (v : ℕ) (l : Link) : Type 0 where
+pub record IsLink (P : Network) (v : ℕ) (l : SupportLink) : Type 0 where
   pub dir_in : l.dir < P.dirs
   pub back_is : l.back ≡ opposite l.dir
-  pub offset_is : l.offset ≡ place P 0 (l.offset / P.dirs) (opposite l.dir)
+  pub offset_is : l.offset ≡ counter_place P 0 (l.offset / P.dirs) (opposite l.dir)
   pub supported : Contains (supports_of P v l.dir) (l.offset / P.dirs)
 
 -- the value of a link
@@ -134,33 +134,33 @@ links-are P p v (suc m) k hm l = elim (cases_lt k (length (links_upto P v m))) [
       subst (IsLink P v) (sym is) (record {
         dir_in = hm';
         back_is = refl;
-        offset_is = ap (λ x. place P 0 x (opposite m)) turned;
+        offset_is = ap (λ x. counter_place P 0 x (opposite m)) turned;
         supported = subst (λ x. Contains xs x) turned (j, lj, get_or_default xs j w 0 lj);
       })
 ]
 
-pub is_link : (P : Network) → IsProblem P → (v k : ℕ) (ls : List Link) → ls ≡ links_of P v → k < length ls → IsLink P v (get_or ls k no_link)
+pub is_link : (P : Network) → IsProblem P → (v k : ℕ) (ls : List SupportLink) → ls ≡ links_of P v → k < length ls → IsLink P v (get_or ls k no_link)
 is_link P p v k ls e l =
     subst (λ xs. IsLink P v (get_or xs k no_link)) (sym e) (links-are P p v P.dirs k (omega arith) (omega (arith, ap length e)))
 
 -- ---- the counters that links lower
 
 -- a counter of a cell stands behind where those of the cell begin
-pub row-offset : (P : Network) (n w d : ℕ) → place P n 0 0 + place P 0 w d ≡ place P n w d
+pub row-offset : (P : Network) (n w d : ℕ) → counter_place P n 0 0 + counter_place P 0 w d ≡ counter_place P n w d
 row-offset P n w d = omega arith
 
-places-append : (P : Network) (c : ℕ) (xs ys : List Link) → link_places P c (xs ++ ys) ≡ link_places P c xs ++ link_places P c ys
+places-append : (P : Network) (c : ℕ) (xs ys : List SupportLink) → link_places P c (xs ++ ys) ≡ link_places P c xs ++ link_places P c ys
 places-append P c [] ys = refl
 places-append P c (l ∷ xs) ys =
     ap (λ ps. link_place P l (neighbour P c l.dir) ++ ps) (places-append P c xs ys)
     ∙ sym (append_assoc (link_place P l (neighbour P c l.dir)) (link_places P c xs) (link_places P c ys))
 
-side-some : (P : Network) (c d n : ℕ) (ws : List ℕ) → neighbour P c d ≡ Some n → link_places P c (map (link_to P d) ws) ≡ map (λ w. place P n w (opposite d)) ws
+side-some : (P : Network) (c d n : ℕ) (ws : List ℕ) → neighbour P c d ≡ Some n → link_places P c (map (link_to P d) ws) ≡ map (λ w. counter_place P n w (opposite d)) ws
 side-some P c d n [] e = refl
 side-some P c d n (w ∷ ws) e =
     ap (λ o. link_place P (link_to P d w) o ++ link_places P c (map (link_to P d) ws)) e
     ∙ ap (λ x. x ∷ link_places P c (map (link_to P d) ws)) (row-offset P n w (opposite d))
-    ∙ ap (λ ps. place P n w (opposite d) ∷ ps) (side-some P c d n ws e)
+    ∙ ap (λ ps. counter_place P n w (opposite d) ∷ ps) (side-some P c d n ws e)
 
 side-none : (P : Network) (c d : ℕ) (ws : List ℕ) → neighbour P c d ≡ None → link_places P c (map (link_to P d) ws) ≡ []
 side-none P c d [] e = refl
@@ -183,34 +183,34 @@ upto-is P c v (suc m) =
     ∙ ap (λ ps. places_upto P c v m ++ ps) (side-is P c v m)
 
 -- all links of a value lower all counters that count it
-pub links-places : (P : Network) (c v : ℕ) (ls : List Link) → ls ≡ links_of P v → link_places P c ls ≡ places_of P c v
+pub links-places : (P : Network) (c v : ℕ) (ls : List SupportLink) → ls ≡ links_of P v → link_places P c ls ≡ counter_places P c v
 links-places P c v ls e = ap (link_places P c) e ∙ upto-is P c v P.dirs
 
-pub whole-places : (P : Network) (c v k : ℕ) (ls : List Link) → ls ≡ links_of P v → length ls ≤ k → link_places P c (take k ls) ≡ places_of P c v
+pub whole-places : (P : Network) (c v k : ℕ) (ls : List SupportLink) → ls ≡ links_of P v → length ls ≤ k → link_places P c (take k ls) ≡ counter_places P c v
 whole-places P c v k ls e l = ap (link_places P c) (take_all k ls l) ∙ links-places P c v ls e
 
-pub whole-cost : (P : Network) (c v k : ℕ) (ls : List Link) → ls ≡ links_of P v → length ls ≤ k → length (link_places P c (take k ls)) ≡ cost_at P c v
+pub whole-cost : (P : Network) (c v k : ℕ) (ls : List SupportLink) → ls ≡ links_of P v → length ls ≤ k → length (link_places P c (take k ls)) ≡ cost_at P c v
 whole-cost P c v k ls e l = ap length (whole-places P c v k ls e l) ∙ cost-is P c v
 
 -- one link more
-link-next : (P : Network) (c k : ℕ) (ls : List Link) (o : Option ℕ) → k < length ls → neighbour P c (get_or ls k no_link).dir ≡ o → link_places P c (take (k + 1) ls) ≡ link_places P c (take k ls) ++ link_place P (get_or ls k no_link) o
+link-next : (P : Network) (c k : ℕ) (ls : List SupportLink) (o : Option ℕ) → k < length ls → neighbour P c (get_or ls k no_link).dir ≡ o → link_places P c (take (k + 1) ls) ≡ link_places P c (take k ls) ++ link_place P (get_or ls k no_link) o
 link-next P c k ls o l e =
     ap (link_places P c) (take_more ls k no_link l) ∙ places-append P c (take k ls) (get_or ls k no_link ∷ [])
     ∙ ap (λ ps. link_places P c (take k ls) ++ ps) (append-nil (link_place P (get_or ls k no_link) (neighbour P c (get_or ls k no_link).dir)) ∙ ap (link_place P (get_or ls k no_link)) e)
 
-pub link-some : (P : Network) (c k n : ℕ) (ls : List Link) → k < length ls → neighbour P c (get_or ls k no_link).dir ≡ Some n
-    → link_places P c (take (k + 1) ls) ≡ link_places P c (take k ls) ++ (place P n 0 0 + (get_or ls k no_link).offset) ∷ []
+pub link-some : (P : Network) (c k n : ℕ) (ls : List SupportLink) → k < length ls → neighbour P c (get_or ls k no_link).dir ≡ Some n
+    → link_places P c (take (k + 1) ls) ≡ link_places P c (take k ls) ++ (counter_place P n 0 0 + (get_or ls k no_link).offset) ∷ []
 link-some P c k n ls l e = link-next P c k ls (Some n) l e
 
-pub link-none : (P : Network) (c k : ℕ) (ls : List Link) → k < length ls → neighbour P c (get_or ls k no_link).dir ≡ None → link_places P c (take (k + 1) ls) ≡ link_places P c (take k ls)
+pub link-none : (P : Network) (c k : ℕ) (ls : List SupportLink) → k < length ls → neighbour P c (get_or ls k no_link).dir ≡ None → link_places P c (take (k + 1) ls) ≡ link_places P c (take k ls)
 link-none P c k ls l e = link-next P c k ls None l e ∙ append-nil (link_places P c (take k ls))
 
-pub length-some : (P : Network) (c k n : ℕ) (ls : List Link) → k < length ls → neighbour P c (get_or ls k no_link).dir ≡ Some n
+pub length-some : (P : Network) (c k n : ℕ) (ls : List SupportLink) → k < length ls → neighbour P c (get_or ls k no_link).dir ≡ Some n
     → length (link_places P c (take (k + 1) ls)) ≡ length (link_places P c (take k ls)) + 1
 length-some P c k n ls l e = ap length (link-some P c k n ls l e) ∙ length_push (link_places P c (take k ls)) _
 
 -- the counters lowered so far are a part of all
-part-le : (P : Network) (c v k i : ℕ) (ls : List Link) → ls ≡ links_of P v → times i (link_places P c (take k ls)) ≤ times i (places_of P c v)
+part-le : (P : Network) (c v k i : ℕ) (ls : List SupportLink) → ls ≡ links_of P v → times i (link_places P c (take k ls)) ≤ times i (counter_places P c v)
 part-le P c v k i ls e =
     let split = ap (link_places P c) (sym (take-append-drop k ls)) ∙ places-append P c (take k ls) (drop k ls) in
     let sum = times-append i (link_places P c (take k ls)) (link_places P c (drop k ls)) in
@@ -245,17 +245,17 @@ no_neighbour P p c d n hc hd is past = elim (cases_eq n NO_CELL) [
 -- ---- one link worked off
 
 -- what holds of a link that leads to cell n, where its counter stands at i
-pub record LinkStep (P : Network) (lowered next : List ℕ) (c v n i : ℕ) (l : Link) (T : Table) : Type 0 where
+pub record LinkStep (P : Network) (lowered next : List ℕ) (c v n i : ℕ) (l : SupportLink) (T : Table) : Type 0 where
   pub beside : neighbour P c l.dir ≡ Some n
   pub dir_in : l.dir < P.dirs
   pub back_is : l.back ≡ opposite l.dir
-  pub place_is : i ≡ place_in T.values T.dirs n (l.offset / P.dirs) (opposite l.dir)
-  pub place_of : i ≡ place P n (l.offset / P.dirs) (opposite l.dir)
+  pub place_is : i ≡ count_place T.values T.dirs n (l.offset / P.dirs) (opposite l.dir)
+  pub place_of : i ≡ counter_place P n (l.offset / P.dirs) (opposite l.dir)
   pub inside : i < length T.counts
   pub some : 0 < slice_index T.counts i % 32768
   pub side : SideStep P lowered next c v n (l.offset / P.dirs) (opposite l.dir) T
 
-link_step : (b : Board) (T : Table) (head c v k n row : ℕ) (ls : List Link)
+link_step : (b : Board) (T : Table) (head c v k n row : ℕ) (ls : List SupportLink)
     → IsWorking b T head c v (link_places b.problem.now c (take k ls)) → ls ≡ links_of b.problem.now v → k < length ls → neighbour b.problem.now c (get_or ls k no_link).dir ≡ Some n → row ≡ values b.problem.now * b.problem.now.dirs
     → LinkStep b.problem.now (link_places b.problem.now c (take k ls)) (link_places b.problem.now c (take (k + 1) ls)) c v n (n * row + (get_or ls k no_link).offset) (get_or ls k no_link) T
 link_step b T head c v k n row ls h e l beside wide =
@@ -269,14 +269,14 @@ link_step b T head c v k n row ls h e l beside wide =
     let hb : turned < P.dirs = opposite-in P p x.dir s.dir_in in
     let hn = in_cells P p c x.dir n beside in
     let lowered = link_places P c (take k ls) in
-    let at : place P n 0 0 + x.offset ≡ place P n w turned = ap (λ o. place P n 0 0 + o) s.offset_is ∙ row-offset P n w turned in
-    let next : lowered ++ place P n w turned ∷ [] ≡ link_places P c (take (k + 1) ls) = ap (λ i. lowered ++ i ∷ []) (sym at) ∙ sym (link-some P c k n ls l beside) in
-    let part : times (place P n w turned) (lowered ++ place P n w turned ∷ []) ≤ times (place P n w turned) (places_of P c v) =
-    omega (arith, ap (times (place P n w turned)) next, part-le P c v (k + 1) (place P n w turned) ls e) in
+    let at : counter_place P n 0 0 + x.offset ≡ counter_place P n w turned = ap (λ o. counter_place P n 0 0 + o) s.offset_is ∙ row-offset P n w turned in
+    let next : lowered ++ counter_place P n w turned ∷ [] ≡ link_places P c (take (k + 1) ls) = ap (λ i. lowered ++ i ∷ []) (sym at) ∙ sym (link-some P c k n ls l beside) in
+    let part : times (counter_place P n w turned) (lowered ++ counter_place P n w turned ∷ []) ≤ times (counter_place P n w turned) (counter_places P c v) =
+    omega (arith, ap (times (counter_place P n w turned)) next, part-le P c v (k + 1) (counter_place P n w turned) ls e) in
     let above = still_counts P p (counted b head) lowered T c v n w turned h.counters h.still_counted hn hw hb part in
-    let begins : n * row ≡ place P n 0 0 = ap (λ m. n * m) wide ∙ omega (arith, place_in-row (values P) P.dirs n 0 0) in
-    let place_of : n * row + x.offset ≡ place P n w turned = ap (λ i. i + x.offset) begins ∙ at in
-    let place_is : n * row + x.offset ≡ place_in T.values T.dirs n w turned = place_of ∙ place-is P T h.counters.fits n w turned in
+    let begins : n * row ≡ counter_place P n 0 0 = ap (λ m. n * m) wide ∙ omega (arith, place_in-row (values P) P.dirs n 0 0) in
+    let place_of : n * row + x.offset ≡ counter_place P n w turned = ap (λ i. i + x.offset) begins ∙ at in
+    let place_is : n * row + x.offset ≡ count_place T.values T.dirs n w turned = place_of ∙ place-is P T h.counters.fits n w turned in
     record {
       beside = beside;
       dir_in = s.dir_in;
@@ -297,7 +297,7 @@ link_step b T head c v k n row ls h e l beside wide =
     }
 
 -- the same, where the facts are those of the board and the table at entry
-pub link_at : (b a : Board) (T A : Table) (head c v k n row : ℕ) (ls : List Link) (entries : List ℕ) → b.problem ≡ a.problem → FitsTable a.problem.now A
+pub link_at : (b a : Board) (T A : Table) (head c v k n row : ℕ) (ls : List SupportLink) (entries : List ℕ) → b.problem ≡ a.problem → FitsTable a.problem.now A
     → IsWorking b T head c v (link_places b.problem.now c (take k ls)) → ls ≡ links_of a.problem.now v → k < length ls
     → entries ≡ beside a.problem.now c → row ≡ A.values * A.dirs → n ≡ slice_index entries (get_or ls k no_link).dir → n < a.problem.now.cells
     → LinkStep b.problem.now (link_places b.problem.now c (take k ls)) (link_places b.problem.now c (take (k + 1) ls)) c v n (n * row + (get_or ls k no_link).offset) (get_or ls k no_link) T
@@ -311,12 +311,12 @@ link_at b a T A head c v k n row ls entries same fits h e l table wide is inside
     let wide' : row ≡ values b.problem.now * b.problem.now.dirs = wide ∙ (λ i. fits.same_values i * fits.same_dirs i) ∙ ap (λ P. values P * P.dirs) (sym N) in
     link_step b T head c v k n row ls h e' l (named_neighbour b.problem.now h.board.traced.problem c x.dir n (working-range h).0 hd entry some) wide'
 
--- the table with the counter at a link's place lowered
-pub lowered-at : (T T' : Table) (i n w d : ℕ) → i ≡ place_in T.values T.dirs n w d → T' ≡ record T { counts = slice_set T.counts i (slice_index T.counts i - 1) } → T' ≡ with_count T n w d (entry_of T n w d - 1)
+-- the table with the counter at a link's counter_place lowered
+pub lowered-at : (T T' : Table) (i n w d : ℕ) → i ≡ count_place T.values T.dirs n w d → T' ≡ record T { counts = slice_set T.counts i (slice_index T.counts i - 1) } → T' ≡ with_count T n w d (entry_of T n w d - 1)
 lowered-at T T' i n w d e is = is ∙ ap (λ j. record T { counts = slice_set T.counts j (slice_index T.counts j - 1) }) e
 
 -- a link that leads to no cell lowers nothing
-pub link_skipped : (b a : Board) (T : Table) (head c v k : ℕ) (ls : List Link) → b.problem ≡ a.problem
+pub link_skipped : (b a : Board) (T : Table) (head c v k : ℕ) (ls : List SupportLink) → b.problem ≡ a.problem
     → IsWorking b T head c v (link_places b.problem.now c (take k ls)) → k < length ls → neighbour a.problem.now c (get_or ls k no_link).dir ≡ None
     → IsWorking b T head c v (link_places b.problem.now c (take (k + 1) ls))
 link_skipped b a T head c v k ls same h l none =
@@ -324,9 +324,9 @@ link_skipped b a T head c v k ls same h l none =
     subst (IsWorking b T head c v) (sym (link-none b.problem.now c k ls l (ap (λ P. neighbour P c (get_or ls k no_link).dir) N ∙ none))) h
 
 -- all links are gone through
-pub all_links : (b a : Board) (T : Table) (head c v k : ℕ) (ls : List Link) → b.problem ≡ a.problem
+pub all_links : (b a : Board) (T : Table) (head c v k : ℕ) (ls : List SupportLink) → b.problem ≡ a.problem
     → IsWorking b T head c v (link_places b.problem.now c (take k ls)) → ls ≡ links_of a.problem.now v → length ls ≤ k
-    → IsWorking b T head c v (places_of b.problem.now c v)
+    → IsWorking b T head c v (counter_places b.problem.now c v)
 all_links b a T head c v k ls same h e l =
     let N = ap (λ p. p.now) same in
     subst (IsWorking b T head c v) (whole-places b.problem.now c v k ls (e ∙ ap (λ P. links_of P v) (sym N)) l) h

@@ -7,7 +7,7 @@ use Rattle.std.proofs.Math.Nat.{mod-lt, mod-eq_of_lt}
 use Rattle.wfc_problem.specs.Network.{Network}
 use Rattle.wfc_problem.specs.Domains.{Test, Within}
 use Rattle.wfc_domains.specs.Domains.{Flags, has, less}
-use Rattle.wfc_domains.specs.Counters.{Table, FitsTable, IsMarked, Marks, Unmarks, count_of, entry_of, with_count, place_in}
+use Rattle.wfc_domains.specs.Counters.{Table, FitsTable, IsMarked, Marks, Unmarks, count_of, entry_of, with_count, count_place}
 use Rattle.wfc_domains.proofs.Marking.{entry-same, entry-other}
 use Rattle.wfc_domains.proofs.Removals.{less-keeps}
 use Rattle.wfc_ac4.specs.State.{AreLowered, AreGone}
@@ -58,8 +58,8 @@ pub gone-fewer : (D : Flags) (T T' : Table) → AreGone D T → T'.values ≡ T.
 gone-fewer D T T' h same_values same_dirs fewer c v d hv hd m = h c v d (omega (arith, same_values)) (omega (arith, same_dirs)) (fewer c v d m)
 
 -- a counter lowered
-pub gone-lowered : (D : Flags) (T : Table) (n w d : ℕ) → AreGone D T → 0 < entry_of T n w d → place_in T.values T.dirs n w d < length T.counts → AreGone D (with_count T n w d (entry_of T n w d - 1))
-gone-lowered D T n w d h pos inside c v e hv he m = h c v e hv he (elim (cases_eq (place_in T.values T.dirs c v e) (place_in T.values T.dirs n w d)) [
+pub gone-lowered : (D : Flags) (T : Table) (n w d : ℕ) → AreGone D T → 0 < entry_of T n w d → count_place T.values T.dirs n w d < length T.counts → AreGone D (with_count T n w d (entry_of T n w d - 1))
+gone-lowered D T n w d h pos inside c v e hv he m = h c v e hv he (elim (cases_eq (count_place T.values T.dirs c v e) (count_place T.values T.dirs n w d)) [
   | inl same ↦
       let is = entry-same T n w d (entry_of T n w d - 1) c v e same inside in
       let was : entry_of T c v e ≡ entry_of T n w d = ap (slice_index T.counts) same in
@@ -68,8 +68,8 @@ gone-lowered D T n w d h pos inside c v e hv he m = h c v e hv he (elim (cases_e
 ])
 
 -- a counter raised
-pub fewer-raised : (T : Table) (n w d : ℕ) → count_of T n w d < 4096 → place_in T.values T.dirs n w d < length T.counts → (c v e : ℕ) → IsMarked (with_count T n w d (entry_of T n w d + 1)) c v e → IsMarked T c v e
-fewer-raised T n w d few inside c v e m = elim (cases_eq (place_in T.values T.dirs c v e) (place_in T.values T.dirs n w d)) [
+pub fewer-raised : (T : Table) (n w d : ℕ) → count_of T n w d < 4096 → count_place T.values T.dirs n w d < length T.counts → (c v e : ℕ) → IsMarked (with_count T n w d (entry_of T n w d + 1)) c v e → IsMarked T c v e
+fewer-raised T n w d few inside c v e m = elim (cases_eq (count_place T.values T.dirs c v e) (count_place T.values T.dirs n w d)) [
   | inl same ↦
       let is = entry-same T n w d (entry_of T n w d + 1) c v e same inside in
       let was : entry_of T c v e ≡ entry_of T n w d = ap (slice_index T.counts) same in

@@ -13,7 +13,7 @@ use Rattle.wfc_domains.specs.declared.Removal.{Removal}
 use Rattle.wfc_domains.specs.declared.Verdict.TheVariants.{Alive, Dead}
 use Rattle.wfc_domains.specs.declared.board.Board.{Board}
 use Rattle.wfc_domains.specs.Domains.{Flags, has, size_of, less}
-use Rattle.wfc_domains.specs.Counters.{entry_of, Table, FitsTable, count_of, counts_of, counters_of, place}
+use Rattle.wfc_domains.specs.Counters.{entry_of, Table, FitsTable, count_of, counts_of, counters_of, counter_place}
 use Rattle.wfc_domains.specs.Removals.{without, IsUnsupported}
 use Rattle.wfc_domains.specs.Store.{left_of, IsOpening, IsLeastUnsupported, IsLeastEmpty, IsBefore}
 use Rattle.wfc_domains.specs.Board.{view_of, IsTraced, IsFresh, Loses}
@@ -22,7 +22,7 @@ use Rattle.wfc_domains.proofs.Places.{place_in-lt}
 use Rattle.wfc_domains.proofs.Removals.{less-within, without-within}
 use Rattle.wfc_domains.proofs.Boards.{board-lost, stands-in, not-alive}
 use Rattle.wfc_ac4.specs.Places.{times}
-use Rattle.wfc_ac4.specs.State.{AreGone, AreLowered, IsBetween, IsScanned}
+use Rattle.wfc_ac4.specs.State.{AreGone, AreLowered, IsBetweenRemovals, IsScanned}
 use Rattle.wfc_ac4.proofs.MarkLemmas.{mod-small, gone-within}
 
 -- ---- counters as they are loaded
@@ -38,7 +38,7 @@ loaded-fits P D limit few = record {
 
 loaded-entry : (P : Network) (D : Test) (limit c v d : ℕ) → c < P.cells → v < values P → d < P.dirs → entry_of (counts_of P D limit) c v d ≡ support_count P D c v d
 loaded-entry P D limit c v d hc hv hd =
-    let i = place P c v d in
+    let i = counter_place P c v d in
     let q : i / P.dirs ≡ c * values P + v = div-mul-add (c * values P + v) P.dirs d hd in
     let r : i % P.dirs ≡ d = mod-mul-add (c * values P + v) P.dirs d hd in
     let x : i / P.dirs / values P ≡ c = ap (λ k. k / values P) q ∙ div-mul-add c (values P) v hv in
@@ -55,7 +55,7 @@ loaded-lowered P p D T few e = subst (λ t. AreLowered P D [] t) (sym e) (record
   fits = loaded-fits P D T.limit few;
   each = λ c v d hc hv hd.
       let now = loaded-count P p D T.limit c v d hc hv hd in
-      let none : times (place P c v d) [] ≡ 0 = refl in
+      let none : times (counter_place P c v d) [] ≡ 0 = refl in
       omega arith;
 })
 
@@ -67,7 +67,7 @@ loaded-gone P p D E T e = subst (AreGone E) (sym e) (λ c v d hv hd m. elim (cas
       let row : P.cells * values P ≤ c * values P = mul-le-mul_right (values P) past in
       let more : P.cells * values P ≤ c * values P + v = omega arith in
       let behind : counters_of P ≤ (c * values P + v) * P.dirs = mul-le-mul_right P.dirs more in
-      absurd (omega (arith, get_or_past (counts_of P D T.limit).counts (place P c v d) 0 (omega (arith, length-map-range_with_len (λ i. support_count P D (i / P.dirs / values P) (i / P.dirs % values P) (i % P.dirs)) 0 (counters_of P)))))
+      absurd (omega (arith, get_or_past (counts_of P D T.limit).counts (counter_place P c v d) 0 (omega (arith, length-map-range_with_len (λ i. support_count P D (i / P.dirs / values P) (i / P.dirs % values P) (i % P.dirs)) 0 (counters_of P)))))
 ])
 
 -- ---- one pair looked at
@@ -76,7 +76,7 @@ loaded-gone P p D E T e = subst (AreGone E) (sym e) (λ c v d hv hd m. elim (cas
 base-count : (b : Board) (T : Table) (c v d : ℕ) → AreLowered b.problem.now (in_base b.problem.now) [] T → c < b.problem.now.cells → v < values b.problem.now → d < b.problem.now.dirs → count_of T c v d ≡ support_count b.problem.now (in_base b.problem.now) c v d
 base-count b T c v d h hc hv hd =
     let now = h.each c v d hc hv hd in
-    let none : times (place b.problem.now c v d) [] ≡ 0 = refl in
+    let none : times (counter_place b.problem.now c v d) [] ≡ 0 = refl in
     omega arith
 
 -- with nothing removed the domains are the base
@@ -196,7 +196,7 @@ pub scanned-at : (b : Board) (T : Table) (i j : ℕ) → IsScanned b T i → i �
 scanned-at b T i j h e = subst (IsScanned b T) e h
 
 -- all looked at, nothing is worked off
-pub scanned-done : (b : Board) (T : Table) → IsScanned b T (b.problem.now.cells * values b.problem.now) → IsBetween b T 0
+pub scanned-done : (b : Board) (T : Table) → IsScanned b T (b.problem.now.cells * values b.problem.now) → IsBetweenRemovals b T 0
 scanned-done b T h = record {
   board = h.board;
   cut = h.cut;
@@ -256,13 +256,13 @@ opening-closed a s n spare f alive same_s same_n first more e idle = record {
     more-none none g = sym (ap (λ xs. xs ++ more) none) ∙ sym g
 
 -- a dead board is as it was opened
-pub between-dead : (b : Board) (T : Table) (spare : ℕ) → IsFresh b spare → (b.verdict ≡ Alive → ⊥) → FitsTable b.problem.now T → T ≡ counts_of b.problem.now (has b.domains) T.limit → IsBetween b T 0
+pub between-dead : (b : Board) (T : Table) (spare : ℕ) → IsFresh b spare → (b.verdict ≡ Alive → ⊥) → FitsTable b.problem.now T → T ≡ counts_of b.problem.now (has b.domains) T.limit → IsBetweenRemovals b T 0
 between-dead b T spare f dead fits e =
     let s = scanned-none b T spare f fits e in
     record { board = s.board; cut = s.cut; counters = s.counters; supported = λ alive. absurd (dead alive); marks = s.marks; in_log = omega arith }
 
-pub between-at : (b : Board) (T : Table) (i j : ℕ) → IsBetween b T i → i ≡ j → IsBetween b T j
-between-at b T i j h e = subst (IsBetween b T) e h
+pub between-at : (b : Board) (T : Table) (i j : ℕ) → IsBetweenRemovals b T i → i ≡ j → IsBetweenRemovals b T j
+between-at b T i j h e = subst (IsBetweenRemovals b T) e h
 
 -- the spare levels of a fresh board are its own
 pub fresh-own : (b : Board) (spare : ℕ) → IsFresh b spare → IsFresh b b.levels.spare

@@ -10,12 +10,12 @@ use Rattle.wfc_lists.proofs.Counts.{count_by-cons, count_by-map, count_by_agree,
 use Rattle.wfc_model.specs.Direction.{opposite}
 use Rattle.wfc_problem.specs.Network.{Network, values, neighbour, supports_of, IsProblem}
 use Rattle.wfc_problem.specs.Domains.{Test, count_at, support_count}
-use Rattle.wfc_domains.specs.Counters.{place}
+use Rattle.wfc_domains.specs.Counters.{counter_place}
 use Rattle.wfc_domains.specs.Domains.{less}
 use Rattle.wfc_domains.proofs.Places.{place-same}
 use Rattle.wfc_domains.proofs.Problems.{rising, in_values, back, symmetric, opposite-in, opposite-opposite, neighbour-dir}
 use Rattle.wfc_domains.proofs.Removals.{less-here, less-elsewhere}
-use Rattle.wfc_ac4.specs.Places.{side_places, places_upto, places_of, times}
+use Rattle.wfc_ac4.specs.Places.{side_places, places_upto, counter_places, times}
 
 -- ---- what a removal takes from a support count
 
@@ -45,7 +45,7 @@ count-less_value P D c v c' v' d' e h =
 pub count-less_none : (P : Network) (D : Test) (c v c' v' d' : ℕ) → neighbour P c' d' ≡ None → support_count P (less D c v) c' v' d' ≡ support_count P D c' v' d'
 count-less_none P D c v c' v' d' e = ap (count_at P (less D c v) v' d') e ∙ sym (ap (count_at P D v' d') e)
 
--- ---- how often a place is listed
+-- ---- how often a counter_place is listed
 
 pub times-append : (i : ℕ) (xs ys : List ℕ) → times i (xs ++ ys) ≡ times i xs + times i ys
 times-append i xs ys = sum_by-append (λ x. cond (x == i) 1 0) xs ys
@@ -72,43 +72,43 @@ pub times-none : (w : ℕ) (xs : List ℕ) → (Contains xs w → ⊥) → times
 times-none w xs lacks =
     sym (count_by_but_not (λ x. x == w) w xs lacks) ∙ count_by_agree (but (λ x. x == w) w) (λ x. false) xs (λ x. let h = cases_Bool (x == w) in grind arith) ∙ never xs
 
--- the side that turns to the place lists it as often as the value is supported
-times-side_hit : (P : Network) → IsProblem P → (v d n v' : ℕ) → d < P.dirs → v' < values P → times (place P n v' (opposite d)) (side_places P v d (Some n)) ≡ times v' (supports_of P v d)
+-- the side that turns to the counter_place lists it as often as the value is supported
+times-side_hit : (P : Network) → IsProblem P → (v d n v' : ℕ) → d < P.dirs → v' < values P → times (counter_place P n v' (opposite d)) (side_places P v d (Some n)) ≡ times v' (supports_of P v d)
 times-side_hit P p v d n v' hd hv =
     let xs = supports_of P v d in
-    let i = place P n v' (opposite d) in
-    count_by-map (λ x. x == i) (λ w. place P n w (opposite d)) xs
-    ∙ agree_at (λ w. place P n w (opposite d) == i) (λ w. w == v') xs
+    let i = counter_place P n v' (opposite d) in
+    count_by-map (λ x. x == i) (λ w. counter_place P n w (opposite d)) xs
+    ∙ agree_at (λ w. counter_place P n w (opposite d) == i) (λ w. w == v') xs
     (λ k l.
     let w = get_or xs k 0 in
     let hw = in_values P p v w d hd (k, l, get_or_default xs k w 0 l) in
     let ho = opposite-in P p d hd in
     elim (cases_eq w v') [
-      | inl e ↦ eq-eqb _ _ (ap (λ y. place P n y (opposite d)) e) ∙ sym (eq-eqb w v' e)
+      | inl e ↦ eq-eqb _ _ (ap (λ y. counter_place P n y (opposite d)) e) ∙ sym (eq-eqb w v' e)
       | inr ne ↦ ne_eqb _ _ (λ e. ne (place-same P n w (opposite d) n v' (opposite d) hw hv ho ho e).1) ∙ sym (ne_eqb w v' ne)
     ])
 
 -- other sides do not list it
-times-side_miss : (P : Network) → IsProblem P → (v d c' v' d' : ℕ) (o : Option ℕ) → d < P.dirs → v' < values P → d' < P.dirs → ((n : ℕ) → o ≡ Some n → n ≡ c' → opposite d ≡ d' → ⊥) → times (place P c' v' d') (side_places P v d o) ≡ 0
+times-side_miss : (P : Network) → IsProblem P → (v d c' v' d' : ℕ) (o : Option ℕ) → d < P.dirs → v' < values P → d' < P.dirs → ((n : ℕ) → o ≡ Some n → n ≡ c' → opposite d ≡ d' → ⊥) → times (counter_place P c' v' d') (side_places P v d o) ≡ 0
 times-side_miss P p v d c' v' d' None hd hv hd' other = refl
 times-side_miss P p v d c' v' d' (Some n) hd hv hd' other =
     let xs = supports_of P v d in
-    let i = place P c' v' d' in
-    count_by-map (λ x. x == i) (λ w. place P n w (opposite d)) xs
-    ∙ agree_at (λ w. place P n w (opposite d) == i) (λ w. false) xs
+    let i = counter_place P c' v' d' in
+    count_by-map (λ x. x == i) (λ w. counter_place P n w (opposite d)) xs
+    ∙ agree_at (λ w. counter_place P n w (opposite d) == i) (λ w. false) xs
     (λ k l.
     let w = get_or xs k 0 in
     let hw = in_values P p v w d hd (k, l, get_or_default xs k w 0 l) in
     ne_eqb _ _ (λ e. let s = place-same P n w (opposite d) c' v' d' hw hv (opposite-in P p d hd) hd' e in other n refl s.0 s.2))
     ∙ never xs
 
--- of all sides only the one that turns to the place counts
+-- of all sides only the one that turns to the counter_place counts
 times-upto : (P : Network) → IsProblem P → (c v c' v' d' : ℕ) → v' < values P → d' < P.dirs → (m : ℕ) → m ≤ P.dirs
-    → (m ≤ opposite d' → times (place P c' v' d') (places_upto P c v m) ≡ 0)
-    × (opposite d' < m → times (place P c' v' d') (places_upto P c v m) ≡ times (place P c' v' d') (side_places P v (opposite d') (neighbour P c (opposite d'))))
+    → (m ≤ opposite d' → times (counter_place P c' v' d') (places_upto P c v m) ≡ 0)
+    × (opposite d' < m → times (counter_place P c' v' d') (places_upto P c v m) ≡ times (counter_place P c' v' d') (side_places P v (opposite d') (neighbour P c (opposite d'))))
 times-upto P p c v c' v' d' hv hd' zero hm = (λ l. refl, λ l. absurd (omega arith))
 times-upto P p c v c' v' d' hv hd' (suc m) hm =
-    let i = place P c' v' d' in
+    let i = counter_place P c' v' d' in
     let before = places_upto P c v m in
     let rest = times-upto P p c v c' v' d' hv hd' m (omega arith) in
     let both = times-append i before (side_places P v m (neighbour P c m)) in
@@ -126,12 +126,12 @@ times-upto P p c v c' v' d' hv hd' (suc m) hm =
       ]),
     )
 
--- the place is listed as often as the side that turns to it lists it
-times-turned : (P : Network) → IsProblem P → (c v c' v' d' : ℕ) → v' < values P → d' < P.dirs → times (place P c' v' d') (places_of P c v) ≡ times (place P c' v' d') (side_places P v (opposite d') (neighbour P c (opposite d')))
+-- the counter_place is listed as often as the side that turns to it lists it
+times-turned : (P : Network) → IsProblem P → (c v c' v' d' : ℕ) → v' < values P → d' < P.dirs → times (counter_place P c' v' d') (counter_places P c v) ≡ times (counter_place P c' v' d') (side_places P v (opposite d') (neighbour P c (opposite d')))
 times-turned P p c v c' v' d' hv hd' = (times-upto P p c v c' v' d' hv hd' P.dirs (omega arith)).1 (opposite-in P p d' hd')
 
 -- no counter of a cell that is not beside c there is lowered
-times-apart : (P : Network) → IsProblem P → (c v c' v' d' : ℕ) → v' < values P → d' < P.dirs → (neighbour P c' d' ≡ Some c → ⊥) → times (place P c' v' d') (places_of P c v) ≡ 0
+times-apart : (P : Network) → IsProblem P → (c v c' v' d' : ℕ) → v' < values P → d' < P.dirs → (neighbour P c' d' ≡ Some c → ⊥) → times (counter_place P c' v' d') (counter_places P c v) ≡ 0
 times-apart P p c v c' v' d' hv hd' apart =
     let turned = opposite-opposite P p d' hd' in
     times-turned P p c v c' v' d' hv hd'
@@ -139,20 +139,20 @@ times-apart P p c v c' v' d' hv hd' apart =
     (λ n e f g. apart (ap (neighbour P c') (sym turned) ∙ back P p c (opposite d') c' (e ∙ ap (λ (x : ℕ). Some x) f)))
 
 -- beside c it is lowered as often as v' is among what v supports
-times-beside : (P : Network) → IsProblem P → (c v c' v' d' : ℕ) → v' < values P → d' < P.dirs → neighbour P c' d' ≡ Some c → times (place P c' v' d') (places_of P c v) ≡ times v' (supports_of P v (opposite d'))
+times-beside : (P : Network) → IsProblem P → (c v c' v' d' : ℕ) → v' < values P → d' < P.dirs → neighbour P c' d' ≡ Some c → times (counter_place P c' v' d') (counter_places P c v) ≡ times v' (supports_of P v (opposite d'))
 times-beside P p c v c' v' d' hv hd' e =
     let turned = opposite-opposite P p d' hd' in
     times-turned P p c v c' v' d' hv hd'
-    ∙ ap (λ o. times (place P c' v' d') (side_places P v (opposite d') o)) (back P p c' d' c e)
-    ∙ ap (λ k. times (place P c' v' k) (side_places P v (opposite d') (Some c'))) (sym turned)
+    ∙ ap (λ o. times (counter_place P c' v' d') (side_places P v (opposite d') o)) (back P p c' d' c e)
+    ∙ ap (λ k. times (counter_place P c' v' k) (side_places P v (opposite d') (Some c'))) (sym turned)
     ∙ times-side_hit P p v (opposite d') c' v' (opposite-in P p d' hd') hv
 
 -- what the counters of a removal lose is what the support counts lose
 pub places-count : (P : Network) → IsProblem P → (D : Test) (c v c' v' d' : ℕ) → IsTrue (D c v) → v' < values P → d' < P.dirs
-    → support_count P (less D c v) c' v' d' + times (place P c' v' d') (places_of P c v) ≡ support_count P D c' v' d'
+    → support_count P (less D c v) c' v' d' + times (counter_place P c' v' d') (counter_places P c v) ≡ support_count P D c' v' d'
 places-count P p D c v c' v' d' t hv hd' =
     let turned = opposite-opposite P p d' hd' in
-    let Q : Option ℕ → Type 0 = λ o. neighbour P c' d' ≡ o → support_count P (less D c v) c' v' d' + times (place P c' v' d') (places_of P c v) ≡ support_count P D c' v' d' in
+    let Q : Option ℕ → Type 0 = λ o. neighbour P c' d' ≡ o → support_count P (less D c v) c' v' d' + times (counter_place P c' v' d') (counter_places P c v) ≡ support_count P D c' v' d' in
     elim (neighbour P c' d') as Q [
       | None ↦ λ e.
           let same = count-less_none P D c v c' v' d' e in

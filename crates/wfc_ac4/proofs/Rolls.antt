@@ -5,7 +5,7 @@ use Rattle.wfc_problem.specs.Network.{in_base}
 use Rattle.wfc_domains.specs.declared.Removal.{Removal}
 use Rattle.wfc_domains.specs.declared.board.Board.{Board}
 use Rattle.wfc_domains.specs.Domains.{has, less}
-use Rattle.wfc_domains.specs.Counters.{Unmarks, Table, place}
+use Rattle.wfc_domains.specs.Counters.{Unmarks, Table, counter_place}
 use Rattle.wfc_domains.specs.Removals.{without}
 use Rattle.wfc_domains.specs.Board.{IsTraced, Regains}
 use Rattle.wfc_problem.specs.Rounds.{depth_of}
@@ -32,7 +32,7 @@ start_raising b b' T head r h g l =
       problem = h.traced.problem;
       counters = record {
         fits = counters.fits;
-        each = λ c v d hc hv hd. let now = counters.each c v d hc hv hd in let none : times (place P c v d) [] ≡ 0 = refl in omega arith;
+        each = λ c v d hc hv hd. let now = counters.each c v d hc hv hd in let none : times (counter_place P c v d) [] ≡ 0 = refl in omega arith;
       };
       stood = g.stood;
     })

@@ -12,7 +12,7 @@ use Rattle.wfc_domains.specs.declared.Removal.{Removal}
 use Rattle.wfc_domains.specs.declared.Verdict.TheVariants.{Alive}
 use Rattle.wfc_domains.specs.declared.board.Board.{Board}
 use Rattle.wfc_domains.specs.Domains.{Flags, has, size_of, less, IsLess}
-use Rattle.wfc_domains.specs.Counters.{IsMarked, Marks, entry_of, Table, FitsTable, count_of, with_count, place, place_in}
+use Rattle.wfc_domains.specs.Counters.{IsMarked, Marks, entry_of, Table, FitsTable, count_of, with_count, counter_place, count_place}
 use Rattle.wfc_domains.specs.Removals.{without, IsUnsupported}
 use Rattle.wfc_domains.specs.Store.{left_of}
 use Rattle.wfc_domains.specs.Board.{view_of, AreStood, IsTraced, lost, Loses, Grows}
@@ -21,8 +21,8 @@ use Rattle.wfc_domains.proofs.Marking.{entry-same, entry-other}
 use Rattle.wfc_domains.proofs.Places.{place-same, place_in-lt, place-is}
 use Rattle.wfc_domains.proofs.Removals.{less-within, less-lacks, without-within, without-push, without-in}
 use Rattle.wfc_domains.proofs.Boards.{board-lost, stands-in}
-use Rattle.wfc_ac4.specs.Places.{side_places, places_upto, places_of, times}
-use Rattle.wfc_ac4.specs.State.{AreLowered, AreRaised, IsWorking, IsBetween, IsRaising, counted}
+use Rattle.wfc_ac4.specs.Places.{side_places, places_upto, counter_places, times}
+use Rattle.wfc_ac4.specs.State.{AreLowered, AreRaised, IsWorking, IsBetweenRemovals, IsRaising, counted}
 use Rattle.wfc_ac4.proofs.MarkLemmas.{entry-pos, pred-mod, suc-mod, mod-small, gone-within, gone-lowered, gone-marked, fewer-raised, lowered-marked}
 use Rattle.wfc_ac4.proofs.PlaceLemmas.{times-append, places-count}
 
@@ -41,24 +41,24 @@ fits-with P T n w d x h = record {
   same_values = h.same_values;
   same_dirs = h.same_dirs;
   few = h.few;
-  whole = length-set T.counts (place_in T.values T.dirs n w d) x ∙ h.whole;
+  whole = length-set T.counts (count_place T.values T.dirs n w d) x ∙ h.whole;
 }
 
 -- a count that was set, and the others
-pub with-same : (T : Table) (n w d x c v e : ℕ) → place_in T.values T.dirs c v e ≡ place_in T.values T.dirs n w d → place_in T.values T.dirs n w d < length T.counts → count_of (with_count T n w d x) c v e ≡ x % 32768
+pub with-same : (T : Table) (n w d x c v e : ℕ) → count_place T.values T.dirs c v e ≡ count_place T.values T.dirs n w d → count_place T.values T.dirs n w d < length T.counts → count_of (with_count T n w d x) c v e ≡ x % 32768
 with-same T n w d x c v e same inside = ap (λ y. y % 32768) (entry-same T n w d x c v e same inside)
 
-pub with-other : (T : Table) (n w d x c v e : ℕ) → place_in T.values T.dirs c v e ≢ place_in T.values T.dirs n w d → count_of (with_count T n w d x) c v e ≡ count_of T c v e
+pub with-other : (T : Table) (n w d x c v e : ℕ) → count_place T.values T.dirs c v e ≢ count_place T.values T.dirs n w d → count_of (with_count T n w d x) c v e ≡ count_of T c v e
 with-other T n w d x c v e ne = ap (λ y. y % 32768) (entry-other T n w d x c v e ne)
 
 -- a counter that is lowered has one less
-pub counted-in : (T : Table) (n w d : ℕ) → 0 < count_of T n w d → place_in T.values T.dirs n w d < length T.counts
-counted-in T n w d pos = in_list T.counts (place_in T.values T.dirs n w d) (entry-pos (entry_of T n w d) pos)
+pub counted-in : (T : Table) (n w d : ℕ) → 0 < count_of T n w d → count_place T.values T.dirs n w d < length T.counts
+counted-in T n w d pos = in_list T.counts (count_place T.values T.dirs n w d) (entry-pos (entry_of T n w d) pos)
 
 lowered-left : (T : Table) (n w d : ℕ) → 0 < count_of T n w d → count_of (with_count T n w d (entry_of T n w d - 1)) n w d ≡ count_of T n w d - 1
 lowered-left T n w d pos = with-same T n w d (entry_of T n w d - 1) n w d refl (counted-in T n w d pos) ∙ pred-mod (entry_of T n w d) pos
 
--- a place that is not, or is, another's
+-- a counter_place that is not, or is, another's
 flag-is : (a b : ℕ) → a ≡ b → cond {A = ℕ} (a == b) 1 0 ≡ 1
 flag-is a b e = ap (λ t. cond {A = ℕ} t 1 0) (eq-eqb a b e)
 
@@ -66,43 +66,43 @@ flag-not : (a b : ℕ) → a ≢ b → cond {A = ℕ} (a == b) 1 0 ≡ 0
 flag-not a b ne = ap (λ t. cond {A = ℕ} t 1 0) (ne_eqb a b ne)
 
 -- one counter lowered
-pub lowered-one : (P : Network) (E : Test) (lowered : List ℕ) (T : Table) (n w d : ℕ) → AreLowered P E lowered T → 0 < count_of T n w d → AreLowered P E (lowered ++ place P n w d ∷ []) (with_count T n w d (entry_of T n w d - 1))
+pub lowered-one : (P : Network) (E : Test) (lowered : List ℕ) (T : Table) (n w d : ℕ) → AreLowered P E lowered T → 0 < count_of T n w d → AreLowered P E (lowered ++ counter_place P n w d ∷ []) (with_count T n w d (entry_of T n w d - 1))
 lowered-one P E lowered T n w d h pos = record {
   fits = fits-with P T n w d (entry_of T n w d - 1) h.fits;
   each = λ c' v' d' hc hv hd.
       let old = h.each c' v' d' hc hv hd in
-      let i = place_in T.values T.dirs n w d in
-      let j = place_in T.values T.dirs c' v' d' in
+      let i = count_place T.values T.dirs n w d in
+      let j = count_place T.values T.dirs c' v' d' in
       let ei = place-is P T h.fits n w d in
       let ej = place-is P T h.fits c' v' d' in
-      let more = times-push (place P c' v' d') lowered (place P n w d) in
+      let more = times-push (counter_place P c' v' d') lowered (counter_place P n w d) in
       elim (cases_eq j i) [
         | inl e ↦
             let same = with-same T n w d (entry_of T n w d - 1) c' v' d' e (counted-in T n w d pos) ∙ pred-mod (entry_of T n w d) pos in
             let was : count_of T c' v' d' ≡ count_of T n w d = ap (λ k. slice_index T.counts k % 32768) e in
-            omega (arith, flag-is (place P n w d) (place P c' v' d') (ei ∙ sym e ∙ sym ej))
-        | inr ne ↦ omega (arith, with-other T n w d (entry_of T n w d - 1) c' v' d' ne, flag-not (place P n w d) (place P c' v' d') (λ e. ne (sym ej ∙ sym e ∙ ei)))
+            omega (arith, flag-is (counter_place P n w d) (counter_place P c' v' d') (ei ∙ sym e ∙ sym ej))
+        | inr ne ↦ omega (arith, with-other T n w d (entry_of T n w d - 1) c' v' d' ne, flag-not (counter_place P n w d) (counter_place P c' v' d') (λ e. ne (sym ej ∙ sym e ∙ ei)))
       ];
 }
 
 -- one counter raised
-raised-one : (P : Network) (E : Test) (raised : List ℕ) (T : Table) (n w d : ℕ) → AreRaised P E raised T → n < P.cells → w < values P → d < P.dirs → count_of T n w d < 4096 → AreRaised P E (raised ++ place P n w d ∷ []) (with_count T n w d (entry_of T n w d + 1))
+raised-one : (P : Network) (E : Test) (raised : List ℕ) (T : Table) (n w d : ℕ) → AreRaised P E raised T → n < P.cells → w < values P → d < P.dirs → count_of T n w d < 4096 → AreRaised P E (raised ++ counter_place P n w d ∷ []) (with_count T n w d (entry_of T n w d + 1))
 raised-one P E raised T n w d h hn hw hd few = record {
   fits = fits-with P T n w d (entry_of T n w d + 1) h.fits;
   each = λ c' v' d' hc hv hd'.
       let old = h.each c' v' d' hc hv hd' in
-      let i = place_in T.values T.dirs n w d in
-      let j = place_in T.values T.dirs c' v' d' in
+      let i = count_place T.values T.dirs n w d in
+      let j = count_place T.values T.dirs c' v' d' in
       let ei = place-is P T h.fits n w d in
       let ej = place-is P T h.fits c' v' d' in
-      let more = times-push (place P c' v' d') raised (place P n w d) in
+      let more = times-push (counter_place P c' v' d') raised (counter_place P n w d) in
       let inside : i < length T.counts = omega (arith, place_in-lt (values P) P.dirs n w d P.cells hn hw hd, ei, h.fits.whole) in
       elim (cases_eq j i) [
         | inl e ↦
             let same = with-same T n w d (entry_of T n w d + 1) c' v' d' e inside ∙ suc-mod (entry_of T n w d) few in
             let was : count_of T c' v' d' ≡ count_of T n w d = ap (λ k. slice_index T.counts k % 32768) e in
-            omega (arith, flag-is (place P n w d) (place P c' v' d') (ei ∙ sym e ∙ sym ej))
-        | inr ne ↦ omega (arith, with-other T n w d (entry_of T n w d + 1) c' v' d' ne, flag-not (place P n w d) (place P c' v' d') (λ e. ne (sym ej ∙ sym e ∙ ei)))
+            omega (arith, flag-is (counter_place P n w d) (counter_place P c' v' d') (ei ∙ sym e ∙ sym ej))
+        | inr ne ↦ omega (arith, with-other T n w d (entry_of T n w d + 1) c' v' d' ne, flag-not (counter_place P n w d) (counter_place P c' v' d') (λ e. ne (sym ej ∙ sym e ∙ ei)))
       ];
 }
 
@@ -124,7 +124,7 @@ upto-le P c v i m (suc k) h = elim (cases_lt m (suc k)) [
   | inr l ↦ let e : m ≡ suc k = omega arith in let same = ap (λ x. times i (places_upto P c v x)) e in omega arith
 ]
 
-part-le : (P : Network) (c v d n i k : ℕ) → d < P.dirs → neighbour P c d ≡ Some n → times i (places_upto P c v d ++ take k (side_places P v d (Some n))) ≤ times i (places_of P c v)
+part-le : (P : Network) (c v d n i k : ℕ) → d < P.dirs → neighbour P c d ≡ Some n → times i (places_upto P c v d ++ take k (side_places P v d (Some n))) ≤ times i (counter_places P c v)
 part-le P c v d n i k hd e =
     let side = side_places P v d (neighbour P c d) in
     let same = ap (λ o. times i (take k (side_places P v d o))) e in
@@ -138,16 +138,16 @@ part-le P c v d n i k hd e =
 
 -- while a removal is worked off, a counter that is still to be lowered is above 0
 pub still_counts : (P : Network) → IsProblem P → (E : Test) (lowered : List ℕ) (T : Table) (c v n w d : ℕ) → AreLowered P E lowered T → IsTrue (E c v) → n < P.cells → w < values P → d < P.dirs
-    → times (place P n w d) (lowered ++ place P n w d ∷ []) ≤ times (place P n w d) (places_of P c v) → 0 < count_of T n w d
+    → times (counter_place P n w d) (lowered ++ counter_place P n w d ∷ []) ≤ times (counter_place P n w d) (counter_places P c v) → 0 < count_of T n w d
 still_counts P p E lowered T c v n w d h t hn hw hd part =
     let now = h.each n w d hn hw hd in
     let all = places-count P p E c v n w d t hw hd in
-    let more = times-push (place P n w d) lowered (place P n w d) in
-    omega (arith, flag-is (place P n w d) (place P n w d) refl)
+    let more = times-push (counter_place P n w d) lowered (counter_place P n w d) in
+    omega (arith, flag-is (counter_place P n w d) (counter_place P n w d) refl)
 
 -- a counter that has fallen to 0 says that no support stands
 no_support : (P : Network) → IsProblem P → (E D : Test) (lowered : List ℕ) (T : Table) (c v n w d : ℕ) → AreLowered P E lowered T → IsTrue (E c v) → Within D (less E c v) → n < P.cells → w < values P → d < P.dirs
-    → times (place P n w d) lowered ≤ times (place P n w d) (places_of P c v) → count_of T n w d ≡ 0 → support_count P D n w d ≡ 0
+    → times (counter_place P n w d) lowered ≤ times (counter_place P n w d) (counter_places P c v) → count_of T n w d ≡ 0 → support_count P D n w d ≡ 0
 no_support P p E D lowered T c v n w d h t within hn hw hd part z =
     let now = h.each n w d hn hw hd in
     let all = places-count P p E c v n w d t hw hd in
@@ -155,13 +155,13 @@ no_support P p E D lowered T c v n w d h t within hn hw hd part z =
     omega arith
 
 -- worked off to its end, a removal is counted no more
-worked_off : (P : Network) → IsProblem P → (E : Test) (T : Table) (c v : ℕ) → AreLowered P E (places_of P c v) T → IsTrue (E c v) → AreLowered P (less E c v) [] T
+worked_off : (P : Network) → IsProblem P → (E : Test) (T : Table) (c v : ℕ) → AreLowered P E (counter_places P c v) T → IsTrue (E c v) → AreLowered P (less E c v) [] T
 worked_off P p E T c v h t = record {
   fits = h.fits;
   each = λ c' v' d' hc hv hd.
       let now = h.each c' v' d' hc hv hd in
       let all = places-count P p E c v c' v' d' t hv hd in
-      let none : times (place P c' v' d') [] ≡ 0 = refl in
+      let none : times (counter_place P c' v' d') [] ≡ 0 = refl in
       omega arith;
 }
 
@@ -174,12 +174,12 @@ support-lowered b D T n w d x t fits supported within hw hd here c v e m s besid
     let P = b.problem.now in
     let range = stands-in b t c v (within c v s) in
     let dir = neighbour-dir P c e m beside in
-    elim (cases_eq (place_in T.values T.dirs c v e) (place_in T.values T.dirs n w d)) [
+    elim (cases_eq (count_place T.values T.dirs c v e) (count_place T.values T.dirs n w d)) [
       | inl same ↦
           let which = place-same P c v e n w d range.1 hw dir hd (place-is P T fits c v e ∙ same ∙ sym (place-is P T fits n w d)) in
           let s' : IsTrue (has D n w) = sym (ap (λ a. has D a v) which.0 ∙ ap (has D n) which.1) ∙ s in
           let pos = here s' in
-          let eq = ap (λ k. slice_index (set T.counts (place_in T.values T.dirs n w d) x) k % 32768) same in
+          let eq = ap (λ k. slice_index (set T.counts (count_place T.values T.dirs n w d) x) k % 32768) same in
           omega arith
       | inr ne ↦
           let pos = supported c v e m (within c v s) beside in
@@ -192,7 +192,7 @@ support-lowered b D T n w d x t fits supported within hw hd here c v e m s besid
 working-lowered : (b : Board) (T : Table) (head c v : ℕ) (lowered : List ℕ) (n w d : ℕ) → IsWorking b T head c v lowered
     → w < values b.problem.now → d < b.problem.now.dirs → 0 < count_of T n w d
     → (b.verdict ≡ Alive → IsTrue (has b.domains n w) → 0 < count_of (with_count T n w d (entry_of T n w d - 1)) n w d)
-    → IsWorking b (with_count T n w d (entry_of T n w d - 1)) head c v (lowered ++ place b.problem.now n w d ∷ [])
+    → IsWorking b (with_count T n w d (entry_of T n w d - 1)) head c v (lowered ++ counter_place b.problem.now n w d ∷ [])
 working-lowered b T head c v lowered n w d h hw hd pos here = record {
   board = h.board;
   cut = h.cut;
@@ -207,10 +207,10 @@ working-lowered b T head c v lowered n w d h hw hd pos here = record {
 -- it has none left, and is removed
 working-removed : (b : Board) (D : Flags) (T : Table) (head c v : ℕ) (lowered : List ℕ) (n w d : ℕ) → IsWorking b T head c v lowered → b.verdict ≡ Alive
     → n < b.problem.now.cells → w < values b.problem.now → d < b.problem.now.dirs → 0 < count_of T n w d → neighbour b.problem.now n d ≡ Some c
-    → times (place b.problem.now n w d) (lowered ++ place b.problem.now n w d ∷ []) ≤ times (place b.problem.now n w d) (places_of b.problem.now c v)
+    → times (counter_place b.problem.now n w d) (lowered ++ counter_place b.problem.now n w d ∷ []) ≤ times (counter_place b.problem.now n w d) (counter_places b.problem.now c v)
     → count_of (with_count T n w d (entry_of T n w d - 1)) n w d ≡ 0
     → IsLess b.domains D n w
-    → IsWorking (lost b D n w (Arc d)) (with_count T n w d (entry_of T n w d - 1)) head c v (lowered ++ place b.problem.now n w d ∷ [])
+    → IsWorking (lost b D n w (Arc d)) (with_count T n w d (entry_of T n w d - 1)) head c v (lowered ++ counter_place b.problem.now n w d ∷ [])
 working-removed b D T head c v lowered n w d h alive hn hw hd pos beside part none_left less' =
     let P = b.problem.now in
     let rs = b.trail.removals in
@@ -219,7 +219,7 @@ working-removed b D T head c v lowered n w d h alive hn hw hd pos beside part no
     let T' = with_count T n w d (entry_of T n w d - 1) in
     let lower = lowered-one P E lowered T n w d h.counters pos in
     let same_head : take head (rs ++ r ∷ []) ≡ take head rs = take-append-le head rs (r ∷ []) h.in_log in
-    let no = no_support P h.board.traced.problem E (left_of (view_of b)) (lowered ++ place P n w d ∷ []) T' c v n w d lower h.still_counted h.gone hn hw hd part none_left in
+    let no = no_support P h.board.traced.problem E (left_of (view_of b)) (lowered ++ counter_place P n w d ∷ []) T' c v n w d lower h.still_counted h.gone hn hw hd part none_left in
     let within' : Within (has D) (has b.domains) = λ c' v' t. less-within (has b.domains) n w c' v' (ap (λ f. f c' v') (sym less'.each) ∙ t) in
     let lacks : IsTrue (has D n w) → ⊥ = λ t. less-lacks (has b.domains) n w (ap (λ f. f n w) (sym less'.each) ∙ t) in
     let bare : IsUnsupported P (left_of (view_of b)) n w d = record { next = c; beside = beside; none = no } in
@@ -227,7 +227,7 @@ working-removed b D T head c v lowered n w d h alive hn hw hd pos beside part no
     record {
       board = board-lost b D n w (Arc d) h.board alive less' hn hw (left_cut, bare);
       cut = λ _ x y t. h.cut alive x y (within' x y t);
-      counters = subst (λ xs. AreLowered P (without (in_base P) xs) (lowered ++ place P n w d ∷ []) T') (sym same_head) lower;
+      counters = subst (λ xs. AreLowered P (without (in_base P) xs) (lowered ++ counter_place P n w d ∷ []) T') (sym same_head) lower;
       supported = λ _. support-lowered b D T n w d (entry_of T n w d - 1) h.board.traced h.counters.fits (h.supported alive) within' hw hd (λ t. absurd (lacks t));
       marks = gone-within b.domains D T' (gone-lowered b.domains T n w d h.marks (entry-pos (entry_of T n w d) pos) (counted-in T n w d pos)) within';
       still_counted = subst (λ xs. IsTrue (without (in_base P) xs c v)) (sym same_head) h.still_counted;
@@ -238,12 +238,12 @@ working-removed b D T head c v lowered n w d h alive hn hw hd pos beside part no
 
 -- ---- one support at a neighbour
 
-next_lowered : (P : Network) (c v d n k : ℕ) → k < length (supports_of P v d) → (places_upto P c v d ++ take k (side_places P v d (Some n))) ++ place P n (get_or (supports_of P v d) k 0) (opposite d) ∷ [] ≡ places_upto P c v d ++ take (k + 1) (side_places P v d (Some n))
+next_lowered : (P : Network) (c v d n k : ℕ) → k < length (supports_of P v d) → (places_upto P c v d ++ take k (side_places P v d (Some n))) ++ counter_place P n (get_or (supports_of P v d) k 0) (opposite d) ∷ [] ≡ places_upto P c v d ++ take (k + 1) (side_places P v d (Some n))
 next_lowered P c v d n k l =
     let side = side_places P v d (Some n) in
-    let l' : k < length side = omega (arith, length-map (supports_of P v d) (λ w. place P n w (opposite d))) in
+    let l' : k < length side = omega (arith, length-map (supports_of P v d) (λ w. counter_place P n w (opposite d))) in
     append_assoc (places_upto P c v d) (take k side) _
-    ∙ ap (λ x. places_upto P c v d ++ (take k side ++ x ∷ [])) (sym (get_or-map (λ w. place P n w (opposite d)) (supports_of P v d) k 0 0 l))
+    ∙ ap (λ x. places_upto P c v d ++ (take k side ++ x ∷ [])) (sym (get_or-map (λ w. counter_place P n w (opposite d)) (supports_of P v d) k 0 0 l))
     ∙ ap (λ x. places_upto P c v d ++ x) (sym (take_more side k 0 l'))
 
 -- what holds of a value w that a removed one supports at the neighbour n
@@ -252,9 +252,9 @@ pub record SideStep (P : Network) (lowered next : List ℕ) (c v n w back : ℕ)
   pub value_in : w < values P
   pub dir_in : back < P.dirs
   pub above_zero : 0 < count_of T n w back
-  pub part : times (place P n w back) (lowered ++ place P n w back ∷ []) ≤ times (place P n w back) (places_of P c v)
+  pub part : times (counter_place P n w back) (lowered ++ counter_place P n w back ∷ []) ≤ times (counter_place P n w back) (counter_places P c v)
   pub beside : neighbour P n back ≡ Some c
-  pub next_is : lowered ++ place P n w back ∷ [] ≡ next
+  pub next_is : lowered ++ counter_place P n w back ∷ [] ≡ next
 
 -- the state after it, where it is removed
 pub step_removed : (b b' : Board) (T T' : Table) (head c v : ℕ) (lowered : List ℕ) (next : Network → List ℕ) (n w d : ℕ)
@@ -319,7 +319,7 @@ without_at D rs k r e = ap (λ n. without D (take n rs)) (add-one k) ∙ by_suc 
     by_suc D (x ∷ rs) zero e = let same : x ≡ r = cc in ap (λ y. less D y.cell y.value) same
     by_suc D (x ∷ rs) (suc k) e = by_suc (less D x.cell x.value) rs k e
 
--- a removal of the log stands at its place in a longer one
+-- a removal of the log stands at its counter_place in a longer one
 pub get-grown : {old new : Board} (k : ℕ) (r : Removal) → Grows old new → slice_get old.trail.removals k ≡ Some r → slice_get new.trail.removals k ≡ Some r
 get-grown {old} {new} k r h e = ap (λ xs. slice_get xs k) h.removals ∙ front old.trail.removals k e
   where
@@ -333,7 +333,7 @@ in_list-get [] k r e = cc
 in_list-get (x ∷ rs) zero r e = omega arith
 in_list-get (x ∷ rs) (suc k) r e = let l = in_list-get rs k r e in omega arith
 
-pub start_working : (b : Board) (T : Table) (head : ℕ) (r : Removal) → IsBetween b T head → slice_get b.trail.removals head ≡ Some r → IsWorking b T head r.cell r.value []
+pub start_working : (b : Board) (T : Table) (head : ℕ) (r : Removal) → IsBetweenRemovals b T head → slice_get b.trail.removals head ≡ Some r → IsWorking b T head r.cell r.value []
 start_working b T head r h e = record {
   board = h.board;
   cut = h.cut;
@@ -345,7 +345,7 @@ start_working b T head r h e = record {
   in_log = h.in_log;
 }
 
-end_working : (b : Board) (T : Table) (head : ℕ) (r : Removal) → IsWorking b T head r.cell r.value (places_of b.problem.now r.cell r.value) → slice_get b.trail.removals head ≡ Some r → IsBetween b T (head + 1)
+end_working : (b : Board) (T : Table) (head : ℕ) (r : Removal) → IsWorking b T head r.cell r.value (counter_places b.problem.now r.cell r.value) → slice_get b.trail.removals head ≡ Some r → IsBetweenRemovals b T (head + 1)
 end_working b T head r h e = record {
   board = h.board;
   cut = h.cut;
@@ -360,7 +360,7 @@ pub working-range : {b : Board} {T : Table} {head c v : ℕ} {lowered : List ℕ
 working-range {b} {T} {head} {c} {v} h = without-in b.problem.now h.board.traced.problem (take head b.trail.removals) c v h.still_counted
 
 -- its counters all lowered, the removal is worked off
-pub all_links_done : (b : Board) (T : Table) (head k : ℕ) (r : Removal) → IsWorking b T head r.cell r.value (places_of b.problem.now r.cell r.value) → head ≡ k → slice_get b.trail.removals k ≡ Some r → IsBetween b T (head + 1)
+pub all_links_done : (b : Board) (T : Table) (head k : ℕ) (r : Removal) → IsWorking b T head r.cell r.value (counter_places b.problem.now r.cell r.value) → head ≡ k → slice_get b.trail.removals k ≡ Some r → IsBetweenRemovals b T (head + 1)
 all_links_done b T head k r h f at = end_working b T head r h (ap (slice_get b.trail.removals) f ∙ at)
 
 -- ---- taking back
@@ -386,13 +386,13 @@ raise_step P E c v d n k w turned xs T h hd e is_xs l is_w is_back =
     let hb : turned < P.dirs = omega (arith, is_back, opposite-in P p d hd) in
     let hn = in_cells P p c d n e in
     let raised = places_upto P c v d ++ take k (side_places P v d (Some n)) in
-    let next : raised ++ place P n w turned ∷ [] ≡ places_upto P c v d ++ take (k + 1) (side_places P v d (Some n)) =
-    ap (λ x. raised ++ place P n x turned ∷ []) w_is ∙ ap (λ x. raised ++ place P n (get_or (supports_of P v d) k 0) x ∷ []) is_back ∙ next_lowered P c v d n k l' in
-    let part : times (place P n w turned) (raised ++ place P n w turned ∷ []) ≤ times (place P n w turned) (places_of P c v) =
-    omega (arith, ap (times (place P n w turned)) next, part-le P c v d n (place P n w turned) (k + 1) hd e) in
-    let under : count_of T n w turned < support_count P E n w turned = omega (arith, h.counters.each n w turned hn hw hb, places-count P p E c v n w turned h.stood hw hb, times-push (place P n w turned) raised (place P n w turned), flag-is (place P n w turned) (place P n w turned) refl) in
+    let next : raised ++ counter_place P n w turned ∷ [] ≡ places_upto P c v d ++ take (k + 1) (side_places P v d (Some n)) =
+    ap (λ x. raised ++ counter_place P n x turned ∷ []) w_is ∙ ap (λ x. raised ++ counter_place P n (get_or (supports_of P v d) k 0) x ∷ []) is_back ∙ next_lowered P c v d n k l' in
+    let part : times (counter_place P n w turned) (raised ++ counter_place P n w turned ∷ []) ≤ times (counter_place P n w turned) (counter_places P c v) =
+    omega (arith, ap (times (counter_place P n w turned)) next, part-le P c v d n (counter_place P n w turned) (k + 1) hd e) in
+    let under : count_of T n w turned < support_count P E n w turned = omega (arith, h.counters.each n w turned hn hw hb, places-count P p E c v n w turned h.stood hw hb, times-push (counter_place P n w turned) raised (counter_place P n w turned), flag-is (counter_place P n w turned) (counter_place P n w turned) refl) in
     let few : count_of T n w turned < 4096 = omega (arith, support_count-few P p E n w turned hb) in
-    let inside : place_in T.values T.dirs n w turned < length T.counts = omega (arith, place_in-lt (values P) P.dirs n w turned P.cells hn hw hb, place-is P T h.counters.fits n w turned, h.counters.fits.whole) in
+    let inside : count_place T.values T.dirs n w turned < length T.counts = omega (arith, place_in-lt (values P) P.dirs n w turned P.cells hn hw hb, place-is P T h.counters.fits n w turned, h.counters.fits.whole) in
     record {
       cell_in = hn;
       value_in = hw;
@@ -413,8 +413,8 @@ all_raised P E c v d T h e = record {
   each = λ c' v' d' hc hv hd.
       let now = h.counters.each c' v' d' hc hv hd in
       let all = places-count P h.problem E c v c' v' d' h.stood hv hd in
-      let same = ap (λ m. times (place P c' v' d') (places_upto P c v m)) e in
-      let none : times (place P c' v' d') [] ≡ 0 = refl in
+      let same = ap (λ m. times (counter_place P c' v' d') (places_upto P c v m)) e in
+      let none : times (counter_place P c' v' d') [] ≡ 0 = refl in
       omega arith;
 }
 

@@ -1,15 +1,15 @@
 -- What holds of an engine between two calls.
 use Rattle.std.specs.Prelude.{◌≡◌, ◌≤◌, [], length}
 use Rattle.wfc_domains.specs.declared.Verdict.TheVariants.{Alive}
-use Rattle.wfc_domains.specs.Store.{StoreView, IsSound, mark_of}
+use Rattle.wfc_domains.specs.Store.{StoreView, IsSound, level_mark}
 use Rattle.wfc_domains.specs.Board.{view_of, IsTraced, HasLevels}
 use Rattle.wfc_ac4.specs.Links.{AreLinks}
 use Rattle.wfc_ac4.specs.State.{AreLowered, AreGone, counted}
 use Rattle.wfc_ac4.specs.declared.Ac4.TheInside.{Inside}
 
 -- what contracts see of it
-abbrev pub seen : Inside → StoreView
-seen a = view_of a.flight.board
+abbrev pub engine_view : Inside → StoreView
+engine_view a = view_of a.flight.board
 
 -- the store is sound; the counters count what is not worked off; and while it is alive, and before the last literal,
 -- all is worked off
@@ -22,5 +22,5 @@ pub record HoldsTogether (a : Inside) : Type 0 where
   pub in_log : a.flight.head ≤ length a.flight.board.trail.removals
   pub settled : a.flight.board.verdict ≡ Alive → a.flight.head ≡ length a.flight.board.trail.removals
   pub linked : AreLinks a.flight.board.problem.now a.links
-  pub marked : mark_of a.flight.board.levels.marks ≤ a.flight.head
-  pub begun : a.flight.board.trail.start ≡ mark_of a.flight.board.levels.marks
+  pub marked : level_mark a.flight.board.levels.marks ≤ a.flight.head
+  pub begun : a.flight.board.trail.start ≡ level_mark a.flight.board.levels.marks

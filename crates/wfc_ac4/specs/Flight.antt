@@ -27,13 +27,13 @@ pub record Strikes (old new : Flight) (n w d : ℕ) : Type 0 where
   pub head : new.head ≡ old.head
 
 -- w did not stand at n, or a cell was empty, and nothing changed
-pub record Passes (old new : Flight) (n w : ℕ) : Type 0 where
+pub record PassesOver (old new : Flight) (n w : ℕ) : Type 0 where
   pub gone : old.board.verdict ≡ Alive → IsTrue (has old.board.domains n w) → ⊥
   pub same : new ≡ old
 
 -- w is removed at n for want of support in direction d, if it stands and no cell is empty
 abbrev pub IsStruck : Flight → Flight → ℕ → ℕ → ℕ → Type 0
-IsStruck old new n w d = Strikes old new n w d ⊎ Passes old new n w
+IsStruck old new n w d = Strikes old new n w d ⊎ PassesOver old new n w
 
 -- only the counters changed
 abbrev pub Recounts : Flight → Flight → Type 0

@@ -2,12 +2,12 @@
 use Rattle.std.specs.Prelude.{ℕ, zero, suc, ◌==◌, List, [], ◌++◌, count_by, map, Option, Some, None}
 use Rattle.wfc_model.specs.Direction.{opposite}
 use Rattle.wfc_problem.specs.Network.{Network, neighbour, supports_of}
-use Rattle.wfc_domains.specs.Counters.{place}
+use Rattle.wfc_domains.specs.Counters.{counter_place}
 
 -- those at the neighbour in direction d
 abbrev pub side_places : Network → ℕ → ℕ → Option ℕ → List ℕ
 side_places P v d None = []
-side_places P v d (Some n) = map (λ w. place P n w (opposite d)) (supports_of P v d)
+side_places P v d (Some n) = map (λ w. counter_place P n w (opposite d)) (supports_of P v d)
 
 -- those in the first directions
 abbrev pub places_upto : Network → ℕ → ℕ → ℕ → List ℕ
@@ -15,8 +15,8 @@ places_upto P c v zero = []
 places_upto P c v (suc d) = places_upto P c v d ++ side_places P v d (neighbour P c d)
 
 -- all of them
-abbrev pub places_of : Network → ℕ → ℕ → List ℕ
-places_of P c v = places_upto P c v P.dirs
+abbrev pub counter_places : Network → ℕ → ℕ → List ℕ
+counter_places P c v = places_upto P c v P.dirs
 
 -- how often a number stands in a list
 abbrev pub times : ℕ → List ℕ → ℕ

@@ -6,7 +6,7 @@ use Rattle.wfc_domains.specs.declared.Verdict.TheVariants.{Alive}
 use Rattle.wfc_domains.specs.declared.Removal.{Removal}
 use Rattle.wfc_domains.specs.declared.board.Board.{Board}
 use Rattle.wfc_domains.specs.Domains.{Flags, has, less}
-use Rattle.wfc_domains.specs.Counters.{Table, FitsTable, IsMarked, count_of, place}
+use Rattle.wfc_domains.specs.Counters.{Table, FitsTable, IsMarked, count_of, counter_place}
 use Rattle.wfc_domains.specs.Removals.{without}
 use Rattle.wfc_domains.specs.Board.{IsTraced, IsBoard, IsCut}
 use Rattle.wfc_domains.specs.Store.{IsLeastUnsupported}
@@ -20,13 +20,13 @@ counted b head = without (in_base b.problem.now) (take head b.trail.removals)
 pub record AreLowered (P : Network) (E : Test) (lowered : List ℕ) (T : Table) : Type 0 where
   pub fits : FitsTable P T
   pub each : (c v d : ℕ) → c < P.cells → v < values P → d < P.dirs
-      → count_of T c v d + times (place P c v d) lowered ≡ support_count P E c v d
+      → count_of T c v d + times (counter_place P c v d) lowered ≡ support_count P E c v d
 
 -- the counters are the support counts of E, and what was raised
 pub record AreRaised (P : Network) (E : Test) (raised : List ℕ) (T : Table) : Type 0 where
   pub fits : FitsTable P T
   pub each : (c v d : ℕ) → c < P.cells → v < values P → d < P.dirs
-      → count_of T c v d ≡ support_count P E c v d + times (place P c v d) raised
+      → count_of T c v d ≡ support_count P E c v d + times (counter_place P c v d) raised
 
 -- marks stand only at values that don't stand
 abbrev pub AreGone : Flags → Table → Type 0
@@ -50,7 +50,7 @@ pub record IsWorking (b : Board) (T : Table) (head c v : ℕ) (lowered : List �
   pub in_log : head ≤ length b.trail.removals
 
 -- between removals: those before the head are worked off, the others pending
-pub record IsBetween (b : Board) (T : Table) (head : ℕ) : Type 0 where
+pub record IsBetweenRemovals (b : Board) (T : Table) (head : ℕ) : Type 0 where
   pub board : IsBoard b
   pub cut : IsCut b
   pub counters : AreLowered b.problem.now (counted b head) [] T

@@ -5,16 +5,16 @@ ghost use Rattle.wfc_model.specs.Direction.{opposite};
 ghost use Rattle.wfc_problem.specs.Network.{values, neighbour, supports_of, in_base};
 ghost use Rattle.wfc_domains.specs.declared.Verdict.TheVariants.{Alive};
 ghost use Rattle.wfc_domains.specs.Domains.{has};
-ghost use Rattle.wfc_domains.specs.Counters.{FitsTable, count_of, counts_of, cost_at, cost_of, place};
+ghost use Rattle.wfc_domains.specs.Counters.{FitsTable, count_of, counts_of, cost_at, cost_of, counter_place};
 ghost use Rattle.wfc_domains.specs.Removals.{without};
 ghost use Rattle.wfc_domains.specs.Store.{IsOpening};
 ghost use Rattle.wfc_domains.specs.Board.{Grows, HasValues, IsFresh, IsTraced};
-ghost use Rattle.wfc_ac4.specs.Places.{places_upto, side_places, places_of};
+ghost use Rattle.wfc_ac4.specs.Places.{places_upto, side_places, counter_places};
 ghost use Rattle.wfc_ac4.specs.Links.{AreLinks, links_of};
-ghost use Rattle.wfc_ac4.specs.State.{IsWorking, IsBetween, IsRolled, IsRaising, IsScanned, AreLowered, counted};
+ghost use Rattle.wfc_ac4.specs.State.{IsWorking, IsBetweenRemovals, IsRolled, IsRaising, IsScanned, AreLowered, counted};
 ghost use Rattle.wfc_ac4.specs.Flight.{front_cost, GoesOn, Recounts, HasNoMore, IsShorter, IsRolledTo, IsFirstBare, IsStruck};
 
-use crate::links::{Link, Links};
+use crate::links::{Links, SupportLink};
 use std::sync::ledger::Ledger;
 use wfc_domains::{Board, Cause, Counters, Steps, is_alive};
 use wfc_problem::opposite;
@@ -44,7 +44,7 @@ impl<'p> Flight<'p> {
     /// Removes the value to which a link leads at a neighbour, if it stands there and no cell is empty: its counter for
     /// the way back, which stands at `at`, came to 0.
     #[inline]
-    fn strike(&mut self, next: u32, link: Link, at: usize)
+    fn strike(&mut self, next: u32, link: SupportLink, at: usize)
         requires traced { IsTraced self.old.board }
         requires filled { self.old.board.verdict ≡ Alive → HasValues self.old.board }
         requires fits { FitsTable self.old.board.problem.now self.old.counters }
@@ -53,7 +53,7 @@ impl<'p> Flight<'p> {
         requires back_in { link.back < self.old.board.problem.now.dirs }
         requires value_in { link.offset / self.old.board.problem.now.dirs
             < values self.old.board.problem.now }
-        requires at { at ≡ place self.old.board.problem.now next (link.offset /
+        requires at { at ≡ counter_place self.old.board.problem.now next (link.offset /
             self.old.board.problem.now.dirs) link.back }
         ensures struck { IsStruck self.old self.new next
             (link.offset / self.old.board.problem.now.dirs) (opposite link.dir) }
@@ -68,11 +68,17 @@ impl<'p> Flight<'p> {
 
     /// Lowers the counters that count a removal, and removes what has no support left. An entry beside the cell that names
     /// no cell is above all their numbers.
-    fn work_links<L: Ledger>(&mut self, cell: u32, value: u16, links: &[Link], steps: &mut Steps<L>)
+    fn work_links<L: Ledger>(
+        &mut self,
+        cell: u32,
+        value: u16,
+        links: &[SupportLink],
+        steps: &mut Steps<L>,
+    )
         requires links { links.now ≡ links_of self.old.board.problem.now value }
         requires working { IsWorking self.old.board self.old.counters self.old.head cell value [] }
         ensures working { IsWorking self.new.board self.new.counters self.new.head cell value
-            (places_of self.new.board.problem.now cell value) }
+            (counter_places self.new.board.problem.now cell value) }
         ensures goes_on { GoesOn self.old self.new }
         ensures steps { steps.new ≡ steps.old + cost_at self.old.board.problem.now cell value }
     {
@@ -93,11 +99,11 @@ impl<'p> Flight<'p> {
 
     /// Works off the removal at the head.
     fn work_off<L: Ledger>(&mut self, links: &Links, steps: &mut Steps<L>)
-        requires between { IsBetween self.old.board self.old.counters self.old.head }
+        requires between { IsBetweenRemovals self.old.board self.old.counters self.old.head }
         requires linked { AreLinks self.old.board.problem.now links.now }
         requires pending { self.old.head < length self.old.board.trail.removals }
         requires recent { self.old.board.trail.start ≤ self.old.head }
-        ensures between { IsBetween self.new.board self.new.counters self.new.head }
+        ensures between { IsBetweenRemovals self.new.board self.new.counters self.new.head }
         ensures grows { Grows self.old.board self.new.board }
         ensures head { self.new.head ≡ self.old.head + 1 }
         ensures steps { steps.new + front_cost self.old self.old self.old.head
@@ -111,10 +117,10 @@ impl<'p> Flight<'p> {
 
     /// Works off what is pending, until nothing is or a cell is empty.
     pub fn close<L: Ledger>(&mut self, links: &Links, steps: &mut Steps<L>)
-        requires between { IsBetween self.old.board self.old.counters self.old.head }
+        requires between { IsBetweenRemovals self.old.board self.old.counters self.old.head }
         requires linked { AreLinks self.old.board.problem.now links.now }
         requires recent { self.old.board.trail.start ≤ self.old.head }
-        ensures between { IsBetween self.new.board self.new.counters self.new.head }
+        ensures between { IsBetweenRemovals self.new.board self.new.counters self.new.head }
         ensures closed { self.new.board.verdict ≡ Alive → self.new.head
             ≡ length self.new.board.trail.removals }
         ensures forward { self.old.head ≤ self.new.head }
@@ -256,7 +262,7 @@ impl<'p> Flight<'p> {
             (has self.old.board.domains) self.old.counters.limit }
         requires fits { FitsTable self.old.board.problem.now self.old.counters }
         requires head { self.old.head ≡ 0 }
-        ensures between { IsBetween self.new.board self.new.counters self.new.head }
+        ensures between { IsBetweenRemovals self.new.board self.new.counters self.new.head }
         ensures closed { self.new.board.verdict ≡ Alive → self.new.head
             ≡ length self.new.board.trail.removals }
         ensures opening { IsOpening self.new.board.problem.now self.new.board.trail.removals

@@ -35,9 +35,9 @@ impl<'p> Model for Ac4<'p> {
 
     ghost Value = { StoreView };
 
-    ghost use Rattle.wfc_ac4.specs.Engine.{seen, HoldsTogether};
+    ghost use Rattle.wfc_ac4.specs.Engine.{engine_view, HoldsTogether};
 
-    ghost view = { seen };
+    ghost view = { engine_view };
 
     ghost invariant = { HoldsTogether };
 }

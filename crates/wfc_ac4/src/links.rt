@@ -11,7 +11,7 @@ use wfc_problem::{Problem, opposite};
 /// A value that may stand beside another: where its counter for the way back stands among the entries of its cell,
 /// the direction that leads there, and the one that leads back.
 #[derive(Clone, Copy)]
-pub struct Link {
+pub struct SupportLink {
     pub offset: u16,
     pub dir: u8,
     pub back: u8,
@@ -21,7 +21,7 @@ pub struct Link {
 #[derive(Drop)]
 pub struct Links {
     starts: Vec<usize>,
-    links: Vec<Link>,
+    links: Vec<SupportLink>,
 }
 
 impl Links {
@@ -42,7 +42,7 @@ impl Links {
     /// The links of one value, the directions in rising order, and in each the values.
     #[tactic(auto, using(crate::proofs::LinkLemmas::of_within, crate::proofs::LinkLemmas::of_is))]
     #[inline]
-    pub fn of(&self, problem: &Problem, value: u16) -> &[Link]
+    pub fn of(&self, problem: &Problem, value: u16) -> &[SupportLink]
         requires linked { AreLinks problem.now self.now }
         requires value_in { value < values problem.now }
         ensures value { result.now ≡ links_of problem.now value }
@@ -53,7 +53,7 @@ impl Links {
 }
 
 /// The links of a value, behind those that are there.
-fn push_value(problem: &Problem, value: u16, links: &mut Vec<Link>) -> Result<(), AllocError>
+fn push_value(problem: &Problem, value: u16, links: &mut Vec<SupportLink>) -> Result<(), AllocError>
     requires value_in { value < values problem.now }
     ensures more { IsOk result → links.new.items ≡ links.old.items ++ links_of problem.now value }
 {
@@ -68,7 +68,7 @@ fn push_side(
     problem: &Problem,
     value: u16,
     dir: u8,
-    links: &mut Vec<Link>,
+    links: &mut Vec<SupportLink>,
 ) -> Result<(), AllocError>
     requires value_in { value < values problem.now }
     requires dir_in { dir < problem.now.dirs }
@@ -78,7 +78,7 @@ fn push_side(
     let dirs = u16::from(problem.dirs());
     let back = opposite(dir);
     for other in problem.supports(value, dir) {
-        links.push(Link {
+        links.push(SupportLink {
             offset: *other * dirs + u16::from(back),
             dir,
             back,

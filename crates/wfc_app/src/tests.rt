@@ -122,7 +122,7 @@ fn words_of(alloc: Global, line: &str) -> Result<Vec<String>, AllocError> {
 pub type Row = (&'static str, u8, &'static str, &'static str);
 
 /// The status of a command line over these devices, with 65 choosers of the least cell and as many of the fewest values.
-pub fn status_of<F: Folder>(
+pub fn status_of_words<F: Folder>(
     alloc: Global,
     line: &str,
     folder: &mut F,
@@ -147,7 +147,7 @@ pub fn check<F: Folder>(
     mut err: MemorySink,
 ) -> Result<(), Fail> {
     let (line, status, answer, told) = row;
-    let got = status_of(rt.alloc(), line, folder, &mut out, &mut err)?;
+    let got = status_of_words(rt.alloc(), line, folder, &mut out, &mut err)?;
     has_status(rt, line, got, status);
     has_bytes(rt, line, &out, answer.as_bytes());
     has_bytes(rt, line, &err, told.as_bytes());
@@ -179,7 +179,7 @@ pub fn runs_to(
     err: &mut MemorySink,
     status: u8,
 ) -> Result<(), Fail> {
-    let got = status_of(rt.alloc(), line, folder, out, err)?;
+    let got = status_of_words(rt.alloc(), line, folder, out, err)?;
     has_status(rt, line, got, status);
     Ok(())
 }

@@ -21,8 +21,8 @@ use Rattle.wfc_pins.specs.declared.fault.BuildFault.{BuildFault}
 use Rattle.wfc_pattern.specs.Patterns.{PatternsView}
 use Rattle.wfc_pins.specs.declared.fault.BuildFault.TheVariants.{SizeBelowN, TooLarge}
 use Rattle.wfc_problem.specs.declared.TheConstants.{MAX_PAIRS}
-use Rattle.wfc_overlap.specs.Bridge.{IsRoom, pairs}
-use Rattle.wfc_overlap.specs.Built.{built, pin_in, pins_in, texts_of}
+use Rattle.wfc_overlap.specs.Bridge.{IsRoom, window_pair_count}
+use Rattle.wfc_overlap.specs.Built.{picture_problem, picture_pin, picture_pins, texts_of}
 use Rattle.wfc_overlap.specs.Sample.{problem_of_sample}
 use Rattle.wfc_overlap.proofs.CallerLemmas.{MeansPin, first_meant, meant_pin, pin_meant}
 use Rattle.wfc_blocks.specs.Blocks.{lies_in, output_of_block}
@@ -65,7 +65,7 @@ front_ok f g (x ∷ xs) more later each back = ap (λ r. and_rest r (all_in_orde
 -- ---- the lines that lie in a block
 
 -- a line that lies in a block means its pin there
-line_meant : (texts : List (List ℕ)) (width height : ℕ) (block : Block) (line : PinView) (pin : Pin) → MeansPin texts width height line pin → lies_in block line.x line.y ≡ true → pin_in texts block.width block.height (line_in_block block line) ≡ Ok (pin_in_block block pin)
+line_meant : (texts : List (List ℕ)) (width height : ℕ) (block : Block) (line : PinView) (pin : Pin) → MeansPin texts width height line pin → lies_in block line.x line.y ≡ true → picture_pin texts block.width block.height (line_in_block block line) ≡ Ok (pin_in_block block pin)
 line_meant texts width height block line pin means lies =
     let at = lies_back block line.x line.y lies in
     meant_pin texts block.width block.height (line_in_block block line) (pin_in_block block pin) (record {
@@ -77,7 +77,7 @@ line_meant texts width height block line pin means lies =
     })
 
 -- the lines that lie in a block mean the pins that do
-within_meant : (texts : List (List ℕ)) (width height : ℕ) (block : Block) (lines : List PinView) (pins : List Pin) → pins_in texts width height lines ≡ Ok pins → pins_in texts block.width block.height (lines_within block lines) ≡ Ok (pins_within block pins)
+within_meant : (texts : List (List ℕ)) (width height : ℕ) (block : Block) (lines : List PinView) (pins : List Pin) → picture_pins texts width height lines ≡ Ok pins → picture_pins texts block.width block.height (lines_within block lines) ≡ Ok (pins_within block pins)
 within_meant texts width height block [] pins is =
     let none : (let nil : List Pin = [] in nil) ≡ pins = cc (is) in
     ap (λ (pins : List Pin). Ok (pins_within block pins)) none
@@ -88,17 +88,17 @@ within_meant texts width height block (line ∷ lines) pins is =
     ∙ ap (λ (pins : List Pin). Ok (pins_within block pins)) parts.is
   where
     -- what is kept of a first line and of its pin, by one test
-    by : (pin : Pin) (rest : List Pin) → MeansPin texts width height line pin → pins_in texts block.width block.height (lines_within block lines) ≡ Ok (pins_within block rest) → (b : Bool) → lies_in block line.x line.y ≡ b
-        → pins_in texts block.width block.height (lines_within block (line ∷ lines)) ≡ Ok (pins_within block (pin ∷ rest))
+    by : (pin : Pin) (rest : List Pin) → MeansPin texts width height line pin → picture_pins texts block.width block.height (lines_within block lines) ≡ Ok (pins_within block rest) → (b : Bool) → lies_in block line.x line.y ≡ b
+        → picture_pins texts block.width block.height (lines_within block (line ∷ lines)) ≡ Ok (pins_within block (pin ∷ rest))
     by pin rest means later true lies =
         let there : lies_in block pin.column pin.row ≡ true = ap (λ (p : Pin). lies_in block p.column p.row) (sym means.is) ∙ lies in
-        ap (λ b. pins_in texts block.width block.height (map (line_in_block block) (if b then line ∷ filter (λ (line : PinView). lies_in block line.x line.y) lines else filter (λ (line : PinView). lies_in block line.x line.y) lines))) lies
-        ∙ ap (λ r. and_rest r (pins_in texts block.width block.height (lines_within block lines))) (line_meant texts width height block line pin means lies)
+        ap (λ b. picture_pins texts block.width block.height (map (line_in_block block) (if b then line ∷ filter (λ (line : PinView). lies_in block line.x line.y) lines else filter (λ (line : PinView). lies_in block line.x line.y) lines))) lies
+        ∙ ap (λ r. and_rest r (picture_pins texts block.width block.height (lines_within block lines))) (line_meant texts width height block line pin means lies)
         ∙ ap (result_map (λ pins. pin_in_block block pin ∷ pins)) later
         ∙ ap (λ b. Ok (map (pin_in_block block) (if b then pin ∷ filter (λ (pin : Pin). lies_in block pin.column pin.row) rest else filter (λ (pin : Pin). lies_in block pin.column pin.row) rest))) (sym there)
     by pin rest means later false lies =
         let there : lies_in block pin.column pin.row ≡ false = ap (λ (p : Pin). lies_in block p.column p.row) (sym means.is) ∙ lies in
-        ap (λ b. pins_in texts block.width block.height (map (line_in_block block) (if b then line ∷ filter (λ (line : PinView). lies_in block line.x line.y) lines else filter (λ (line : PinView). lies_in block line.x line.y) lines))) lies
+        ap (λ b. picture_pins texts block.width block.height (map (line_in_block block) (if b then line ∷ filter (λ (line : PinView). lies_in block line.x line.y) lines else filter (λ (line : PinView). lies_in block line.x line.y) lines))) lies
         ∙ later
         ∙ ap (λ b. Ok (map (pin_in_block block) (if b then pin ∷ filter (λ (pin : Pin). lies_in block pin.column pin.row) rest else filter (λ (pin : Pin). lies_in block pin.column pin.row) rest))) (sym there)
 
@@ -106,11 +106,11 @@ within_meant texts width height block (line ∷ lines) pins is =
 
 -- they mean its pins, where each number that is set is one of the palette's
 pub lines_meant : (palette : List Symbol) (width height : ℕ) (lines : List PinView) (pins : List Pin) (canvas : Canvas) (block : Block) → All (λ symbol. IsTrue (is_shown symbol)) palette → IsDistinct same_symbol palette → AreSetBelow (length palette) canvas
-    → pins_in (texts_of palette) width height lines ≡ Ok pins → pins_in (texts_of palette) block.width block.height (lines_of_block (texts_of palette) lines canvas block) ≡ Ok (pins_of_block pins canvas block)
+    → picture_pins (texts_of palette) width height lines ≡ Ok pins → picture_pins (texts_of palette) block.width block.height (lines_of_block (texts_of palette) lines canvas block) ≡ Ok (pins_of_block pins canvas block)
 lines_meant palette width height lines pins canvas block shown apart below meant =
     let texts = texts_of palette in
     let line : Pin → PinView = λ pin. set_line texts pin.column pin.row pin.number in
-    let read : PinView → Result Pin BuildFault = pin_in texts block.width block.height in
+    let read : PinView → Result Pin BuildFault = picture_pin texts block.width block.height in
     let set = made_in_block kept_pin canvas block in
     let more = lines_within block lines in
     let each : AllByRecursion (λ pin. read (line pin) ≡ Ok pin) set =
@@ -122,12 +122,12 @@ lines_meant palette width height lines pins canvas block shown apart below meant
     ∙ front_ok (λ pin. read (line pin)) (λ pin. pin) set (map read more) (pins_within block pins) each (within_meant texts width height block lines pins meant)
     ∙ ap (λ (ps : List Pin). Ok (ps ++ pins_within block pins)) (map-id set)
 
--- so what is built with them is the block's problem
-pub lines_built : (patterns : PatternsView) (palette : List Symbol) (block : Block) (lines : List PinView) (pins : List Pin) → IsRoom patterns (output_of_block block) → pins_in (texts_of palette) block.width block.height lines ≡ Ok pins → built patterns palette (output_of_block block) lines ≡ Ok (problem_of_sample patterns (output_of_block block) pins)
+-- so what is picture_problem with them is the block's problem
+pub lines_built : (patterns : PatternsView) (palette : List Symbol) (block : Block) (lines : List PinView) (pins : List Pin) → IsRoom patterns (output_of_block block) → picture_pins (texts_of palette) block.width block.height lines ≡ Ok pins → picture_problem patterns palette (output_of_block block) lines ≡ Ok (problem_of_sample patterns (output_of_block block) pins)
 lines_built patterns palette block lines pins room meant =
     let output = output_of_block block in
-    let many = pairs patterns output in
-    let read = pins_in (texts_of palette) block.width block.height lines in
+    let many = window_pair_count patterns output in
+    let read = picture_pins (texts_of palette) block.width block.height lines in
     let narrow : nat_lt block.width patterns.n ≡ false = le-ltb block.width patterns.n room.wide in
     let low : nat_lt block.height patterns.n ≡ false = le-ltb block.height patterns.n room.high in
     let few : nat_lt MAX_PAIRS many ≡ false = le-ltb MAX_PAIRS many room.few_pairs in

@@ -9,7 +9,7 @@ use Rattle.wfc_model.specs.Raster.{Raster, IsFilled, IsSized, number_at, numbers
 use Rattle.wfc_model.proofs.CallerLemmas.{cell_is, length-numbers_of, number_at-numbers_of, raster_of-numbers_of}
 use Rattle.wfc_blocks.specs.Blocks.{area_with, lies_in}
 use Rattle.wfc_blocks.specs.Canvas.{Canvas, canvas_picture, empty_canvas, number_set}
-use Rattle.wfc_blocks.specs.CanvasView.{CanvasView, IsNumbersOf, entry_number, painted, part_of_row, rows_of_block, set_in, with_pixel}
+use Rattle.wfc_blocks.specs.CanvasView.{CanvasView, IsNumbersOf, entry_number, canvas_with, part_of_row, rows_of_block, set_in, with_pixel}
 use Rattle.wfc_blocks.specs.declared.block.Block.{Block}
 use Rattle.wfc_blocks.specs.declared.TheConstants.{UNSET}
 use Rattle.wfc_blocks.proofs.BlockLemmas.{IsIn, lies_back, lies_from}
@@ -95,28 +95,28 @@ unset_in w h entries unset = λ t x y. at x y (nat_lt x w && nat_lt y h) t
 
 -- ---- parts of a block
 
--- what is painted is the picture's number in the part, and what was set beside it
-pub painted_by : (canvas : Canvas) (block : Block) (m : Raster) (part : Block) (x y : ℕ) (value : Option ℕ) → (IsIn part x y → Some (number_at m (x - block.x) (y - block.y)) ≡ value) → ((IsIn part x y → ⊥) → canvas x y ≡ value) → painted canvas block m part x y ≡ value
+-- what is canvas_with is the picture's number in the part, and what was set beside it
+pub painted_by : (canvas : Canvas) (block : Block) (m : Raster) (part : Block) (x y : ℕ) (value : Option ℕ) → (IsIn part x y → Some (number_at m (x - block.x) (y - block.y)) ≡ value) → ((IsIn part x y → ⊥) → canvas x y ≡ value) → canvas_with canvas block m part x y ≡ value
 painted_by canvas block m part x y value here beside = by (lies_in part x y) refl
   where
     by : (b : Bool) → lies_in part x y ≡ b → (if b then Some (number_at m (x - block.x) (y - block.y)) else canvas x y) ≡ value
     by true lies = here (lies_back part x y lies)
     by false lies = beside (λ is. false≢true (sym lies ∙ lies_from part x y is))
 
-pub painted_in : (canvas : Canvas) (block : Block) (m : Raster) (part : Block) (x y : ℕ) → IsIn part x y → painted canvas block m part x y ≡ Some (number_at m (x - block.x) (y - block.y))
+pub painted_in : (canvas : Canvas) (block : Block) (m : Raster) (part : Block) (x y : ℕ) → IsIn part x y → canvas_with canvas block m part x y ≡ Some (number_at m (x - block.x) (y - block.y))
 painted_in canvas block m part x y is = painted_by canvas block m part x y (Some (number_at m (x - block.x) (y - block.y))) (λ _. refl) (λ out. absurd (out is))
 
-pub painted_out : (canvas : Canvas) (block : Block) (m : Raster) (part : Block) (x y : ℕ) → (IsIn part x y → ⊥) → painted canvas block m part x y ≡ canvas x y
+pub painted_out : (canvas : Canvas) (block : Block) (m : Raster) (part : Block) (x y : ℕ) → (IsIn part x y → ⊥) → canvas_with canvas block m part x y ≡ canvas x y
 painted_out canvas block m part x y out = painted_by canvas block m part x y (canvas x y) (λ is. absurd (out is)) (λ _. refl)
 
 -- one pixel more of a row
-pub row_step : (canvas : Canvas) (block : Block) (m : Raster) (j i : ℕ) → with_pixel (painted canvas block m (part_of_row block j i)) (block.x + i) (block.y + j) (number_at m i j) ≡ painted canvas block m (part_of_row block j (i + 1))
+pub row_step : (canvas : Canvas) (block : Block) (m : Raster) (j i : ℕ) → with_pixel (canvas_with canvas block m (part_of_row block j i)) (block.x + i) (block.y + j) (number_at m i j) ≡ canvas_with canvas block m (part_of_row block j (i + 1))
 row_step canvas block m j i = λ t x y. at x y t
   where
-    at : (x y : ℕ) → with_pixel (painted canvas block m (part_of_row block j i)) (block.x + i) (block.y + j) (number_at m i j) x y ≡ painted canvas block m (part_of_row block j (i + 1)) x y
+    at : (x y : ℕ) → with_pixel (canvas_with canvas block m (part_of_row block j i)) (block.x + i) (block.y + j) (number_at m i j) x y ≡ canvas_with canvas block m (part_of_row block j (i + 1)) x y
     at x y = by (x == block.x + i && y == block.y + j) refl
       where
-        by : (hit : Bool) → (x == block.x + i && y == block.y + j) ≡ hit → (if hit then Some (number_at m i j) else painted canvas block m (part_of_row block j i) x y) ≡ painted canvas block m (part_of_row block j (i + 1)) x y
+        by : (hit : Bool) → (x == block.x + i && y == block.y + j) ≡ hit → (if hit then Some (number_at m i j) else canvas_with canvas block m (part_of_row block j i) x y) ≡ canvas_with canvas block m (part_of_row block j (i + 1)) x y
         by true hit =
             let parts = and_parts _ _ hit in
             let x_is : x ≡ block.x + i = eqb-true x (block.x + i) parts.0 in
@@ -126,7 +126,7 @@ row_step canvas block m j i = λ t x y. at x y t
             (λ t. Some (number_at m (column t) (row t)))
             ∙ sym (painted_in canvas block m (part_of_row block j (i + 1)) x y (record { left = omega arith; right = omega arith; top = omega arith; bottom = omega arith }))
         by false hit =
-            sym (painted_by canvas block m (part_of_row block j (i + 1)) x y (painted canvas block m (part_of_row block j i) x y)
+            sym (painted_by canvas block m (part_of_row block j (i + 1)) x y (canvas_with canvas block m (part_of_row block j i) x y)
             (λ is. sym (painted_in canvas block m (part_of_row block j i) x y (record { left = is.left; right = before (omega (arith, is.right)) is; top = is.top; bottom = is.bottom })))
             (λ out. sym (painted_out canvas block m (part_of_row block j i) x y (λ is. out (record { left = is.left; right = omega (arith, is.right); top = is.top; bottom = is.bottom })))))
           where
@@ -140,14 +140,14 @@ row_step canvas block m j i = λ t x y. at x y t
                 either a b = grind arith
 
 -- one row more of a block
-pub rows_step : (canvas : Canvas) (block : Block) (m : Raster) (j : ℕ) → painted (painted canvas block m (rows_of_block block j)) block m (part_of_row block j block.width) ≡ painted canvas block m (rows_of_block block (j + 1))
+pub rows_step : (canvas : Canvas) (block : Block) (m : Raster) (j : ℕ) → canvas_with (canvas_with canvas block m (rows_of_block block j)) block m (part_of_row block j block.width) ≡ canvas_with canvas block m (rows_of_block block (j + 1))
 rows_step canvas block m j = λ t x y. at x y t
   where
-    at : (x y : ℕ) → painted (painted canvas block m (rows_of_block block j)) block m (part_of_row block j block.width) x y ≡ painted canvas block m (rows_of_block block (j + 1)) x y
+    at : (x y : ℕ) → canvas_with (canvas_with canvas block m (rows_of_block block j)) block m (part_of_row block j block.width) x y ≡ canvas_with canvas block m (rows_of_block block (j + 1)) x y
     at x y =
-        painted_by (painted canvas block m (rows_of_block block j)) block m (part_of_row block j block.width) x y (painted canvas block m (rows_of_block block (j + 1)) x y)
+        painted_by (canvas_with canvas block m (rows_of_block block j)) block m (part_of_row block j block.width) x y (canvas_with canvas block m (rows_of_block block (j + 1)) x y)
         (λ is. sym (painted_in canvas block m (rows_of_block block (j + 1)) x y (record { left = is.left; right = is.right; top = omega (arith, is.top); bottom = omega (arith, is.bottom) })))
-        (λ beside. painted_by canvas block m (rows_of_block block j) x y (painted canvas block m (rows_of_block block (j + 1)) x y)
+        (λ beside. painted_by canvas block m (rows_of_block block j) x y (canvas_with canvas block m (rows_of_block block (j + 1)) x y)
         (λ is. sym (painted_in canvas block m (rows_of_block block (j + 1)) x y (record { left = is.left; right = is.right; top = is.top; bottom = omega (arith, is.bottom) })))
         (λ above. sym (painted_out canvas block m (rows_of_block block (j + 1)) x y (λ is. later is (either y (block.y + j)) beside above))))
       where
@@ -159,13 +159,13 @@ rows_step canvas block m j = λ t x y. at x y t
         later is (inr high) beside above = beside (record { left = is.left; right = is.right; top = high; bottom = omega (arith, is.bottom) })
 
 -- none of it
-pub part_none : (canvas : Canvas) (block : Block) (m : Raster) (part : Block) → ((x y : ℕ) → IsIn part x y → ⊥) → painted canvas block m part ≡ canvas
+pub part_none : (canvas : Canvas) (block : Block) (m : Raster) (part : Block) → ((x y : ℕ) → IsIn part x y → ⊥) → canvas_with canvas block m part ≡ canvas
 part_none canvas block m part none = λ t x y. painted_out canvas block m part x y (none x y) t
 
-pub row_none : (canvas : Canvas) (block : Block) (m : Raster) (j : ℕ) → painted canvas block m (part_of_row block j 0) ≡ canvas
+pub row_none : (canvas : Canvas) (block : Block) (m : Raster) (j : ℕ) → canvas_with canvas block m (part_of_row block j 0) ≡ canvas
 row_none canvas block m j = part_none canvas block m (part_of_row block j 0) (λ x y is. omega (arith, is.left, is.right))
 
-pub rows_none : (canvas : Canvas) (block : Block) (m : Raster) → painted canvas block m (rows_of_block block 0) ≡ canvas
+pub rows_none : (canvas : Canvas) (block : Block) (m : Raster) → canvas_with canvas block m (rows_of_block block 0) ≡ canvas
 rows_none canvas block m = part_none canvas block m (rows_of_block block 0) (λ x y is. omega (arith, is.top, is.bottom))
 
 -- ---- the picture

@@ -5,7 +5,7 @@ use Rattle.std.proofs.lemmas.List.FromFn.{get_or-map-range_with_len}
 use Rattle.std.proofs.lemmas.Option.{none-some}
 use Rattle.wfc_model.specs.Raster.{number_at}
 use Rattle.wfc_pattern.specs.Patterns.{PatternsView}
-use Rattle.wfc_overlap.specs.Bridge.{picture_of, pixel_of, row_of}
+use Rattle.wfc_overlap.specs.Bridge.{picture_of, pixel_of, picture_row}
 use Rattle.wfc_overlap.proofs.CallerLemmas.{pixel_small}
 use Rattle.wfc_search.specs.Run.{State}
 use Rattle.wfc_search.specs.declared.Outcome.{Outcome}
@@ -21,7 +21,7 @@ use Rattle.wfc_blocks.proofs.CanvasLemmas.{with_inside, with_outside}
 pub picture_small : (limit : ℕ) (patterns : PatternsView) (block : Block) (a : List ℕ) (x y : ℕ) → 0 < limit → AreNumbersBelow limit patterns → x < block.width → y < block.height → number_at (picture_of patterns (output_of_block block) a) x y < limit
 picture_small limit patterns block a x y some small column row =
     let output = output_of_block block in
-    let line : get_or (picture_of patterns output a).rows y [] ≡ row_of patterns output a y = get_or-map-range_with_len (λ j. row_of patterns output a j) 0 block.height y y [] row (zero-add y) in
+    let line : get_or (picture_of patterns output a).rows y [] ≡ picture_row patterns output a y = get_or-map-range_with_len (λ j. picture_row patterns output a j) 0 block.height y y [] row (zero-add y) in
     let is : number_at (picture_of patterns output a) x y ≡ pixel_of patterns output a x y =
     ap (λ (r : List ℕ). slice_index r x) line ∙ get_or-map-range_with_len (λ i. pixel_of patterns output a i y) 0 block.width x x 0 column (zero-add x) in
     subst (λ n. n < limit) (sym is) (pixel_small limit patterns output a x y some small)

@@ -13,7 +13,7 @@ use Rattle.wfc_model.proofs.CallerLemmas.{All-places, at_place, start_from_fit, 
 use Rattle.wfc_lists.proofs.Lists.{sieved_each}
 use Rattle.wfc_lists.proofs.Ranges.{each_in_row, row_each}
 use Rattle.wfc_pattern.specs.Patterns.{PatternsView, IsPatterns}
-use Rattle.wfc_overlap.specs.Bridge.{IsRoom, IsTaughtBy, AreInside, pairs}
+use Rattle.wfc_overlap.specs.Bridge.{IsRoom, IsTaughtBy, AreInside, window_pair_count}
 use Rattle.wfc_overlap.specs.Sample.{output_with}
 use Rattle.wfc_blocks.specs.Blocks.{Area, HasWindow, block_at, block_count, blocks_across, blocks_down, blocks_of, lies_in, output_of_block, stride, whole_of}
 use Rattle.wfc_blocks.specs.Canvas.{Canvas, empty_canvas, canvas_picture, pin_in_block, pins_of_block, pins_within}
@@ -50,8 +50,8 @@ corner_in n area k across step across_is step_is inside some long wide high =
       omega (arith, row, some, has_room n area.side area.height (k / blocks_across n area) long at.1 high),
     )
 
--- smaller sides have fewer pairs of a place and a pattern
-pairs_fewer : (patterns : PatternsView) (w h width height : ℕ) → w ≤ width → h ≤ height → pairs patterns (output_with w h false) ≤ pairs patterns (output_with width height false)
+-- smaller sides have fewer window_pair_count of a place and a pattern
+pairs_fewer : (patterns : PatternsView) (w h width height : ℕ) → w ≤ width → h ≤ height → window_pair_count patterns (output_with w h false) ≤ window_pair_count patterns (output_with width height false)
 pairs_fewer patterns w h width height narrow low =
     let n = patterns.n in
     let few : starts h n false * starts w n false ≤ starts height n false * starts width n false = mul-le-mul (omega arith) (omega arith) in

@@ -6,13 +6,13 @@ use Rattle.wfc_model.specs.Raster.{Raster, IsSized}
 use Rattle.wfc_pattern.specs.Patterns.{PatternsView}
 use Rattle.wfc_problem.specs.Network.{Network}
 use Rattle.wfc_overlap.specs.Bridge.{picture_of}
-use Rattle.wfc_overlap.specs.Sample.{problem_of_sample, support_table}
+use Rattle.wfc_overlap.specs.Sample.{problem_of_sample, agreement_table}
 use Rattle.wfc_search.specs.Ends.{EndsIn, EndsInMap}
 use Rattle.wfc_search.specs.declared.Outcome.TheVariants as outcome
 use Rattle.wfc_runs.specs.Runs.{IsLegalEnd}
 use Rattle.wfc_runs.specs.Words.{words_of_seed}
-use Rattle.wfc_runs.specs.declared.runs.End.{End}
-use Rattle.wfc_runs.specs.declared.runs.End.TheVariants as end
+use Rattle.wfc_runs.specs.declared.runs.RunEnd.{RunEnd}
+use Rattle.wfc_runs.specs.declared.runs.RunEnd.TheVariants as end
 use Rattle.wfc_blocks.specs.Blocks.{output_of_block}
 use Rattle.wfc_blocks.specs.CanvasView.{HasNumbersBelow}
 use Rattle.wfc_blocks.specs.declared.TheConstants.{UNSET}
@@ -36,12 +36,12 @@ IsBlockEnd patterns pins block rule budget seed Spent =
     EndsIn (problem_with_pins patterns pins block) rule budget (words_of_seed seed) outcome.Spent
 
 -- the assignment of an end, if it has one, is legal for some pins of a block
-abbrev pub IsLegalFor : PatternsView → Block → End → Type 0
+abbrev pub IsLegalFor : PatternsView → Block → RunEnd → Type 0
 IsLegalFor patterns block ended =
     (pins : List Pin) × IsLegalEnd (problem_with_pins patterns pins block) ended
 
 -- an end is shown as the end of a block: its assignment as the picture that it paints
-abbrev pub IsShownAs : PatternsView → Block → End → BlockEnd → Type 0
+abbrev pub IsShownAs : PatternsView → Block → RunEnd → BlockEnd → Type 0
 IsShownAs patterns block (end.Map assignment) (Map m) =
     m ≡ picture_of patterns (output_of_block block) assignment.items
 IsShownAs patterns block end.NoMap NoMap = ⊤
@@ -61,4 +61,4 @@ FitsBlock block Spent = ⊤
 
 -- the lists are the supports of the patterns
 abbrev pub AreSupportsOf : PatternsView → List (List ℕ) → Type 0
-AreSupportsOf patterns lists = lists ≡ support_table patterns
+AreSupportsOf patterns lists = lists ≡ agreement_table patterns

@@ -35,8 +35,8 @@ abbrev pub with_pixel : Canvas → ℕ → ℕ → ℕ → Canvas
 with_pixel canvas x y number = λ i j. if i == x && j == y then Some number else canvas i j
 
 -- with the pixels of a part of a block set to those of the block's picture
-abbrev pub painted : Canvas → Block → Raster → Block → Canvas
-painted canvas block m part =
+abbrev pub canvas_with : Canvas → Block → Raster → Block → Canvas
+canvas_with canvas block m part =
     λ x y. if lies_in part x y then Some (number_at m (x - block.x) (y - block.y)) else canvas x y
 
 -- the numbers are those of the picture of what is set

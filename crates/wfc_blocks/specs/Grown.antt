@@ -9,8 +9,8 @@ use Rattle.wfc_pins.specs.PinView.{PinView}
 use Rattle.wfc_pins.specs.declared.fault.BuildFault.{BuildFault}
 use Rattle.wfc_pins.specs.declared.fault.BuildFault.TheVariants as build
 use Rattle.wfc_problem.specs.declared.TheConstants.{MAX_PAIRS}
-use Rattle.wfc_overlap.specs.Bridge.{pairs}
-use Rattle.wfc_overlap.specs.Built.{pins_in, texts_of}
+use Rattle.wfc_overlap.specs.Bridge.{window_pair_count}
+use Rattle.wfc_overlap.specs.Built.{picture_pins, texts_of}
 use Rattle.wfc_blocks.specs.Blocks.{Area, block_at, block_count, output_of_block}
 use Rattle.wfc_blocks.specs.Canvas.{canvas_picture, lines_of_block}
 use Rattle.wfc_blocks.specs.Growth.{Growth, Terms, full, growth_of, spent, stopped}
@@ -54,28 +54,28 @@ shown_by_pins patterns palette area lines rule budget seed pins =
     (growth_of area (terms_with patterns rule budget seed pins))
 
 -- the pins by which an area is grown, but for a side below that of a window, for too many blocks, for too
--- many pairs in the first block, and for a line at fault
+-- many window_pair_count in the first block, and for a line at fault
 abbrev pub growable_of
     : PatternsView → List Symbol → Area → List PinView → Result (List Pin) GrowFault
 growable_of patterns palette area lines =
     let count = block_count patterns.n area in
-    let product = pairs patterns (output_of_block (block_at patterns.n area 0)) in
+    let product = window_pair_count patterns (output_of_block (block_at patterns.n area 0)) in
     if nat_lt area.width patterns.n || nat_lt area.height patterns.n then Err fault.SizeBelowN
     else (if nat_lt MAX_BLOCKS count then Err (fault.TooManyBlocks count)
     else (if nat_lt MAX_PAIRS product then Err (fault.TooLarge product)
-    else or_grow_fault (pins_in (texts_of palette) area.width area.height lines)))
+    else or_grow_fault (picture_pins (texts_of palette) area.width area.height lines)))
 
 -- how growth of an area ends by the lines of a pins file, but for a side below that of a window, for
--- too many blocks, for too many pairs in the first block, and for a line at fault
+-- too many blocks, for too many window_pair_count in the first block, and for a line at fault
 abbrev pub grown_of
     : PatternsView → List Symbol → Area → List PinView → Rule → ℕ → ℕ → Result Grown GrowFault
 grown_of patterns palette area lines rule budget seed =
     let count = block_count patterns.n area in
-    let product = pairs patterns (output_of_block (block_at patterns.n area 0)) in
+    let product = window_pair_count patterns (output_of_block (block_at patterns.n area 0)) in
     if nat_lt area.width patterns.n || nat_lt area.height patterns.n then Err fault.SizeBelowN
     else (if nat_lt MAX_BLOCKS count then Err (fault.TooManyBlocks count)
     else (if nat_lt MAX_PAIRS product then Err (fault.TooLarge product)
     else result_map
     (λ pins. shown_growth (texts_of palette) lines area
     (growth_of area (terms_with patterns rule budget seed pins)))
-    (or_grow_fault (pins_in (texts_of palette) area.width area.height lines))))
+    (or_grow_fault (picture_pins (texts_of palette) area.width area.height lines))))

@@ -7,7 +7,7 @@ use Rattle.wfc_model.specs.Raster.{Raster}
 use Rattle.wfc_pattern.specs.Patterns.{PatternsView}
 use Rattle.wfc_problem.specs.Network.{Network}
 use Rattle.wfc_problem.specs.declared.TheConstants.{MAX_PAIRS}
-use Rattle.wfc_overlap.specs.Bridge.{pairs, picture_of}
+use Rattle.wfc_overlap.specs.Bridge.{window_pair_count, picture_of}
 use Rattle.wfc_overlap.specs.Sample.{problem_of_sample}
 use Rattle.wfc_runs.specs.Words.{words_of_seed}
 use Rattle.wfc_search.specs.Ends.{EndsIn}
@@ -87,12 +87,12 @@ abbrev pub IsStoppedAt : Area → Terms → Block → Canvas → Type 0
 IsStoppedAt area terms block canvas = growth_of area terms ≡ stopped block canvas
 
 -- the area and a block have room for a window, and the first block, which is the largest, has few
--- enough pairs of a place and a pattern
+-- enough window_pair_count of a place and a pattern
 pub record IsGrowable (patterns : PatternsView) (area : Area) : Type 0 where
   pub wide : patterns.n ≤ area.width
   pub high : patterns.n ≤ area.height
   pub long : patterns.n ≤ area.side
-  pub few_pairs : pairs patterns (output_of_block (block_at patterns.n area 0)) ≤ MAX_PAIRS
+  pub few_pairs : window_pair_count patterns (output_of_block (block_at patterns.n area 0)) ≤ MAX_PAIRS
 
 -- each number of each pattern is below this
 abbrev pub AreNumbersBelow : ℕ → PatternsView → Type 0

@@ -9,7 +9,7 @@ use Rattle.wfc_picture.specs.Symbol.{is_shown, same_symbol}
 use Rattle.wfc_picture.specs.declared.symbol.Symbol.{Symbol}
 use Rattle.wfc_pins.specs.PinView.{PinView}
 use Rattle.wfc_overlap.specs.Bridge.{IsTaughtBy}
-use Rattle.wfc_overlap.specs.Built.{pins_in, texts_of}
+use Rattle.wfc_overlap.specs.Built.{picture_pins, texts_of}
 use Rattle.wfc_blocks.specs.Blocks.{Area, blocks_of, output_of_block, whole_of}
 use Rattle.wfc_blocks.specs.Growth.{AreNumbersBelow}
 use Rattle.wfc_blocks.specs.StuckView.{StuckView}
@@ -31,7 +31,7 @@ abbrev pub IsLegalWhole : PatternsView → List Symbol → Area → List PinView
 IsLegalWhole patterns palette area lines m =
     (sample : Raster) (rules : Rules) (pins : List Pin)
     → IsTaughtBy sample rules patterns (whole_of area)
-    → pins_in (texts_of palette) area.width area.height lines ≡ Ok pins
+    → picture_pins (texts_of palette) area.width area.height lines ≡ Ok pins
     → IsLegalPicture sample rules pins area.width area.height m
 
 -- no picture of a block is a legal map with these pins, by no sample that teaches the patterns
@@ -48,7 +48,7 @@ pub record IsStuck (patterns : PatternsView) (palette : List Symbol) (area : Are
   pub among : Contains (blocks_of patterns.n area) stuck.block
   pub pins : List Pin
   pub meant : IsNamedBy palette patterns
-      → pins_in (texts_of palette) stuck.block.width stuck.block.height stuck.pins ≡ Ok pins
+      → picture_pins (texts_of palette) stuck.block.width stuck.block.height stuck.pins ≡ Ok pins
   pub none : AdmitNoMap patterns stuck.block pins
 
 -- the map that is answered, if one is, is legal

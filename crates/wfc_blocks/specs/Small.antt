@@ -5,7 +5,7 @@ use Rattle.wfc_model.specs.Raster.{Raster, raster_of}
 use Rattle.wfc_pattern.specs.Patterns.{PatternsView}
 use Rattle.wfc_picture.specs.declared.symbol.Symbol.{Symbol}
 use Rattle.wfc_picture.specs.declared.symbol.Symbol.TheVariants.{Char}
-use Rattle.wfc_overlap.specs.Small.{line_of}
+use Rattle.wfc_overlap.specs.Small.{window_pin_line}
 use Rattle.wfc_pins.specs.PinView.{PinView}
 use Rattle.wfc_blocks.specs.Blocks.{Area, area_with, block_at}
 use Rattle.wfc_blocks.specs.declared.block.Block.{Block}
@@ -34,7 +34,7 @@ twenty_texts = map (λ k. (97 + k) ∷ []) (range_with_len 0 20)
 
 -- two lines of a pins file: the first bans a letter, and the second keeps one
 abbrev pub two_file_lines : List PinView
-two_file_lines = line_of 7 false 4 1 (codes "z") ∷ line_of 8 true 1 3 (codes "a") ∷ []
+two_file_lines = window_pin_line 7 false 4 1 (codes "z") ∷ window_pin_line 8 true 1 3 (codes "a") ∷ []
 
 -- the letters `a` and `b`
 abbrev pub two_letters : List Symbol

@@ -5,7 +5,7 @@ ghost use Rattle.wfc_model.specs.Raster.{IsSized};
 ghost use Rattle.wfc_blocks.specs.Blocks.{area_with};
 ghost use Rattle.wfc_blocks.specs.Canvas.{empty_canvas, canvas_picture, with_block};
 ghost use Rattle.wfc_blocks.specs.CanvasView.{HasNumbersBelow, HaveSameSides, IsNumbersOf, LiesWithin};
-ghost use Rattle.wfc_blocks.specs.CanvasView.{canvas_of, entry_number, painted, part_of_row, with_pixel};
+ghost use Rattle.wfc_blocks.specs.CanvasView.{canvas_of, entry_number, canvas_with, part_of_row, with_pixel};
 ghost use Rattle.wfc_blocks.specs.declared.TheConstants.{UNSET};
 
 use crate::UNSET;
@@ -106,7 +106,7 @@ impl Canvas {
         requires sized { IsSized picture.now block.width block.height }
         requires small { HasNumbersBelow UNSET picture.now }
         requires row_in { j < block.height }
-        ensures painted { canvas_of self.new ≡ painted (canvas_of self.old) block picture.now
+        ensures painted { canvas_of self.new ≡ canvas_with (canvas_of self.old) block picture.now
             (part_of_row block j block.width) }
         ensures alike { HaveSameSides self.old self.new }
     {

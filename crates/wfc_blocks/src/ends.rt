@@ -15,10 +15,10 @@ use std::sync::ledger::Ledger;
 use wfc_choose::Chooser;
 use wfc_domains::Steps;
 use wfc_outside::NoMemory;
-use wfc_overlap::{Mark, picture_of, problem_of_marks};
+use wfc_overlap::{PinMark, picture_of, problem_of_marks};
 use wfc_pattern::Patterns;
 use wfc_picture::Picture;
-use wfc_runs::{End, run_counted};
+use wfc_runs::{RunEnd, run_counted};
 
 /// How the run of a block ended.
 #[derive(Drop)]
@@ -37,7 +37,7 @@ pub(crate) fn run_block<L: Ledger>(
     alloc: Global,
     patterns: &Patterns,
     supports: &mut Vec<Vec<u16>>,
-    marks: &[Mark],
+    marks: &[PinMark],
     block: Block,
     chooser: Box<dyn Chooser>,
     budget: u32,
@@ -73,7 +73,12 @@ pub(crate) fn run_block<L: Ledger>(
 }
 
 /// The end of a run as the end of a block, with the picture that its assignment paints.
-fn shown(alloc: Global, patterns: &Patterns, block: Block, end: End) -> Result<BlockEnd, NoMemory>
+fn shown(
+    alloc: Global,
+    patterns: &Patterns,
+    block: Block,
+    end: RunEnd,
+) -> Result<BlockEnd, NoMemory>
     requires taught { IsPatterns patterns.now }
     requires small { AreNumbersBelow UNSET patterns.now }
     requires room { IsRoom patterns.now (output_of_block block) }
@@ -84,7 +89,7 @@ fn shown(alloc: Global, patterns: &Patterns, block: Block, end: End) -> Result<B
     ensures fits { IfOk result (FitsBlock block) }
 {
     match end {
-        End::Map { assignment } => {
+        RunEnd::Map { assignment } => {
             let picture = picture_of(
                 alloc,
                 patterns,
@@ -95,7 +100,7 @@ fn shown(alloc: Global, patterns: &Patterns, block: Block, end: End) -> Result<B
             )?;
             Ok(BlockEnd::Map(picture))
         }
-        End::NoMap => Ok(BlockEnd::NoMap),
-        End::Spent => Ok(BlockEnd::Spent),
+        RunEnd::NoMap => Ok(BlockEnd::NoMap),
+        RunEnd::Spent => Ok(BlockEnd::Spent),
     }
 }

@@ -5,7 +5,7 @@ ghost use Rattle.std.specs.Prelude.{◌≡◌, ℕ, ◌∷◌, true, false, List
 ghost use Rattle.wfc_model.specs.Legal.{banned_pin, kept_pin};
 ghost use Rattle.wfc_model.specs.Raster.{raster_of};
 ghost use Rattle.wfc_overlap.specs.Sample.{output_with};
-ghost use Rattle.wfc_overlap.specs.Small.{line_of};
+ghost use Rattle.wfc_overlap.specs.Small.{window_pin_line};
 ghost use Rattle.wfc_blocks.specs.Blocks.{HasWindow, area_with, block_at, block_count, block_from, blocks_across};
 ghost use Rattle.wfc_blocks.specs.Blocks.{blocks_along, blocks_down, blocks_of, lies_in, output_of_block, stride, whole_of};
 ghost use Rattle.wfc_blocks.specs.Canvas.{empty_canvas, canvas_picture, lines_of_block, number_set, pin_in_block, pins_of_block, set_line};
@@ -93,10 +93,10 @@ pub fn pins_of_blocks()
 /// The same as lines of a pins file: those of set pixels have the line 0 and the text of their
 /// symbol, and those of the file keep their line and their symbol.
 pub fn lines_of_blocks()
-    ensures set { set_line twenty_texts 2 1 19 ≡ line_of 0 true 2 1 (codes "t") }
+    ensures set { set_line twenty_texts 2 1 19 ≡ window_pin_line 0 true 2 1 (codes "t") }
     ensures right { lines_of_block twenty_texts two_file_lines first_set (block_at 2 five_by_four 1)
-        ≡ line_of 0 true 0 0 (codes "n") ∷ line_of 0 true 0 1 (codes "q")
-        ∷ line_of 0 true 0 2 (codes "t") ∷ line_of 7 false 2 1 (codes "z") ∷ [] }
+        ≡ window_pin_line 0 true 0 0 (codes "n") ∷ window_pin_line 0 true 0 1 (codes "q")
+        ∷ window_pin_line 0 true 0 2 (codes "t") ∷ window_pin_line 7 false 2 1 (codes "z") ∷ [] }
 {}
 
 /// The seed of a block is the seed and its number, modulo 2^64.
@@ -110,11 +110,14 @@ pub fn seeds_of_blocks()
 /// `a`.
 pub fn grown_boards()
     ensures map { grown_of two_boards two_letters (area_with 3 3 2)
-        (line_of 1 true 0 0 (codes "a") ∷ []) scanline 0 7
+        (window_pin_line 1 true 0 0 (codes "a") ∷ []) scanline 0 7
         ≡ Ok (grown.Map (raster_of 3 3 (0 ∷ 1 ∷ 0 ∷ 1 ∷ 0 ∷ 1 ∷ 0 ∷ 1 ∷ 0 ∷ []))) }
-    ensures stuck { grown_of one_board two_letters (area_with 3 2 2) [] scanline 0 7
-        ≡ Ok (grown.Stuck (record { block = block_with 1 1 0 2 2;
-        pins = line_of 0 true 0 0 (codes "b") ∷ line_of 0 true 0 1 (codes "a") ∷ [] })) }
+    ensures stuck { grown_of one_board two_letters (area_with 3 2 2) [] scanline 0 7 ≡ Ok
+        (grown.Stuck (record {
+          block = block_with 1 1 0 2 2;
+          pins = window_pin_line 0 true 0 0
+              (codes "b") ∷ window_pin_line 0 true 0 1 (codes "a") ∷ [];
+        })) }
     ensures below { AreNumbersBelow 2 two_boards }
     ensures not_below { AreNumbersBelow 1 two_boards → ⊥ }
 {}
@@ -123,11 +126,11 @@ pub fn grown_boards()
 /// pin outside, which comes before its symbol, and a symbol that there isn't.
 pub fn refused_growth()
     ensures narrow { grown_of one_board two_letters (area_with 1 99 2)
-        (line_of 4 true 3 0 (codes "a") ∷ []) scanline 0 7 ≡ Err faults.SizeBelowN }
-    ensures many { grown_of one_board two_letters (area_with 10 10 2)
-        (line_of 4 true 10 0 (codes "a") ∷ []) scanline 0 7 ≡ Err (faults.TooManyBlocks 81) }
+        (window_pin_line 4 true 3 0 (codes "a") ∷ []) scanline 0 7 ≡ Err faults.SizeBelowN }
+    ensures many { grown_of one_board two_letters (area_with 10 10 2) (window_pin_line 4 true 10 0
+        (codes "a") ∷ []) scanline 0 7 ≡ Err (faults.TooManyBlocks 81) }
     ensures most { grown_of one_board two_letters (area_with 9 9 2)
-        (line_of 4 true 9 0 (codes "c") ∷ []) scanline 0 7 ≡ Err (faults.PinOutside 4) }
+        (window_pin_line 4 true 9 0 (codes "c") ∷ []) scanline 0 7 ≡ Err (faults.PinOutside 4) }
     ensures unknown { grown_of one_board two_letters (area_with 9 9 2)
-        (line_of 5 false 8 8 (codes "c") ∷ []) scanline 0 7 ≡ Err (faults.UnknownSymbol 5) }
+        (window_pin_line 5 false 8 8 (codes "c") ∷ []) scanline 0 7 ≡ Err (faults.UnknownSymbol 5) }
 {}

@@ -24,7 +24,7 @@ use std::sync::ledger::Ledger;
 use wfc_choose::Chooser;
 use wfc_domains::Steps;
 use wfc_outside::NoMemory;
-use wfc_overlap::{Mark, support_lists};
+use wfc_overlap::{PinMark, support_lists};
 use wfc_pattern::Patterns;
 use wfc_search::Outcome;
 
@@ -63,7 +63,7 @@ fn fill_block<L: Ledger>(
     alloc: Global,
     patterns: &Patterns,
     supports: &mut Vec<Vec<u16>>,
-    marks: &[Mark],
+    marks: &[PinMark],
     block: Block,
     canvas: &mut Canvas,
     chooser: Box<dyn Chooser>,
@@ -111,7 +111,7 @@ fn next(choosers: &mut Vec<Box<dyn Chooser>>) -> Box<dyn Chooser>
 pub(crate) fn fill_blocks<L: Ledger>(
     alloc: Global,
     patterns: &Patterns,
-    marks: &[Mark],
+    marks: &[PinMark],
     cover: Cover,
     canvas: &mut Canvas,
     choosers: &mut Vec<Box<dyn Chooser>>,

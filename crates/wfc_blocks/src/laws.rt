@@ -10,7 +10,7 @@ ghost use Rattle.wfc_outside.specs.Gives.{result_map};
 ghost use Rattle.wfc_pattern.specs.Patterns.{PatternsView, IsPatterns};
 ghost use Rattle.wfc_problem.specs.Network.{IsProblem};
 ghost use Rattle.wfc_overlap.specs.Bridge.{AreInside, IsRoom, IsTaughtBy};
-ghost use Rattle.wfc_overlap.specs.Built.{built, pins_in, texts_of};
+ghost use Rattle.wfc_overlap.specs.Built.{picture_problem, picture_pins, texts_of};
 ghost use Rattle.wfc_picture.specs.declared.symbol.Symbol.{Symbol};
 ghost use Rattle.wfc_pins.specs.PinView.{PinView};
 ghost use Rattle.wfc_blocks.specs.Promises.{IsNamedBy};
@@ -101,18 +101,16 @@ pub fn stuck_blocks_have_no_map()
 /// patterns, are the block's pins. So what is built with them is the block's problem.
 pub fn stuck_lines_are_the_pins()
     ensures meant { (palette : List Symbol) (lines : List PinView) (area : Area) (terms : Terms)
-        (block : Block) (canvas : Canvas) → IsNamedBy palette terms.patterns →
-        pins_in (texts_of palette) area.width area.height lines ≡ Ok terms.pins →
-        IsStoppedAt area terms block canvas → pins_in (texts_of palette) block.width block.height
-        (lines_of_block (texts_of palette) lines canvas block)
-        ≡ Ok (pins_of_block terms.pins canvas block) }
+        (block : Block) (canvas : Canvas) → IsNamedBy palette terms.patterns → picture_pins
+        (texts_of palette) area.width area.height lines ≡ Ok terms.pins → IsStoppedAt area terms
+        block canvas → picture_pins (texts_of palette) block.width block.height (lines_of_block
+        (texts_of palette) lines canvas block) ≡ Ok (pins_of_block terms.pins canvas block) }
     ensures built { (palette : List Symbol) (lines : List PinView) (area : Area) (terms : Terms)
-        (block : Block) (canvas : Canvas) → IsNamedBy palette terms.patterns →
-        IsPatterns terms.patterns → IsGrowable terms.patterns area →
-        pins_in (texts_of palette) area.width area.height lines ≡ Ok terms.pins →
-        IsStoppedAt area terms block canvas → built terms.patterns palette (output_of_block block)
-        (lines_of_block (texts_of palette) lines canvas block)
-        ≡ Ok (problem_of_block terms canvas block) }
+        (block : Block) (canvas : Canvas) → IsNamedBy palette terms.patterns → IsPatterns
+        terms.patterns → IsGrowable terms.patterns area → picture_pins (texts_of palette) area.width
+        area.height lines ≡ Ok terms.pins → IsStoppedAt area terms block canvas → picture_problem
+        terms.patterns palette (output_of_block block) (lines_of_block (texts_of palette) lines
+        canvas block) ≡ Ok (problem_of_block terms canvas block) }
 {}
 
 /// Where growth is spent, the run of one of the area's blocks is.

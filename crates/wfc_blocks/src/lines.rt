@@ -9,7 +9,7 @@ use crate::canvas::Canvas;
 use crate::pins::set_marks;
 use std::alloc::Global;
 use wfc_outside::NoMemory;
-use wfc_overlap::Mark;
+use wfc_overlap::PinMark;
 use wfc_pins::PinLine;
 
 /// The lines of a block's pins: those of what is set in it, by the texts of the symbols, and then
@@ -34,7 +34,7 @@ pub(crate) fn block_lines(
 }
 
 /// The lines that keep these pins.
-fn set_lines(alloc: Global, texts: &[Vec<u8>], marks: &[Mark]) -> Result<Vec<PinLine>, NoMemory>
+fn set_lines(alloc: Global, texts: &[Vec<u8>], marks: &[PinMark]) -> Result<Vec<PinLine>, NoMemory>
     ensures value { IfOk result (λ lines. lines.items ≡ map (λ pin.
         set_line (map (λ text. text.items) texts.now) pin.column pin.row pin.number) marks.now) }
 {
@@ -46,7 +46,7 @@ fn set_lines(alloc: Global, texts: &[Vec<u8>], marks: &[Mark]) -> Result<Vec<Pin
 }
 
 /// The line that keeps a pin. Its number without a text has an empty one.
-fn set_line(alloc: Global, texts: &[Vec<u8>], mark: &Mark) -> Result<PinLine, NoMemory>
+fn set_line(alloc: Global, texts: &[Vec<u8>], mark: &PinMark) -> Result<PinLine, NoMemory>
     ensures value { IfOk result (λ line. line ≡ set_line (map (λ text. text.items) texts.now)
         mark.now.column mark.now.row mark.now.number) }
 {

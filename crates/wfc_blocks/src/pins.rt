@@ -9,7 +9,7 @@ use crate::block::Block;
 use crate::canvas::Canvas;
 use std::alloc::Global;
 use wfc_outside::NoMemory;
-use wfc_overlap::Mark;
+use wfc_overlap::PinMark;
 
 /// The pins and bans of a block: what is set in it, row by row, and then those of the area that lie
 /// in it, seen from its first pixel.
@@ -17,8 +17,8 @@ pub(crate) fn block_marks(
     alloc: Global,
     canvas: &Canvas,
     block: Block,
-    marks: &[Mark],
-) -> Result<Vec<Mark>, NoMemory>
+    marks: &[PinMark],
+) -> Result<Vec<PinMark>, NoMemory>
     requires width_limit { canvas.now.width ≤ 4096 }
     requires height_limit { canvas.now.height ≤ 4096 }
     requires within { LiesWithin canvas.now.width canvas.now.height block }
@@ -31,7 +31,11 @@ pub(crate) fn block_marks(
 }
 
 /// The pins of what is set in a block, row by row.
-pub(crate) fn set_marks(alloc: Global, canvas: &Canvas, block: Block) -> Result<Vec<Mark>, NoMemory>
+pub(crate) fn set_marks(
+    alloc: Global,
+    canvas: &Canvas,
+    block: Block,
+) -> Result<Vec<PinMark>, NoMemory>
     requires width_limit { canvas.now.width ≤ 4096 }
     requires height_limit { canvas.now.height ≤ 4096 }
     requires within { LiesWithin canvas.now.width canvas.now.height block }
@@ -46,7 +50,12 @@ pub(crate) fn set_marks(alloc: Global, canvas: &Canvas, block: Block) -> Result<
 }
 
 /// Writes the pins of what is set in a row of a block behind the others.
-fn push_row(found: &mut Vec<Mark>, canvas: &Canvas, block: Block, row: u32) -> Result<(), NoMemory>
+fn push_row(
+    found: &mut Vec<PinMark>,
+    canvas: &Canvas,
+    block: Block,
+    row: u32,
+) -> Result<(), NoMemory>
     requires width_limit { canvas.now.width ≤ 4096 }
     requires height_limit { canvas.now.height ≤ 4096 }
     requires within { LiesWithin canvas.now.width canvas.now.height block }
@@ -63,7 +72,7 @@ fn push_row(found: &mut Vec<Mark>, canvas: &Canvas, block: Block, row: u32) -> R
 
 /// Writes the pin of a number, if it is set, behind the others.
 fn push_if_set(
-    found: &mut Vec<Mark>,
+    found: &mut Vec<PinMark>,
     column: u32,
     row: u32,
     number: Option<u32>,
@@ -72,7 +81,7 @@ fn push_if_set(
         ≡ found.old.items ++ made_if_set kept_pin column row number) }
 {
     if let Some(number) = number {
-        found.push(Mark {
+        found.push(PinMark {
             keep: true,
             column,
             row,
@@ -83,7 +92,7 @@ fn push_if_set(
 }
 
 /// Writes the pins and bans of the area that lie in a block behind the others.
-fn push_within(found: &mut Vec<Mark>, block: Block, marks: &[Mark]) -> Result<(), NoMemory>
+fn push_within(found: &mut Vec<PinMark>, block: Block, marks: &[PinMark]) -> Result<(), NoMemory>
     ensures within { OnOk result (found.new.items
         ≡ found.old.items ++ pins_within block marks.now) }
 {
@@ -96,12 +105,12 @@ fn push_within(found: &mut Vec<Mark>, block: Block, marks: &[Mark]) -> Result<()
 }
 
 /// A pin of the area as it is seen from the first pixel of a block that it lies in.
-fn mark_in_block(block: Block, mark: &Mark) -> Mark
+fn mark_in_block(block: Block, mark: &PinMark) -> PinMark
     requires left { block.x ≤ mark.now.column }
     requires top { block.y ≤ mark.now.row }
     ensures value { result ≡ pin_in_block block mark.now }
 {
-    Mark {
+    PinMark {
         keep: mark.keep,
         column: mark.column - block.x,
         row: mark.row - block.y,

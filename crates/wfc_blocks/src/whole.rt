@@ -3,8 +3,8 @@
 ghost use Rattle.std.specs.Prelude.{◌≡◌, ◌<◌, ◌≤◌, length, map, IfOk};
 ghost use Rattle.wfc_choose.specs.Pick.{Rule};
 ghost use Rattle.wfc_outside.specs.Gives.{Gives};
-ghost use Rattle.wfc_overlap.specs.Bridge.{pairs};
-ghost use Rattle.wfc_overlap.specs.Built.{pins_in, texts_of};
+ghost use Rattle.wfc_overlap.specs.Bridge.{window_pair_count};
+ghost use Rattle.wfc_overlap.specs.Built.{picture_pins, texts_of};
 ghost use Rattle.wfc_pattern.specs.Patterns.{IsPatterns};
 ghost use Rattle.wfc_blocks.specs.Blocks.{area_with, block_count, output_of_block};
 ghost use Rattle.wfc_blocks.specs.Canvas.{lines_of_block};
@@ -30,7 +30,7 @@ use std::sync::ledger::Ledger;
 use wfc_choose::Chooser;
 use wfc_domains::Steps;
 use wfc_outside::NoMemory;
-use wfc_overlap::{Mark, marks, texts};
+use wfc_overlap::{PinMark, marks, symbol_texts};
 use wfc_pattern::Patterns;
 use wfc_picture::Palette;
 use wfc_pins::{BuildFault, PinLine};
@@ -100,7 +100,7 @@ fn pairs(patterns: &Patterns, block: Block) -> u64
     requires high { patterns.now.n ≤ block.height }
     requires width_limit { block.width ≤ 4096 }
     requires height_limit { block.height ≤ 4096 }
-    ensures value { result ≡ pairs patterns.now (output_of_block block) }
+    ensures value { result ≡ window_pair_count patterns.now (output_of_block block) }
 {
     let n = patterns.n();
     let columns = block.width - n + 1;
@@ -115,9 +115,9 @@ fn marks_of(
     width: u32,
     height: u32,
     pins: &[PinLine],
-) -> Result<Vec<Mark>, GrowFault>
+) -> Result<Vec<PinMark>, GrowFault>
     ensures exact { Gives GrowFault.NoMemory (λ marks. marks.items) result
-        (or_grow_fault (pins_in (texts_of palette.now) width height pins.now)) }
+        (or_grow_fault (picture_pins (texts_of palette.now) width height pins.now)) }
 {
     match marks(alloc, palette, width, height, pins) {
         Ok(marks) => Ok(marks),
@@ -146,7 +146,7 @@ fn grown_area<L: Ledger>(
     palette: &Palette,
     cover: Cover,
     pins: &[PinLine],
-    marks: &[Mark],
+    marks: &[PinMark],
     choosers: Vec<Box<dyn Chooser>>,
     seed: u64,
     budget: u32,
@@ -210,10 +210,12 @@ fn stuck(
     requires width_limit { canvas.now.width ≤ 4096 }
     requires height_limit { canvas.now.height ≤ 4096 }
     requires within { LiesWithin canvas.now.width canvas.now.height block }
-    ensures value { IfOk result (λ stuck. stuck ≡ record { block = block;
-        pins = lines_of_block (texts_of palette.now) pins.now (canvas_of canvas.now) block }) }
+    ensures value { IfOk result (λ stuck. stuck ≡ record {
+      block = block;
+      pins = lines_of_block (texts_of palette.now) pins.now (canvas_of canvas.now) block;
+    }) }
 {
-    let texts = texts(alloc, palette)?;
+    let texts = symbol_texts(alloc, palette)?;
     Ok(Stuck {
         block,
         pins: block_lines(alloc, &texts, canvas, block, pins)?,

@@ -21,7 +21,7 @@ use Rattle.wfc_tileset.specs.Tiles.{TileSetView, variant_total}
 use Rattle.wfc_tileset.specs.TileSets.{IsTileSet}
 use Rattle.wfc_tiled.specs.Mask.{MaskView}
 use Rattle.wfc_tiled.specs.Maps.{IsLegalTileMap, numbers_of_places}
-use Rattle.wfc_tiled.specs.Tiles.{fits, problem_of_tiles}
+use Rattle.wfc_tiled.specs.Tiles.{variants_fit, problem_of_tiles}
 use Rattle.wfc_tiled.proofs.CallerLemmas as tile
 use Rattle.wfc_tiled.proofs.CallerLemmas.{assignment_is_map, cell_below, map_is_assignment, plain_map, plain_number, plain_there}
 use Rattle.wfc_box.specs.Boxes.{IsFrame, LayerPin, IsHeldIn, IsInBox, AreInBox, IsLegalBox, area, box_of, layer_at, layer_mask, layer_of, number_in_box, number_of_place, numbers_of_box}
@@ -54,18 +54,18 @@ module _ (set : TileSetView) (stacked : List (ℕ × ℕ)) (frame : Frame) (pins
   mask = layer_mask frame
 
   -- within a layer the same may stand beside each other as on a map
-  low_fits : (d v u : ℕ) → d < 4 → fits_in set stacked d v u ≡ fits set d v u
+  low_fits : (d v u : ℕ) → d < 4 → fits_in set stacked d v u ≡ variants_fit set d v u
   low_fits d v u low = cond-true _ _ _ (lt-ltb d 4 low)
 
   ok_in_box : (d v u : ℕ) → d < 4 → IsTrue (ok Q d v u) → IsTrue (ok P d v u)
   ok_in_box d v u low test =
-      let is = shared.support-fits Q count (fits set) refl v u d (has_Contains _ u test) in
+      let is = shared.support-fits Q count (variants_fit set) refl v u d (has_Contains _ u test) in
       Contains_has _ u (fits-support set stacked frame pins v u d (omega arith) (record { first = is.first; second = is.second; fit = low_fits d v u low ∙ is.fit }))
 
   ok_in_layer : (d v u : ℕ) → d < 4 → IsTrue (ok P d v u) → IsTrue (ok Q d v u)
   ok_in_layer d v u low test =
       let is = support-fits set stacked frame pins v u d (has_Contains _ u test) in
-      Contains_has _ u (shared.fits-support Q count (fits set) refl v u d low (record { first = is.first; second = is.second; fit = sym (low_fits d v u low) ∙ is.fit }))
+      Contains_has _ u (shared.fits-support Q count (variants_fit set) refl v u d low (record { first = is.first; second = is.second; fit = sym (low_fits d v u low) ∙ is.fit }))
 
   -- the entries for a layer
   length-layer_of : (a : List ℕ) (z : ℕ) → length a ≡ P.cells → z < frame.depth → length (layer_of frame a z) ≡ A

@@ -7,7 +7,7 @@ use Rattle.std.proofs.lemmas.Str.{IsUtf8-from_is_utf8, is_utf8-from_IsUtf8}
 use Rattle.toml.specs.Data.{Data, Items, item}
 use Rattle.toml.specs.Parse.{parse_document}
 use Rattle.wfc_tileset.specs.Tiles.{TileView}
-use Rattle.wfc_box.specs.StackDocument.{then_stack, document_of, stack_from, stacks_from, stack_table_in}
+use Rattle.wfc_box.specs.StackDocument.{then_stack, stack_document, stack_from, stacks_from, stack_table_in}
 use Rattle.wfc_box.specs.declared.fault.StackFault.{StackFault}
 use Rattle.wfc_box.specs.declared.stack.Stack.{Stack}
 
@@ -24,12 +24,12 @@ pub stacks_fault : (tiles : List TileView) (before : List Stack) (d : Data) (ds 
 stacks_fault tiles before d ds fault is = rw (← is)
 
 -- bytes that are no text spell no document
-pub spelled_no_text : (bytes : List ℕ) → (IsUtf8 bytes → ⊥) → document_of bytes ≡ None
+pub spelled_no_text : (bytes : List ℕ) → (IsUtf8 bytes → ⊥) → stack_document bytes ≡ None
 spelled_no_text bytes other = elim (cases_Bool (is_utf8 bytes)) [
-  | inl document_of ↦ absurd (other (IsUtf8-from_is_utf8 bytes document_of))
+  | inl stack_document ↦ absurd (other (IsUtf8-from_is_utf8 bytes stack_document))
   | inr unspelled ↦ rw unspelled
 ]
 
 -- a text spells what toml reads
-pub spelled_text : (bytes text : List ℕ) → text ≡ bytes → IsUtf8 bytes → document_of bytes ≡ parse_document text
+pub spelled_text : (bytes text : List ℕ) → text ≡ bytes → IsUtf8 bytes → stack_document bytes ≡ parse_document text
 spelled_text bytes text same is = rw (is_utf8-from_IsUtf8 bytes is, same)

@@ -10,7 +10,7 @@ use Rattle.wfc_lists.proofs.Rows.{rows_same}
 use Rattle.wfc_model.specs.Raster.{Raster, raster_of}
 use Rattle.wfc_picture.specs.declared.symbol.Kind.{Kind}
 use Rattle.wfc_picture.specs.declared.symbol.Kind.TheVariants as kinds
-use Rattle.wfc_render.specs.Layout.{layout_of, pixels_of, unless_large}
+use Rattle.wfc_render.specs.Layout.{layout_of, pixel_count, unless_large}
 use Rattle.wfc_render.specs.Tiled.{IsTiled}
 use Rattle.wfc_render.specs.declared.form.Form.{Form}
 use Rattle.wfc_render.specs.declared.form.Form.TheVariants.{P6, P3, Grid, Cells}
@@ -63,7 +63,7 @@ form_few : (form : Form) (pixels : ℕ) → pixels ≤ MAX_MAP_PIXELS → form_u
 form_few form pixels few = cond-false (nat_lt MAX_MAP_PIXELS pixels) (Err (TooLarge pixels)) (Ok form) (le-ltb MAX_MAP_PIXELS pixels few)
 
 -- a layer has no more pixels than the box
-fewer : (w h d side : ℕ) → 0 < d → box_pixels_of w h d side ≤ MAX_MAP_PIXELS → pixels_of w h side ≤ MAX_MAP_PIXELS
+fewer : (w h d side : ℕ) → 0 < d → box_pixels_of w h d side ≤ MAX_MAP_PIXELS → pixel_count w h side ≤ MAX_MAP_PIXELS
 fewer w h d side some few =
     let one : 1 * (w * h) ≤ d * (w * h) = mul-le-mul_right (w * h) some in
     let all : (w * h) * (side * side) ≤ (d * (w * h)) * (side * side) = mul-le-mul_right (side * side) (omega (arith, one)) in

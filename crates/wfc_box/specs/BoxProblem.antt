@@ -7,7 +7,7 @@ use Rattle.wfc_problem.specs.Assignment.{IsLegalAssignment}
 use Rattle.wfc_problem.specs.Network.{Network}
 use Rattle.wfc_problem.specs.declared.TheConstants.{NO_CELL}
 use Rattle.wfc_tileset.specs.Tiles.{TileSetView, variant_total}
-use Rattle.wfc_tiled.specs.Tiles.{fits, is_step, step_from, weights_of}
+use Rattle.wfc_tiled.specs.Tiles.{variants_fit, is_step, step_from, variant_weights}
 use Rattle.wfc_box.specs.Boxes.{LayerPin, area, box_cell, layer_mask, places_in}
 use Rattle.wfc_box.specs.Stacks.{is_stacked}
 use Rattle.wfc_box.specs.declared.frame.Frame.{Frame}
@@ -44,7 +44,7 @@ box_neighbours frame = flat_map (all_beside_in_box frame) (range_with_len 0 (pla
 -- and below where v may stand on w
 abbrev pub fits_in : TileSetView → List (ℕ × ℕ) → ℕ → ℕ → ℕ → Bool
 fits_in set stacked d v w =
-    if nat_lt d 4 then fits set d v w
+    if nat_lt d 4 then variants_fit set d v w
     else if d == 4 then is_stacked stacked v w else is_stacked stacked w v
 
 -- the variants that may stand beside v in a direction, rising
@@ -90,7 +90,7 @@ problem_of_box set stacked frame pins = record {
   cells = places_in frame;
   dirs = 6;
   neighbours = box_neighbours frame;
-  weights = weights_of set.tiles;
+  weights = variant_weights set.tiles;
   supports = box_supports set stacked;
   base = box_base_table set frame pins;
 }

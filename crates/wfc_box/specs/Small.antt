@@ -5,7 +5,7 @@ use Rattle.wfc_tileset.specs.Documents.{items_of}
 use Rattle.wfc_box.specs.BoxPinView.{BoxPinView}
 use Rattle.wfc_model.specs.Legal.{banned_pin, kept_pin}
 use Rattle.wfc_model.specs.Raster.{Raster, raster_of}
-use Rattle.wfc_tileset.specs.Samples.{end_of}
+use Rattle.wfc_tileset.specs.Samples.{small_pair_end}
 use Rattle.wfc_box.specs.Boxes.{LayerPin, frame_of}
 use Rattle.wfc_box.specs.declared.frame.Frame.{Frame}
 use Rattle.wfc_box.specs.declared.stack.Stack.{Stack}
@@ -20,7 +20,7 @@ wrapped = frame_of 3 2 4 true
 
 -- a stack of the variant that action 1 makes of tile 0 below what action 6 makes of tile 1
 abbrev pub one_stack : Stack
-one_stack = record { lower = end_of 0 1; upper = end_of 1 6 }
+one_stack = record { lower = small_pair_end 0 1; upper = small_pair_end 1 6 }
 
 -- a pin that keeps a number in a column and a row of a layer
 abbrev pub kept_in : ℕ → ℕ → ℕ → ℕ → LayerPin

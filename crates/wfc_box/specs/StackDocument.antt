@@ -5,7 +5,7 @@ use Rattle.std.specs.List.{position}
 use Rattle.std.specs.Str.{is_utf8}
 use Rattle.toml.specs.Data.{Data, Items, no_items, item, Members, get_member, as_str, as_array, as_table}
 use Rattle.toml.specs.Parse.{parse_document}
-use Rattle.wfc_tileset.specs.Document.{end_with, has_name, name_length, turn_of}
+use Rattle.wfc_tileset.specs.Document.{pair_end_with, has_name, name_length, turn_digit}
 use Rattle.wfc_tileset.specs.Tiles.{TileView}
 use Rattle.wfc_tileset.specs.declared.tile.End.{End}
 use Rattle.wfc_box.specs.declared.fault.StackFault.{StackFault}
@@ -28,8 +28,8 @@ stack_text stack key (Some d) = ok_or (as_str d) (fault.NotText stack key)
 abbrev pub stack_end_from : List TileView → ℕ → List ℕ → Result End StackFault
 stack_end_from tiles stack text =
     then_stack (ok_or (position (has_name (take (name_length text) text)) tiles) (fault.UnknownTile stack))
-    (λ tile. then_stack (ok_or (turn_of (drop (name_length text) text)) (fault.BadTurn stack))
-    (λ turn. Ok (end_with tile turn)))
+    (λ tile. then_stack (ok_or (turn_digit (drop (name_length text) text)) (fault.BadTurn stack))
+    (λ turn. Ok (pair_end_with tile turn)))
 
 -- an end of a stack that has to be there, by its key
 abbrev pub stack_end : List TileView → ℕ → StackKey → Option Data → Result End StackFault
@@ -67,9 +67,9 @@ stacks_in tiles None = Ok []
 stacks_in tiles (Some ms) = then_stack (stack_elements (get_member (codes "stack") ms)) (stacks_from tiles [])
 
 -- the document that bytes spell, if they spell one
-abbrev pub document_of : List ℕ → Option Members
-document_of bytes = if is_utf8 bytes then parse_document bytes else None
+abbrev pub stack_document : List ℕ → Option Members
+stack_document bytes = if is_utf8 bytes then parse_document bytes else None
 
 -- the stacks that bytes declare for these tiles
 abbrev pub stacks_of : List TileView → List ℕ → Result (List Stack) StackFault
-stacks_of tiles bytes = stacks_in tiles (document_of bytes)
+stacks_of tiles bytes = stacks_in tiles (stack_document bytes)

@@ -2,15 +2,15 @@
 -- and nothing else.
 use Rattle.std.specs.Prelude.{ℕ, ◌==◌, ◌&&◌, Bool, List, Contains, map}
 use Rattle.std.specs.List.{flat_map, list_any, range_with_len}
-use Rattle.wfc_tileset.specs.Allowed.{IsEnd, named_variant}
-use Rattle.wfc_tileset.specs.Numbers.{number_of}
-use Rattle.wfc_tileset.specs.Tiles.{TileView, moved}
+use Rattle.wfc_tileset.specs.Allowed.{IsPairEnd, named_variant}
+use Rattle.wfc_tileset.specs.Numbers.{variant_number}
+use Rattle.wfc_tileset.specs.Tiles.{TileView, moved_variant}
 use Rattle.wfc_tileset.specs.declared.tile.End.{End}
 use Rattle.wfc_box.specs.declared.stack.Stack.{Stack}
 
 -- the number of the variant that action k makes of the one that an end names
 abbrev pub turned_end : List TileView → End → ℕ → ℕ
-turned_end tiles end k = number_of tiles (moved tiles (named_variant tiles end) k)
+turned_end tiles end k = variant_number tiles (moved_variant tiles (named_variant tiles end) k)
 
 -- the lower and the upper variant of a declared stack, both after action k
 abbrev pub turned_stack : List TileView → Stack → ℕ → ℕ × ℕ
@@ -34,5 +34,5 @@ is_stacked stacked lower upper = list_any (λ p. p.0 == lower && p.1 == upper) s
 
 -- both ends of a stack name a tile and an action
 pub record IsStack (tiles : List TileView) (stack : Stack) : Type 0 where
-  pub lower_in : IsEnd tiles stack.lower
-  pub upper_in : IsEnd tiles stack.upper
+  pub lower_in : IsPairEnd tiles stack.lower
+  pub upper_in : IsPairEnd tiles stack.upper

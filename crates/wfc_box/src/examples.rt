@@ -10,7 +10,7 @@ ghost use Rattle.wfc_pins.specs.declared.pins.PinFault.TheVariants as pin_faults
 ghost use Rattle.wfc_render.specs.declared.form.Form.TheVariants.{P6, Grid, Cells};
 ghost use Rattle.wfc_render.specs.declared.form.RenderFault.TheVariants as render_faults;
 ghost use Rattle.wfc_tiled.specs.Small.{line_and_cross};
-ghost use Rattle.wfc_tileset.specs.Samples.{crossing, end_of, lines};
+ghost use Rattle.wfc_tileset.specs.Samples.{crossing, small_pair_end, straight_lines};
 ghost use Rattle.wfc_problem.specs.declared.TheConstants.{NO_CELL};
 ghost use Rattle.wfc_box.specs.BoxPins.{box_pins_of};
 ghost use Rattle.wfc_box.specs.BoxProblem.{all_beside_in_box, all_fitting_in_box, box_base_table};
@@ -51,16 +51,16 @@ pub fn neighbours_by_example()
 /// Which variants may stand beside one, direction by direction: above a lower one the upper one,
 /// and below an upper one the lower one.
 pub fn supports_by_example()
-    ensures lower { all_fitting_in_box lines ((0, 1) ∷ []) 0
+    ensures lower { all_fitting_in_box straight_lines ((0, 1) ∷ []) 0
         ≡ (0 ∷ []) ∷ [] ∷ (0 ∷ []) ∷ [] ∷ (1 ∷ []) ∷ [] ∷ [] }
-    ensures upper { all_fitting_in_box lines ((0, 1) ∷ []) 1
+    ensures upper { all_fitting_in_box straight_lines ((0, 1) ∷ []) 1
         ≡ [] ∷ (1 ∷ []) ∷ [] ∷ (1 ∷ []) ∷ [] ∷ (0 ∷ []) ∷ [] }
 {}
 
 /// A pin keeps one variant at the cell of its place, and a ban takes one away.
 pub fn pins_by_example()
-    ensures base { box_base_table lines two_by_two (kept_in 1 0 1 1 ∷ banned_in 0 0 1 1 ∷ [])
-        ≡ true ∷ true ∷ true ∷ true ∷ true ∷ false ∷ false ∷ true ∷ [] }
+    ensures base { box_base_table straight_lines two_by_two (kept_in 1 0 1 1 ∷ banned_in 0 0 1 1 ∷
+        []) ≡ true ∷ true ∷ true ∷ true ∷ true ∷ false ∷ false ∷ true ∷ [] }
     ensures read { box_pins_of (codes "#\npin 2 05 1 x/0\r\n\nban 1 0 3 y") ≡ Ok
         (box_line 2 true 2 5 1 (codes "x/0") ∷ box_line 4 false 1 0 3 (codes "y") ∷ []) }
     ensures bad { box_pins_of (codes "pin 0 1 2 a\npin 0 1 a") ≡ Err (pin_faults.BadLine 2) }
@@ -86,7 +86,7 @@ pub fn documents_by_example()
     ensures none { stacks_in line_and_cross.tiles (Some no_members) ≡ Ok [] }
     ensures read { stacks_in line_and_cross.tiles
         (Some (with_stacks (stack_data (codes "line 1") (codes "x") ∷ [])))
-        ≡ Ok (record { lower = end_of 0 1; upper = end_of 1 0 } ∷ []) }
+        ≡ Ok (record { lower = small_pair_end 0 1; upper = small_pair_end 1 0 } ∷ []) }
     ensures not_array { stacks_in line_and_cross.tiles
         (Some (member (codes "stack") (string []) no_members)) ≡ Err stack_faults.NotArray }
     ensures not_table { stacks_in line_and_cross.tiles (Some (with_stacks
@@ -112,18 +112,18 @@ pub fn texts_by_example()
     ensures most { box_layout_of kinds.Plain None 4096 64 64 1 ≡ Ok Cells }
     ensures large { box_layout_of kinds.Plain None 4096 64 16 3
         ≡ Err (render_faults.TooLarge 37748736) }
-    ensures text { box_text Cells lines (raster_of 2 1 (0 ∷ 1 ∷ []) ∷ raster_of 2 1 (1 ∷ 1 ∷ [])
-        ∷ []) ≡ codes "layer 0\n0 1\nlayer 1\n1 1\n" }
+    ensures text { box_text Cells straight_lines (raster_of 2 1 (0 ∷ 1 ∷ []) ∷ raster_of 2 1 (1 ∷ 1
+        ∷ []) ∷ []) ≡ codes "layer 0\n0 1\nlayer 1\n1 1\n" }
 {}
 
 /// A box is legal where each upper variant may stand on the lower one, and not the other way round;
 /// it has as many layers as its frame says, and a pin holds in its layer.
 pub fn legal_boxes()
-    ensures upright { IsLegalBox lines ((0, 1) ∷ []) pillar (kept_in 0 0 1 1 ∷ [])
+    ensures upright { IsLegalBox straight_lines ((0, 1) ∷ []) pillar (kept_in 0 0 1 1 ∷ [])
         (single 0 ∷ single 1 ∷ []) }
-    ensures exchanged { IsLegalBox lines ((0, 1) ∷ []) pillar []
+    ensures exchanged { IsLegalBox straight_lines ((0, 1) ∷ []) pillar []
         (single 1 ∷ single 0 ∷ []) → ⊥ }
-    ensures shallow { IsLegalBox lines ((0, 1) ∷ []) pillar [] (single 0 ∷ []) → ⊥ }
-    ensures other_layer { IsLegalBox lines ((0, 1) ∷ []) pillar (kept_in 0 0 0 1 ∷ [])
+    ensures shallow { IsLegalBox straight_lines ((0, 1) ∷ []) pillar [] (single 0 ∷ []) → ⊥ }
+    ensures other_layer { IsLegalBox straight_lines ((0, 1) ∷ []) pillar (kept_in 0 0 0 1 ∷ [])
         (single 0 ∷ single 1 ∷ []) → ⊥ }
 {}

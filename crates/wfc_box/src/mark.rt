@@ -7,13 +7,13 @@ ghost use Rattle.wfc_box.specs.Boxes.{IsFrame, IsInBox, places_in};
 
 use crate::frame::{Frame, area};
 use std::marker::Model;
-use wfc_places::Mark;
+use wfc_places::PinMark;
 
 /// What stands in a column of a row of a layer has the number, or hasn't.
 #[derive(Drop)]
 pub(crate) struct BoxMark {
     pub layer: u32,
-    pub mark: Mark,
+    pub mark: PinMark,
 }
 
 impl Model for BoxMark {

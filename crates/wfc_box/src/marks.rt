@@ -10,7 +10,7 @@ use crate::mark::BoxMark;
 use crate::pins::BoxPin;
 use std::alloc::Global;
 use wfc_pins::BuildFault;
-use wfc_places::Mark;
+use wfc_places::PinMark;
 use wfc_tileset::TileSet;
 
 /// What the lines of a box's pins file mean, or the first line at fault.
@@ -42,7 +42,7 @@ fn mark(tiles: &TileSet, frame: Frame, line: &BoxPin) -> Result<BoxMark, BuildFa
     match tiles.find(&line.symbol) {
         Some(variant) => Ok(BoxMark {
             layer: line.z,
-            mark: Mark {
+            mark: PinMark {
                 keep: line.keep,
                 column: line.x,
                 row: line.y,

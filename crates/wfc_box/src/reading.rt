@@ -6,10 +6,10 @@ ghost use Rattle.std.specs.Option.{option_map};
 ghost use Rattle.wfc_outside.specs.Gives.{Gives, result_map};
 ghost use Rattle.toml.specs.Data.{get_member};
 ghost use Rattle.toml.specs.View.{view, table_view, items_view};
-ghost use Rattle.wfc_tileset.specs.Allowed.{IsEnd};
+ghost use Rattle.wfc_tileset.specs.Allowed.{IsPairEnd};
 ghost use Rattle.wfc_tileset.specs.Document.{has_name};
 ghost use Rattle.wfc_tileset.specs.Names.{AreNames};
-ghost use Rattle.wfc_box.specs.StackDocument.{then_stack, stack_elements, stack_end_from, stack_end, document_of};
+ghost use Rattle.wfc_box.specs.StackDocument.{then_stack, stack_elements, stack_end_from, stack_end, stack_document};
 ghost use Rattle.wfc_box.specs.StackDocument.{stack_from, stacks_from, stacks_in, stacks_of, stack_table_in, stack_text};
 ghost use Rattle.wfc_box.specs.Stacks.{IsStack, stacked_pairs};
 
@@ -18,7 +18,7 @@ use crate::fault::{StackFault, StackKey};
 use crate::stack::Stack;
 use std::alloc::Global;
 use toml::{Table, Value};
-use wfc_tileset::{End, Names, TileSet, member, name_length, turn_of};
+use wfc_tileset::{End, Names, TileSet, member, name_length, turn_digit};
 
 /// The most elements of an array.
 const MAX_ELEMENTS: usize = 16_777_216;
@@ -50,7 +50,7 @@ fn declared(alloc: Global, bytes: &[u8], tiles: &TileSet) -> Result<Vec<Stack>, 
 /// The table that bytes spell, if they spell one.
 fn document(alloc: Global, bytes: &[u8]) -> Result<Option<Table>, StackFault>
     ensures exact { Gives StackFault.NoMemory (λ table. option_map table_view table) result
-        (Ok (document_of bytes.now)) }
+        (Ok (stack_document bytes.now)) }
 {
     let Ok(text) = str::from_utf8(bytes) else {
         return Ok(None);
@@ -165,7 +165,7 @@ fn end_in(
     requires names { AreNames names.now tiles.now.tiles }
     ensures exact { result
         ≡ stack_end tiles.now.tiles stack key (option_map (λ v. view v.now) value.entry) }
-    ensures end { IfOk result (IsEnd tiles.now.tiles) }
+    ensures end { IfOk result (IsPairEnd tiles.now.tiles) }
 {
     let text = text_in(stack, key, value)?;
     end_from(names, tiles, stack, text)
@@ -189,13 +189,13 @@ fn text_in(stack: u32, key: StackKey, value: Option<&Value>) -> Result<&str, Sta
 fn end_from(names: &Names, tiles: &TileSet, stack: u32, text: &str) -> Result<End, StackFault>
     requires names { AreNames names.now tiles.now.tiles }
     ensures exact { result ≡ stack_end_from tiles.now.tiles stack text.now }
-    ensures end { IfOk result (IsEnd tiles.now.tiles) }
+    ensures end { IfOk result (IsPairEnd tiles.now.tiles) }
 {
     let length = name_length(text.as_bytes());
     let Some(tile) = named(names, tiles, &text[..length]) else {
         return Err(StackFault::UnknownTile { stack });
     };
-    match turn_of(&text.as_bytes()[length..]) {
+    match turn_digit(&text.as_bytes()[length..]) {
         Some(turn) => Ok(End { tile, turn }),
         None => Err(StackFault::BadTurn { stack }),
     }

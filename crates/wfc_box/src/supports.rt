@@ -8,7 +8,7 @@ use crate::allowed::Stacks;
 use std::alloc::Global;
 use wfc_outside::NoMemory;
 use wfc_places::push_if;
-use wfc_tiled::fits;
+use wfc_tiled::variants_fit;
 use wfc_tileset::TileSet;
 
 /// For each variant and direction the variants that may stand there, in lists that take no more
@@ -73,7 +73,7 @@ fn fits_in(tiles: &TileSet, stacks: &Stacks, dir: u8, v: u16, w: u16) -> bool
     ensures value { result ≡ fits_in tiles.now stacks.now dir v w }
 {
     if dir < 4 {
-        fits(tiles, dir, v, w)
+        variants_fit(tiles, dir, v, w)
     } else if dir == 4 {
         stacks.on(v, w)
     } else {

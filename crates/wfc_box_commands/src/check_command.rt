@@ -6,7 +6,7 @@ ghost use Rattle.wfc_box_commands.specs.BoxSteps.{frame_asked};
 ghost use Rattle.wfc_plan.specs.Plan.{Goes};
 ghost use Rattle.wfc_proof_commands.specs.CheckCommand.{CheckAnswers};
 ghost use Rattle.wfc_proof_commands.specs.CheckTask.{check_made, check_plan};
-ghost use Rattle.wfc_reply.specs.Ends.{Ends};
+ghost use Rattle.wfc_reply.specs.Ends.{MayReply};
 ghost use Rattle.wfc_reply.specs.ReplyView.{reply_view};
 
 use crate::files::asked_problem;
@@ -26,7 +26,7 @@ pub fn box_check<F: Folder>(
     folder: &mut F,
 ) -> Result<Answer, Fault>
     requires frame { IsFrame (frame_asked request.now) }
-    ensures ends { Ends (check_plan box_proofs request.now) CheckAnswers
+    ensures ends { MayReply (check_plan box_proofs request.now) CheckAnswers
         (F.seen folder.old) (F.seen folder.new) (reply_view result) }
 {
     let found = box_check_task(alloc, request, folder)?;

@@ -16,7 +16,7 @@ use wfc_box::{BoxPin, Stacks};
 use wfc_outside::Folder;
 use wfc_plan::{Fault, Source, whole_file};
 use wfc_problem::Problem;
-use wfc_task::{document, pictures};
+use wfc_task::{pictures, tile_document};
 use wfc_tileset::TileSet;
 use wfc_words::Request;
 
@@ -33,7 +33,7 @@ pub(crate) fn stacked_set<F: Folder>(
         (λ made. picture_name made.0 (length made.0.pictures) ≡ None) }
 {
     let bytes = whole_file(alloc, folder, Source::Sample, request.file())?;
-    let mut tiles = document(alloc, &bytes)?;
+    let mut tiles = tile_document(alloc, &bytes)?;
     pictures(alloc, folder, &mut tiles)?;
     let stacks = stacked(alloc, &tiles, &bytes)?;
     Ok((tiles, stacks))

@@ -21,8 +21,8 @@ use wfc_box::box_bytes;
 use wfc_choose::{Chooser, RuleKind};
 use wfc_outside::{Folder, NoMemory};
 use wfc_plan::Fault;
-use wfc_reply::{Answer, Verdict, first_of, kinds};
-use wfc_runs::{End, run};
+use wfc_reply::{Answer, CommandVerdict, first_chooser, kinds};
+use wfc_runs::{RunEnd, run};
 use wfc_words::Request;
 
 /// Reads the files, and answers the text of the box in which the run ends.
@@ -90,7 +90,7 @@ fn answer(
         choosers.items) request.now (layers_text request.now filling.now.tiles filling.now.form)
         filling.now.problem ≡ Some (answer_view answer)) }
 {
-    let chooser = first_of(alloc, choosers, request.rule)?;
+    let chooser = first_chooser(alloc, choosers, request.rule)?;
     let ran = run(
         alloc,
         &filling.problem,
@@ -99,13 +99,13 @@ fn answer(
         request.seed,
     )?;
     match ran.end {
-        End::Map { assignment } => found(alloc, request, filling, &assignment),
-        End::NoMap => Ok(Answer {
-            verdict: Verdict::NoMap,
+        RunEnd::Map { assignment } => found(alloc, request, filling, &assignment),
+        RunEnd::NoMap => Ok(Answer {
+            verdict: CommandVerdict::NoMap,
             text: None,
         }),
-        End::Spent => Ok(Answer {
-            verdict: Verdict::Spent {
+        RunEnd::Spent => Ok(Answer {
+            verdict: CommandVerdict::Spent {
                 budget: request.budget,
             },
             text: None,
@@ -128,7 +128,7 @@ fn found(
 {
     let text = layers(alloc, request, filling, assignment)?;
     Ok(Answer {
-        verdict: Verdict::Done,
+        verdict: CommandVerdict::Done,
         text: Some(text),
     })
 }

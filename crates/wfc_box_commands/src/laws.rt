@@ -63,8 +63,15 @@ pub fn asked_boxes_are_assignments()
 /// What is asked for of a box of two by one by three, by example: its layers wrap, and no words of a sample count.
 pub fn requests_by_example()
     ensures frame { frame_asked small_box ≡ frame_of 2 1 3 true }
-    ensures shape { box_shape small_box ≡ (record { n = 0; width = 2; height = 1; depth = 3;
-        symmetry = 1; wrap_in = false; wrap_out = true }) }
+    ensures shape { box_shape small_box ≡ (record {
+      n = 0;
+      width = 2;
+      height = 1;
+      depth = 3;
+      symmetry = 1;
+      wrap_in = false;
+      wrap_out = true;
+    }) }
     ensures fill_budget { box_fill_command.budget small_box ≡ 7 }
     ensures refute_budget { box_refute_command.budget small_box ≡ 7 }
     ensures fill_no { (files : List File) →

@@ -21,7 +21,7 @@ use wfc_outside::{Folder, Sink};
 use wfc_plan::{Fault, enough};
 use wfc_problem::Problem;
 use wfc_proof_commands::refute_verdict;
-use wfc_reply::{RunWriting, Stop, Verdict, first_of, kinds, put_run};
+use wfc_reply::{CommandVerdict, RunWriting, Stop, first_chooser, kinds, put_run};
 use wfc_words::Request;
 
 /// Reads the files, and puts the lines of the run.
@@ -31,7 +31,7 @@ pub fn box_refute<F: Folder, O: Sink>(
     choosers: Vec<Box<dyn Chooser>>,
     folder: &mut F,
     out: &mut O,
-) -> Result<Verdict, Stop>
+) -> Result<CommandVerdict, Stop>
     requires frame { IsFrame (frame_asked request.now) }
     ensures ends { EndsAs box_refute_command (map (λ chooser. (told chooser).rule) choosers.items)
         request.now (F.seen folder.old) (F.seen folder.new)
@@ -39,7 +39,7 @@ pub fn box_refute<F: Folder, O: Sink>(
 {
     let kinds = kinds(alloc, &choosers)?;
     let problem = box_refute_task(alloc, request, &kinds, folder)?;
-    let chooser = first_of(alloc, choosers, request.rule)?;
+    let chooser = first_chooser(alloc, choosers, request.rule)?;
     let writing = box_writing(request);
     let outcome = put_run::<O, Brand>(alloc, writing, &problem, chooser, out, Blank::new(1))?;
     out.finish()?;

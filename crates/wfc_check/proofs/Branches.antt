@@ -6,14 +6,14 @@ use Rattle.std.proofs.lemmas.Bool.{eqb-true}
 use Rattle.wfc_problem.specs.Domains.{Test, cut}
 use Rattle.wfc_problem.specs.Network.{IsProblem, in_base, values}
 use Rattle.wfc_problem.specs.declared.Literal.TheVariants.{Is, Not}
-use Rattle.wfc_check.specs.Entries.{behind, put_off, TrailView, standing, waits_of, with_more, Resumes, Branches}
+use Rattle.wfc_check.specs.Entries.{behind_entry, put_off, TrailView, standing, waits_of, with_more, Resumes, Branches}
 use Rattle.wfc_check.specs.declared.trail.Entry.{Entry}
 use Rattle.wfc_check.proofs.Entries.{left_more, waiting_more, left_inside}
 use Rattle.wfc_check.proofs.Kept.{taken, waits_at}
 
 -- ---- one more entry
 
-pub standing_more : (t : TrailView) (e : Entry) → standing (with_more t e) ≡ behind (standing t) e
+pub standing_more : (t : TrailView) (e : Entry) → standing (with_more t e) ≡ behind_entry (standing t) e
 standing_more t e = left_more (in_base t.problem) t.entries e
 
 pub waits_more : (t : TrailView) (e : Entry) → waits_of (with_more t e) ≡ put_off (standing t) (waits_of t) e

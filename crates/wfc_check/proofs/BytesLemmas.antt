@@ -5,10 +5,10 @@ use Rattle.wfc_outside.specs.Gives.{Gives}
 use Rattle.wfc_outside.proofs.CallerLemmas.{gives_value}
 use Rattle.wfc_problem.specs.Network.{Network, IsProblem}
 use Rattle.wfc_proof.specs.declared.heads.Shape.{Shape}
-use Rattle.wfc_check.specs.Checker.{problem_of, HasNone}
-use Rattle.wfc_check.specs.Lines.{IsPlain}
-use Rattle.wfc_check.specs.Reading.{place_of, reads_for, IsOpenedFor}
-use Rattle.wfc_check.specs.Text.{Place, line_led, at_start, answer_from, answer_at_end, and_read, checked, IsRefutation}
+use Rattle.wfc_check.specs.Checker.{checker_problem, HasNone}
+use Rattle.wfc_check.specs.Lines.{HasNoLineFeed}
+use Rattle.wfc_check.specs.Reading.{reading_place, reads_for, IsOpenedFor}
+use Rattle.wfc_check.specs.Text.{TextPlace, line_led, at_start, answer_from, answer_at_end, and_read, checked, IsRefutation}
 use Rattle.wfc_check.specs.declared.fault.CheckFault.{CheckFault}
 use Rattle.wfc_check.specs.declared.fault.CheckFault.TheVariants.{NoMemory}
 use Rattle.wfc_check.specs.declared.reading.Reading.{Reading}
@@ -18,7 +18,7 @@ use Rattle.wfc_check.proofs.TextLemmas.{answer-feed, answer-end, answer-within}
 pub record IsAhead (P : Network) (shape : Shape) (bytes rest : List ℕ) (reading : Reading) : Type 0 where
   pub holds : reads_for reading ≡ (P, shape)
   pub few : reading.number + length rest ≤ 4294967297
-  pub ahead : checked P shape bytes ≡ answer_from P shape (length rest) reading.number (place_of reading) rest
+  pub ahead : checked P shape bytes ≡ answer_from P shape (length rest) reading.number (reading_place reading) rest
 
 pub ahead_start : (P : Network) (shape : Shape) (bytes : List ℕ) (reading : Reading) → length bytes ≤ 4294967296 → IsOpenedFor P shape reading → IsAhead P shape bytes bytes reading
 unfolding checked
@@ -32,36 +32,36 @@ ahead_start P shape bytes reading within opened = record {
 
 -- what a line is held to
 held : (P : Network) (shape : Shape) (reading : Reading) (line : List ℕ) → reads_for reading ≡ (P, shape)
-    → line_led (problem_of reading.checker) reading.shape.now reading.number (place_of reading) line ≡ line_led P shape reading.number (place_of reading) line
-held P shape reading line holds = ap (λ (both : Network × Shape). line_led both.0 both.1 reading.number (place_of reading) line) holds
+    → line_led (checker_problem reading.checker) reading.shape.now reading.number (reading_place reading) line ≡ line_led P shape reading.number (reading_place reading) line
+held P shape reading line holds = ap (λ (both : Network × Shape). line_led both.0 both.1 reading.number (reading_place reading) line) holds
 
 -- the first line of what is left, and what is behind it
-split : (P : Network) (shape : Shape) (bytes rest line left : List ℕ) (reading : Reading) → IsAhead P shape bytes rest reading → rest ≡ line ++ 10 ∷ left → IsPlain line
-    → checked P shape bytes ≡ and_read (line_led (problem_of reading.checker) reading.shape.now reading.number (place_of reading) line) (λ after. answer_from P shape (length left) (reading.number + 1) after left)
+split : (P : Network) (shape : Shape) (bytes rest line left : List ℕ) (reading : Reading) → IsAhead P shape bytes rest reading → rest ≡ line ++ 10 ∷ left → HasNoLineFeed line
+    → checked P shape bytes ≡ and_read (line_led (checker_problem reading.checker) reading.shape.now reading.number (reading_place reading) line) (λ after. answer_from P shape (length left) (reading.number + 1) after left)
 split P shape bytes rest line left reading is cut plain =
     let long : length (line ++ 10 ∷ left) ≡ length left + (length line + 1) = omega (arith, length-append line (10 ∷ left)) in
-    is.ahead ∙ ap (λ text. answer_from P shape (length text) reading.number (place_of reading) text) cut
-    ∙ ap (λ n. answer_from P shape n reading.number (place_of reading) (line ++ 10 ∷ left)) long
-    ∙ answer-feed P shape (length left) reading.number (place_of reading) line left plain
-    ∙ ap (λ (led : Result Place CheckFault). and_read led (λ after. answer_from P shape (length left) (reading.number + 1) after left)) (sym (held P shape reading line is.holds))
+    is.ahead ∙ ap (λ text. answer_from P shape (length text) reading.number (reading_place reading) text) cut
+    ∙ ap (λ n. answer_from P shape n reading.number (reading_place reading) (line ++ 10 ∷ left)) long
+    ∙ answer-feed P shape (length left) reading.number (reading_place reading) line left plain
+    ∙ ap (λ (led : Result TextPlace CheckFault). and_read led (λ after. answer_from P shape (length left) (reading.number + 1) after left)) (sym (held P shape reading line is.holds))
 
-pub ahead_on : (P : Network) (shape : Shape) (bytes rest line left : List ℕ) (old new : Reading) → IsAhead P shape bytes rest old → rest ≡ line ++ 10 ∷ left → IsPlain line
-    → line_led (problem_of old.checker) old.shape.now old.number (place_of old) line ≡ Ok (place_of new) → reads_for new ≡ reads_for old → new.number ≡ old.number + 1 → IsAhead P shape bytes left new
+pub ahead_on : (P : Network) (shape : Shape) (bytes rest line left : List ℕ) (old new : Reading) → IsAhead P shape bytes rest old → rest ≡ line ++ 10 ∷ left → HasNoLineFeed line
+    → line_led (checker_problem old.checker) old.shape.now old.number (reading_place old) line ≡ Ok (reading_place new) → reads_for new ≡ reads_for old → new.number ≡ old.number + 1 → IsAhead P shape bytes left new
 ahead_on P shape bytes rest line left old new is cut plain led same next = record {
   holds = same ∙ is.holds;
   few = omega (arith, is.few, next, ap length cut, length-append line (10 ∷ left));
   ahead = split P shape bytes rest line left old is cut plain
-      ∙ ap (λ (r : Result Place CheckFault). and_read r (λ after. answer_from P shape (length left) (old.number + 1) after left)) led
-      ∙ ap (λ n. answer_from P shape (length left) n (place_of new) left) (sym next);
+      ∙ ap (λ (r : Result TextPlace CheckFault). and_read r (λ after. answer_from P shape (length left) (old.number + 1) after left)) led
+      ∙ ap (λ n. answer_from P shape (length left) n (reading_place new) left) (sym next);
 }
 
-pub ahead_bad : (P : Network) (shape : Shape) (bytes rest line left : List ℕ) (old : Reading) (fault : CheckFault) → IsAhead P shape bytes rest old → rest ≡ line ++ 10 ∷ left → IsPlain line
-    → line_led (problem_of old.checker) old.shape.now old.number (place_of old) line ≡ Err fault → checked P shape bytes ≡ Err fault
+pub ahead_bad : (P : Network) (shape : Shape) (bytes rest line left : List ℕ) (old : Reading) (fault : CheckFault) → IsAhead P shape bytes rest old → rest ≡ line ++ 10 ∷ left → HasNoLineFeed line
+    → line_led (checker_problem old.checker) old.shape.now old.number (reading_place old) line ≡ Err fault → checked P shape bytes ≡ Err fault
 ahead_bad P shape bytes rest line left old fault is cut plain led =
-    split P shape bytes rest line left old is cut plain ∙ ap (λ (r : Result Place CheckFault). and_read r (λ after. answer_from P shape (length left) (old.number + 1) after left)) led
+    split P shape bytes rest line left old is cut plain ∙ ap (λ (r : Result TextPlace CheckFault). and_read r (λ after. answer_from P shape (length left) (old.number + 1) after left)) led
 
-pub ahead_end : (P : Network) (shape : Shape) (bytes rest : List ℕ) (old : Reading) → IsAhead P shape bytes rest old → IsPlain rest → checked P shape bytes ≡ answer_at_end old.number (place_of old) rest
-ahead_end P shape bytes rest old is plain = is.ahead ∙ answer-end P shape (length rest) old.number (place_of old) rest plain (omega arith)
+pub ahead_end : (P : Network) (shape : Shape) (bytes rest : List ℕ) (old : Reading) → IsAhead P shape bytes rest old → HasNoLineFeed rest → checked P shape bytes ≡ answer_at_end old.number (reading_place old) rest
+ahead_end P shape bytes rest old is plain = is.ahead ∙ answer-end P shape (length rest) old.number (reading_place old) rest plain (omega arith)
 
 -- an answer that is the one wanted
 pub gives_answer : (answer wanted : Result (Unit {0}) CheckFault) → answer ≡ wanted → Gives NoMemory (λ done. done) answer wanted

@@ -6,17 +6,17 @@ use Rattle.wfc_text.specs.Line.{is_line_feed}
 use Rattle.wfc_outside.specs.Folder.{FolderView}
 use Rattle.wfc_problem.specs.Network.{Network}
 use Rattle.wfc_proof.specs.Checker.{Point, line_step}
-use Rattle.wfc_proof.specs.Heads.{format_of, numbers_of, shape_of}
+use Rattle.wfc_proof.specs.Heads.{format_of, head_numbers, shape_of}
 use Rattle.wfc_proof.specs.declared.Line.{Line}
 use Rattle.wfc_proof.specs.declared.Reject.{Reject}
 use Rattle.wfc_proof.specs.declared.heads.Format.{Format}
 use Rattle.wfc_proof.specs.declared.heads.Format.TheVariants.{Two}
-use Rattle.wfc_proof.specs.declared.heads.Numbers.{Numbers}
+use Rattle.wfc_proof.specs.declared.heads.HeadNumbers.{HeadNumbers}
 use Rattle.wfc_proof.specs.declared.heads.Shape.{Shape}
 use Rattle.wfc_proof.specs.declared.text.LineFault.{LineFault}
 use Rattle.wfc_check.specs.Answered.{IsOfText, IsOfFile, Answers}
 use Rattle.wfc_check.specs.Checker.{progress_of}
-use Rattle.wfc_check.specs.Text.{Place, at_start, after_first, are_of_problem, behind_numbers, after_numbers, are_one, after_shape, line_in, after_step, after_line, at_point, staged, line_led, ended_at, ended_before, answer_behind, and_read, answer_to_parts, checked}
+use Rattle.wfc_check.specs.Text.{TextPlace, at_start, after_first, are_of_problem, behind_numbers, after_numbers, are_one, after_shape, line_in, place_after_step, place_after_line, at_point, stage_answer, line_led, ended_at, ended_before, answer_behind, and_read, answer_to_parts, checked}
 use Rattle.wfc_check.specs.declared.fault.CheckFault.{CheckFault}
 use Rattle.wfc_check.specs.declared.fault.CheckFault.TheVariants.{Rejected, BadLine, HeaderDiffers, NotEnded, Missing, Failed, TooLong, NoMemory, OptionsDiffer}
 use Rattle.wfc_check.specs.declared.progress.Progress.{Progress}
@@ -37,7 +37,7 @@ first : (number : ℕ) (read : Result Format LineFault) → OfText (after_first 
 first number (Ok format) = tt
 first number (Err fault) = tt
 
-numbers : (P : Network) (format : Format) (number : ℕ) (read : Result Numbers LineFault) → OfText (after_numbers P format number read)
+numbers : (P : Network) (format : Format) (number : ℕ) (read : Result HeadNumbers LineFault) → OfText (after_numbers P format number read)
 numbers P format number (Ok found) = chosen (are_of_problem P found) (Ok (behind_numbers format)) (Err (HeaderDiffers found.cells found.values)) tt tt
 numbers P format number (Err fault) = tt
 
@@ -49,11 +49,11 @@ shapes shape number (Ok found) = by (are_one found shape)
     by false = tt
 shapes shape number (Err fault) = tt
 
-steps : (number : ℕ) (format : Format) (led : Result Point Reject) → OfText (after_step number format led)
+steps : (number : ℕ) (format : Format) (led : Result Point Reject) → OfText (place_after_step number format led)
 steps number format (Ok point) = tt
 steps number format (Err reject) = tt
 
-lines : (P : Network) (number : ℕ) (format : Format) (point : Point) (read : Result Line LineFault) → OfText (after_line P number format point read)
+lines : (P : Network) (number : ℕ) (format : Format) (point : Point) (read : Result Line LineFault) → OfText (place_after_line P number format point read)
 lines P number format point (Ok line) = steps number format (line_step P point line)
 lines P number format point (Err fault) = tt
 
@@ -61,14 +61,14 @@ points : (point : Point) (read : Result Stage CheckFault) → OfText read → Of
 points point (Ok stage) of = tt
 points point (Err fault) of = of
 
-stages : (P : Network) (shape : Shape) (number : ℕ) (stage : Stage) (point : Point) (line : List ℕ) → OfText (staged P shape number stage point line)
+stages : (P : Network) (shape : Shape) (number : ℕ) (stage : Stage) (point : Point) (line : List ℕ) → OfText (stage_answer P shape number stage point line)
 stages P shape number First point line = points point (after_first number (format_of line)) (first number (format_of line))
-stages P shape number (Numbering format) point line = points point (after_numbers P format number (numbers_of line)) (numbers P format number (numbers_of line))
+stages P shape number (Numbering format) point line = points point (after_numbers P format number (head_numbers line)) (numbers P format number (head_numbers line))
 stages P shape number Shaping point line = points point (after_shape shape number (shape_of line)) (shapes shape number (shape_of line))
 stages P shape number (Proving format) point line = lines P number format point (line_in format line)
 
-led : (P : Network) (shape : Shape) (number : ℕ) (at : Place) (line : List ℕ) → OfText (line_led P shape number at line)
-led P shape number at line = chosen (nat_lt 64 (length line)) (Err (BadLine number)) (staged P shape number at.stage at.point line) tt (stages P shape number at.stage at.point line)
+led : (P : Network) (shape : Shape) (number : ℕ) (at : TextPlace) (line : List ℕ) → OfText (line_led P shape number at line)
+led P shape number at line = chosen (nat_lt 64 (length line)) (Err (BadLine number)) (stage_answer P shape number at.stage at.point line) tt (stages P shape number at.stage at.point line)
 
 finished : (progress : Progress) → OfText (ended_at progress)
 finished Going = tt
@@ -81,7 +81,7 @@ befores number (Numbering format) point = tt
 befores number Shaping point = tt
 befores number (Proving format) point = finished (progress_of point)
 
-behinds : (over : Bool) (number : ℕ) (at : Place) (line : List ℕ) → OfText (answer_behind over number at line)
+behinds : (over : Bool) (number : ℕ) (at : TextPlace) (line : List ℕ) → OfText (answer_behind over number at line)
 behinds true number at line = limits (nat_lt 64 (length line))
   where
     limits : (test : Bool) → OfText (let r : Result (Unit {0}) CheckFault = cond test (Err (BadLine number)) (Err TooLong) in r)
@@ -90,11 +90,11 @@ behinds true number at line = limits (nat_lt 64 (length line))
 behinds false number at [] = befores number at.stage at.point
 behinds false number at (byte ∷ line) = tt
 
-goes_on : (read : Result Place CheckFault) (next : Place → Result (Unit {0}) CheckFault) → OfText read → ((at : Place) → OfText (next at)) → OfText (and_read read next)
+goes_on : (read : Result TextPlace CheckFault) (next : TextPlace → Result (Unit {0}) CheckFault) → OfText read → ((at : TextPlace) → OfText (next at)) → OfText (and_read read next)
 goes_on (Ok at) next of all = all at
 goes_on (Err fault) next of all = of
 
-parts_of_text : (P : Network) (shape : Shape) (over : Bool) (number : ℕ) (at : Place) (parts : List (List ℕ)) → OfText (answer_to_parts P shape over number at parts)
+parts_of_text : (P : Network) (shape : Shape) (over : Bool) (number : ℕ) (at : TextPlace) (parts : List (List ℕ)) → OfText (answer_to_parts P shape over number at parts)
 parts_of_text P shape over number at [] = tt
 parts_of_text P shape over number at (last ∷ []) = behinds over number at last
 parts_of_text P shape over number at (line ∷ next ∷ parts) =

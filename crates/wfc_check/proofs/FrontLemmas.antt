@@ -6,17 +6,17 @@ use Rattle.std.proofs.lemmas.List.Splits.{length-slice_split}
 use Rattle.wfc_text.specs.Line.{is_line_feed}
 use Rattle.wfc_problem.specs.Network.{Network}
 use Rattle.wfc_proof.specs.Checker.{Point, line_step}
-use Rattle.wfc_proof.specs.Heads.{format_of, numbers_of, shape_of}
+use Rattle.wfc_proof.specs.Heads.{format_of, head_numbers, shape_of}
 use Rattle.wfc_proof.specs.declared.Line.{Line}
 use Rattle.wfc_proof.specs.declared.Reject.{Reject}
 use Rattle.wfc_proof.specs.declared.heads.Format.{Format}
 use Rattle.wfc_proof.specs.declared.heads.Format.TheVariants.{One, Two}
-use Rattle.wfc_proof.specs.declared.heads.Numbers.{Numbers}
+use Rattle.wfc_proof.specs.declared.heads.HeadNumbers.{HeadNumbers}
 use Rattle.wfc_proof.specs.declared.heads.Shape.{Shape}
 use Rattle.wfc_proof.specs.declared.text.LineFault.{LineFault}
 use Rattle.wfc_check.specs.Checker.{progress_of}
 use Rattle.wfc_check.specs.Fronts.{first_lines, line_at_fault, IsAtFault}
-use Rattle.wfc_check.specs.Text.{Place, at_start, after_first, are_of_problem, behind_numbers, after_numbers, are_one, after_shape, line_in, after_step, after_line, at_point, staged, line_led, ended_at, ended_before, answer_at_end, and_read, answer_to_parts, checked}
+use Rattle.wfc_check.specs.Text.{TextPlace, at_start, after_first, are_of_problem, behind_numbers, after_numbers, are_one, after_shape, line_in, place_after_step, place_after_line, at_point, stage_answer, line_led, ended_at, ended_before, answer_at_end, and_read, answer_to_parts, checked}
 use Rattle.wfc_check.specs.declared.fault.CheckFault.{CheckFault}
 use Rattle.wfc_check.specs.declared.fault.CheckFault.TheVariants.{BadLine, HeaderDiffers, NotEnded, OptionsDiffer}
 use Rattle.wfc_check.specs.declared.progress.Progress.{Progress}
@@ -101,7 +101,7 @@ IsBehindFirst Shaping = ⊤
 IsBehindFirst (Proving format) = ⊤
 
 -- behind a line of this number comes the next, or the fault is at it
-abbrev LedFrom : ℕ → Result Place CheckFault → Type 0
+abbrev LedFrom : ℕ → Result TextPlace CheckFault → Type 0
 LedFrom number (Ok at) = FitsStage (number + 1) at.stage × IsBehindFirst at.stage
 LedFrom number (Err fault) = line_at_fault fault ≡ Some number
 
@@ -109,7 +109,7 @@ first : (number : ℕ) (point : Point) (read : Result Format LineFault) → numb
 first number point (Ok format) fits = (omega arith, tt)
 first number point (Err fault) fits = refl
 
-numbers : (P : Network) (format : Format) (number : ℕ) (point : Point) (read : Result Numbers LineFault) → number ≡ 2 → LedFrom number (at_point point (after_numbers P format number read))
+numbers : (P : Network) (format : Format) (number : ℕ) (point : Point) (read : Result HeadNumbers LineFault) → number ≡ 2 → LedFrom number (at_point point (after_numbers P format number read))
 numbers P format number point (Ok found) fits = by (are_of_problem P found) format
   where
     by : (test : Bool) (format : Format) → LedFrom number (at_point point (cond test (Ok (behind_numbers format)) (Err (HeaderDiffers found.cells found.values))))
@@ -126,24 +126,24 @@ shapes shape number point (Ok found) fits = by (are_one found shape)
     by false = ap (λ (n : ℕ). Some n) (sym fits)
 shapes shape number point (Err fault) fits = refl
 
-steps : (number : ℕ) (format : Format) (led : Result Point Reject) → LedFrom number (after_step number format led)
+steps : (number : ℕ) (format : Format) (led : Result Point Reject) → LedFrom number (place_after_step number format led)
 steps number format (Ok point) = (tt, tt)
 steps number format (Err reject) = refl
 
-lines : (P : Network) (number : ℕ) (format : Format) (point : Point) (read : Result Line LineFault) → LedFrom number (after_line P number format point read)
+lines : (P : Network) (number : ℕ) (format : Format) (point : Point) (read : Result Line LineFault) → LedFrom number (place_after_line P number format point read)
 lines P number format point (Ok line) = steps number format (line_step P point line)
 lines P number format point (Err fault) = refl
 
-stages : (P : Network) (shape : Shape) (number : ℕ) (stage : Stage) (point : Point) (line : List ℕ) → FitsStage number stage → LedFrom number (staged P shape number stage point line)
+stages : (P : Network) (shape : Shape) (number : ℕ) (stage : Stage) (point : Point) (line : List ℕ) → FitsStage number stage → LedFrom number (stage_answer P shape number stage point line)
 stages P shape number First point line fits = first number point (format_of line) fits
-stages P shape number (Numbering format) point line fits = numbers P format number point (numbers_of line) fits
+stages P shape number (Numbering format) point line fits = numbers P format number point (head_numbers line) fits
 stages P shape number Shaping point line fits = shapes shape number point (shape_of line) fits
 stages P shape number (Proving format) point line fits = lines P number format point (line_in format line)
 
-led : (P : Network) (shape : Shape) (number : ℕ) (at : Place) (line : List ℕ) → FitsStage number at.stage → LedFrom number (line_led P shape number at line)
+led : (P : Network) (shape : Shape) (number : ℕ) (at : TextPlace) (line : List ℕ) → FitsStage number at.stage → LedFrom number (line_led P shape number at line)
 led P shape number at line fits = by (nat_lt 64 (length line))
   where
-    by : (test : Bool) → LedFrom number (cond test (Err (BadLine number)) (staged P shape number at.stage at.point line))
+    by : (test : Bool) → LedFrom number (cond test (Err (BadLine number)) (stage_answer P shape number at.stage at.point line))
     by true = refl
     by false = stages P shape number at.stage at.point line fits
 
@@ -179,7 +179,7 @@ not_ended k fault answer (inr open_still) is line =
     let none : Some k ≡ None = sym line ∙ ap line_at_fault same in
     cc
 
-end_fault : (number k : ℕ) (at : Place) (line : List ℕ) (fault : CheckFault) → answer_at_end number at line ≡ Err fault → line_at_fault fault ≡ Some k → k ≡ number
+end_fault : (number k : ℕ) (at : TextPlace) (line : List ℕ) (fault : CheckFault) → answer_at_end number at line ≡ Err fault → line_at_fault fault ≡ Some k → k ≡ number
 end_fault number k at (byte ∷ line) fault is at_line = bad_line number k fault (Err (BadLine number)) refl is at_line
 end_fault number k at [] fault is at_line = by at.stage is
   where
@@ -192,23 +192,23 @@ end_fault number k at [] fault is at_line = by at.stage is
 -- ---- the first fault
 
 -- the answer to parts
-abbrev answer : Network → Shape → ℕ → Place → List (List ℕ) → Result (Unit {0}) CheckFault
+abbrev answer : Network → Shape → ℕ → TextPlace → List (List ℕ) → Result (Unit {0}) CheckFault
 answer P shape number at parts = answer_to_parts P shape false number at parts
 
 -- line k is the first at fault, where the first part is a line of this number
-record IsFirstFault (P : Network) (shape : Shape) (number : ℕ) (at : Place) (parts : List (List ℕ)) (fault : CheckFault) (k : ℕ) : Type 0 where
+record IsFirstFault (P : Network) (shape : Shape) (number : ℕ) (at : TextPlace) (parts : List (List ℕ)) (fault : CheckFault) (k : ℕ) : Type 0 where
   pub low : number ≤ k
   pub here : answer P shape number at (fronts (suc (k - number)) parts) ≡ Err fault
   pub before : (n : ℕ) → number + n ≤ k → ((0 < n) ⊎ IsBehindFirst at.stage) → IsRight (answer P shape number at (fronts n parts))
 
 -- no line before it was read
-none_before : (P : Network) (shape : Shape) (number : ℕ) (at : Place) (part : List ℕ) (parts : List (List ℕ)) (n : ℕ) → n ≡ 0 → ((0 < n) ⊎ IsBehindFirst at.stage)
+none_before : (P : Network) (shape : Shape) (number : ℕ) (at : TextPlace) (part : List ℕ) (parts : List (List ℕ)) (n : ℕ) → n ≡ 0 → ((0 < n) ⊎ IsBehindFirst at.stage)
     → IsRight (answer P shape number at (fronts n (part ∷ parts)))
 none_before P shape number at part parts zero none (inl some) = absurd (omega arith)
 none_before P shape number at part parts zero none (inr behind) = end_right number at.stage at.point behind
 none_before P shape number at part parts (suc n) none from = absurd (omega arith)
 
-first_fault : (P : Network) (shape : Shape) (number : ℕ) (at : Place) (parts : List (List ℕ)) (fault : CheckFault) (k : ℕ) → FitsStage number at.stage → 0 < length parts
+first_fault : (P : Network) (shape : Shape) (number : ℕ) (at : TextPlace) (parts : List (List ℕ)) (fault : CheckFault) (k : ℕ) → FitsStage number at.stage → 0 < length parts
     → answer P shape number at parts ≡ Err fault → line_at_fault fault ≡ Some k → IsFirstFault P shape number at parts fault k
 first_fault P shape number at [] fault k fits some is line = absurd (omega arith)
 first_fault P shape number at (part ∷ []) fault k fits some is line =
@@ -223,20 +223,20 @@ first_fault P shape number at (part ∷ next ∷ parts) fault k fits some is lin
     (λ after fitting rest. first_fault P shape (number + 1) after (next ∷ parts) fault k fitting (omega arith) rest line)
   where
     -- behind a line that is right
-    led_on : (to : Place) → line_led P shape number at part ≡ Ok to → (n : ℕ)
+    led_on : (to : TextPlace) → line_led P shape number at part ≡ Ok to → (n : ℕ)
         → answer P shape number at (part ∷ fronts n (next ∷ parts)) ≡ answer P shape (number + 1) to (fronts n (next ∷ parts))
     led_on to e n =
         answer-cons P shape false number at part (fronts n (next ∷ parts)) (fronts_some n (next ∷ parts) (omega arith))
         ∙ ap (λ r. and_read r (λ x. answer P shape (number + 1) x (fronts n (next ∷ parts)))) e
 
-    earlier : (to : Place) → line_led P shape number at part ≡ Ok to → IsBehindFirst to.stage
+    earlier : (to : TextPlace) → line_led P shape number at part ≡ Ok to → IsBehindFirst to.stage
         → ((n : ℕ) → number + 1 + n ≤ k → ((0 < n) ⊎ IsBehindFirst to.stage) → IsRight (answer P shape (number + 1) to (fronts n (next ∷ parts))))
         → (n : ℕ) → number + n ≤ k → ((0 < n) ⊎ IsBehindFirst at.stage) → IsRight (answer P shape number at (fronts n (part ∷ next ∷ parts)))
     earlier to e read before zero le from = none_before P shape number at part (next ∷ parts) zero refl from
     earlier to e read before (suc n) le from = subst IsRight (sym (led_on to e n)) (before n (omega arith) (inr read))
 
-    by : (read : Result Place CheckFault) → line_led P shape number at part ≡ read → LedFrom number read
-        → ((after : Place) → FitsStage (number + 1) after.stage → answer P shape (number + 1) after (next ∷ parts) ≡ Err fault → IsFirstFault P shape (number + 1) after (next ∷ parts) fault k)
+    by : (read : Result TextPlace CheckFault) → line_led P shape number at part ≡ read → LedFrom number read
+        → ((after : TextPlace) → FitsStage (number + 1) after.stage → answer P shape (number + 1) after (next ∷ parts) ≡ Err fault → IsFirstFault P shape (number + 1) after (next ∷ parts) fault k)
         → IsFirstFault P shape number at (part ∷ next ∷ parts) fault k
     by (Err found) e at_line behind =
         let refused : Err found ≡ Err fault = sym (ap (λ r. and_read r (λ after. answer P shape (number + 1) after (next ∷ parts))) e) ∙ is in

@@ -7,7 +7,7 @@ use Rattle.std.proofs.lemmas.List.{length-set}
 use Rattle.wfc_problem.specs.Domains.{Test}
 use Rattle.wfc_problem.specs.Network.{Network, values, in_base}
 use Rattle.wfc_problem.specs.Rounds.{depth_of}
-use Rattle.wfc_check.specs.Entries.{left, waiting, are_stood}
+use Rattle.wfc_check.specs.Entries.{domains_left, waiting_branches, are_stood}
 use Rattle.wfc_check.specs.Flags.{AreKept}
 use Rattle.wfc_check.specs.declared.trail.Entry.{Entry}
 use Rattle.wfc_check.proofs.Rows.{flag_removed, flag_restored}
@@ -21,22 +21,22 @@ abbrev pub waits_at : ℕ → ℕ → Entry
 waits_at c v = record { cell = c; value = v; waits = true }
 
 -- there is room for one more
-pub kept_room : (P : Network) (flags : List Bool) (es : List Entry) (room : ℕ) → AreKept P flags es room → (c v : ℕ) → left (in_base P) es c v ≡ true → length es < room
+pub kept_room : (P : Network) (flags : List Bool) (es : List Entry) (room : ℕ) → AreKept P flags es room → (c v : ℕ) → domains_left (in_base P) es c v ≡ true → length es < room
 kept_room P flags es room h c v t = room_more P h.problem es c v room h.stood t h.few h.fits
 
 -- what stands has a flag
-pub kept_inside : (P : Network) (flags : List Bool) (es : List Entry) (room : ℕ) → AreKept P flags es room → (c v : ℕ) → left (in_base P) es c v ≡ true → (c < P.cells) × (v < values P)
+pub kept_inside : (P : Network) (flags : List Bool) (es : List Entry) (room : ℕ) → AreKept P flags es room → (c v : ℕ) → domains_left (in_base P) es c v ≡ true → (c < P.cells) × (v < values P)
 kept_inside P flags es room h c v t = left_inside P h.problem es c v t
 
 -- a value is taken away
-pub kept_removed : (P : Network) (flags : List Bool) (es : List Entry) (room room' : ℕ) → AreKept P flags es room → (c v : ℕ) → left (in_base P) es c v ≡ true → 2 * depth_of P ≤ room'
+pub kept_removed : (P : Network) (flags : List Bool) (es : List Entry) (room room' : ℕ) → AreKept P flags es room → (c v : ℕ) → domains_left (in_base P) es c v ≡ true → 2 * depth_of P ≤ room'
     → AreKept P (set flags (c * values P + v) false) (es ++ taken c v ∷ []) room'
 kept_removed P flags es room room' h c v t fits =
     let n = left_inside P h.problem es c v t in
     record {
       problem = h.problem;
       whole = length-set flags (c * values P + v) false ∙ h.whole;
-      each = λ x w. flag_removed (values P) flags (left (in_base P) es) c v P.cells h.whole n.0 n.1 h.each x w
+      each = λ x w. flag_removed (values P) flags (domains_left (in_base P) es) c v P.cells h.whole n.0 n.1 h.each x w
           ∙ ap (λ (D : Test). D x w) (sym (left_more (in_base P) es (taken c v)));
       stood = stood_more (in_base P) es (taken c v) ∙ and_from _ _ h.stood t;
       few = omega (arith, h.few, ap length (waiting_more (in_base P) [] es (taken c v)));
@@ -44,8 +44,8 @@ kept_removed P flags es room room' h c v t fits =
     }
 
 -- a branch waits
-pub kept_waits : (P : Network) (flags : List Bool) (es : List Entry) (room room' : ℕ) → AreKept P flags es room → (c v : ℕ) → left (in_base P) es c v ≡ true
-    → length (waiting (in_base P) [] es) < depth_of P → 2 * depth_of P ≤ room' → AreKept P flags (es ++ waits_at c v ∷ []) room'
+pub kept_waits : (P : Network) (flags : List Bool) (es : List Entry) (room room' : ℕ) → AreKept P flags es room → (c v : ℕ) → domains_left (in_base P) es c v ≡ true
+    → length (waiting_branches (in_base P) [] es) < depth_of P → 2 * depth_of P ≤ room' → AreKept P flags (es ++ waits_at c v ∷ []) room'
 kept_waits P flags es room room' h c v t few fits = record {
   problem = h.problem;
   whole = h.whole;
@@ -57,7 +57,7 @@ kept_waits P flags es room room' h c v t few fits = record {
 
 -- the last entry's value stood
 pub last_stood : (P : Network) (flags : List Bool) (es : List Entry) (e : Entry) (room : ℕ) → AreKept P flags (es ++ e ∷ []) room
-    → (are_stood (in_base P) es ≡ true) × (left (in_base P) es e.cell e.value ≡ true)
+    → (are_stood (in_base P) es ≡ true) × (domains_left (in_base P) es e.cell e.value ≡ true)
 last_stood P flags es e room h = and_parts _ _ (sym (stood_more (in_base P) es e) ∙ h.stood)
 
 -- a value comes back
@@ -69,7 +69,7 @@ kept_restored P flags es c v room room' h fits =
     record {
       problem = h.problem;
       whole = length-set flags (c * values P + v) true ∙ h.whole;
-      each = flag_restored (values P) flags (left (in_base P) es) c v P.cells h.whole n.0 n.1 s.1
+      each = flag_restored (values P) flags (domains_left (in_base P) es) c v P.cells h.whole n.0 n.1 s.1
           (λ x w. h.each x w ∙ ap (λ (D : Test). D x w) (left_more (in_base P) es (taken c v)));
       stood = s.0;
       few = omega (arith, h.few, ap length (waiting_more (in_base P) [] es (taken c v)));
@@ -99,7 +99,7 @@ is_awaited e h = let w : e.waits ≡ true = grind (arith, h) in λ i. record { c
 
 -- its value stands behind the others
 pub back_stood : (P : Network) (flags : List Bool) (all es : List Entry) (e : Entry) (room : ℕ) → AreKept P flags all room → all ≡ es ++ e ∷ []
-    → left (in_base P) es e.cell e.value ≡ true
+    → domains_left (in_base P) es e.cell e.value ≡ true
 back_stood P flags all es e room h is = (last_stood P flags es e room (subst (λ (xs : List Entry). AreKept P flags xs room) is h)).1
 
 -- and has a flag

@@ -8,17 +8,17 @@ use Rattle.wfc_proof.specs.declared.Line.{Line}
 use Rattle.wfc_proof.specs.declared.Reject.{Reject}
 use Rattle.wfc_proof.proofs.Told.{lines_ended}
 use Rattle.wfc_proof.proofs.Sound.{closed_none}
-use Rattle.wfc_check.specs.Checker.{CheckerView, point_of, problem_of, progress_of, told, led_to, IsOpened, AreEnded, SpellClosing, HasNone}
+use Rattle.wfc_check.specs.Checker.{CheckerView, point_of, checker_problem, progress_of, line_answer, led_to, IsAtBase, AreEnded, SpellClosing, HasNone}
 use Rattle.wfc_check.specs.declared.progress.Progress.{Progress}
 use Rattle.wfc_check.specs.declared.progress.Progress.TheVariants.{Going, Ended}
 
 -- a checker that took some of the lines: those that are left lead from its point where all lead from the base
 pub record IsFollowing (P : Network) (checker : CheckerView) (progress : Progress) (lines : List Line) (index : ℕ) : Type 0 where
-  pub problem : problem_of checker ≡ P
+  pub problem : checker_problem checker ≡ P
   pub progress_is : progress ≡ progress_of (point_of checker)
   pub ahead : line_steps P (going (in_base P) []) lines ≡ line_steps P (point_of checker) (drop index lines)
 
-pub follows_first : (P : Network) (checker : CheckerView) (lines : List Line) → IsOpened P checker → IsFollowing P checker Going lines 0
+pub follows_first : (P : Network) (checker : CheckerView) (lines : List Line) → IsAtBase P checker → IsFollowing P checker Going lines 0
 follows_first P checker lines h = record {
   problem = h.problem;
   progress_is = sym (ap progress_of h.point);
@@ -26,20 +26,20 @@ follows_first P checker lines h = record {
 }
 
 -- what an answer says of the definition's result
-told_ok : (s : Result Point Reject) (progress : Progress) (q : Point) → Ok progress ≡ told s → (s ≡ Ok (led_to q s)) × (progress ≡ progress_of (led_to q s))
+told_ok : (s : Result Point Reject) (progress : Progress) (q : Point) → Ok progress ≡ line_answer s → (s ≡ Ok (led_to q s)) × (progress ≡ progress_of (led_to q s))
 told_ok (Ok point) progress q e = (refl, let p : progress ≡ progress_of point = cc in p)
 told_ok (Err r) progress q e = cc
 
-told_err : (s : Result Point Reject) (r : Reject) → Err r ≡ told s → s ≡ Err r
+told_err : (s : Result Point Reject) (r : Reject) → Err r ≡ line_answer s → s ≡ Err r
 told_err (Ok point) r e = cc
 told_err (Err x) r e = let same : x ≡ r = cc in ap (λ y. Err y) same
 
 pub follows_next : (P : Network) (old new : CheckerView) (progress next : Progress) (lines : List Line) (index : ℕ) (line : Line) → IsFollowing P old progress lines index
-    → drop index lines ≡ line ∷ drop (index + 1) lines → problem_of new ≡ problem_of old
-    → Ok next ≡ told (line_step (problem_of old) (point_of old) line) → point_of new ≡ led_to (point_of old) (line_step (problem_of old) (point_of old) line)
+    → drop index lines ≡ line ∷ drop (index + 1) lines → checker_problem new ≡ checker_problem old
+    → Ok next ≡ line_answer (line_step (checker_problem old) (point_of old) line) → point_of new ≡ led_to (point_of old) (line_step (checker_problem old) (point_of old) line)
     → IsFollowing P new next lines (index + 1)
 follows_next P old new progress next lines index line h at same answer led =
-    let t = told_ok (line_step (problem_of old) (point_of old) line) next (point_of old) answer in
+    let t = told_ok (line_step (checker_problem old) (point_of old) line) next (point_of old) answer in
     record {
       problem = same ∙ h.problem;
       progress_is = t.1 ∙ sym (ap progress_of led);
@@ -50,9 +50,9 @@ follows_next P old new progress next lines index line h at same answer led =
 
 -- a refused line ends it
 pub refused_none : (P : Network) (old : CheckerView) (progress : Progress) (lines : List Line) (index : ℕ) (line : Line) (r : Reject) → IsFollowing P old progress lines index
-    → drop index lines ≡ line ∷ drop (index + 1) lines → Err r ≡ told (line_step (problem_of old) (point_of old) line) → AreEnded P lines → ⊥
+    → drop index lines ≡ line ∷ drop (index + 1) lines → Err r ≡ line_answer (line_step (checker_problem old) (point_of old) line) → AreEnded P lines → ⊥
 refused_none P old progress lines index line r h at answer all =
-    let e = told_err (line_step (problem_of old) (point_of old) line) r answer in
+    let e = told_err (line_step (checker_problem old) (point_of old) line) r answer in
     let none : line_steps P (going (in_base P) []) lines ≡ Err r =
     h.ahead ∙ ap (line_steps P (point_of old)) at
     ∙ ap (λ (Q : Network). and_on (line_step Q (point_of old) line) (λ m. line_steps P m (drop (index + 1) lines))) (sym h.problem)

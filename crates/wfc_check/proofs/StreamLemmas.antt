@@ -6,9 +6,9 @@ use Rattle.std.proofs.lemmas.List.Elements.{All-append}
 use Rattle.wfc_outside.specs.Folder.{File, FolderView, IsPieceOf, GivesFrom}
 use Rattle.wfc_text.specs.Line.{is_line_feed}
 use Rattle.wfc_check.specs.declared.stream.LineEnd.{LineEnd}
-use Rattle.wfc_check.specs.Lines.{IsPlain}
+use Rattle.wfc_check.specs.Lines.{HasNoLineFeed}
 use Rattle.wfc_check.proofs.PlainLemmas.{NoFeed, plain_front, plain_all}
-use Rattle.wfc_check.specs.Stream.{EndsLine, Gathering, Gathers, Gave, HasLeft, IsBehind, IsLeft, IsOver, IsShortLine, Keeps, Passes, Steps, StreamView}
+use Rattle.wfc_check.specs.Stream.{EndsLine, Gathering, GathersLine, Gave, HasLeft, IsBehind, IsLeft, IsOver, IsShortLine, HasReadFile, HasGivenKept, HasGiven, FileStreamView}
 
 -- a piece that was read makes, with what stands behind it, what stood behind the bytes before
 piece_behind : (contents : Option (List File)) (name buffer behind : List ℕ) (at n : ℕ) → GivesFrom contents name at buffer n → IsBehind contents name (at + n) behind → IsBehind contents name at (take n buffer ++ behind)
@@ -20,7 +20,7 @@ piece_behind (Some files) name buffer behind at n (file, there, gives) (other, a
 
 -- a stream that keeps nothing reads a piece
 pub read_steps : (contents : Option (List File)) (name kept items buffer : List ℕ) (at n room : ℕ) → kept ≡ [] → items ≡ buffer → GivesFrom contents name at buffer n
-    → Steps contents (record { name = name; kept = kept; at = at; room = room }) (record { name = name; kept = take n items; at = at + n; room = room }) []
+    → HasGiven contents (record { name = name; kept = kept; at = at; room = room }) (record { name = name; kept = take n items; at = at + n; room = room }) []
 read_steps contents name kept items buffer at n room none same given = record {
   room = omega arith;
   back = λ left is. record {
@@ -36,7 +36,7 @@ read_left None name kept buffer at n room given = (kept ++ [], record { behind =
 read_left (Some files) name kept buffer at n room (file, there, gives) = (kept ++ drop (at + n) file, record { behind = drop (at + n) file; is = refl; told = (file, there, refl) })
 
 -- bytes that were kept make, with what is left, what was left before
-passes_steps : (contents : Option (List File)) (old new : StreamView) (bytes : List ℕ) → Passes old new bytes → Steps contents old new bytes
+passes_steps : (contents : Option (List File)) (old new : FileStreamView) (bytes : List ℕ) → HasGivenKept old new bytes → HasGiven contents old new bytes
 passes_steps contents old new bytes passes = record {
   room = passes.room;
   back = λ left is. record {
@@ -47,7 +47,7 @@ passes_steps contents old new bytes passes = record {
 }
 
 -- and something is left behind them
-passes_left : (contents : Option (List File)) (old new : StreamView) (bytes : List ℕ) → Passes old new bytes → HasLeft contents old → HasLeft contents new
+passes_left : (contents : Option (List File)) (old new : FileStreamView) (bytes : List ℕ) → HasGivenKept old new bytes → HasLeft contents old → HasLeft contents new
 passes_left contents old new bytes passes (left, is) = (
   new.kept ++ is.behind,
   record {
@@ -58,23 +58,23 @@ passes_left contents old new bytes passes (left, is) = (
 )
 
 -- the bytes so far, and what comes then
-steps_on : (contents : Option (List File)) (old mid new : StreamView) (first rest : List ℕ) → Steps contents old mid first → Steps contents mid new rest → Steps contents old new (first ++ rest)
+steps_on : (contents : Option (List File)) (old mid new : FileStreamView) (first rest : List ℕ) → HasGiven contents old mid first → HasGiven contents mid new rest → HasGiven contents old new (first ++ rest)
 steps_on contents old mid new first rest steps more = record {
   room = omega (arith, steps.room, more.room, length-append first rest);
   back = λ left is. subst (IsLeft contents old) (sym (append_assoc first rest left)) (steps.back (rest ++ left) (more.back left is));
 }
 
 -- a piece was read if none was kept, and then bytes that are kept were given
-pub gave_on : (contents : Option (List File)) (old start mid new : StreamView) (first rest : List ℕ) → Steps contents old start first → (Keeps contents old → Keeps contents start)
-    → Steps contents start mid [] → (Keeps contents start → HasLeft contents mid) → Passes mid new rest → Gave contents old new (first ++ rest)
+pub gave_on : (contents : Option (List File)) (old start mid new : FileStreamView) (first rest : List ℕ) → HasGiven contents old start first → (HasReadFile contents old → HasReadFile contents start)
+    → HasGiven contents start mid [] → (HasReadFile contents start → HasLeft contents mid) → HasGivenKept mid new rest → Gave contents old new (first ++ rest)
 gave_on contents old start mid new first rest steps keeps read has passes = record {
   steps = steps_on contents old start new first rest steps (steps_on contents start mid new [] rest read (passes_steps contents mid new rest passes));
   left = λ kept. passes_left contents mid new rest passes (has (keeps kept));
 }
 
 -- a stream that keeps a byte that may not be given
-pub over_on : (contents : Option (List File)) (old start mid : StreamView) (first : List ℕ) → Steps contents old start first → (Keeps contents old → Keeps contents start)
-    → Steps contents start mid [] → (Keeps contents start → HasLeft contents mid) → 0 < length mid.kept → mid.room ≡ 0 → IsOver contents old first
+pub over_on : (contents : Option (List File)) (old start mid : FileStreamView) (first : List ℕ) → HasGiven contents old start first → (HasReadFile contents old → HasReadFile contents start)
+    → HasGiven contents start mid [] → (HasReadFile contents start → HasLeft contents mid) → 0 < length mid.kept → mid.room ≡ 0 → IsOver contents old first
 over_on contents old start mid first steps keeps read has some full = record {
   room = omega (arith, steps.room, read.room, full);
   more = λ kept.
@@ -83,43 +83,43 @@ over_on contents old start mid first steps keeps read has some full = record {
       (left.0, omega (arith, long, some), steps.back left.0 (read.back left.0 left.1));
 }
 
-pub end_on : (contents : Option (List File)) (old mid : StreamView) (first : List ℕ) → Steps contents old mid first → IsLeft contents mid [] → (length first ≤ old.room) × IsLeft contents old first
+pub end_on : (contents : Option (List File)) (old mid : FileStreamView) (first : List ℕ) → HasGiven contents old mid first → IsLeft contents mid [] → (length first ≤ old.room) × IsLeft contents old first
 end_on contents old mid first steps is = (omega (arith, steps.room), subst (IsLeft contents old) (append-nil first) (steps.back [] is))
 
 -- the same in a folder that is seen as at the start
-pub over_line : (first here : FolderView) (old start mid : StreamView) (line : List ℕ) → here ≡ first → Steps first.contents old start line → (Keeps first.contents old → Keeps first.contents start)
-    → Steps here.contents start mid [] → (Keeps here.contents start → HasLeft here.contents mid) → 0 < length mid.kept → mid.room ≡ 0 → IsOver first.contents old line
+pub over_line : (first here : FolderView) (old start mid : FileStreamView) (line : List ℕ) → here ≡ first → HasGiven first.contents old start line → (HasReadFile first.contents old → HasReadFile first.contents start)
+    → HasGiven here.contents start mid [] → (HasReadFile here.contents start → HasLeft here.contents mid) → 0 < length mid.kept → mid.room ≡ 0 → IsOver first.contents old line
 over_line first here old start mid line same steps keeps read has some full =
-    over_on first.contents old start mid line steps keeps (subst (λ (f : FolderView). Steps f.contents start mid []) same read)
-    (subst (λ (f : FolderView). Keeps f.contents start → HasLeft f.contents mid) same has) some full
+    over_on first.contents old start mid line steps keeps (subst (λ (f : FolderView). HasGiven f.contents start mid []) same read)
+    (subst (λ (f : FolderView). HasReadFile f.contents start → HasLeft f.contents mid) same has) some full
 
-pub gave_line : (first here : FolderView) (old start mid new : StreamView) (line after end : List ℕ) → here ≡ first → Steps first.contents old start line → (Keeps first.contents old → Keeps first.contents start)
-    → Steps here.contents start mid [] → (Keeps here.contents start → HasLeft here.contents mid) → Gathering mid new line after end → Gave first.contents old new (after ++ end)
+pub gave_line : (first here : FolderView) (old start mid new : FileStreamView) (line after end : List ℕ) → here ≡ first → HasGiven first.contents old start line → (HasReadFile first.contents old → HasReadFile first.contents start)
+    → HasGiven here.contents start mid [] → (HasReadFile here.contents start → HasLeft here.contents mid) → Gathering mid new line after end → Gave first.contents old new (after ++ end)
 gave_line first here old start mid new line after end same steps keeps read has gathering =
     subst (Gave first.contents old new) (sym (append_assoc line gathering.bytes end) ∙ ap (λ l. l ++ end) (sym gathering.line))
-    (gave_on first.contents old start mid new line (gathering.bytes ++ end) steps keeps (subst (λ (f : FolderView). Steps f.contents start mid []) same read)
-    (subst (λ (f : FolderView). Keeps f.contents start → HasLeft f.contents mid) same has) gathering.passes)
+    (gave_on first.contents old start mid new line (gathering.bytes ++ end) steps keeps (subst (λ (f : FolderView). HasGiven f.contents start mid []) same read)
+    (subst (λ (f : FolderView). HasReadFile f.contents start → HasLeft f.contents mid) same has) gathering.passes)
 
-pub end_line : (first here : FolderView) (old start : StreamView) (line : List ℕ) → here ≡ first → Steps first.contents old start line → IsLeft here.contents start [] → (length line ≤ old.room) × IsLeft first.contents old line
+pub end_line : (first here : FolderView) (old start : FileStreamView) (line : List ℕ) → here ≡ first → HasGiven first.contents old start line → IsLeft here.contents start [] → (length line ≤ old.room) × IsLeft first.contents old line
 end_line first here old start line same steps is = end_on first.contents old start line steps (subst (λ (f : FolderView). IsLeft f.contents start []) same is)
 
 -- a line with more bytes
-plain_on : (line bytes : List ℕ) → IsPlain line → IsPlain bytes → IsPlain (line ++ bytes)
+plain_on : (line bytes : List ℕ) → HasNoLineFeed line → HasNoLineFeed bytes → HasNoLineFeed (line ++ bytes)
 plain_on line bytes one other = All-append (λ b. is_line_feed b ≡ false) line bytes one other
 
 -- a line with the bytes that came to it
-pub plain_after : (mid new : StreamView) (line after end : List ℕ) → IsShortLine line → Gathering mid new line after end → IsPlain after
-plain_after mid new line after end short gathering = subst IsPlain (sym gathering.line) (plain_on line gathering.bytes short.plain gathering.plain)
+pub plain_after : (mid new : FileStreamView) (line after end : List ℕ) → IsShortLine line → Gathering mid new line after end → HasNoLineFeed after
+plain_after mid new line after end short gathering = subst HasNoLineFeed (sym gathering.line) (plain_on line gathering.bytes short.plain gathering.plain)
 
 -- the end of a line, in a folder that is seen as at the start
-pub ends_line : (start here : FolderView) (old new : StreamView) (line : List ℕ) (end kind : LineEnd) → here ≡ start → end ≡ kind → EndsLine here.contents old new line end → EndsLine start.contents old new line kind
+pub ends_line : (start here : FolderView) (old new : FileStreamView) (line : List ℕ) (end kind : LineEnd) → here ≡ start → end ≡ kind → EndsLine here.contents old new line end → EndsLine start.contents old new line kind
 ends_line start here old new line end kind same is ends = subst (λ (f : FolderView). EndsLine f.contents old new line kind) same (subst (EndsLine here.contents old new line) is ends)
 
 -- ---- bytes of a piece
 
 -- going past bytes that are kept
 pub passes_front : (name piece : List ℕ) (from to count at room : ℕ) → from + count ≤ to → to ≤ length piece → count ≤ room
-    → Passes (record { name = name; kept = drop from (take to piece); at = at; room = room }) (record { name = name; kept = drop (from + count) (take to piece); at = at; room = room - count }) (take count (drop from (take to piece)))
+    → HasGivenKept (record { name = name; kept = drop from (take to piece); at = at; room = room }) (record { name = name; kept = drop (from + count) (take to piece); at = at; room = room - count }) (take count (drop from (take to piece)))
 passes_front name piece from to count at room inside whole most =
     let long : length (take count (drop from (take to piece))) ≡ count = grind (arith, common_steps) in
     record {
@@ -137,23 +137,23 @@ kept_front piece from to n inside =
     sym (ap (λ t. take n (drop from (take t piece))) sum ∙ ap (take n) (drop-take from (n + rest) piece) ∙ take-take n (n + rest) (drop from piece) (omega arith))
 
 -- the bytes before the line's end came to the line
-pub gathers_end : (old new : StreamView) (before after hay : List ℕ) (at most : ℕ) → hay ≡ take most old.kept → at < length hay → NoFeed hay at → get_or hay at 0 ≡ 10 → after ≡ before ++ take at hay
-    → length before + most ≤ 65 → Passes old new (take (at + 1) old.kept) → Gathers old new before after true
+pub gathers_end : (old new : FileStreamView) (before after hay : List ℕ) (at most : ℕ) → hay ≡ take most old.kept → at < length hay → NoFeed hay at → get_or hay at 0 ≡ 10 → after ≡ before ++ take at hay
+    → length before + most ≤ 65 → HasGivenKept old new (take (at + 1) old.kept) → GathersLine old new before after true
 gathers_end old new before after hay at most is inside none feed line few passes =
     let long : length hay ≤ most = omega (arith, ap length is, length-take most old.kept) in
     let front : take (at + 1) old.kept ≡ take at hay ++ 10 ∷ [] =
     sym (take-take (at + 1) most old.kept (omega arith)) ∙ ap (take (at + 1)) (sym is) ∙ take_more hay at 0 inside ∙ ap (λ b. take at hay ++ b ∷ []) feed in (
-      record { bytes = take at hay; plain = plain_front hay at (omega arith) none; line = line; passes = subst (Passes old new) front passes },
+      record { bytes = take at hay; plain = plain_front hay at (omega arith) none; line = line; passes = subst (HasGivenKept old new) front passes },
       omega (arith, ap length line, length-append before (take at hay), length-take at hay),
     )
 
 -- all bytes came to the line
-pub gathers_more : (old new : StreamView) (before after hay : List ℕ) (most : ℕ) → hay ≡ take most old.kept → NoFeed hay (length hay) → after ≡ before ++ hay → 0 < length hay → length before + most ≤ 65
-    → Passes old new (take most old.kept) → Gathers old new before after false
+pub gathers_more : (old new : FileStreamView) (before after hay : List ℕ) (most : ℕ) → hay ≡ take most old.kept → NoFeed hay (length hay) → after ≡ before ++ hay → 0 < length hay → length before + most ≤ 65
+    → HasGivenKept old new (take most old.kept) → GathersLine old new before after false
 gathers_more old new before after hay most is none line some few passes =
     let long : length hay ≤ most = omega (arith, ap length is, length-take most old.kept) in
     let sum : length after ≡ length before + length hay = ap length line ∙ length-append before hay in (
-      record { bytes = hay; plain = plain_all hay none; line = line; passes = subst (Passes old new) (sym is ∙ sym (append-nil hay)) passes },
+      record { bytes = hay; plain = plain_all hay none; line = line; passes = subst (HasGivenKept old new) (sym is ∙ sym (append-nil hay)) passes },
       omega arith,
       omega arith,
     )

@@ -16,7 +16,7 @@ use Rattle.wfc_proof.specs.declared.Reject.{Reject}
 use Rattle.wfc_proof.proofs.Nodes.{accepted_removal, accepted_split}
 use Rattle.wfc_proof.proofs.Waiting.{waiting_few}
 use Rattle.wfc_check.specs.Entries.{TrailView, standing, waits_of, with_more, Resumes, Branches}
-use Rattle.wfc_check.specs.Checker.{point_at, progress_of, told, led_to, IsTaken, IsReached}
+use Rattle.wfc_check.specs.Checker.{point_at, progress_of, line_answer, led_to, IsTaken, IsReached}
 use Rattle.wfc_check.specs.declared.progress.Progress.{Progress}
 use Rattle.wfc_check.specs.declared.progress.Progress.TheVariants.{Going, Closed, Ended}
 use Rattle.wfc_check.specs.declared.trail.Entry.{Entry}
@@ -40,7 +40,7 @@ progress_at Closed t = refl
 progress_at Ended t = refl
 
 -- what was taken is the answer
-pub taken_told : (s : Result Point Reject) (r : Result Progress Reject) (old new : TrailView) → IsTaken s old new r → r ≡ told s
+pub taken_told : (s : Result Point Reject) (r : Result Progress Reject) (old new : TrailView) → IsTaken s old new r → r ≡ line_answer s
 taken_told (Ok point) (Ok progress) old new h = ap (λ (p : Progress). Ok p) (sym (progress_at progress new) ∙ ap progress_of h.1)
 taken_told (Ok point) (Err r) old new h = absurd h
 taken_told (Err reject) (Ok progress) old new h = absurd h
@@ -196,10 +196,10 @@ taken_alone (Ok point) old new r h = h
 taken_alone (Err reject) old new r h = h
 
 -- where the proof is closed
-pub taken_closed : (t : TrailView) (line : Line) (r : Result Progress Reject) → r ≡ told (closed_step line) → IsTaken (closed_step line) t t r
+pub taken_closed : (t : TrailView) (line : Line) (r : Result Progress Reject) → r ≡ line_answer (closed_step line) → IsTaken (closed_step line) t t r
 taken_closed t line r e = subst (λ (x : Result Progress Reject). IsTaken (closed_step line) t t x) (sym e) (each line)
   where
-    each : (l : Line) → IsTaken (closed_step l) t t (told (closed_step l))
+    each : (l : Line) → IsTaken (closed_step l) t t (line_answer (closed_step l))
     each (Remove c v d) = (refl, refl)
     each (Span c first last d) = (refl, refl)
     each (Try c v) = (refl, refl)

@@ -10,17 +10,17 @@ use Rattle.wfc_text.specs.Line.{is_line_feed}
 use Rattle.wfc_problem.specs.Network.{Network}
 use Rattle.wfc_proof.specs.declared.heads.Shape.{Shape}
 use Rattle.wfc_check.specs.declared.fault.CheckFault.TheVariants.{BadLine, TooLong}
-use Rattle.wfc_check.specs.Lines.{IsPlain}
-use Rattle.wfc_check.specs.Text.{Place, line_led, answer_at_end, and_read, answer_to_parts, answer_from, staged}
+use Rattle.wfc_check.specs.Lines.{HasNoLineFeed}
+use Rattle.wfc_check.specs.Text.{TextPlace, line_led, answer_at_end, and_read, answer_to_parts, answer_from, stage_answer}
 
 -- a part that others follow
-pub answer-cons : (P : Network) (shape : Shape) (over : Bool) (number : ℕ) (at : Place) (line : List ℕ) (parts : List (List ℕ)) → 0 < length parts
+pub answer-cons : (P : Network) (shape : Shape) (over : Bool) (number : ℕ) (at : TextPlace) (line : List ℕ) (parts : List (List ℕ)) → 0 < length parts
     → answer_to_parts P shape over number at (line ∷ parts) ≡ and_read (line_led P shape number at line) (λ after. answer_to_parts P shape over (number + 1) after parts)
 answer-cons P shape over number at line [] some = absurd (omega arith)
 answer-cons P shape over number at line (next ∷ parts) some = refl
 
 -- a line with its end
-pub answer-feed : (P : Network) (shape : Shape) (room number : ℕ) (at : Place) (line left : List ℕ) → IsPlain line
+pub answer-feed : (P : Network) (shape : Shape) (room number : ℕ) (at : TextPlace) (line left : List ℕ) → HasNoLineFeed line
     → answer_from P shape (room + (length line + 1)) number at (line ++ 10 ∷ left) ≡ and_read (line_led P shape number at line) (λ after. answer_from P shape room (number + 1) after left)
 answer-feed P shape room number at line left plain =
     let parts = slice_split is_line_feed (take room left) in
@@ -33,7 +33,7 @@ answer-feed P shape room number at line left plain =
     ∙ answer-cons P shape (nat_lt room (length left)) number at line parts (omega (arith, length-slice_split is_line_feed (take room left)))
 
 -- a text that may be read to its end
-pub answer-within : (P : Network) (shape : Shape) (room number : ℕ) (at : Place) (text : List ℕ) → length text ≤ room
+pub answer-within : (P : Network) (shape : Shape) (room number : ℕ) (at : TextPlace) (text : List ℕ) → length text ≤ room
     → answer_from P shape room number at text ≡ answer_to_parts P shape false number at (slice_split is_line_feed text)
 answer-within P shape room number at text within =
     let over : nat_lt room (length text) ≡ false = grind (arith, nat_tests, within) in
@@ -41,13 +41,13 @@ answer-within P shape room number at text within =
     ∙ ap (λ bytes. answer_to_parts P shape false number at (slice_split is_line_feed bytes)) (take_all room text within)
 
 -- the last bytes of a text
-pub answer-end : (P : Network) (shape : Shape) (room number : ℕ) (at : Place) (line : List ℕ) → IsPlain line → length line ≤ room
+pub answer-end : (P : Network) (shape : Shape) (room number : ℕ) (at : TextPlace) (line : List ℕ) → HasNoLineFeed line → length line ≤ room
     → answer_from P shape room number at line ≡ answer_at_end number at line
 answer-end P shape room number at line plain within =
     answer-within P shape room number at line within ∙ ap (answer_to_parts P shape false number at) (slice_split_none is_line_feed line plain)
 
 -- all bytes that may be read, which may still become a line
-pub answer-over : (P : Network) (shape : Shape) (room number : ℕ) (at : Place) (line left : List ℕ) → IsPlain line → length line ≤ 64 → room ≡ length line → 0 < length left
+pub answer-over : (P : Network) (shape : Shape) (room number : ℕ) (at : TextPlace) (line left : List ℕ) → HasNoLineFeed line → length line ≤ 64 → room ≡ length line → 0 < length left
     → answer_from P shape room number at (line ++ left) ≡ Err TooLong
 answer-over P shape room number at line left plain short full some =
     let over : nat_lt room (length (line ++ left)) ≡ true = grind (arith, nat_tests, full, some, length-append line left) in
@@ -71,14 +71,14 @@ split_some text = by_parts (slice_split is_line_feed text) refl (omega (arith, l
     by_parts [] is some = absurd (omega arith)
     by_parts (first ∷ others) is some = record { first = first; others = others; is = is }
 
-split_plain : (line rest : List ℕ) (split : Split rest) → IsPlain line → slice_split is_line_feed (line ++ rest) ≡ (line ++ split.first) ∷ split.others
+split_plain : (line rest : List ℕ) (split : Split rest) → HasNoLineFeed line → slice_split is_line_feed (line ++ rest) ≡ (line ++ split.first) ∷ split.others
 split_plain [] rest split plain = split.is
 split_plain (byte ∷ line) rest split plain =
     slice_split-cons_no is_line_feed byte (line ++ rest) (All-head (λ b. is_line_feed b ≡ false) byte line plain)
     ∙ ap (onto_first byte) (split_plain line rest split (All-tail (λ b. is_line_feed b ≡ false) byte line plain))
 
 -- a line that is too long
-pub answer-long : (P : Network) (shape : Shape) (room number : ℕ) (at : Place) (line left : List ℕ) → IsPlain line → length line ≡ 65
+pub answer-long : (P : Network) (shape : Shape) (room number : ℕ) (at : TextPlace) (line left : List ℕ) → HasNoLineFeed line → length line ≡ 65
     → answer_from P shape (room + length line) number at (line ++ left) ≡ Err (BadLine number)
 answer-long P shape room number at line left plain long =
     let sum : room + length line ≡ length line + room = omega arith in
@@ -96,4 +96,4 @@ answer-long P shape room number at line left plain long =
     by_parts false (byte ∷ part) [] long = refl
     by_parts over part (next ∷ parts) long =
         let past : nat_lt 64 (length part) ≡ true = grind (arith, nat_tests, long) in
-        ap (λ test. and_read (cond test (Err (BadLine number)) (staged P shape number at.stage at.point part)) (λ after. answer_to_parts P shape over (number + 1) after (next ∷ parts))) past
+        ap (λ test. and_read (cond test (Err (BadLine number)) (stage_answer P shape number at.stage at.point part)) (λ after. answer_to_parts P shape over (number + 1) after (next ∷ parts))) past

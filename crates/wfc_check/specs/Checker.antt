@@ -4,7 +4,7 @@ use Rattle.wfc_problem.specs.Assignment.{IsLegalAssignment}
 use Rattle.wfc_problem.specs.Network.{Network, IsProblem, in_base}
 use Rattle.wfc_proof.specs.Checker.{Point, line_steps}
 use Rattle.wfc_proof.specs.Checker.Point.{going, closed, ended}
-use Rattle.wfc_proof.specs.Lines.{Spells}
+use Rattle.wfc_proof.specs.Lines.{SpellsNodes}
 use Rattle.wfc_proof.specs.Proof.{Proof, Closes, nodes}
 use Rattle.wfc_proof.specs.declared.Line.{Line}
 use Rattle.wfc_proof.specs.declared.Line.TheVariants.{End}
@@ -29,12 +29,12 @@ abbrev pub point_of : CheckerView → Point
 point_of checker = point_at checker.progress checker.trail
 
 -- the problem of a checker
-abbrev pub problem_of : CheckerView → Network
-problem_of checker = checker.trail.problem
+abbrev pub checker_problem : CheckerView → Network
+checker_problem checker = checker.trail.problem
 
 -- the checker is at the base domains of the problem, and no branch waits
-pub record IsOpened (P : Network) (checker : CheckerView) : Type 0 where
-  pub problem : problem_of checker ≡ P
+pub record IsAtBase (P : Network) (checker : CheckerView) : Type 0 where
+  pub problem : checker_problem checker ≡ P
   pub point : point_of checker ≡ going (in_base P) []
 
 -- how far the proof has come at a point
@@ -44,9 +44,9 @@ progress_of closed = Closed
 progress_of ended = Ended
 
 -- the answer to a line
-abbrev pub told : Result Point Reject → Result Progress Reject
-told (Ok point) = Ok (progress_of point)
-told (Err reject) = Err reject
+abbrev pub line_answer : Result Point Reject → Result Progress Reject
+line_answer (Ok point) = Ok (progress_of point)
+line_answer (Err reject) = Err reject
 
 -- where a line leads: nowhere else if it is refused
 abbrev pub led_to : Point → Result Point Reject → Point
@@ -76,7 +76,7 @@ pub record SpellClosing (P : Network) (lines : List Line) : Type 0 where
   pub last : lines ≡ before ++ End ∷ []
   pub proof : Proof
   pub closes : Closes P (in_base P) proof
-  pub spells : Spells before (nodes proof)
+  pub spells : SpellsNodes before (nodes proof)
 
 -- there is no legal assignment
 abbrev pub HasNone : Network → Type 0

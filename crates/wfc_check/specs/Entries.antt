@@ -6,28 +6,28 @@ use Rattle.wfc_problem.specs.Network.{Network, in_base}
 use Rattle.wfc_problem.specs.declared.Literal.TheVariants.{Is, Not}
 use Rattle.wfc_check.specs.declared.trail.Entry.{Entry}
 
--- the domains behind an entry: without its value, unless a branch waits there
-abbrev pub behind : Test → Entry → Test
-behind D e = if e.waits then D else cut D (Not e.value e.cell)
+-- the domains behind_entry an entry: without its value, unless a branch waits there
+abbrev pub behind_entry : Test → Entry → Test
+behind_entry D e = if e.waits then D else cut D (Not e.value e.cell)
 
--- the domains behind all entries
-abbrev pub left : Test → List Entry → Test
-left D [] = D
-left D (e ∷ es) = left (behind D e) es
+-- the domains behind_entry all entries
+abbrev pub domains_left : Test → List Entry → Test
+domains_left D [] = D
+domains_left D (e ∷ es) = domains_left (behind_entry D e) es
 
--- the branches that wait, with those before the entries behind them: an entry's branch is without its value
+-- the branches that wait, with those before the entries behind_entry them: an entry's branch is without its value
 abbrev pub put_off : Test → List Test → Entry → List Test
 put_off D waits e = if e.waits then cut D (Not e.value e.cell) ∷ waits else waits
 
--- the branches that wait behind all entries, the innermost first
-abbrev pub waiting : Test → List Test → List Entry → List Test
-waiting D waits [] = waits
-waiting D waits (e ∷ es) = waiting (behind D e) (put_off D waits e) es
+-- the branches that wait behind_entry all entries, the innermost first
+abbrev pub waiting_branches : Test → List Test → List Entry → List Test
+waiting_branches D waits [] = waits
+waiting_branches D waits (e ∷ es) = waiting_branches (behind_entry D e) (put_off D waits e) es
 
 -- the value of each entry stood when it came
 abbrev pub are_stood : Test → List Entry → Bool
 are_stood D [] = true
-are_stood D (e ∷ es) = D e.cell e.value && are_stood (behind D e) es
+are_stood D (e ∷ es) = D e.cell e.value && are_stood (behind_entry D e) es
 
 -- a trail: its problem, and its entries
 pub record TrailView : Type 0 where
@@ -36,11 +36,11 @@ pub record TrailView : Type 0 where
 
 -- the values that stand
 abbrev pub standing : TrailView → Test
-standing t = left (in_base t.problem) t.entries
+standing t = domains_left (in_base t.problem) t.entries
 
 -- the branches that wait, the innermost first
 abbrev pub waits_of : TrailView → List Test
-waits_of t = waiting (in_base t.problem) [] t.entries
+waits_of t = waiting_branches (in_base t.problem) [] t.entries
 
 -- one more entry
 abbrev pub with_more : TrailView → Entry → TrailView

@@ -4,20 +4,20 @@ use Rattle.std.specs.Prelude.{◌≡◌, ℕ, ◌+◌, ◌<◌, ◌≤◌, Bool,
 use Rattle.wfc_outside.specs.Folder.{File, FolderView, file_of, IsMissing, IsFaultOf}
 use Rattle.wfc_outside.specs.declared.whole.ReadFault.{ReadFault}
 use Rattle.wfc_outside.specs.declared.whole.ReadFault.TheVariants.{Missing, Failed, TooLong, NoMemory}
-use Rattle.wfc_check.specs.Lines.{IsPlain}
+use Rattle.wfc_check.specs.Lines.{HasNoLineFeed}
 use Rattle.wfc_check.specs.declared.stream.Stream.{Stream}
 use Rattle.wfc_check.specs.declared.stream.LineEnd.{LineEnd}
 use Rattle.wfc_check.specs.declared.stream.LineEnd.TheVariants as line_end
 
 -- a stream: its file, the bytes that it keeps, how many it read, and how many it may still give
-pub record StreamView : Type 0 where
+pub record FileStreamView : Type 0 where
   pub name : List ℕ
   pub kept : List ℕ
   pub at : ℕ
   pub room : ℕ
 
 -- a stream as contracts see it: of its piece of the file it keeps what it hasn't given yet
-abbrev pub stream_view : Stream → StreamView
+abbrev pub stream_view : Stream → FileStreamView
 stream_view stream = record {
   name = stream.name.now;
   kept = drop stream.from (take stream.to stream.piece.items);
@@ -26,7 +26,7 @@ stream_view stream = record {
 }
 
 -- a stream that has read nothing
-abbrev pub fresh_view : List ℕ → ℕ → StreamView
+abbrev pub fresh_view : List ℕ → ℕ → FileStreamView
 fresh_view name room = record { name = name; kept = []; at = 0; room = room }
 
 -- why no more of the file is read: it is missing, a fault of it was counted, or memory ran out
@@ -42,36 +42,36 @@ IsBehind None name at behind = Unit {0}
 IsBehind (Some files) name at behind = (file : List ℕ) × (file_of files name ≡ Some file) × (behind ≡ drop at file)
 
 -- these bytes of the file are left to the stream
-pub record IsLeft (contents : Option (List File)) (stream : StreamView) (left : List ℕ) : Type 0 where
+pub record IsLeft (contents : Option (List File)) (stream : FileStreamView) (left : List ℕ) : Type 0 where
   pub behind : List ℕ
   pub is : left ≡ stream.kept ++ behind
   pub told : IsBehind contents stream.name stream.at behind
 
 -- some bytes of the file are left to the stream
-abbrev pub HasLeft : Option (List File) → StreamView → Type 0
+abbrev pub HasLeft : Option (List File) → FileStreamView → Type 0
 HasLeft contents stream = (left : List ℕ) × IsLeft contents stream left
 
 -- a stream that keeps a byte has read its file
-abbrev pub Keeps : Option (List File) → StreamView → Type 0
-Keeps contents stream = 0 < length stream.kept → HasLeft contents stream
+abbrev pub HasReadFile : Option (List File) → FileStreamView → Type 0
+HasReadFile contents stream = 0 < length stream.kept → HasLeft contents stream
 
 -- the stream gave these bytes: before what is left now they were left
-pub record Steps (contents : Option (List File)) (old new : StreamView) (bytes : List ℕ) : Type 0 where
+pub record HasGiven (contents : Option (List File)) (old new : FileStreamView) (bytes : List ℕ) : Type 0 where
   pub room : old.room ≡ new.room + length bytes
   pub back : (left : List ℕ) → IsLeft contents new left → IsLeft contents old (bytes ++ left)
 
 -- the stream gave bytes, and something is left
-pub record Gave (contents : Option (List File)) (old new : StreamView) (bytes : List ℕ) : Type 0 where
-  pub steps : Steps contents old new bytes
-  pub left : Keeps contents old → HasLeft contents new
+pub record Gave (contents : Option (List File)) (old new : FileStreamView) (bytes : List ℕ) : Type 0 where
+  pub steps : HasGiven contents old new bytes
+  pub left : HasReadFile contents old → HasLeft contents new
 
 -- behind these bytes, which are all that may be given, there are more
-pub record IsOver (contents : Option (List File)) (old : StreamView) (bytes : List ℕ) : Type 0 where
+pub record IsOver (contents : Option (List File)) (old : FileStreamView) (bytes : List ℕ) : Type 0 where
   pub room : old.room ≡ length bytes
-  pub more : Keeps contents old → (left : List ℕ) × (0 < length left) × IsLeft contents old (bytes ++ left)
+  pub more : HasReadFile contents old → (left : List ℕ) × (0 < length left) × IsLeft contents old (bytes ++ left)
 
 -- the stream gave bytes that it kept
-pub record Passes (old new : StreamView) (bytes : List ℕ) : Type 0 where
+pub record HasGivenKept (old new : FileStreamView) (bytes : List ℕ) : Type 0 where
   pub name : new.name ≡ old.name
   pub at : new.at ≡ old.at
   pub room : old.room ≡ new.room + length bytes
@@ -79,29 +79,29 @@ pub record Passes (old new : StreamView) (bytes : List ℕ) : Type 0 where
 
 -- a line that isn't longer than is kept
 pub record IsShortLine (line : List ℕ) : Type 0 where
-  pub plain : IsPlain line
+  pub plain : HasNoLineFeed line
   pub short : length line ≤ 64
 
 -- bytes without a line's end, one more than a line may have
 pub record IsLongLine (line : List ℕ) : Type 0 where
-  pub plain : IsPlain line
+  pub plain : HasNoLineFeed line
   pub long : length line ≡ 65
 
 -- bytes that were kept came to a line, and behind them its end or not
-pub record Gathering (old new : StreamView) (before after end : List ℕ) : Type 0 where
+pub record Gathering (old new : FileStreamView) (before after end : List ℕ) : Type 0 where
   pub bytes : List ℕ
-  pub plain : IsPlain bytes
+  pub plain : HasNoLineFeed bytes
   pub line : after ≡ before ++ bytes
-  pub passes : Passes old new (bytes ++ end)
+  pub passes : HasGivenKept old new (bytes ++ end)
 
 -- bytes that were kept came to a line: up to its end, or, where none was found, all of them up to one more than a line may have
-abbrev pub Gathers : StreamView → StreamView → List ℕ → List ℕ → Bool → Type 0
-Gathers old new before after true = Gathering old new before after (10 ∷ []) × (length after ≤ 64)
-Gathers old new before after false =
+abbrev pub GathersLine : FileStreamView → FileStreamView → List ℕ → List ℕ → Bool → Type 0
+GathersLine old new before after true = Gathering old new before after (10 ∷ []) × (length after ≤ 64)
+GathersLine old new before after false =
     Gathering old new before after [] × (length before < length after) × (length after ≤ 65)
 
 -- the stream gave a line up to its end
-abbrev pub EndsLine : Option (List File) → StreamView → StreamView → List ℕ → LineEnd → Type 0
+abbrev pub EndsLine : Option (List File) → FileStreamView → FileStreamView → List ℕ → LineEnd → Type 0
 EndsLine contents old new line line_end.Feed = IsShortLine line × Gave contents old new (line ++ 10 ∷ [])
 EndsLine contents old new line line_end.Long = IsLongLine line × Gave contents old new line
 EndsLine contents old new line line_end.End = IsShortLine line × (length line ≤ old.room) × IsLeft contents old line

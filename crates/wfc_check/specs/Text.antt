@@ -8,13 +8,13 @@ use Rattle.wfc_problem.specs.Network.{Network, values, in_base}
 pub use Rattle.wfc_proof.specs.Telling.{line_in}
 use Rattle.wfc_proof.specs.Checker.{Point, line_step}
 use Rattle.wfc_proof.specs.Checker.Point.{going}
-use Rattle.wfc_proof.specs.Heads.{format_of, numbers_of, shape_of}
+use Rattle.wfc_proof.specs.Heads.{format_of, head_numbers, shape_of}
 use Rattle.wfc_proof.specs.ProofText.{IsProofText}
 use Rattle.wfc_proof.specs.declared.Line.{Line}
 use Rattle.wfc_proof.specs.declared.Reject.{Reject}
 use Rattle.wfc_proof.specs.declared.heads.Format.{Format}
 use Rattle.wfc_proof.specs.declared.heads.Format.TheVariants.{One, Two}
-use Rattle.wfc_proof.specs.declared.heads.Numbers.{Numbers}
+use Rattle.wfc_proof.specs.declared.heads.HeadNumbers.{HeadNumbers}
 use Rattle.wfc_proof.specs.declared.heads.Shape.{Shape}
 use Rattle.wfc_proof.specs.declared.text.LineFault.{LineFault}
 use Rattle.wfc_check.specs.Checker.{progress_of}
@@ -27,17 +27,17 @@ use Rattle.wfc_check.specs.declared.reading.Stage.TheVariants.{First, Numbering,
 use Rattle.wfc_check.specs.declared.reading.TheConstants.{MAX_LINE_BYTES, MAX_REFUTATION_BYTES}
 
 -- where the reading of a text is: which kind of line comes next, and where the proof is
-pub record Place : Type 0 where
+pub record TextPlace : Type 0 where
   pub stage : Stage
   pub point : Point
 
--- the place with this stage and this point
-abbrev pub place : Stage → Point → Place
-place stage point = record { stage = stage; point = point }
+-- the staged_place with this stage and this point
+abbrev pub staged_place : Stage → Point → TextPlace
+staged_place stage point = record { stage = stage; point = point }
 
 -- before the first line, with the proof at the base domains
-abbrev pub at_start : Network → Place
-at_start P = place First (going (in_base P) [])
+abbrev pub at_start : Network → TextPlace
+at_start P = staged_place First (going (in_base P) [])
 
 -- ---- the lines of a head
 
@@ -47,7 +47,7 @@ after_first number (Ok format) = Ok (Numbering format)
 after_first number (Err fault) = Err (BadLine number)
 
 -- whether the numbers of a head are the problem's
-abbrev pub are_of_problem : Network → Numbers → Bool
+abbrev pub are_of_problem : Network → HeadNumbers → Bool
 are_of_problem P numbers = numbers.cells == P.cells && numbers.values == values P
 
 -- behind the numbers of a head comes the proof, in format 2 the shape before it
@@ -56,7 +56,7 @@ behind_numbers One = Proving One
 behind_numbers Two = Shaping
 
 -- the stage behind the numbers of a head, or the fault of their line
-abbrev pub after_numbers : Network → Format → ℕ → Result Numbers LineFault → Result Stage CheckFault
+abbrev pub after_numbers : Network → Format → ℕ → Result HeadNumbers LineFault → Result Stage CheckFault
 after_numbers P format number (Ok numbers) =
     if are_of_problem P numbers then Ok (behind_numbers format)
     else Err (HeaderDiffers numbers.cells numbers.values)
@@ -76,43 +76,43 @@ after_shape shape number (Err fault) = Err (BadLine number)
 -- ---- the lines of a proof
 
 -- where a line of the proof leads, if it is right there
-abbrev pub after_step : ℕ → Format → Result Point Reject → Result Place CheckFault
-after_step number format (Ok point) = Ok (place (Proving format) point)
-after_step number format (Err reject) = Err (Rejected number reject)
+abbrev pub place_after_step : ℕ → Format → Result Point Reject → Result TextPlace CheckFault
+place_after_step number format (Ok point) = Ok (staged_place (Proving format) point)
+place_after_step number format (Err reject) = Err (Rejected number reject)
 
 -- where a line of the proof leads, or the fault of bytes that are no line
-abbrev pub after_line : Network → ℕ → Format → Point → Result Line LineFault → Result Place CheckFault
-after_line P number format point (Ok line) = after_step number format (line_step P point line)
-after_line P number format point (Err fault) = Err (BadLine number)
+abbrev pub place_after_line : Network → ℕ → Format → Point → Result Line LineFault → Result TextPlace CheckFault
+place_after_line P number format point (Ok line) = place_after_step number format (line_step P point line)
+place_after_line P number format point (Err fault) = Err (BadLine number)
 
 -- ---- any line
 
 -- a line of a head leaves the proof where it is
-abbrev pub at_point : Point → Result Stage CheckFault → Result Place CheckFault
-at_point point (Ok stage) = Ok (place stage point)
+abbrev pub at_point : Point → Result Stage CheckFault → Result TextPlace CheckFault
+at_point point (Ok stage) = Ok (staged_place stage point)
 at_point point (Err fault) = Err fault
 
 -- where a line of this number leads from each stage
-abbrev pub staged : Network → Shape → ℕ → Stage → Point → List ℕ → Result Place CheckFault
-staged P shape number First point line = at_point point (after_first number (format_of line))
-staged P shape number (Numbering format) point line = at_point point (after_numbers P format number (numbers_of line))
-staged P shape number Shaping point line = at_point point (after_shape shape number (shape_of line))
-staged P shape number (Proving format) point line = after_line P number format point (line_in format line)
+abbrev pub stage_answer : Network → Shape → ℕ → Stage → Point → List ℕ → Result TextPlace CheckFault
+stage_answer P shape number First point line = at_point point (after_first number (format_of line))
+stage_answer P shape number (Numbering format) point line = at_point point (after_numbers P format number (head_numbers line))
+stage_answer P shape number Shaping point line = at_point point (after_shape shape number (shape_of line))
+stage_answer P shape number (Proving format) point line = place_after_line P number format point (line_in format line)
 
 -- where a line leads, unless it is too long
-abbrev pub line_led : Network → Shape → ℕ → Place → List ℕ → Result Place CheckFault
+abbrev pub line_led : Network → Shape → ℕ → TextPlace → List ℕ → Result TextPlace CheckFault
 line_led P shape number at line =
     if nat_lt MAX_LINE_BYTES (length line) then Err (BadLine number)
-    else staged P shape number at.stage at.point line
+    else stage_answer P shape number at.stage at.point line
 
--- the answer is the one wanted: the place where a line leads, or its fault
-abbrev pub Leads : {T : Type 0} → Result Place CheckFault → Place → Result T CheckFault → Type 0
+-- the answer is the one wanted: the staged_place where a line leads, or its fault
+abbrev pub Leads : {T : Type 0} → Result TextPlace CheckFault → TextPlace → Result T CheckFault → Type 0
 Leads wanted new result = MatchResult result (λ _. wanted ≡ Ok new) (λ fault. wanted ≡ Err fault)
 
 -- the answer is the one wanted: the stage behind a line, with the proof at this point, or the line's fault
-abbrev pub IsStaged : Result Place CheckFault → Point → Result Stage CheckFault → Type 0
+abbrev pub IsStaged : Result TextPlace CheckFault → Point → Result Stage CheckFault → Type 0
 IsStaged wanted point result =
-    MatchResult result (λ next. wanted ≡ Ok (place next point)) (λ fault. wanted ≡ Err fault)
+    MatchResult result (λ next. wanted ≡ Ok (staged_place next point)) (λ fault. wanted ≡ Err fault)
 
 -- ---- the end of a text
 
@@ -130,7 +130,7 @@ ended_before number Shaping point = Err NotEnded
 ended_before number (Proving format) point = ended_at (progress_of point)
 
 -- the text ends behind these bytes, which have no line's end
-abbrev pub answer_at_end : ℕ → Place → List ℕ → Result (Unit {0}) CheckFault
+abbrev pub answer_at_end : ℕ → TextPlace → List ℕ → Result (Unit {0}) CheckFault
 answer_at_end number at [] = ended_before number at.stage at.point
 answer_at_end number at (byte ∷ line) = Err (BadLine number)
 
@@ -139,20 +139,20 @@ abbrev pub answer_at_limit : ℕ → List ℕ → Result (Unit {0}) CheckFault
 answer_at_limit number line = if nat_lt MAX_LINE_BYTES (length line) then Err (BadLine number) else Err TooLong
 
 -- the answer behind a last part without a line's end: where the text goes on but no more may be read, or where it ends
-abbrev pub answer_behind : Bool → ℕ → Place → List ℕ → Result (Unit {0}) CheckFault
+abbrev pub answer_behind : Bool → ℕ → TextPlace → List ℕ → Result (Unit {0}) CheckFault
 answer_behind true number at line = answer_at_limit number line
 answer_behind false number at line = answer_at_end number at line
 
 -- ---- the whole text
 
 -- and so on from where a line led, unless it is at fault
-abbrev pub and_read : Result Place CheckFault → (Place → Result (Unit {0}) CheckFault) → Result (Unit {0}) CheckFault
+abbrev pub and_read : Result TextPlace CheckFault → (TextPlace → Result (Unit {0}) CheckFault) → Result (Unit {0}) CheckFault
 and_read (Ok at) go_on = go_on at
 and_read (Err fault) go_on = Err fault
 
 -- the answer to the parts between line feeds, of which the first has this number, where the text
 -- goes on behind them or ends
-abbrev pub answer_to_parts : Network → Shape → Bool → ℕ → Place → List (List ℕ) → Result (Unit {0}) CheckFault
+abbrev pub answer_to_parts : Network → Shape → Bool → ℕ → TextPlace → List (List ℕ) → Result (Unit {0}) CheckFault
 answer_to_parts P shape over number at [] = Err (BadLine number)
 answer_to_parts P shape over number at (last ∷ []) = answer_behind over number at last
 answer_to_parts P shape over number at (line ∷ next ∷ parts) =
@@ -160,7 +160,7 @@ answer_to_parts P shape over number at (line ∷ next ∷ parts) =
     (λ after. answer_to_parts P shape over (number + 1) after (next ∷ parts))
 
 -- the answer to what is left of a text, of which so many bytes may be read
-abbrev pub answer_from : Network → Shape → ℕ → ℕ → Place → List ℕ → Result (Unit {0}) CheckFault
+abbrev pub answer_from : Network → Shape → ℕ → ℕ → TextPlace → List ℕ → Result (Unit {0}) CheckFault
 answer_from P shape most number at text =
     answer_to_parts P shape (nat_lt most (length text)) number at
     (slice_split is_line_feed (take most text))

@@ -5,13 +5,13 @@ ghost use Rattle.wfc_problem.specs.Network.{IsProblem};
 ghost use Rattle.wfc_problem.specs.Rounds.{depth_of, pairs};
 ghost use Rattle.wfc_proof.specs.Checker.{line_step, closed_step};
 ghost use Rattle.wfc_check.specs.Entries.{standing, waits_of};
-ghost use Rattle.wfc_check.specs.Checker.{point_at, point_of, problem_of, progress_of, told, led_to, IsTaken, IsOpened};
+ghost use Rattle.wfc_check.specs.Checker.{point_at, point_of, checker_problem, progress_of, line_answer, led_to, IsTaken, IsAtBase};
 ghost use Rattle.wfc_check.specs.Checker.{AreEnded, SpellClosing, HasNone};
 ghost use Rattle.wfc_check.specs.declared.progress.Progress.TheVariants.{Going};
 
 use crate::nodes;
 use crate::progress::Progress;
-use crate::trail::Trail;
+use crate::trail::BranchTrail;
 use std::alloc::Global;
 use std::marker::Model;
 use wfc_outside::NoMemory;
@@ -24,7 +24,7 @@ use wfc_proof::{Line, Reject};
 /// and a value of its base. All of that is taken by `open`.
 #[derive(Drop)]
 pub struct Checker<'p> {
-    trail: Trail<'p>,
+    trail: BranchTrail<'p>,
     progress: Progress,
 }
 
@@ -41,10 +41,10 @@ impl<'p> Model for Checker<'p> {
 impl<'p> Checker<'p> {
     /// A checker at the base domains of the problem, with no branch that waits.
     pub fn open(alloc: Global, problem: &'p Problem) -> Result<Checker<'p>, NoMemory>
-        ensures ok { IfOk result (IsOpened problem.now) }
+        ensures ok { IfOk result (IsAtBase problem.now) }
         ensures problem { IsProblem problem.now }
     {
-        let trail = Trail::new(alloc, problem)?;
+        let trail = BranchTrail::new(alloc, problem)?;
         Ok(Checker {
             trail,
             progress: Progress::Going,
@@ -54,8 +54,8 @@ impl<'p> Checker<'p> {
     /// The problem.
     #[inline]
     pub fn problem(&self) -> &'p Problem
-        ensures value { result.now ≡ problem_of self.now }
-        ensures problem { IsProblem (problem_of self.now) }
+        ensures value { result.now ≡ checker_problem self.now }
+        ensures problem { IsProblem (checker_problem self.now) }
     {
         self.trail.problem()
     }
@@ -73,10 +73,11 @@ impl<'p> Checker<'p> {
     /// A removal and a split cost as much as the values of a cell at most, and so do a branch that closes and the next
     /// one that begins, but for what is taken back, which was paid for when it was taken away.
     pub fn line(&mut self, line: Line) -> Result<Progress, Reject>
-        ensures value { result ≡ told (line_step (problem_of self.old) (point_of self.old) line) }
+        ensures value { result ≡ line_answer (line_step (checker_problem self.old) (point_of
+            self.old) line) }
         ensures next { point_of self.new ≡ led_to (point_of self.old)
-            (line_step (problem_of self.old) (point_of self.old) line) }
-        ensures same { problem_of self.new ≡ problem_of self.old }
+            (line_step (checker_problem self.old) (point_of self.old) line) }
+        ensures same { checker_problem self.new ≡ checker_problem self.old }
         ensures refused { OnErr result (self.new ≡ self.old) }
     {
         let progress = take_line(&mut self.trail, self.progress, line)?;
@@ -112,7 +113,7 @@ fn are_ended(alloc: Global, problem: &Problem, lines: &[Line]) -> Result<bool, N
 }
 
 /// A line, as far as the proof has come.
-fn take_line(trail: &mut Trail, progress: Progress, line: Line) -> Result<Progress, Reject>
+fn take_line(trail: &mut BranchTrail, progress: Progress, line: Line) -> Result<Progress, Reject>
     requires problem { IsProblem trail.old.problem }
     requires few { progress ≡ Going → pairs trail.old.problem (standing trail.old)
         + length (waits_of trail.old) ≤ depth_of trail.old.problem }
@@ -127,7 +128,7 @@ fn take_line(trail: &mut Trail, progress: Progress, line: Line) -> Result<Progre
 }
 
 /// A line while a branch is open.
-fn open_line(trail: &mut Trail, line: Line) -> Result<Progress, Reject>
+fn open_line(trail: &mut BranchTrail, line: Line) -> Result<Progress, Reject>
     requires problem { IsProblem trail.old.problem }
     requires few { pairs trail.old.problem (standing trail.old) + length (waits_of trail.old) ≤
         depth_of trail.old.problem }
@@ -155,7 +156,7 @@ fn open_line(trail: &mut Trail, line: Line) -> Result<Progress, Reject>
 
 /// A line where the proof is closed: only its end may follow.
 fn closed_line(line: Line) -> Result<Progress, Reject>
-    ensures value { result ≡ told (closed_step line) }
+    ensures value { result ≡ line_answer (closed_step line) }
 {
     match line {
         Line::End => Ok(Progress::Ended),

@@ -11,11 +11,11 @@ ghost use Rattle.wfc_check.specs.Checker.{point_at, IsTaken};
 ghost use Rattle.wfc_check.specs.declared.progress.Progress.TheVariants.{Going};
 
 use crate::progress::Progress;
-use crate::trail::Trail;
+use crate::trail::BranchTrail;
 use wfc_proof::Reject;
 
 /// The first of these values that stands at a cell.
-fn first_among(trail: &Trail, cell: u32, among: &[u16]) -> Option<u16>
+fn first_among(trail: &BranchTrail, cell: u32, among: &[u16]) -> Option<u16>
     requires cell_in { cell < trail.now.problem.cells }
     requires values_in { All (λ value. value < values trail.now.problem) among.now }
     ensures value { result ≡ find (standing trail.now cell) among.now }
@@ -29,7 +29,7 @@ fn first_among(trail: &Trail, cell: u32, among: &[u16]) -> Option<u16>
 }
 
 /// The least value that stands at a cell.
-fn least_at(trail: &Trail, cell: u32) -> Option<u16>
+fn least_at(trail: &BranchTrail, cell: u32) -> Option<u16>
     requires cell_in { cell < trail.now.problem.cells }
     ensures value { result
         ≡ find (standing trail.now cell) (range_with_len 0 (values trail.now.problem)) }
@@ -44,7 +44,7 @@ fn least_at(trail: &Trail, cell: u32) -> Option<u16>
 
 /// Whether a value other than this one stands at a cell.
 #[inline]
-fn stands_beside(trail: &Trail, cell: u32, other: u16, value: u16) -> bool
+fn stands_beside(trail: &BranchTrail, cell: u32, other: u16, value: u16) -> bool
     requires cell_in { cell < trail.now.problem.cells }
     requires other_in { other < values trail.now.problem }
     ensures value { result ≡ (not (other == value) && standing trail.now cell other) }
@@ -53,7 +53,7 @@ fn stands_beside(trail: &Trail, cell: u32, other: u16, value: u16) -> bool
 }
 
 /// Whether another value than this stands at a cell.
-fn has_other(trail: &Trail, cell: u32, value: u16) -> bool
+fn has_other(trail: &BranchTrail, cell: u32, value: u16) -> bool
     requires cell_in { cell < trail.now.problem.cells }
     ensures value { result ≡ not (list_all (λ w. w == value || not (standing trail.now cell w))
         (range_with_len 0 (values trail.now.problem))) }
@@ -67,7 +67,7 @@ fn has_other(trail: &Trail, cell: u32, value: u16) -> bool
 }
 
 /// Why a removal is refused, if it is.
-pub fn removal_fault(trail: &Trail, cell: u32, value: u16, dir: u8) -> Option<Reject>
+pub fn removal_fault(trail: &BranchTrail, cell: u32, value: u16, dir: u8) -> Option<Reject>
     ensures value { result
         ≡ node_fault trail.now.problem (standing trail.now) (removes cell value dir) }
 {
@@ -88,7 +88,7 @@ pub fn removal_fault(trail: &Trail, cell: u32, value: u16, dir: u8) -> Option<Re
 }
 
 /// Why a split is refused, if it is.
-pub fn split_fault(trail: &Trail, cell: u32, value: u16) -> Option<Reject>
+pub fn split_fault(trail: &BranchTrail, cell: u32, value: u16) -> Option<Reject>
     ensures value { result ≡ node_fault trail.now.problem (standing trail.now) (splits cell value) }
 {
     let problem = trail.problem();
@@ -105,7 +105,7 @@ pub fn split_fault(trail: &Trail, cell: u32, value: u16) -> Option<Reject>
 }
 
 /// Why an empty cell is refused, if it is.
-pub fn empty_fault(trail: &Trail, cell: u32) -> Option<Reject>
+pub fn empty_fault(trail: &BranchTrail, cell: u32) -> Option<Reject>
     ensures value { result ≡ node_fault trail.now.problem (standing trail.now) (empties cell) }
 {
     if cell >= trail.problem().cells() {
@@ -118,7 +118,7 @@ pub fn empty_fault(trail: &Trail, cell: u32) -> Option<Reject>
 }
 
 /// Puts off the branch without the value, and takes away the others.
-pub fn branch(trail: &mut Trail, cell: u32, value: u16)
+pub fn branch(trail: &mut BranchTrail, cell: u32, value: u16)
     requires stands { IsTrue (standing trail.old cell value) }
     requires few { length (waits_of trail.old) < depth_of trail.old.problem }
     ensures branches { Branches trail.old trail.new cell value }
@@ -132,7 +132,7 @@ pub fn branch(trail: &mut Trail, cell: u32, value: u16)
 }
 
 /// Takes a value away, unless that is refused.
-pub fn remove(trail: &mut Trail, cell: u32, value: u16, dir: u8) -> Result<Progress, Reject>
+pub fn remove(trail: &mut BranchTrail, cell: u32, value: u16, dir: u8) -> Result<Progress, Reject>
     ensures taken { IsTaken (node_step trail.old.problem (point_at Going trail.old)
         (removes cell value dir)) trail.old trail.new result }
 {
@@ -147,7 +147,7 @@ pub fn remove(trail: &mut Trail, cell: u32, value: u16, dir: u8) -> Result<Progr
 
 /// Takes away the values from `first` to `last` one after another, or none where one of them is refused.
 pub fn remove_span(
-    trail: &mut Trail,
+    trail: &mut BranchTrail,
     cell: u32,
     first: u16,
     last: u16,
@@ -172,7 +172,7 @@ pub fn remove_span(
 }
 
 /// Begins the branch with the value, unless that is refused.
-pub fn split(trail: &mut Trail, cell: u32, value: u16) -> Result<Progress, Reject>
+pub fn split(trail: &mut BranchTrail, cell: u32, value: u16) -> Result<Progress, Reject>
     requires problem { IsProblem trail.old.problem }
     requires few { pairs trail.old.problem (standing trail.old) + length (waits_of trail.old) ≤
         depth_of trail.old.problem }
@@ -189,7 +189,7 @@ pub fn split(trail: &mut Trail, cell: u32, value: u16) -> Result<Progress, Rejec
 }
 
 /// Closes the branch at an empty cell, and begins the innermost one that waits.
-pub fn close(trail: &mut Trail, cell: u32) -> Result<Progress, Reject>
+pub fn close(trail: &mut BranchTrail, cell: u32) -> Result<Progress, Reject>
     ensures taken { IsTaken (node_step trail.old.problem (point_at Going trail.old) (empties cell))
         trail.old trail.new result }
 {

@@ -1,9 +1,9 @@
 //! The lines of a refutation's text, one after another, and the first that is at fault.
 
 ghost use Rattle.std.specs.Prelude.{◌≡◌, ◌+◌, ◌-◌, ◌^◌, ◌<◌, IfOk, OnOk};
-ghost use Rattle.wfc_proof.specs.Heads.{format_of, numbers_of, shape_of};
-ghost use Rattle.wfc_check.specs.Checker.{problem_of, point_of};
-ghost use Rattle.wfc_check.specs.Text.{after_first, after_numbers, after_shape, after_line, line_in, staged, line_led, place};
+ghost use Rattle.wfc_proof.specs.Heads.{format_of, head_numbers, shape_of};
+ghost use Rattle.wfc_check.specs.Checker.{checker_problem, point_of};
+ghost use Rattle.wfc_check.specs.Text.{after_first, after_numbers, after_shape, place_after_line, line_in, stage_answer, line_led, staged_place};
 ghost use Rattle.wfc_check.specs.Text.{IsStaged, Leads, answer_at_end, at_start};
 ghost use Rattle.wfc_check.specs.declared.reading.Stage.TheVariants.{Proving};
 
@@ -43,7 +43,7 @@ pub(crate) struct Reading<'p, 's> {
 }
 
 impl<'p, 's> Reading<'p, 's> {
-    ghost use Rattle.wfc_check.specs.Reading.{place_of, reads_for, IsOpenedFor};
+    ghost use Rattle.wfc_check.specs.Reading.{reading_place, reads_for, IsOpenedFor};
 
     /// The start of a text, which is held to this problem and this shape. It takes all the memory that the reading of lines
     /// needs.
@@ -66,8 +66,8 @@ impl<'p, 's> Reading<'p, 's> {
     /// The next line, without its end.
     pub(crate) fn line(&mut self, line: &[u8]) -> Result<(), CheckFault>
         requires counted { self.old.number < 2 ^ 64 - 1 }
-        ensures led { Leads (line_led (problem_of self.old.checker) self.old.shape.now
-            self.old.number (place_of self.old) line.now) (place_of self.new) result }
+        ensures led { Leads (line_led (checker_problem self.old.checker) self.old.shape.now
+            self.old.number (reading_place self.old) line.now) (reading_place self.new) result }
         ensures same { OnOk result (reads_for self.new ≡ reads_for self.old) }
         ensures next { OnOk result (self.new.number ≡ self.old.number + 1) }
     {
@@ -81,7 +81,7 @@ impl<'p, 's> Reading<'p, 's> {
 
     /// The text ends behind these bytes, which have no line's end.
     pub(crate) fn end(&self, line: &[u8]) -> Result<(), CheckFault>
-        ensures exact { result ≡ answer_at_end self.now.number (place_of self.now) line.now }
+        ensures exact { result ≡ answer_at_end self.now.number (reading_place self.now) line.now }
     {
         if !line.is_empty() {
             return Err(self.bad_line());
@@ -112,16 +112,16 @@ fn take_line(
     number: u64,
     line: &[u8],
 ) -> Result<Stage, CheckFault>
-    ensures led { IsStaged (staged (problem_of checker.old) shape.now number stage
+    ensures led { IsStaged (stage_answer (checker_problem checker.old) shape.now number stage
         (point_of checker.old) line.now) (point_of checker.new) result }
-    ensures same { problem_of checker.new ≡ problem_of checker.old }
+    ensures same { checker_problem checker.new ≡ checker_problem checker.old }
 {
     match stage {
         Stage::First => after_first(number, line),
         Stage::Numbering { format } => after_numbers(checker.problem(), format, number, line),
         Stage::Shaping => after_shape(shape, number, line),
         Stage::Proving { format } => {
-            after_line(checker, format, number, line)?;
+            place_after_line(checker, format, number, line)?;
             Ok(stage)
         }
     }
@@ -144,7 +144,7 @@ fn after_numbers(
     number: u64,
     line: &[u8],
 ) -> Result<Stage, CheckFault>
-    ensures exact { result ≡ after_numbers problem.now format number (numbers_of line.now) }
+    ensures exact { result ≡ after_numbers problem.now format number (head_numbers line.now) }
 {
     let Ok(numbers) = read_numbers(line) else {
         return Err(CheckFault::BadLine { line: number });
@@ -178,15 +178,16 @@ fn after_shape(shape: &Shape, number: u64, line: &[u8]) -> Result<Stage, CheckFa
 }
 
 /// A line of the proof.
-fn after_line(
+fn place_after_line(
     checker: &mut Checker<'_>,
     format: Format,
     number: u64,
     line: &[u8],
 ) -> Result<(), CheckFault>
-    ensures led { Leads (after_line (problem_of checker.old) number format (point_of checker.old)
-        (line_in format line.now)) (place (Proving format) (point_of checker.new)) result }
-    ensures same { problem_of checker.new ≡ problem_of checker.old }
+    ensures led { Leads (place_after_line (checker_problem checker.old) number format (point_of
+        checker.old) (line_in format line.now)) (staged_place (Proving format) (point_of
+        checker.new)) result }
+    ensures same { checker_problem checker.new ≡ checker_problem checker.old }
 {
     let Ok(line) = line_in(format, line) else {
         return Err(CheckFault::BadLine { line: number });

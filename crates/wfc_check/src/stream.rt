@@ -45,7 +45,7 @@ pub(crate) enum LineEnd {
 
 impl<'n> Stream<'n> {
     ghost use Rattle.std.specs.Prelude.{◌≡◌, ◌≤◌, ◌^◌, List, [], length, true, false, take, Ok, IfOk, MatchResult};
-    ghost use Rattle.wfc_check.specs.Stream.{CausesStop, EndsLine, Gathers, HasLeft, IsLeft, Keeps, Passes, Steps, fresh_view, stream_view};
+    ghost use Rattle.wfc_check.specs.Stream.{CausesStop, EndsLine, GathersLine, HasLeft, IsLeft, HasReadFile, HasGivenKept, HasGiven, fresh_view, stream_view};
 
     /// The start of a file, of which at most `room` bytes may be given.
     pub(crate) fn new(alloc: Global, name: &'n str, room: u64) -> Result<Stream<'n>, AllocError>
@@ -73,10 +73,10 @@ impl<'n> Stream<'n> {
         ensures given { F.bytes_given folder.new + self.old.at
             ≤ F.bytes_given folder.old + self.new.at }
         ensures some { result ≡ Ok true → self.new.from < self.new.to }
-        ensures steps { result ≡ Ok true
-            → Steps (F.seen folder.old).contents (stream_view self.old) (stream_view self.new) [] }
-        ensures left { result ≡ Ok true → Keeps (F.seen folder.old).contents (stream_view self.old)
-            → HasLeft (F.seen folder.old).contents (stream_view self.new) }
+        ensures steps { result ≡ Ok true → HasGiven (F.seen folder.old).contents (stream_view
+            self.old) (stream_view self.new) [] }
+        ensures left { result ≡ Ok true → HasReadFile (F.seen folder.old).contents (stream_view
+            self.old) → HasLeft (F.seen folder.old).contents (stream_view self.new) }
         ensures end { result ≡ Ok false
             → IsLeft (F.seen folder.old).contents (stream_view self.old) [] }
     {
@@ -95,7 +95,7 @@ impl<'n> Stream<'n> {
     fn pass(&mut self, count: usize)
         requires kept { self.old.from + count ≤ self.old.to }
         requires room { count ≤ self.old.room }
-        ensures passed { Passes (stream_view self.old) (stream_view self.new)
+        ensures passed { HasGivenKept (stream_view self.old) (stream_view self.new)
             (take count (stream_view self.old).kept) }
         ensures name { self.new.name ≡ self.old.name }
         ensures most { self.new.most ≡ self.old.most }
@@ -109,8 +109,8 @@ impl<'n> Stream<'n> {
         requires some { self.old.from < self.old.to }
         requires room { 0 < self.old.room }
         requires short { length line.old.items ≤ LINE }
-        ensures gathered { IfOk result
-            (Gathers (stream_view self.old) (stream_view self.new) line.old.items line.new.items) }
+        ensures gathered { IfOk result (GathersLine (stream_view self.old) (stream_view self.new)
+            line.old.items line.new.items) }
         ensures name { self.new.name ≡ self.old.name }
         ensures most { self.new.most ≡ self.old.most }
         ensures at { self.new.at ≡ self.old.at }

@@ -21,13 +21,13 @@ pub struct Entry {
 /// A flag for each value of each cell, and what was taken away from the base, in order. It takes its memory where it
 /// is made.
 #[derive(Drop)]
-pub struct Trail<'p> {
+pub struct BranchTrail<'p> {
     problem: &'p Problem,
     flags: Vec<bool>,
     entries: Vec<Entry>,
 }
 
-impl<'p> Model for Trail<'p> {
+impl<'p> Model for BranchTrail<'p> {
     ghost use Rattle.wfc_check.specs.Entries.{TrailView};
     ghost use Rattle.wfc_check.specs.Flags.{AreKept};
     ghost use Rattle.std.specs.Prelude.{vec_capacity};
@@ -39,15 +39,15 @@ impl<'p> Model for Trail<'p> {
     ghost invariant = { λ a. AreKept a.problem.now a.flags.items a.entries.items (vec_capacity a.entries) };
 }
 
-impl<'p> Trail<'p> {
+impl<'p> BranchTrail<'p> {
     /// The base domains, with room for as many values and branches as there are pairs.
-    pub fn new(alloc: Global, problem: &'p Problem) -> Result<Trail<'p>, NoMemory>
+    pub fn new(alloc: Global, problem: &'p Problem) -> Result<BranchTrail<'p>, NoMemory>
         ensures ok { IfOk result (λ trail. trail ≡ record { problem = problem.now; entries = [] }) }
         ensures problem { IsProblem problem.now }
     {
         let flags = base_flags(alloc, problem)?;
         let entries = Vec::with_capacity(alloc, 2 * problem.depth() as usize)?;
-        Ok(Trail {
+        Ok(BranchTrail {
             problem,
             flags,
             entries,

@@ -2,7 +2,7 @@
 use Rattle.std.proofs.Common.{Err, List, Ok, Result, arith, inl, inr, refl, subst, ◌≡◌}
 use Rattle.wfc_cli.proofs.ToldLemmas.{IsToldCall, ToldReply, short, told, told_call}
 use Rattle.wfc_cli.specs.Answer.{IsAnswer}
-use Rattle.wfc_cli.specs.Commands.{Answers, asked_command, command_of, task_of}
+use Rattle.wfc_cli.specs.Commands.{AnswersTask, asked_command, command_of, task_of}
 use Rattle.wfc_cli.specs.Delivery.{Delivers, said_of}
 use Rattle.wfc_outside.specs.Folder.{File}
 use Rattle.wfc_plan.specs.declared.fault.Fault.{Fault}
@@ -18,7 +18,7 @@ use Rattle.wfc_words.specs.declared.kinds.CommandKind.{CommandKind}
 pub answered_task : (call : Call) (asked : RequestView) (files : List File) (answered : Answered) → ToldReply call asked files (Ok answered) → HasAnswered (asked_command asked) call.rules asked files answered
 answered_task call asked files answered (inl replied) = by_task (task_of call.rules asked files) refl replied
   where
-    by_task : (task : Result (asked_command asked).Task Fault) → task_of call.rules asked files ≡ task → Replied (Answers call.rules asked) task (Ok answered) → HasAnswered (asked_command asked) call.rules asked files answered
+    by_task : (task : Result (asked_command asked).Task Fault) → task_of call.rules asked files ≡ task → Replied (AnswersTask call.rules asked) task (Ok answered) → HasAnswered (asked_command asked) call.rules asked files answered
     by_task (Ok task) is replied = record { task = task; is = is; answers = replied }
     by_task (Err fault) is replied = absurd (cc (replied))
 answered_task call asked files answered (inr (inl want)) = absurd (cc (want.2))

@@ -14,7 +14,7 @@ use Rattle.wfc_reply.specs.Ending.{EndsAs, Leaves}
 use Rattle.wfc_reply.specs.Reply.{Reply, verdict_status, verdict_text}
 use Rattle.wfc_reply.specs.declared.reply.Stop.{Stop}
 use Rattle.wfc_reply.specs.declared.reply.Stop.TheVariants.{Cut, Unanswered}
-use Rattle.wfc_reply.specs.declared.reply.Verdict.{Verdict}
+use Rattle.wfc_reply.specs.declared.reply.CommandVerdict.{CommandVerdict}
 use Rattle.wfc_words.specs.Request.{request_of}
 use Rattle.wfc_words.specs.RequestView.{RequestView}
 use Rattle.wfc_words.specs.declared.fault.CommandFault.{CommandFault}
@@ -22,7 +22,7 @@ use Rattle.wfc_words.specs.declared.fault.CommandFault.TheVariants.{NoMemory}
 use Rattle.wfc_words.specs.declared.kinds.CommandKind.{CommandKind}
 
 -- the command of a request ends so where that of its kind does
-pub ends_of : (rules : List Rule) (asked : RequestView) (kind : CommandKind) (before after : FolderView) (old new : SinkView) (ended : Result Verdict Stop) → asked.command ≡ kind
+pub ends_of : (rules : List Rule) (asked : RequestView) (kind : CommandKind) (before after : FolderView) (old new : SinkView) (ended : Result CommandVerdict Stop) → asked.command ≡ kind
     → EndsAs (command_of kind) rules asked before after old new ended → EndsAs (asked_command asked) rules asked before after old new ended
 ends_of rules asked kind before after old new ended is ends =
     subst (λ (k : CommandKind). EndsAs (command_of k) rules asked before after old new ended) (sym is) ends
@@ -30,14 +30,14 @@ ends_of rules asked kind before after old new ended is ends =
 -- ---- the call
 
 -- a call for a request that ended so, and said so
-pub answered : (call : Call) (asked : RequestView) (ended : Result Verdict Stop) → request_of call.words ≡ Ok asked
+pub answered : (call : Call) (asked : RequestView) (ended : Result CommandVerdict Stop) → request_of call.words ≡ Ok asked
     → EndsAs (asked_command asked) call.rules asked call.before.folder call.after.folder call.before.out call.after.out ended
     → Says asked ended call.before.err call.after.err call.status → IsAnswer call
 answered call asked ended spelled put says = record {
   answers = inl (subst (λ request. AnswersAsked call request) (sym spelled) (record { reply = put.reply; ends = put.ends; delivers = by_reply put.reply ended put.leaves says }));
 }
   where
-    by_reply : (reply : Reply) (ended : Result Verdict Stop) → Leaves reply call.before.out call.after.out ended → Says asked ended call.before.err call.after.err call.status → Delivers (said_of asked reply) call
+    by_reply : (reply : Reply) (ended : Result CommandVerdict Stop) → Leaves reply call.before.out call.after.out ended → Says asked ended call.before.err call.after.err call.status → Delivers (said_of asked reply) call
     by_reply (Ok answer) (Ok verdict) leaves says = inl (record {
       taken = leaves.1;
       told = subst (λ v. Tells (verdict_text asked v) call.before.err call.after.err) leaves.0 says.0;

@@ -6,7 +6,7 @@ use Rattle.wfc_cli.proofs.TheoremLemmas.{file_fault}
 use Rattle.wfc_cli.proofs.ToldLemmas.{FaultOf, command_between, cut_counted, fault_from, of_plan, of_task, refused_status, told_reply}
 use Rattle.wfc_box_commands.proofs.CallerLemmas.{box_check_ends, box_fill_ends, box_refute_ends}
 use Rattle.wfc_cli.specs.Answer.{AnswersAsked, IsAnswer, IsAnswerTo, IsRefusedCall}
-use Rattle.wfc_cli.specs.Commands.{Answers, asked_command, command_of, plan_of}
+use Rattle.wfc_cli.specs.Commands.{AnswersTask, asked_command, command_of, plan_of}
 use Rattle.wfc_cli.specs.Delivery.{Delivers, IsTold, Tells, said_of}
 use Rattle.wfc_cli.specs.ErrorLine.{fault_text}
 use Rattle.wfc_cli.specs.LineClaims.{IsApartFromErr, TellsReason, TellsStatus, TellsWords, says_fault, says_file, says_no, says_out, says_short, says_spent}
@@ -28,12 +28,12 @@ use Rattle.wfc_plan.specs.declared.fault.Source.TheVariants as source
 use Rattle.wfc_proof_commands.proofs.CallerLemmas.{check_ends, refute_ends, upgrade_ends}
 use Rattle.wfc_reply.proofs.CallerLemmas.{EndsSo, IsEnding, as_asked, as_no, as_spent}
 use Rattle.wfc_reply.specs.Asking.{IsGiven}
-use Rattle.wfc_reply.specs.Call.{Call, beside}
-use Rattle.wfc_reply.specs.Ends.{Ends}
+use Rattle.wfc_reply.specs.Call.{Call, with_error_stream}
+use Rattle.wfc_reply.specs.Ends.{MayReply}
 use Rattle.wfc_reply.specs.FileNames.{name_of}
 use Rattle.wfc_reply.specs.Reply.{IsNoStatus, Reply, verdict_status, verdict_text}
-use Rattle.wfc_reply.specs.declared.reply.Verdict.{Verdict}
-use Rattle.wfc_reply.specs.declared.reply.Verdict.TheVariants as verdict
+use Rattle.wfc_reply.specs.declared.reply.CommandVerdict.{CommandVerdict}
+use Rattle.wfc_reply.specs.declared.reply.CommandVerdict.TheVariants as verdict
 use Rattle.wfc_run_commands.proofs.CallerLemmas.{explain_ends, race_ends}
 use Rattle.wfc_words.specs.Request.{request_of}
 use Rattle.wfc_words.specs.RequestView.{RequestView}
@@ -62,7 +62,7 @@ ends_so commands.BoxCheck = box_check_ends
 -- ---- the line of each status
 
 -- a verdict that has no line has status 0, and no other has
-told_nothing : (asked : RequestView) (said : Verdict) (old new : SinkView) → verdict_status said ≡ 0 → Tells (verdict_text asked said) old new → new ≡ old
+told_nothing : (asked : RequestView) (said : CommandVerdict) (old new : SinkView) → verdict_status said ≡ 0 → Tells (verdict_text asked said) old new → new ≡ old
 told_nothing asked verdict.Done old new nought told = told
 told_nothing asked verdict.NoMap old new nought told = absurd (omega (arith, nought))
 told_nothing asked (verdict.Spent budget) old new nought told = absurd (omega (arith, nought))
@@ -71,7 +71,7 @@ told_nothing asked verdict.MapExists old new nought told = absurd (omega (arith,
 told_nothing asked (verdict.Unaccepted fault) old new nought told = absurd (omega (arith, nought))
 told_nothing asked (verdict.Stuck x y) old new nought told = absurd (omega (arith, nought))
 
-told_line : (asked : RequestView) (said : Verdict) (old new : SinkView) → verdict_status said ≢ 0 → Tells (verdict_text asked said) old new → (text : List ℕ) × IsTold text old new
+told_line : (asked : RequestView) (said : CommandVerdict) (old new : SinkView) → verdict_status said ≢ 0 → Tells (verdict_text asked said) old new → (text : List ℕ) × IsTold text old new
 told_line asked verdict.Done old new some told = absurd (some refl)
 told_line asked verdict.NoMap old new some told = (no_map_text, told)
 told_line asked (verdict.Spent budget) old new some told = (text_of_budget budget, told)
@@ -137,7 +137,7 @@ tells_status call answer = record {
     by_words asked files (inr told) = (no_memory_text, says_short told.0 refl, told.1)
 
     -- a verdict
-    by_ending : (asked : RequestView) (files : List File) (said : Verdict) → call.status ≢ 0 → call.status ≡ verdict_status said → Tells (verdict_text asked said) call.before.err call.after.err → IsEnding (asked_command asked) call.rules asked files said
+    by_ending : (asked : RequestView) (files : List File) (said : CommandVerdict) → call.status ≢ 0 → call.status ≡ verdict_status said → Tells (verdict_text asked said) call.before.err call.after.err → IsEnding (asked_command asked) call.rules asked files said
         → TellsReason call asked files
     by_ending asked files said some same told (as_asked is) = absurd (some (same ∙ ap verdict_status is))
     by_ending asked files said some same told (as_no text is one denied) =
@@ -168,7 +168,7 @@ tells_status call answer = record {
     by_fault asked files fault contents same told (of_plan goes) = by_plan asked files fault contents same told goes
     by_fault asked files fault contents same told (of_task six) = by_short asked files fault same told six
 
-    by_reply : (asked : RequestView) (files : List File) → IsGiven call asked files → call.status ≢ 0 → (reply : Reply) → Ends (plan_of call.rules asked) (Answers call.rules asked) call.before.folder call.after.folder reply
+    by_reply : (asked : RequestView) (files : List File) → IsGiven call asked files → call.status ≢ 0 → (reply : Reply) → MayReply (plan_of call.rules asked) (AnswersTask call.rules asked) call.before.folder call.after.folder reply
         → Delivers (said_of asked reply) call → TellsReason call asked files
     by_reply asked files given some (Ok answered) ends (inl delivered) =
         let has = answered_task call asked files answered (told_reply call asked files (Ok answered) given.told ends) in
@@ -186,7 +186,7 @@ tells_status call answer = record {
 pub is_apart_from_err : (call : Call) → IsAnswer call → IsApartFromErr call
 is_apart_from_err call answer = elim (answer.answers) [ inl to ↦ by_request (request_of call.words) refl to | inr short ↦ by_words words_fault.NoMemory (λ old new denied. record { answers = inr denied }) short ]
   where
-    by_words : (fault : CommandFault) → ((old new : SinkView) → IsRefusedCall fault (beside call old new) → IsAnswer (beside call old new))
+    by_words : (fault : CommandFault) → ((old new : SinkView) → IsRefusedCall fault (with_error_stream call old new) → IsAnswer (with_error_stream call old new))
         → IsRefusedCall fault call → IsApartFromErr call
     by_words fault back denied = elim (denied.delivers) [
       | inl delivered ↦ (
@@ -197,7 +197,7 @@ is_apart_from_err call answer = elim (answer.answers) [ inl to ↦ by_request (r
       | inr cut ↦ absurd (cut.front)
     ]
 
-    by_answer : (asked : RequestView) → ((old new : SinkView) → IsAnswerTo (beside call old new) asked → IsAnswer (beside call old new))
+    by_answer : (asked : RequestView) → ((old new : SinkView) → IsAnswerTo (with_error_stream call old new) asked → IsAnswer (with_error_stream call old new))
         → IsAnswerTo call asked → IsApartFromErr call
     by_answer asked back to = elim (to.delivers) [
       | inl delivered ↦ (
@@ -213,5 +213,5 @@ is_apart_from_err call answer = elim (answer.answers) [ inl to ↦ by_request (r
     ]
 
     by_request : (request : Result RequestView CommandFault) → request_of call.words ≡ request → AnswersAsked call request → IsApartFromErr call
-    by_request (Ok asked) is to = by_answer asked (λ old new to. record { answers = inl (subst (λ request. AnswersAsked (beside call old new) request) (sym is) to) }) to
-    by_request (Err fault) is denied = by_words fault (λ old new denied. record { answers = inl (subst (λ request. AnswersAsked (beside call old new) request) (sym is) denied) }) denied
+    by_request (Ok asked) is to = by_answer asked (λ old new to. record { answers = inl (subst (λ request. AnswersAsked (with_error_stream call old new) request) (sym is) to) }) to
+    by_request (Err fault) is denied = by_words fault (λ old new denied. record { answers = inl (subst (λ request. AnswersAsked (with_error_stream call old new) request) (sym is) denied) }) denied

@@ -1,6 +1,6 @@
 -- A fault with the status of want of memory has its line.
 use Rattle.std.proofs.Common.{List, arith, refl, ℕ, ◌≡◌}
-use Rattle.wfc_cli.specs.ErrorLine.{fault_text, grid_text, unread_text}
+use Rattle.wfc_cli.specs.ErrorLine.{fault_text, no_grid_text, unread_text}
 use Rattle.wfc_box.specs.declared.fault.StackFault.{StackFault}
 use Rattle.wfc_box.specs.declared.fault.StackFault.TheVariants as stacks
 use Rattle.wfc_grid.specs.declared.reading.GridFault.{GridFault}
@@ -137,7 +137,7 @@ reading_memory source.Refutation file = refl
 reading_memory (source.Picture tile) file = refl
 reading_memory source.Mask file = refl
 
-any_grid_memory : (which : Source) (fault : GridFault) (file : List ℕ) → class_status (grid_class fault) ≡ 6 → grid_text which fault file ≡ no_memory_text
+any_grid_memory : (which : Source) (fault : GridFault) (file : List ℕ) → class_status (grid_class fault) ≡ 6 → no_grid_text which fault file ≡ no_memory_text
 any_grid_memory source.Sample fault file six = grid_memory fault file six
 any_grid_memory source.Pins fault file six = grid_memory fault file six
 any_grid_memory source.Steps fault file six = grid_memory fault file six

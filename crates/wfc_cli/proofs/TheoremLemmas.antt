@@ -3,9 +3,9 @@ use Rattle.std.proofs.Common.{Bool, Err, List, None, Ok, Option, Result, Some, a
 use Rattle.std.specs.Result.{IsErr}
 use Rattle.wfc_cli.proofs.ToldLemmas.{FaultOf, IsToldCall, ToldReply, command_between, cut_counted, fault_from, of_plan, of_task, refused_status, replied_fault, replied_short, short, told, told_call}
 use Rattle.wfc_cli.specs.Answer.{AnswersAsked, IsAnswer, IsAnswerTo, IsRefusedCall}
-use Rattle.wfc_cli.specs.Commands.{Answers, asked_command, plan_of, task_of}
+use Rattle.wfc_cli.specs.Commands.{AnswersTask, asked_command, plan_of, task_of}
 use Rattle.wfc_cli.specs.Delivery.{Delivers, IsDelivered, said_of}
-use Rattle.wfc_cli.specs.Theorem.{CountsFaults, HasDeviceFault, HasFirstFault, HasRefusedWords, IsAnswered, IsComplete, IsFileFault, IsNoCommand, IsQuiet, IsRefusedFirst, IsRefusedWith, KeepsOut, NoneCounted, RefusesWords}
+use Rattle.wfc_cli.specs.Theorem.{CountsStand, HasDeviceFault, HasFirstFault, HasRefusedWords, IsAnswered, IsComplete, IsFileFault, IsNoCommand, IsQuiet, IsRefusedFirst, IsRefusedWith, KeepsOut, NoneCounted, RefusesWords}
 use Rattle.wfc_outside.specs.Count.{HasRisen}
 use Rattle.wfc_outside.specs.Folder.{File}
 use Rattle.wfc_outside.specs.Sink.{SinkView}
@@ -18,7 +18,7 @@ use Rattle.wfc_plan.specs.declared.fault.Fault.TheVariants.{Unread}
 use Rattle.wfc_reply.proofs.CallerLemmas.{verdict_apart}
 use Rattle.wfc_reply.specs.Asking.{IsGiven}
 use Rattle.wfc_reply.specs.Call.{Call}
-use Rattle.wfc_reply.specs.Ends.{Ends, Replied, Replies}
+use Rattle.wfc_reply.specs.Ends.{MayReply, Replied, Replies}
 use Rattle.wfc_reply.specs.Reply.{Reply, Takes, TakesWhole}
 use Rattle.wfc_words.specs.Request.{request_of}
 use Rattle.wfc_words.specs.RequestView.{RequestView}
@@ -70,16 +70,16 @@ taken_quiet None old new takes = ap (λ (s : SinkView). s.faults) takes
 taken_quiet (Some text) old new takes = ap (λ (s : SinkView). s.faults) takes
 
 -- at each status but 5 no count rose
-pub keeps_counts : (call : Call) → IsAnswer call → CountsFaults call
+pub keeps_counts : (call : Call) → IsAnswer call → CountsStand call
 keeps_counts call answer not5 = elim (answer.answers) [ inl to ↦ by_request (request_of call.words) to | inr denied ↦ by_refusal words_fault.NoMemory denied ]
   where
     by_refusal : (fault : CommandFault) → IsRefusedCall fault call → IsQuiet call
     by_refusal fault answer = record { folder = answer.folder; out = ap (λ (s : SinkView). s.faults) (refused_status fault call answer).1 }
 
-    by_reply : (asked : RequestView) (reply : Reply) → Ends (plan_of call.rules asked) (Answers call.rules asked) call.before.folder call.after.folder reply → IsDelivered (said_of asked reply) call → IsQuiet call
+    by_reply : (asked : RequestView) (reply : Reply) → MayReply (plan_of call.rules asked) (AnswersTask call.rules asked) call.before.folder call.after.folder reply → IsDelivered (said_of asked reply) call → IsQuiet call
     by_reply asked reply ends delivered = record {
       folder = goes_quiet (plan_of call.rules asked) call.before.folder call.after.folder ends.ended ends.goes (λ fault is five.
-          let as_fault : reply ≡ Err fault = replied_fault (Answers call.rules asked) ends.ended reply fault is ends.replied in
+          let as_fault : reply ≡ Err fault = replied_fault (AnswersTask call.rules asked) ends.ended reply fault is ends.replied in
           not5 (delivered.same_status ∙ ap (λ r. (said_of asked r).status) as_fault ∙ five));
       out = taken_quiet (said_of asked reply).text call.before.out call.after.out (taken_whole (said_of asked reply).whole (said_of asked reply).text call.before.out call.after.out delivered.taken);
     }
@@ -144,7 +144,7 @@ is_device_fault call answer five = elim (answer.answers) [
     by_fault asked fault is (of_plan goes) = (file_fault call asked fault goes is).0
     by_fault asked fault is (of_task six) = absurd (omega (arith, six, is))
 
-    by_reply : (asked : RequestView) (reply : Reply) → Ends (plan_of call.rules asked) (Answers call.rules asked) call.before.folder call.after.folder reply → Delivers (said_of asked reply) call
+    by_reply : (asked : RequestView) (reply : Reply) → MayReply (plan_of call.rules asked) (AnswersTask call.rules asked) call.before.folder call.after.folder reply → Delivers (said_of asked reply) call
         → (IsFileFault call asked × (call.after.out ≡ call.before.out)) ⊎ HasRisen call.before.out.faults call.after.out.faults
     by_reply asked (Ok answered) ends (inl delivered) = absurd (verdict_apart answered.verdict 5 (omega arith) (omega arith) (sym delivered.same_status ∙ five))
     by_reply asked (Err fault) ends (inl delivered) = inl (by_fault asked fault (sym delivered.same_status ∙ five) (fault_from call asked fault ends), delivered.taken)
@@ -163,8 +163,8 @@ has_first_fault call answer which asked files given = by_call (told_call call an
     apart : (3 ≤ call.status) × (call.status ≡ 5 → ⊥) × (call.status ≡ 6 → ⊥) × (call.status ≤ 7)
     apart = elim which [ inl four ↦ (omega arith, λ five. omega arith, λ six. omega arith, omega arith) | inr seven ↦ (omega arith, λ five. omega arith, λ six. omega arith, omega arith) ]
 
-    by_task : (task : Result (asked_command asked).Task Fault) (fault : Fault) → status_of fault ≡ call.status → Replied (Answers call.rules asked) task (Err fault) → (first : Fault) × (task ≡ Err first) × (status_of first ≡ call.status)
-    by_task (Ok task) fault is replied = absurd (apart.2 (sym is ∙ replied_short (Answers call.rules asked) task fault replied))
+    by_task : (task : Result (asked_command asked).Task Fault) (fault : Fault) → status_of fault ≡ call.status → Replied (AnswersTask call.rules asked) task (Err fault) → (first : Fault) × (task ≡ Err first) × (status_of first ≡ call.status)
+    by_task (Ok task) fault is replied = absurd (apart.2 (sym is ∙ replied_short (AnswersTask call.rules asked) task fault replied))
     by_task (Err first) fault is replied = let same : fault ≡ first = cc (replied) in (first, refl, sym (ap status_of same) ∙ is)
 
     by_end : (fault : Fault) → status_of fault ≡ call.status → ToldReply call asked files (Err fault) → IsRefusedWith call asked files
@@ -184,7 +184,7 @@ has_first_fault call answer which asked files given = by_call (told_call call an
 -- how a call ends that was told its files, where no fault is counted: want of memory, or the reply to the task, put whole
 data IsSettled (call : Call) (asked : RequestView) (files : List File) : Type 0 where
   exhausted : call.status ≡ 6 → IsSettled call asked files
-  replied : (reply : Reply) → Replied (Answers call.rules asked) (task_of call.rules asked files) reply → IsDelivered (said_of asked reply) call
+  replied : (reply : Reply) → Replied (AnswersTask call.rules asked) (task_of call.rules asked files) reply → IsDelivered (said_of asked reply) call
       → IsSettled call asked files
 
 settled : (call : Call) → IsAnswer call → (asked : RequestView) (files : List File) → IsGiven call asked files
@@ -213,7 +213,7 @@ first_fault_decides call answer asked files given none fault is = by_end (settle
     by_end : IsSettled call asked files → ((call.status ≡ status_of fault) × (call.after.out ≡ call.before.out)) ⊎ (call.status ≡ 6)
     by_end (exhausted six) = inr six
     by_end (replied reply to delivered) =
-        let as_fault : reply ≡ Err fault = subst (λ e. Replied (Answers call.rules asked) e reply) is to in
+        let as_fault : reply ≡ Err fault = subst (λ e. Replied (AnswersTask call.rules asked) e reply) is to in
         let put : IsDelivered (said_of asked (Err fault)) call =
         subst (λ r. IsDelivered (said_of asked r) call) as_fault delivered in
         inl (put.same_status, put.taken)
@@ -222,10 +222,10 @@ first_fault_decides call answer asked files given none fault is = by_end (settle
 pub task_is_answered : (call : Call) → IsAnswer call → IsComplete call
 task_is_answered call answer asked files given none task is = by_end (settled call answer asked files given none)
   where
-    by_reply : (reply : Reply) → Replies (Answers call.rules asked) task reply → IsDelivered (said_of asked reply) call → IsAnswered call asked task ⊎ (call.status ≡ 6)
+    by_reply : (reply : Reply) → Replies (AnswersTask call.rules asked) task reply → IsDelivered (said_of asked reply) call → IsAnswered call asked task ⊎ (call.status ≡ 6)
     by_reply (Ok answered) to delivered = inl (answered, to, delivered)
-    by_reply (Err fault) to delivered = inr (delivered.same_status ∙ replied_short (Answers call.rules asked) task fault to)
+    by_reply (Err fault) to delivered = inr (delivered.same_status ∙ replied_short (AnswersTask call.rules asked) task fault to)
 
     by_end : IsSettled call asked files → IsAnswered call asked task ⊎ (call.status ≡ 6)
     by_end (exhausted six) = inr six
-    by_end (replied reply to delivered) = by_reply reply (subst (λ e. Replied (Answers call.rules asked) e reply) is to) delivered
+    by_end (replied reply to delivered) = by_reply reply (subst (λ e. Replied (AnswersTask call.rules asked) e reply) is to) delivered

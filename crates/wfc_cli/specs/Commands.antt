@@ -48,8 +48,8 @@ abbrev pub plan_of : List Rule → (asked : RequestView) → Plan (asked_command
 plan_of rules asked = (asked_command asked).plan (kinds_of rules) asked
 
 -- what it may answer to its task
-abbrev pub Answers : List Rule → (asked : RequestView) → (asked_command asked).Task → Answered → Type 0
-Answers rules asked = (asked_command asked).Answers rules asked
+abbrev pub AnswersTask : List Rule → (asked : RequestView) → (asked_command asked).Task → Answered → Type 0
+AnswersTask rules asked = (asked_command asked).Answers rules asked
 
 -- its task over these files
 abbrev pub task_of : List Rule → (asked : RequestView) → List File → Result (asked_command asked).Task Fault

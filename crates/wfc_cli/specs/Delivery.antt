@@ -10,7 +10,7 @@ use Rattle.wfc_reply.specs.Call.{Call}
 use Rattle.wfc_reply.specs.Reply.{CutsOff, Reply, TakesWhole, verdict_status, verdict_text}
 use Rattle.wfc_reply.specs.declared.reply.Stop.{Stop}
 use Rattle.wfc_reply.specs.declared.reply.Stop.TheVariants.{Cut, Unanswered}
-use Rattle.wfc_reply.specs.declared.reply.Verdict.{Verdict}
+use Rattle.wfc_reply.specs.declared.reply.CommandVerdict.{CommandVerdict}
 use Rattle.wfc_words.specs.RequestView.{RequestView}
 use Rattle.wfc_words.specs.declared.fault.CommandFault.{CommandFault}
 
@@ -29,7 +29,7 @@ Tells None old new = new ≡ old
 Tells (Some text) old new = IsTold text old new
 
 -- what the error stream is told of an ending, and the status
-abbrev pub Says : RequestView → Result Verdict Stop → SinkView → SinkView → ℕ → Type 0
+abbrev pub Says : RequestView → Result CommandVerdict Stop → SinkView → SinkView → ℕ → Type 0
 Says asked (Ok verdict) old new status = Tells (verdict_text asked verdict) old new × (status ≡ verdict_status verdict)
 Says asked (Err Cut) old new status = Tells (Some out_failed_text) old new × (status ≡ 5)
 Says asked (Err (Unanswered fault)) old new status =
@@ -63,11 +63,11 @@ pub record IsDelivered (said : Said) (call : Call) : Type 0 where
   pub same_status : call.status ≡ said.status
 
 -- a front of the text was put, and the stream is told of the sink
-pub record IsCutOff (said : Said) (call : Call) : Type 0 where
+pub record IsPutInPart (said : Said) (call : Call) : Type 0 where
   pub front : CutsOff said.text call.before.out call.after.out
   pub told : Tells (Some out_failed_text) call.before.err call.after.err
   pub five : call.status ≡ 5
 
 -- what a call does to its streams that says this, and its status
 abbrev pub Delivers : Said → Call → Type 0
-Delivers said call = IsDelivered said call ⊎ IsCutOff said call
+Delivers said call = IsDelivered said call ⊎ IsPutInPart said call

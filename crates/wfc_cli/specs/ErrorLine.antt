@@ -38,26 +38,26 @@ command_status words.NoMemory = 6
 command_status _ = 3
 
 -- the text of a file that is no grid: of a mask's by the word of masks
-abbrev pub grid_text : Source → GridFault → List ℕ → List ℕ
-grid_text source.Mask fault file = text_of_mask_grid fault file
-grid_text _ fault file = text_of_grid fault file
+abbrev pub no_grid_text : Source → GridFault → List ℕ → List ℕ
+no_grid_text source.Mask fault file = text_of_mask_grid fault file
+no_grid_text _ fault file = text_of_grid fault file
 
 -- the text of the picture of a tile that isn't read: it is told by the tile, and one that is too long is none
-abbrev pub picture_text : ℕ → ReadFault → List ℕ → List ℕ
-picture_text tile reads.Missing file = text_of_tiles (tiles.Missing tile) file
-picture_text tile reads.Failed file = text_of_tiles (tiles.Failed tile) file
-picture_text tile reads.TooLong file = text_of_tiles (tiles.BadPicture tile) file
-picture_text tile reads.NoMemory file = text_of_tiles tiles.NoMemory file
+abbrev pub tile_picture_text : ℕ → ReadFault → List ℕ → List ℕ
+tile_picture_text tile reads.Missing file = text_of_tiles (tiles.Missing tile) file
+tile_picture_text tile reads.Failed file = text_of_tiles (tiles.Failed tile) file
+tile_picture_text tile reads.TooLong file = text_of_tiles (tiles.BadPicture tile) file
+tile_picture_text tile reads.NoMemory file = text_of_tiles tiles.NoMemory file
 
 -- the text of a file that isn't read
 abbrev pub unread_text : Source → ReadFault → List ℕ → List ℕ
-unread_text (source.Picture tile) fault file = picture_text tile fault file
+unread_text (source.Picture tile) fault file = tile_picture_text tile fault file
 unread_text _ fault file = text_of_reading fault file
 
 -- the text of a refusal
 abbrev pub refusal_text : RequestView → Refusal → List ℕ
 refusal_text asked (refused.Chooser rule) = text_of_chooser rule
-refusal_text asked (refused.Grid which fault) = grid_text which fault (name_of asked which)
+refusal_text asked (refused.Grid which fault) = no_grid_text which fault (name_of asked which)
 refusal_text asked (refused.Ppm which fault) = text_of_ppm fault (name_of asked which)
 refusal_text asked (refused.Colours fault) = text_of_palette fault (name_of asked source.Sample)
 refusal_text asked (refused.Learn fault) = text_of_learn fault (name_of asked source.Sample)

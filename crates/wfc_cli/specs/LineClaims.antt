@@ -14,7 +14,7 @@ use Rattle.wfc_plan.specs.Fault.{status_of}
 use Rattle.wfc_plan.specs.declared.fault.Fault.{Fault}
 use Rattle.wfc_plan.specs.declared.fault.Fault.TheVariants.{Unread}
 use Rattle.wfc_reply.specs.Asking.{IsGiven}
-use Rattle.wfc_reply.specs.Call.{Call, beside}
+use Rattle.wfc_reply.specs.Call.{Call, with_error_stream}
 use Rattle.wfc_reply.specs.Reply.{IsNoStatus}
 use Rattle.wfc_words.specs.Request.{request_of}
 use Rattle.wfc_words.specs.RequestView.{RequestView}
@@ -55,9 +55,9 @@ pub record TellsStatus (call : Call) : Type 0 where
   pub request : (asked : RequestView) (files : List File) → IsGiven call asked files → call.status ≢ 0
       → TellsReason call asked files
 
--- there is a line, or none, that the error stream was told, and beside each other stream that is
+-- there is a line, or none, that the error stream was told, and with_error_stream each other stream that is
 -- told it, whatever its faults, the same folder, output and status are an answer
 abbrev pub IsApartFromErr : Call → Type 0
 IsApartFromErr call =
     (text : Option (List ℕ)) × Tells text call.before.err call.after.err
-    × ((old new : SinkView) → Tells text old new → IsAnswer (beside call old new))
+    × ((old new : SinkView) → Tells text old new → IsAnswer (with_error_stream call old new))

@@ -2,7 +2,7 @@
 use Rattle.wfc_box_commands.specs.BoxClaims.{BoxCheckPromises, BoxFillPromises, BoxRefutePromises}
 use Rattle.wfc_cli.specs.Answer.{IsAnswer}
 use Rattle.wfc_cli.specs.LineClaims.{IsApartFromErr, TellsStatus}
-use Rattle.wfc_cli.specs.Theorem.{CountsFaults, HasDeviceFault, HasFirstFault, HasRefusedWords}
+use Rattle.wfc_cli.specs.Theorem.{CountsStand, HasDeviceFault, HasFirstFault, HasRefusedWords}
 use Rattle.wfc_cli.specs.Theorem.{IsComplete, IsRefusedFirst, KeepsOut, RefusesWords}
 use Rattle.wfc_grow_command.specs.GrowClaims.{GrowPromises}
 use Rattle.wfc_map_commands.specs.DemoClaims.{DemoPromises}
@@ -29,7 +29,7 @@ pub record KeepsPromises (call : Call) : Type 0 where
   -- status 5 comes only from a device
   pub device : HasDeviceFault call
   -- at each status but 5 no count of faults rose
-  pub counts : CountsFaults call
+  pub counts : CountsStand call
   -- without an answer the sink of the answer is as before
   pub untouched : KeepsOut call
   -- the error stream takes the line of the status

@@ -1,6 +1,6 @@
 -- The words of the main theorem on a call of the program.
 use Rattle.std.specs.Prelude.{Err, IsErr, List, Ok, Some, ℕ, ◌≡◌, ◌≢◌, ◌⊎◌}
-use Rattle.wfc_cli.specs.Commands.{Answers, asked_command, plan_of, task_of}
+use Rattle.wfc_cli.specs.Commands.{AnswersTask, asked_command, plan_of, task_of}
 use Rattle.wfc_cli.specs.Delivery.{IsDelivered, said_of}
 use Rattle.wfc_outside.specs.Count.{HasRisen}
 use Rattle.wfc_outside.specs.Folder.{File, IsFaultOf}
@@ -69,7 +69,7 @@ IsWithoutAnswer status = (status ≡ 3) ⊎ ((status ≡ 4) ⊎ ((status ≡ 6) 
 -- the answer to the task was put whole
 abbrev pub IsAnswered : Call → (asked : RequestView) → (asked_command asked).Task → Type 0
 IsAnswered call asked task =
-    (answered : Answered) × Replies (Answers call.rules asked) task (Ok answered)
+    (answered : Answered) × Replies (AnswersTask call.rules asked) task (Ok answered)
     × IsDelivered (said_of asked (Ok answered)) call
 
 -- ---- the clauses of any command
@@ -93,8 +93,8 @@ abbrev pub HasDeviceFault : Call → Type 0
 HasDeviceFault call = call.status ≡ 5 → IsDeviceFault call
 
 -- at each status but 5 no count rose
-abbrev pub CountsFaults : Call → Type 0
-CountsFaults call = call.status ≢ 5 → IsQuiet call
+abbrev pub CountsStand : Call → Type 0
+CountsStand call = call.status ≢ 5 → IsQuiet call
 
 -- without an answer the sink is as before
 abbrev pub KeepsOut : Call → Type 0

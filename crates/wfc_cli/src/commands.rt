@@ -13,7 +13,7 @@ use wfc_grow_command::grow;
 use wfc_map_commands::{demo, domains, fill, learn};
 use wfc_outside::{Folder, Sink};
 use wfc_proof_commands::{check, refute, upgrade};
-use wfc_reply::{Stop, Verdict};
+use wfc_reply::{CommandVerdict, Stop};
 use wfc_run_commands::{explain, race};
 use wfc_words::{CommandKind, Request};
 
@@ -24,7 +24,7 @@ pub(crate) fn run<F: Folder, O: Sink>(
     choosers: Vec<Box<dyn Chooser>>,
     folder: &mut F,
     out: &mut O,
-) -> Result<Verdict, Stop>
+) -> Result<CommandVerdict, Stop>
     requires in_range { IsInRange request.now }
     ensures ends { EndsAs (asked_command request.now)
         (map (λ chooser. (told chooser).rule) choosers.items) request.now

@@ -10,11 +10,15 @@ use crate::lines::{name, tell_fault};
 use wfc_lines::{budget_spent, check, command, map_exists, no_domains, no_map, out_failed, stuck};
 use wfc_outside::{Sink, write_all};
 use wfc_plan::{Fault, Source};
-use wfc_reply::{Answer, Stop, Verdict};
+use wfc_reply::{Answer, CommandVerdict, Stop};
 use wfc_words::{CommandFault, Request};
 
 /// Tells how a command ended, and answers the status.
-pub(crate) fn deliver<E: Sink>(request: &Request, ended: Result<Verdict, Stop>, err: &mut E) -> u8
+pub(crate) fn deliver<E: Sink>(
+    request: &Request,
+    ended: Result<CommandVerdict, Stop>,
+    err: &mut E,
+) -> u8
     ensures says { Says request.now ended (E.seen err.old) (E.seen err.new) result }
 {
     match ended {
@@ -46,7 +50,10 @@ pub(crate) fn refuse_words<E: Sink>(err: &mut E, fault: CommandFault) -> u8
 }
 
 /// Puts the whole text of an answer into its sink, if there is one, and finishes it.
-pub(crate) fn put<O: Sink>(out: &mut O, reply: Result<Answer, Fault>) -> Result<Verdict, Stop>
+pub(crate) fn put<O: Sink>(
+    out: &mut O,
+    reply: Result<Answer, Fault>,
+) -> Result<CommandVerdict, Stop>
     ensures leaves { Leaves (reply_view reply) (O.seen out.old) (O.seen out.new) result }
 {
     let answer = reply?;
@@ -58,16 +65,20 @@ pub(crate) fn put<O: Sink>(out: &mut O, reply: Result<Answer, Fault>) -> Result<
 }
 
 /// Tells the line of a verdict, if it has one.
-fn tell_verdict<E: Sink>(err: &mut E, request: &Request, verdict: Verdict)
+fn tell_verdict<E: Sink>(err: &mut E, request: &Request, verdict: CommandVerdict)
     ensures told { Tells (verdict_text request.now verdict) (E.seen err.old) (E.seen err.new) }
 {
     let _ = match verdict {
-        Verdict::Done => Ok(()),
-        Verdict::NoMap => no_map(err),
-        Verdict::Spent { budget } => budget_spent(err, budget),
-        Verdict::Dead => no_domains(err),
-        Verdict::MapExists => map_exists(err),
-        Verdict::Unaccepted { fault } => check(err, &fault, name(request, Source::Refutation)),
-        Verdict::Stuck { x, y } => stuck(err, x, y),
+        CommandVerdict::Done => Ok(()),
+        CommandVerdict::NoMap => no_map(err),
+        CommandVerdict::Spent { budget } => budget_spent(err, budget),
+        CommandVerdict::Dead => no_domains(err),
+        CommandVerdict::MapExists => map_exists(err),
+        CommandVerdict::Unaccepted { fault } => check(
+            err,
+            &fault,
+            name(request, Source::Refutation),
+        ),
+        CommandVerdict::Stuck { x, y } => stuck(err, x, y),
     };
 }

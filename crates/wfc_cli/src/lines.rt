@@ -1,7 +1,7 @@
 //! The line of a fault: which kind of line it is, and the file that it names.
 
 ghost use Rattle.std.specs.Prelude.{◌≡◌};
-ghost use Rattle.wfc_cli.specs.ErrorLine.{fault_text, grid_text, picture_text, refusal_text, unread_text};
+ghost use Rattle.wfc_cli.specs.ErrorLine.{fault_text, no_grid_text, tile_picture_text, refusal_text, unread_text};
 ghost use Rattle.wfc_lines.specs.Line.{line};
 ghost use Rattle.wfc_outside.specs.Sink.{Puts};
 ghost use Rattle.wfc_reply.specs.FileNames.{name_of};
@@ -50,7 +50,7 @@ fn unread<E: Sink>(
 /// Tells why the picture of a tile isn't read.
 fn picture<E: Sink>(err: &mut E, tile: u32, fault: ReadFault, file: &str) -> Result<(), SinkFault>
     ensures told { Puts (E.seen err.old) (E.seen err.new)
-        (line (picture_text tile fault file.now)) result }
+        (line (tile_picture_text tile fault file.now)) result }
 {
     match fault {
         ReadFault::Missing => tiles(err, TileFault::Missing { tile }, file),
@@ -68,7 +68,7 @@ fn not_grid<E: Sink>(
     file: &str,
 ) -> Result<(), SinkFault>
     ensures told { Puts (E.seen err.old) (E.seen err.new)
-        (line (grid_text source fault file.now)) result }
+        (line (no_grid_text source fault file.now)) result }
 {
     match source {
         Source::Mask => mask_grid(err, fault, file),

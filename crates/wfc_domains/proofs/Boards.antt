@@ -18,7 +18,7 @@ use Rattle.wfc_domains.specs.declared.board.Board.{Board}
 use Rattle.wfc_domains.specs.Domains.{Flags, has, size_of, less, IsLess, base_of}
 use Rattle.wfc_domains.specs.Log.{extent_of, IsInside, IsCauseBelow, IsLogged, cells_of, sizes_after}
 use Rattle.wfc_domains.specs.Removals.{without, IsCause, IsRemoved, AreRemoved}
-use Rattle.wfc_domains.specs.Store.{StoreView, IsSound, mark_of, left_of, before_of}
+use Rattle.wfc_domains.specs.Store.{StoreView, IsSound, level_mark, left_of, before_of}
 use Rattle.wfc_domains.specs.Board.{view_of, AreStood, IsTraced, HasLevels, HasValues, IsBoard, lost, Grows}
 use Rattle.wfc_domains.proofs.Problems.{base-in, base_table, depth-few, few_pairs, dead-iff, empty-size}
 use Rattle.wfc_domains.proofs.SizeLemmas.{stood-sizes}
@@ -46,7 +46,7 @@ size-others P D D' c v n e l ne =
 -- ---- marks
 
 -- the last mark is in the log
-pub mark-in : (v : StoreView) → HasLevels v → mark_of v.marks ≤ length v.removals
+pub mark-in : (v : StoreView) → HasLevels v → level_mark v.marks ≤ length v.removals
 mark-in v h = elim (cases_lt 0 (length v.marks)) [
   | inl some ↦ h.in_log (length v.marks - 1) (omega arith)
   | inr none ↦ let z = get_or_past v.marks (length v.marks - 1) 0 (omega arith) in omega arith
@@ -116,7 +116,7 @@ board-lost b D cell value cause h alive l hc hv k =
     let P = b.problem.now in
     let rs = b.trail.removals in
     let r : Removal = record { cell = cell; value = value; before = size_of b.domains cell; cause = cause } in
-    let m = mark_of b.levels.marks in
+    let m = level_mark b.levels.marks in
     let m_in = mark-in (view_of b) h.levels in
     let smaller = size-smaller P b.domains D cell value h.traced.same_values hv l in
     let left : without (without (in_base P) (take m rs)) (drop m rs) ≡ left_of (view_of b) = without-split (in_base P) rs m in
@@ -197,7 +197,7 @@ levels-put v l spare h sound alive = record {
         (subst (λ x. IsSound (record { problem = v.problem; standing = x; spare = s; removals = rs; marks = ms; verdict = Alive })) a sound))
 
 -- the last mark of one more
-pub mark-push : (marks : List ℕ) (n : ℕ) → mark_of (marks ++ n ∷ []) ≡ n
+pub mark-push : (marks : List ℕ) (n : ℕ) → level_mark (marks ++ n ∷ []) ≡ n
 mark-push marks n = get_or_push marks n 0 (length (marks ++ n ∷ []) - 1) (omega (arith, length_push marks n))
 
 -- the board under one literal more, before it cuts
@@ -217,7 +217,7 @@ board-put b l spare h sound alive = record {
   levels = levels-put (view_of b) l spare h.levels sound alive;
   added =
       let rs = b.trail.removals in
-      let m = mark_of (b.levels.marks ++ length rs ∷ []) in
+      let m = level_mark (b.levels.marks ++ length rs ∷ []) in
       let none : drop m rs ≡ [] = drop_all m rs (omega (arith, mark-push b.levels.marks (length rs))) in
       subst (λ xs. AreRemoved b.problem.now (b.levels.standing ++ l ∷ []) (without (in_base b.problem.now) (take m rs)) xs) (sym none) tt;
   begun = sym (mark-push b.levels.marks (length b.trail.removals));
@@ -355,13 +355,13 @@ board-emptied b t no_removals no_start no_literals no_marks filled empty = recor
     sound_at = λ k s l. absurd (omega (arith, ap length no_marks));
   };
   added = subst (AreRemoved b.problem.now b.levels.standing (before_of (view_of b))) (sym none) tt;
-  begun = no_start ∙ sym (ap mark_of no_marks);
+  begun = no_start ∙ sym (ap level_mark no_marks);
   filled = filled;
   empty = empty;
 }
   where
-    none : drop (mark_of b.levels.marks) b.trail.removals ≡ []
-    none = drop_all (mark_of b.levels.marks) b.trail.removals (omega (arith, ap length no_removals))
+    none : drop (level_mark b.levels.marks) b.trail.removals ≡ []
+    none = drop_all (level_mark b.levels.marks) b.trail.removals (omega (arith, ap length no_removals))
 
 pub board-fresh : (b : Board) → IsProblem b.problem.now → b.domains ≡ base_of b.problem.now → b.trail.removals ≡ [] → b.trail.start ≡ 0 → depth_of b.problem.now + 1 ≤ b.trail.room + b.problem.now.cells → b.trail.extent ≡ extent_of b.problem.now → b.levels.standing ≡ [] → b.levels.marks ≡ []
     → (b.verdict ≡ Alive → HasValues b)

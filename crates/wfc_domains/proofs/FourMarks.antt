@@ -2,7 +2,7 @@
 use Rattle.std.proofs.Common.{◌≡◌, ℕ, zero, suc, ◌+◌, ◌*◌, ◌%◌, ◌<◌, ◌≤◌, List, [], ◌∷◌, ◌++◌, length, get_or, take, drop, map, set, refl, sym, ◌∙◌, ap, arith}
 use Rattle.std.specs.Prelude.{slice_index}
 use Rattle.std.proofs.lemmas.List.{length-set}
-use Rattle.wfc_domains.specs.Counters.{Table, Marks, place_in, with_count, entry_of}
+use Rattle.wfc_domains.specs.Counters.{Table, Marks, count_place, with_count, entry_of}
 use Rattle.wfc_domains.specs.Halves.{narrow_entry, entries_from, limit_from}
 use Rattle.wfc_domains.proofs.HalfLemmas.{narrow-at, narrow-set, narrow-marked}
 use Rattle.wfc_domains.proofs.Marking.{marks_none, marks_more}
@@ -34,7 +34,7 @@ abbrev pub narrow_table : ℕ → ℕ → ℕ → List ℕ → List ℕ → Tabl
 narrow_table cells values dirs ss ls = record { cells = cells; values = values; dirs = dirs; limit = limit_from ls; counts = entries_from ss ls }
 
 -- one part marked is one count marked
-pub one-marked : (cells values dirs : ℕ) (ss ls : List ℕ) (i cell value d : ℕ) → length ls ≤ i → i < length ss → i ≡ place_in values dirs cell value d
+pub one-marked : (cells values dirs : ℕ) (ss ls : List ℕ) (i cell value d : ℕ) → length ls ≤ i → i < length ss → i ≡ count_place values dirs cell value d
     → narrow_table cells values dirs (marked_at ss i) ls ≡ with_count (narrow_table cells values dirs ss ls) cell value d (entry_of (narrow_table cells values dirs ss ls) cell value d % 32768 + 32768)
 one-marked cells values dirs ss ls i cell value d past inside e =
     let s = slice_index ss i in
@@ -43,7 +43,7 @@ one-marked cells values dirs ss ls i cell value d past inside e =
     λ j. record { cells = cells; values = values; dirs = dirs; limit = limit_from ls; counts = counts j }
 
 -- four parts marked are the counts of one value marked
-pub marks-four : (cells values dirs : ℕ) (ss ls : List ℕ) (start cell value : ℕ) → length ls ≤ start → start + 4 ≤ length ss → start ≡ place_in values dirs cell value 0
+pub marks-four : (cells values dirs : ℕ) (ss ls : List ℕ) (start cell value : ℕ) → length ls ≤ start → start + 4 ≤ length ss → start ≡ count_place values dirs cell value 0
     → length (entries_from ss ls) ≡ (cells * values) * dirs → cell < cells → value < values → 4 ≤ dirs
     → Marks (narrow_table cells values dirs ss ls) (narrow_table cells values dirs (marked_at (marked_at (marked_at (marked_at ss start) (start + 1)) (start + 2)) (start + 3)) ls) cell value
 marks-four cells values dirs ss ls start cell value past inside e whole hc hv hd =

@@ -5,7 +5,7 @@ use Rattle.std.proofs.lemmas.List.{get_or-set_same, get_or-set_other, get_or_pas
 use Rattle.std.proofs.lemmas.Nat.{div-mul-add, mod-mul-add, div-add-mod'}
 use Rattle.std.proofs.Math.Nat.{mod-lt}
 use Rattle.wfc_domains.specs.Halves.{narrow_entry, wide_entry, entries_from, limit_from}
-use Rattle.wfc_domains.specs.Parts.{IsSplit}
+use Rattle.wfc_domains.specs.Parts.{IsCountSplit}
 
 -- ---- one part alone
 
@@ -154,27 +154,27 @@ large-there ls i pos = elim (cases_lt i (length ls)) [
 -- ---- parts that are set
 
 -- parts of which the small one is set
-pub split-small : (ss ls : List ℕ) (j x : ℕ) → j < length ss → ((i : ℕ) → IsSplit (get_or ss i 0) (get_or ls i 0)) → IsSplit x (get_or ls j 0) → (i : ℕ) → IsSplit (get_or (set ss j x) i 0) (get_or ls i 0)
+pub split-small : (ss ls : List ℕ) (j x : ℕ) → j < length ss → ((i : ℕ) → IsCountSplit (get_or ss i 0) (get_or ls i 0)) → IsCountSplit x (get_or ls j 0) → (i : ℕ) → IsCountSplit (get_or (set ss j x) i 0) (get_or ls i 0)
 split-small ss ls j x h each here i = elim (cases_eq i j) [
-  | inl same ↦ subst (λ k. IsSplit (get_or (set ss j x) k 0) (get_or ls k 0)) (sym same) (subst (λ y. IsSplit y (get_or ls j 0)) (sym (get_or-set_same ss j x 0 h)) here)
-  | inr ne ↦ subst (λ y. IsSplit y (get_or ls i 0)) (sym (get_or-set_other ss j i x 0 ne)) (each i)
+  | inl same ↦ subst (λ k. IsCountSplit (get_or (set ss j x) k 0) (get_or ls k 0)) (sym same) (subst (λ y. IsCountSplit y (get_or ls j 0)) (sym (get_or-set_same ss j x 0 h)) here)
+  | inr ne ↦ subst (λ y. IsCountSplit y (get_or ls i 0)) (sym (get_or-set_other ss j i x 0 ne)) (each i)
 ]
 
 -- parts of which both are set
-pub split-both : (ss ls : List ℕ) (j x y : ℕ) → j < length ss → j < length ls → ((i : ℕ) → IsSplit (get_or ss i 0) (get_or ls i 0)) → IsSplit x y → (i : ℕ) → IsSplit (get_or (set ss j x) i 0) (get_or (set ls j y) i 0)
+pub split-both : (ss ls : List ℕ) (j x y : ℕ) → j < length ss → j < length ls → ((i : ℕ) → IsCountSplit (get_or ss i 0) (get_or ls i 0)) → IsCountSplit x y → (i : ℕ) → IsCountSplit (get_or (set ss j x) i 0) (get_or (set ls j y) i 0)
 split-both ss ls j x y h h' each here i = elim (cases_eq i j) [
   | inl same ↦
-      subst (λ k. IsSplit (get_or (set ss j x) k 0) (get_or (set ls j y) k 0)) (sym same)
-      (subst (λ b. IsSplit b (get_or (set ls j y) j 0)) (sym (get_or-set_same ss j x 0 h)) (subst (IsSplit x) (sym (get_or-set_same ls j y 0 h')) here))
+      subst (λ k. IsCountSplit (get_or (set ss j x) k 0) (get_or (set ls j y) k 0)) (sym same)
+      (subst (λ b. IsCountSplit b (get_or (set ls j y) j 0)) (sym (get_or-set_same ss j x 0 h)) (subst (IsCountSplit x) (sym (get_or-set_same ls j y 0 h')) here))
   | inr ne ↦
-      subst (λ b. IsSplit b (get_or (set ls j y) i 0)) (sym (get_or-set_other ss j i x 0 ne))
-      (subst (IsSplit (get_or ss i 0)) (sym (get_or-set_other ls j i y 0 ne)) (each i))
+      subst (λ b. IsCountSplit b (get_or (set ls j y) i 0)) (sym (get_or-set_other ss j i x 0 ne))
+      (subst (IsCountSplit (get_or ss i 0)) (sym (get_or-set_other ls j i y 0 ne)) (each i))
 ]
 
 -- ---- one less
 
 -- with a count there is a small part
-pub less-some : (ss ls : List ℕ) (i : ℕ) → i < length ss → IsSplit (get_or ss i 0) (get_or ls i 0) → 0 < get_or (entries_from ss ls) i 0 % 32768 → 0 < get_or ss i 0
+pub less-some : (ss ls : List ℕ) (i : ℕ) → i < length ss → IsCountSplit (get_or ss i 0) (get_or ls i 0) → 0 < get_or (entries_from ss ls) i 0 % 32768 → 0 < get_or ss i 0
 less-some ss ls i h split pos = elim (cases_lt 0 (get_or ss i 0)) [
   | inl some ↦ some
   | inr l ↦
@@ -193,7 +193,7 @@ less-some ss ls i h split pos = elim (cases_lt 0 (get_or ss i 0)) [
 ]
 
 -- the entries with one less
-pub less-entries : (ss ls : List ℕ) (i : ℕ) → i < length ss → IsSplit (get_or ss i 0) (get_or ls i 0) → 0 < get_or (entries_from ss ls) i 0 % 32768
+pub less-entries : (ss ls : List ℕ) (i : ℕ) → i < length ss → IsCountSplit (get_or ss i 0) (get_or ls i 0) → 0 < get_or (entries_from ss ls) i 0 % 32768
     → entries_from (set ss i (get_or ss i 0 - 1)) ls ≡ set (entries_from ss ls) i (get_or (entries_from ss ls) i 0 - 1)
 less-entries ss ls i h split pos =
     let s = get_or ss i 0 in
@@ -237,12 +237,12 @@ parts-one ss ls i h one none = elim (cases_lt i (length ls)) [
 pub record IsSpent (ss ls ss' ls' : List ℕ) (i : ℕ) (none : Bool) : Type 0 where
   pub same_length : length ss' ≡ length ss
   pub both : (length ls' ≡ 0) ⊎ (length ls' ≡ length ss')
-  pub each : (j : ℕ) → IsSplit (get_or ss' j 0) (get_or ls' j 0)
+  pub each : (j : ℕ) → IsCountSplit (get_or ss' j 0) (get_or ls' j 0)
   pub limit : limit_from ls' ≡ limit_from ls
   pub entries : entries_from ss' ls' ≡ set (entries_from ss ls) i (get_or (entries_from ss ls) i 0 - 1)
   pub bare : (none ≡ true → get_or (entries_from ss ls) i 0 ≡ 1) × (get_or (entries_from ss ls) i 0 ≡ 1 → none ≡ true)
 
-pub spent : (ss ls ss' ls' : List ℕ) (i s : ℕ) (none : Bool) → i < length ss → s ≡ get_or ss i 0 → s - 1 ≡ 0 → (length ls ≡ 0) ⊎ (length ls ≡ length ss) → ((j : ℕ) → IsSplit (get_or ss j 0) (get_or ls j 0))
+pub spent : (ss ls ss' ls' : List ℕ) (i s : ℕ) (none : Bool) → i < length ss → s ≡ get_or ss i 0 → s - 1 ≡ 0 → (length ls ≡ 0) ⊎ (length ls ≡ length ss) → ((j : ℕ) → IsCountSplit (get_or ss j 0) (get_or ls j 0))
     → 0 < get_or (entries_from ss ls) i 0 % 32768
     → (none ≡ true → (get_or ls i 0 ≡ 0) × (ss' ≡ set ss i (s - 1)) × (ls' ≡ ls))
     → (none ≡ false → (0 < get_or ls i 0) × (ss' ≡ set (set ss i (s - 1)) i 255) × (ls' ≡ set ls i (get_or ls i 0 - 1)))
@@ -298,7 +298,7 @@ more-entries ss ls i h both limit =
     ]
 
 -- where it is full there is a large one with room for one more
-pub carry-room : (ss ls : List ℕ) (i : ℕ) → i < length ss → (length ls ≡ 0) ⊎ (length ls ≡ length ss) → IsSplit (get_or ss i 0) (get_or ls i 0)
+pub carry-room : (ss ls : List ℕ) (i : ℕ) → i < length ss → (length ls ≡ 0) ⊎ (length ls ≡ length ss) → IsCountSplit (get_or ss i 0) (get_or ls i 0)
     → get_or (entries_from ss ls) i 0 % 32768 < limit_from ls → get_or ss i 0 ≡ 255 → (i < length ls) × (get_or ls i 0 < 127)
 carry-room ss ls i h both split limit full =
     let s = get_or ss i 0 in
@@ -323,7 +323,7 @@ carry-entries ss ls i h there full =
 -- ---- entries that have no mark
 
 -- a small part that has a rest by 128 has a count
-pub rest-some : (ss ls : List ℕ) (i : ℕ) → i < length ss → IsSplit (get_or ss i 0) (get_or ls i 0) → 0 < get_or ss i 0 % 128 → 0 < get_or (entries_from ss ls) i 0 % 32768
+pub rest-some : (ss ls : List ℕ) (i : ℕ) → i < length ss → IsCountSplit (get_or ss i 0) (get_or ls i 0) → 0 < get_or ss i 0 % 128 → 0 < get_or (entries_from ss ls) i 0 % 32768
 rest-some ss ls i h split pos = elim (cases_lt i (length ls)) [
   | inl there ↦
       let at = wide-at ss ls i h there in
@@ -333,7 +333,7 @@ rest-some ss ls i h split pos = elim (cases_lt i (length ls)) [
 ]
 
 -- no entry with a large part is marked
-pub wide-plain : (ss ls : List ℕ) (i : ℕ) → 0 < length ls → (length ls ≡ 0) ⊎ (length ls ≡ length ss) → IsSplit (get_or ss i 0) (get_or ls i 0) → get_or (entries_from ss ls) i 0 < 32768
+pub wide-plain : (ss ls : List ℕ) (i : ℕ) → 0 < length ls → (length ls ≡ 0) ⊎ (length ls ≡ length ss) → IsCountSplit (get_or ss i 0) (get_or ls i 0) → get_or (entries_from ss ls) i 0 < 32768
 wide-plain ss ls i some both split = elim (cases_lt i (length ss)) [
   | inl h ↦
       let there : i < length ls = elim both [ inl none ↦ absurd (omega (arith, none)) | inr same ↦ omega (arith, same) ] in

@@ -13,29 +13,29 @@ use Rattle.wfc_lists.proofs.Ranges.{range_at}
 use Rattle.wfc_problem.specs.Network.{Network, values, neighbour, supports_of, IsProblem}
 use Rattle.wfc_problem.specs.Domains.{Test, count_at, support_count}
 use Rattle.wfc_domains.specs.Domains.{Flags, has, size_of}
-use Rattle.wfc_domains.specs.Counters.{Table, with_count, entry_of, counts_of, place_in, place}
+use Rattle.wfc_domains.specs.Counters.{Table, with_count, entry_of, counts_of, count_place, counter_place}
 use Rattle.wfc_domains.specs.Halves.{entries_from, limit_from}
-use Rattle.wfc_domains.specs.Parts.{IsSplit}
+use Rattle.wfc_domains.specs.Parts.{IsCountSplit}
 use Rattle.wfc_domains.specs.Loaded.{AreLoaded, IsSurrounded, IsCopied, IsRowCopied}
 use Rattle.wfc_domains.proofs.HalfLemmas.{halves-length, same-entry, limit-length}
 use Rattle.wfc_domains.proofs.Problems.{supports-below}
 use Rattle.wfc_domains.proofs.Places.{place-same, place_in-lt, place-is, counts_are}
 
 -- one more
-pub loaded_more : (P : Network) (D : Test) (T T' : Table) (c v d count : ℕ) → AreLoaded P D T (place P c v d) → c < P.cells → v < values P → d < P.dirs → count ≡ support_count P D c v d → T' ≡ with_count T c v d count
-    → AreLoaded P D T' (place P c v (d + 1))
-loaded_more P D T T' c v d count h hc hv hd is e = subst (λ t. AreLoaded P D t (place P c v (d + 1))) (sym e) (record {
+pub loaded_more : (P : Network) (D : Test) (T T' : Table) (c v d count : ℕ) → AreLoaded P D T (counter_place P c v d) → c < P.cells → v < values P → d < P.dirs → count ≡ support_count P D c v d → T' ≡ with_count T c v d count
+    → AreLoaded P D T' (counter_place P c v (d + 1))
+loaded_more P D T T' c v d count h hc hv hd is e = subst (λ t. AreLoaded P D t (counter_place P c v (d + 1))) (sym e) (record {
   fits = record {
     same_cells = h.fits.same_cells;
     same_values = h.fits.same_values;
     same_dirs = h.fits.same_dirs;
     few = h.fits.few;
-    whole = length-set T.counts (place_in T.values T.dirs c v d) count ∙ h.fits.whole;
+    whole = length-set T.counts (count_place T.values T.dirs c v d) count ∙ h.fits.whole;
   };
   below = λ c' v' d' hc' hv' hd' l.
-      let i = place_in T.values T.dirs c v d in
-      let j = place_in T.values T.dirs c' v' d' in
-      elim (cases_eq (place P c' v' d') (place P c v d)) [
+      let i = count_place T.values T.dirs c v d in
+      let j = count_place T.values T.dirs c' v' d' in
+      elim (cases_eq (counter_place P c' v' d') (counter_place P c v d)) [
         | inl same ↦
             let which = place-same P c' v' d' c v d hv' hv hd' hd same in
             let inside : i < length T.counts = omega (arith, place_in-lt (values P) P.dirs c v d P.cells hc hv hd, place-is P T h.fits c v d, h.fits.whole) in
@@ -48,7 +48,7 @@ loaded_more P D T T' c v d count h hc hv hd is e = subst (λ t. AreLoaded P D t 
 })
 
 -- all of them
-pub loaded_all : (P : Network) (D : Test) (T : Table) (c : ℕ) → AreLoaded P D T (place P c 0 0) → P.cells ≤ c → T ≡ counts_of P D T.limit
+pub loaded_all : (P : Network) (D : Test) (T : Table) (c : ℕ) → AreLoaded P D T (counter_place P c 0 0) → P.cells ≤ c → T ≡ counts_of P D T.limit
 loaded_all P D T c h l =
     let rows : P.cells * values P ≤ c * values P + 0 = omega (arith, mul-le-mul_right (values P) l) in
     let all : (P.cells * values P) * P.dirs ≤ (c * values P + 0) * P.dirs = mul-le-mul_right P.dirs rows in
@@ -70,12 +70,12 @@ full-support P p D c v d n hd beside whole same =
     ap (count_at P (has D) v d) beside
     ∙ full-count D.values (has D n) (supports_of P v d) whole (λ k e l. omega (arith, supports-below P p v d (supports_of P v d) refl hd k e l))
 
--- where a place of a row stands
-pub place_in-row : (n k c v d : ℕ) → place_in n k c v d ≡ c * (n * k) + (v * k + d)
+-- where a counter_place of a row stands
+pub place_in-row : (n k c v d : ℕ) → count_place n k c v d ≡ c * (n * k) + (v * k + d)
 place_in-row n k c v d = omega arith
 
--- a place before a cell's row is that of an earlier cell, or else it is in the row
-pub place-row : (P : Network) (c v d cell : ℕ) → v < values P → d < P.dirs → place P c v d < place P (cell + 1) 0 0 → c ≤ cell
+-- a counter_place before a cell's row is that of an earlier cell, or else it is in the row
+pub place-row : (P : Network) (c v d cell : ℕ) → v < values P → d < P.dirs → counter_place P c v d < counter_place P (cell + 1) 0 0 → c ≤ cell
 place-row P c v d cell hv hd l = elim (cases_lt cell c) [
   | inl more ↦
       let rows : (cell + 1) * (values P * P.dirs) ≤ c * (values P * P.dirs) = mul-le-mul_right (values P * P.dirs) (let z : cell + 1 ≤ c = omega arith in z) in
@@ -84,8 +84,8 @@ place-row P c v d cell hv hd l = elim (cases_lt cell c) [
 ]
 
 -- a cell's counters copied from an earlier cell, where all supports stand beside both
-pub loaded-copied : (P : Network) (D : Test) (T T' : Table) (from to : ℕ) → AreLoaded P D T (place P to 0 0) → from < to → to < P.cells → IsSurrounded P D from P.dirs → IsSurrounded P D to P.dirs → IsCopied T T' from to
-    → AreLoaded P D T' (place P (to + 1) 0 0)
+pub loaded-copied : (P : Network) (D : Test) (T T' : Table) (from to : ℕ) → AreLoaded P D T (counter_place P to 0 0) → from < to → to < P.cells → IsSurrounded P D from P.dirs → IsSurrounded P D to P.dirs → IsCopied T T' from to
+    → AreLoaded P D T' (counter_place P (to + 1) 0 0)
 loaded-copied P D T T' from to h earlier to_in like here copy = record {
   fits = record {
     same_cells = copy.same_cells ∙ h.fits.same_cells;
@@ -107,13 +107,13 @@ loaded-copied P D T T' from to h earlier to_in like here copy = record {
       ];
 }
   where
-    row-before : (c v d : ℕ) → c < to → v < values P → d < P.dirs → place P c v d < place P to 0 0
+    row-before : (c v d : ℕ) → c < to → v < values P → d < P.dirs → counter_place P c v d < counter_place P to 0 0
     row-before c v d l hv hd = omega (arith, place_in-lt (values P) P.dirs c v d to l hv hd)
 
 -- the numbers of a cell's row are its counts
 pub row-positive : (n k cells cell : ℕ) (xs ys : List ℕ) → ys ≡ xs → length xs ≡ (cells * n) * k → cell < cells
     → ((i : ℕ) → i < length (take (cell * (n * k) + n * k - cell * (n * k)) (drop (cell * (n * k)) ys)) → 0 < get_or (take (cell * (n * k) + n * k - cell * (n * k)) (drop (cell * (n * k)) ys)) i 0 % 128)
-    → (v d : ℕ) → v < n → d < k → 0 < get_or xs (place_in n k cell v d) 0 % 128
+    → (v d : ℕ) → v < n → d < k → 0 < get_or xs (count_place n k cell v d) 0 % 128
 row-positive n k cells cell xs ys same whole hc h v d hv hd =
     let start = cell * (n * k) in
     let m = start + n * k - start in
@@ -123,7 +123,7 @@ row-positive n k cells cell xs ys same whole hc h v d hv hd =
     let rows : (cell + 1) * (n * k) ≤ cells * (n * k) = mul-le-mul_right (n * k) (let z : cell + 1 ≤ cells = omega arith in z) in
     let long : i < length (take m (drop start ys)) = omega (arith, length-take m (drop start ys), length-drop start ys, ap length same) in
     let pos = h i long in
-    let read : get_or (take m (drop start ys)) i 0 ≡ get_or xs (place_in n k cell v d) 0 = get_or-take m (drop start ys) i 0 short ∙ get_or-drop start ys i 0 ∙ ap (λ zs. get_or zs (start + i) 0) same ∙ ap (λ j. get_or xs j 0) (sym (place_in-row n k cell v d)) in
+    let read : get_or (take m (drop start ys)) i 0 ≡ get_or xs (count_place n k cell v d) 0 = get_or-take m (drop start ys) i 0 short ∙ get_or-drop start ys i 0 ∙ ap (λ zs. get_or zs (start + i) 0) same ∙ ap (λ j. get_or xs j 0) (sym (place_in-row n k cell v d)) in
     omega (arith, ap (λ x. x % 128) read)
 
 -- a row fits at each cell
@@ -154,22 +154,22 @@ copied-row n k cells from to ss ss' ls ls' whole both hf ht cs cl = record {
   copied = λ v d hv hd.
       let j = v * k + d in
       let hj : j < n * k = omega (arith, mul-add-lt v k d n hv hd) in
-      let p = place_in n k to v d in
-      let q = place_in n k from v d in
+      let p = count_place n k to v d in
+      let q = count_place n k from v d in
       let pi : p < length ss' = omega (arith, place_in-lt n k to v d cells ht hv hd, whole, cs.same_length) in
       let qi : q < length ss = omega (arith, place_in-lt n k from v d cells hf hv hd, whole) in
       let small : get_or ss' p 0 ≡ get_or ss q 0 = ap (λ x. get_or ss' x 0) (place_in-row n k to v d) ∙ cs.copied j hj ∙ ap (λ x. get_or ss x 0) (sym (place_in-row n k from v d)) in
       let large : get_or ls' p 0 ≡ get_or ls q 0 = ap (λ x. get_or ls' x 0) (place_in-row n k to v d) ∙ cl.copied j hj ∙ ap (λ x. get_or ls x 0) (sym (place_in-row n k from v d)) in
       same-entry ss ls ss' ls' p q pi qi cs.same_length cl.same_length both small large;
   others = λ c v d hc hv hd.
-      let p = place_in n k c v d in
+      let p = count_place n k c v d in
       let before : p < to * (n * k) = omega (arith, place_in-lt n k c v d to hc hv hd, place_in-row n k to 0 0) in
       let inside : p < length ss = omega (arith, place_in-lt n k c v d cells (omega arith) hv hd, whole) in
       same-entry ss ls ss' ls' p p (omega (arith, inside, cs.same_length)) inside cs.same_length cl.same_length both (cs.below p before) (cl.below p before);
 }
 
 -- parts that were copied
-pub split-copied : (ss ss' ls ls' : List ℕ) (start row dest : ℕ) → IsRowCopied ss ss' start row dest → IsRowCopied ls ls' start row dest → ((i : ℕ) → IsSplit (get_or ss i 0) (get_or ls i 0)) → (i : ℕ) → IsSplit (get_or ss' i 0) (get_or ls' i 0)
+pub split-copied : (ss ss' ls ls' : List ℕ) (start row dest : ℕ) → IsRowCopied ss ss' start row dest → IsRowCopied ls ls' start row dest → ((i : ℕ) → IsCountSplit (get_or ss i 0) (get_or ls i 0)) → (i : ℕ) → IsCountSplit (get_or ss' i 0) (get_or ls' i 0)
 split-copied ss ss' ls ls' start row dest hs hl each i = elim (cases_lt i dest) [
   | inl l ↦ moved i i (hs.below i l) (hl.below i l)
   | inr l ↦ elim (cases_lt i (dest + row)) [
@@ -180,5 +180,5 @@ split-copied ss ss' ls ls' start row dest hs hl each i = elim (cases_lt i dest) 
   ]
 ]
   where
-    moved : (i j : ℕ) → get_or ss' i 0 ≡ get_or ss j 0 → get_or ls' i 0 ≡ get_or ls j 0 → IsSplit (get_or ss' i 0) (get_or ls' i 0)
-    moved i j small large = subst (λ x. IsSplit x (get_or ls' i 0)) (sym small) (subst (IsSplit (get_or ss j 0)) (sym large) (each j))
+    moved : (i j : ℕ) → get_or ss' i 0 ≡ get_or ss j 0 → get_or ls' i 0 ≡ get_or ls j 0 → IsCountSplit (get_or ss' i 0) (get_or ls' i 0)
+    moved i j small large = subst (λ x. IsCountSplit x (get_or ls' i 0)) (sym small) (subst (IsCountSplit (get_or ss j 0)) (sym large) (each j))

@@ -17,7 +17,7 @@ use Rattle.wfc_domains.specs.declared.Verdict.TheVariants.{Alive, Dead}
 use Rattle.wfc_domains.specs.declared.board.Board.{Board}
 use Rattle.wfc_domains.specs.Domains.{has, size_of, less}
 use Rattle.wfc_domains.specs.Removals.{without, IsCause, AreRemoved}
-use Rattle.wfc_domains.specs.Store.{StoreView, IsSound, IsVerdict, IsOpening, IsLeastEmpty, mark_of, left_of, before_of, added_of, all_but_last, without_last}
+use Rattle.wfc_domains.specs.Store.{StoreView, IsSound, IsVerdict, IsOpening, IsLeastEmpty, level_mark, left_of, before_of, added_of, all_but_last, without_last}
 use Rattle.wfc_domains.specs.Board.{view_of, IsTraced, HasLevels, IsBoard, IsCut}
 use Rattle.wfc_domains.proofs.Problems.{greatest-lower, greatest-within, greatest-from_holding, greatest-is, counts-from_consistent, support_count-le, dead-iff, zero-empty, empty-size, alive-pos}
 use Rattle.wfc_domains.proofs.Removals.{less-contains, without-split}
@@ -53,14 +53,14 @@ before-holds v h E base consistent = elim (cases_lt 0 (length v.marks)) [
       let s = h.sound_at k 0 (omega arith) in
       λ c w t. (s.verdict.0 c w).1 (lower v.problem v.standing k c w (record { domains = E; within = base; consistent = consistent; stands = t }))
   | inr none ↦
-      let z : mark_of v.marks ≡ 0 = get_or_past v.marks (length v.marks - 1) 0 (omega arith) in
+      let z : level_mark v.marks ≡ 0 = get_or_past v.marks (length v.marks - 1) 0 (omega arith) in
       λ c w t. ap (λ m. without (in_base v.problem) (take m v.removals) c w) z ∙ (and_parts _ _ (base c w t)).0
 ]
 
 -- so do the domains of a board
 pub board-holds : (b : Board) → IsBoard b → (E : Test) → Within E (base_with b.problem.now b.levels.standing) → IsArcConsistent b.problem.now E → Within E (left_of (view_of b))
 board-holds b h E base consistent c v t =
-    let m = mark_of b.levels.marks in
+    let m = level_mark b.levels.marks in
     let B = in_base b.problem.now in
     ap (λ f. f c v) (sym (without-split B b.trail.removals m))
     ∙ removed-holds b.problem.now b.levels.standing E (before_of (view_of b)) (added_of (view_of b)) base consistent (before-holds (view_of b) h.levels E base consistent) h.added c v t
@@ -132,7 +132,7 @@ sound-from b h cut consistent opening = record {
 
 pub sound-undone : (v : StoreView) → HasLevels v → 0 < length v.standing → IsSound (without_last v)
 sound-undone v h some =
-    let Q : List Literal → Type 0 = λ ls. IsSound (record { problem = v.problem; standing = ls; spare = v.spare + 1; removals = take (mark_of v.marks) v.removals; marks = all_but_last v.marks; verdict = Alive }) in
+    let Q : List Literal → Type 0 = λ ls. IsSound (record { problem = v.problem; standing = ls; spare = v.spare + 1; removals = take (level_mark v.marks) v.removals; marks = all_but_last v.marks; verdict = Alive }) in
     subst Q (but-last v h) (h.sound_at (length v.marks - 1) (v.spare + 1) (omega (arith, h.one_mark_each)))
 
 pub levels-undone : (v : StoreView) → HasLevels v → 0 < length v.standing → HasLevels (without_last v)
@@ -152,7 +152,7 @@ levels-undone v h some = record {
     last = length v.marks - 1
 
     m : ℕ
-    m = mark_of v.marks
+    m = level_mark v.marks
 
     last_in : last < length v.marks
     last_in = omega (arith, h.one_mark_each)
@@ -172,7 +172,7 @@ levels-undone v h some = record {
         (subst (λ x. IsSound (record { problem = v.problem; standing = x; spare = s; removals = rs; marks = ms; verdict = Alive })) a sound))
 
 -- a sound store that is alive has a board between two removals
-pub board-alive : (b : Board) → IsTraced b → HasLevels (view_of b) → IsSound (view_of b) → b.verdict ≡ Alive → b.trail.start ≡ mark_of b.levels.marks → IsBoard b
+pub board-alive : (b : Board) → IsTraced b → HasLevels (view_of b) → IsSound (view_of b) → b.verdict ≡ Alive → b.trail.start ≡ level_mark b.levels.marks → IsBoard b
 board-alive b t levels sound alive begun = record {
   traced = t;
   levels = levels;

@@ -10,7 +10,7 @@ use Rattle.wfc_domains.specs.declared.Removal.{Removal}
 use Rattle.wfc_domains.specs.declared.Verdict.TheVariants.{Dead}
 use Rattle.wfc_domains.specs.Domains.{less}
 use Rattle.wfc_domains.specs.Removals.{without, AreRemoved, IsStopped}
-use Rattle.wfc_domains.specs.Store.{StoreView, IsSound, IsVerdict, added_of, before_of, left_of, mark_of}
+use Rattle.wfc_domains.specs.Store.{StoreView, IsSound, IsVerdict, added_of, before_of, left_of, level_mark}
 use Rattle.wfc_domains.proofs.Problems.{dead-iff}
 use Rattle.wfc_domains.proofs.Removals.{less-elsewhere, less-within, without-within, without-split}
 
@@ -64,8 +64,8 @@ pub sound-stopped : (v : StoreView) (cell : ℕ) → IsSound v → v.verdict ≡
 sound-stopped v cell s dead filled =
     let B = in_base v.problem in
     let told = named-empty v cell s dead in
-    stopped-at v.problem s.problem v.standing (before_of v) (added_of v) cell (without-within B (take (mark_of v.marks) v.removals)) s.added filled told.0
-    (λ w. ap (λ f. f cell w) (without-split B v.removals (mark_of v.marks)) ∙ told.1 w)
+    stopped-at v.problem s.problem v.standing (before_of v) (added_of v) cell (without-within B (take (level_mark v.marks) v.removals)) s.added filled told.0
+    (λ w. ap (λ f. f cell w) (without-split B v.removals (level_mark v.marks)) ∙ told.1 w)
 
 pub sound-filled : (v : StoreView) (k : ℕ) → IsSound v → k < length (added_of v) → IsFalse (is_dead v.problem (without (before_of v) (take k (added_of v))))
 sound-filled v k s l = filled-before v.problem v.standing (before_of v) (added_of v) k s.added l

@@ -11,7 +11,7 @@ use Rattle.wfc_domains.specs.declared.board.Board.{Board}
 use Rattle.wfc_domains.specs.Domains.{Flags, has, size_of, less, IsLess}
 use Rattle.wfc_domains.specs.Log.{extent_of}
 use Rattle.wfc_domains.specs.Removals.{without, AreRemoved}
-use Rattle.wfc_domains.specs.Store.{StoreView, IsSound, IsOpening, left_of, before_of, added_of, mark_of}
+use Rattle.wfc_domains.specs.Store.{StoreView, IsSound, IsOpening, left_of, before_of, added_of, level_mark}
 
 -- a board as its callers see it
 abbrev pub view_of : Board → StoreView
@@ -67,7 +67,7 @@ pub record IsBoard (b : Board) : Type 0 where
   pub traced : IsTraced b
   pub levels : HasLevels (view_of b)
   pub added : AreRemoved b.problem.now b.levels.standing (before_of (view_of b)) (added_of (view_of b))
-  pub begun : b.trail.start ≡ mark_of b.levels.marks
+  pub begun : b.trail.start ≡ level_mark b.levels.marks
   pub filled : b.verdict ≡ Alive → HasValues b
   pub empty : (cell : ℕ) → b.verdict ≡ Dead cell → (cell < b.problem.now.cells) × (size_of b.domains cell ≡ 0)
 

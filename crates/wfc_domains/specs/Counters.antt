@@ -15,16 +15,16 @@ pub record Table : Type 0 where
   pub counts : List ℕ
 
 -- where the count of v at c in direction d stands in a table of n values and k directions
-abbrev pub place_in : ℕ → ℕ → ℕ → ℕ → ℕ → ℕ
-place_in n k c v d = (c * n + v) * k + d
+abbrev pub count_place : ℕ → ℕ → ℕ → ℕ → ℕ → ℕ
+count_place n k c v d = (c * n + v) * k + d
 
 -- where a problem's counter of v at c in direction d stands
-abbrev pub place : Network → ℕ → ℕ → ℕ → ℕ
-place P c v d = place_in (values P) P.dirs c v d
+abbrev pub counter_place : Network → ℕ → ℕ → ℕ → ℕ
+counter_place P c v d = count_place (values P) P.dirs c v d
 
 -- the entry of v at c in direction d: its count, and 32,768 more where it is marked
 abbrev pub entry_of : Table → ℕ → ℕ → ℕ → ℕ
-entry_of T c v d = slice_index T.counts (place_in T.values T.dirs c v d)
+entry_of T c v d = slice_index T.counts (count_place T.values T.dirs c v d)
 
 -- the count of v at c in direction d
 abbrev pub count_of : Table → ℕ → ℕ → ℕ → ℕ
@@ -36,7 +36,7 @@ IsMarked T c v d = 32768 ≤ entry_of T c v d
 
 -- the table with this entry there
 abbrev pub with_count : Table → ℕ → ℕ → ℕ → ℕ → Table
-with_count T c v d n = record T { counts = slice_set T.counts (place_in T.values T.dirs c v d) n }
+with_count T c v d n = record T { counts = slice_set T.counts (count_place T.values T.dirs c v d) n }
 
 -- how many counters a problem has
 abbrev pub counters_of : Network → ℕ

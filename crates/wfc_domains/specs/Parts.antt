@@ -15,7 +15,7 @@ table_of a = record {
 }
 
 -- both parts make a count for which there is room, and the small one is 0 only where the count is
-pub record IsSplit (small large : ℕ) : Type 0 where
+pub record IsCountSplit (small large : ℕ) : Type 0 where
   pub limit : small + 255 * large ≤ 32640
   pub some : 0 < large → 0 < small
 
@@ -23,4 +23,4 @@ pub record IsSplit (small large : ℕ) : Type 0 where
 pub record AreParts (a : Inside) : Type 0 where
   pub whole : length a.small.items ≡ (a.cells * a.values) * a.dirs
   pub both : (length a.large.items ≡ 0) ⊎ (length a.large.items ≡ length a.small.items)
-  pub each : (i : ℕ) → IsSplit (slice_index a.small.items i) (slice_index a.large.items i)
+  pub each : (i : ℕ) → IsCountSplit (slice_index a.small.items i) (slice_index a.large.items i)

@@ -7,11 +7,11 @@ use Rattle.wfc_domains.specs.Swept.{IsClosed}
 use Rattle.wfc_domains.specs.declared.plain.PlainStore.TheInside.{Inside}
 
 -- what contracts see of it
-abbrev pub seen : Inside → StoreView
-seen a = view_of a.board
+abbrev pub plain_view : Inside → StoreView
+plain_view a = view_of a.board
 
 -- its board is closed, and it keeps the literals once more
-pub record HoldsTogether (a : Inside) : Type 0 where
+pub record HoldsPlain (a : Inside) : Type 0 where
   pub closed : IsClosed a.board
   pub literals : a.literals.standing ≡ a.board.levels.standing
   pub literals_in : All (IsLiteralIn a.board.problem.now) a.literals.standing

@@ -4,7 +4,7 @@ use Rattle.wfc_domains.specs.Log.{AreLogged}
 use Rattle.wfc_domains.specs.declared.trail.Trail.TheInside.{Inside}
 
 -- there is room for all removals, as numbers and as a list, and each is one that there can be
-pub record IsKept (a : Inside) : Type 0 where
+pub record HasRoomForAll (a : Inside) : Type 0 where
   pub fits : length a.older.removals + vec_len a.list ≤ a.room
   pub number_room : a.room ≤ a.older.room
   pub list_room : a.room ≤ vec_capacity a.list

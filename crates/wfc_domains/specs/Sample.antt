@@ -15,12 +15,12 @@ abbrev pub two_rows : Flags
 two_rows = record { cells = 2; values = 3; flags = true ∷ false ∷ false ∷ false ∷ true ∷ true ∷ [] }
 
 -- two cells, three values and four directions, with counts from 100 on
-abbrev pub numbered : Table
-numbered = record { cells = 2; values = 3; dirs = 4; limit = 127; counts = range_with_len 100 24 }
+abbrev pub numbered_table : Table
+numbered_table = record { cells = 2; values = 3; dirs = 4; limit = 127; counts = range_with_len 100 24 }
 
 -- the base value of the corner that has no support above it
-abbrev pub unsupported : Removal
-unsupported = record { cell = 2; value = 1; before = 3; cause = Arc 3 }
+abbrev pub unsupported_removal : Removal
+unsupported_removal = record { cell = 2; value = 1; before = 3; cause = Arc 3 }
 
 -- what `Is 0 1` cuts there
 abbrev pub cut_first : Removal
@@ -40,7 +40,7 @@ two_levels = record {
   problem = corner;
   standing = Is 1 0 ∷ Not 2 3 ∷ [];
   spare = 4;
-  removals = unsupported ∷ cut_first ∷ later ∷ [];
+  removals = unsupported_removal ∷ cut_first ∷ later ∷ [];
   marks = 1 ∷ 2 ∷ [];
   verdict = Alive;
 }

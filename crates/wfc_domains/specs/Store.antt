@@ -27,8 +27,8 @@ abbrev pub left_of : StoreView → Test
 left_of v = without (in_base v.problem) v.removals
 
 -- how many removals there were before the last literal, none where no literal stands
-abbrev pub mark_of : List ℕ → ℕ
-mark_of marks = slice_index marks (length marks - 1)
+abbrev pub level_mark : List ℕ → ℕ
+level_mark marks = slice_index marks (length marks - 1)
 
 -- all but the last
 abbrev pub all_but_last : {X : Type 0} → List X → List X
@@ -36,11 +36,11 @@ all_but_last xs = take (length xs - 1) xs
 
 -- the domains that the last level began with: those before the last literal, or the base where none stands
 abbrev pub before_of : StoreView → Test
-before_of v = without (in_base v.problem) (take (mark_of v.marks) v.removals)
+before_of v = without (in_base v.problem) (take (level_mark v.marks) v.removals)
 
 -- the removals of the last level, those of the opening where no literal stands
 abbrev pub added_of : StoreView → List Removal
-added_of v = drop (mark_of v.marks) v.removals
+added_of v = drop (level_mark v.marks) v.removals
 
 -- alive: D is the greatest, and no cell is empty. Dead: some cell is empty in the greatest domains,
 -- and this one is in D
@@ -101,7 +101,7 @@ without_last v = record {
   problem = v.problem;
   standing = all_but_last v.standing;
   spare = v.spare + 1;
-  removals = take (mark_of v.marks) v.removals;
+  removals = take (level_mark v.marks) v.removals;
   marks = all_but_last v.marks;
   verdict = Alive;
 }

@@ -4,8 +4,8 @@ ghost use Rattle.std.specs.Prelude.{◌≡◌, ℕ, ◌+◌, ◌-◌, ◌*◌, �
 ghost use Rattle.std.specs.Prelude.{IsFalse, All, count_by, length, map, slice_index, slice_set, vec_len};
 ghost use Rattle.wfc_problem.specs.Network.{values, neighbour, supports_of};
 ghost use Rattle.wfc_problem.specs.Domains.{support_count, count_at};
-ghost use Rattle.wfc_domains.specs.Counters.{FitsTable, count_of, entry_of, with_count, place_in, Marks};
-ghost use Rattle.wfc_domains.specs.Counters.{Unmarks, counters_of, counts_of, no_counts, place};
+ghost use Rattle.wfc_domains.specs.Counters.{FitsTable, count_of, entry_of, with_count, count_place, Marks};
+ghost use Rattle.wfc_domains.specs.Counters.{Unmarks, counters_of, counts_of, no_counts, counter_place};
 ghost use Rattle.wfc_domains.specs.Domains.{Fits, has};
 ghost use Rattle.wfc_domains.specs.Loaded.{AreLoaded, IsSurrounded, IsLike, IsCopied, IsRowCopied};
 
@@ -74,7 +74,7 @@ impl Counters {
         requires cell_in { cell < self.now.cells }
         requires value_in { value < self.now.values }
         requires dir_in { dir < self.now.dirs }
-        ensures value { result ≡ place_in self.now.values self.now.dirs cell value dir }
+        ensures value { result ≡ count_place self.now.values self.now.dirs cell value dir }
         ensures inside { result < length self.now.counts }
     {
         (cell as usize * self.values + value as usize) * self.dirs + dir
@@ -143,11 +143,11 @@ impl Counters {
         requires domains { Fits problem.now domains.now }
         requires cell_in { cell < problem.now.cells }
         requires like { IfSome like (IsLike problem.now (has domains.now) cell) }
-        requires before { AreLoaded problem.now (has domains.now) self.old (place problem.now cell 0
-            0) }
+        requires before { AreLoaded problem.now (has domains.now) self.old (counter_place
+            problem.now cell 0 0) }
         ensures like { IfSome result (IsLike problem.now (has domains.now) (cell + 1)) }
-        ensures after { AreLoaded problem.now (has domains.now) self.new (place problem.now (cell +
-            1) 0 0) }
+        ensures after { AreLoaded problem.now (has domains.now) self.new (counter_place problem.now
+            (cell + 1) 0 0) }
         ensures steps { steps.new ≡ steps.old + values problem.now * problem.now.dirs }
     {
         if !is_surrounded(problem, domains, cell) {
@@ -188,10 +188,10 @@ impl Counters {
     )
         requires domains { Fits problem.now domains.now }
         requires cell_in { cell < problem.now.cells }
-        requires before { AreLoaded problem.now (has domains.now) self.old (place problem.now cell 0
-            0) }
-        ensures after { AreLoaded problem.now (has domains.now) self.new (place problem.now (cell +
-            1) 0 0) }
+        requires before { AreLoaded problem.now (has domains.now) self.old (counter_place
+            problem.now cell 0 0) }
+        ensures after { AreLoaded problem.now (has domains.now) self.new (counter_place problem.now
+            (cell + 1) 0 0) }
         ensures steps { steps.new ≡ steps.old + values problem.now * problem.now.dirs }
     {
         for value in 0..problem.values() {
@@ -212,10 +212,10 @@ impl Counters {
         requires domains { Fits problem.now domains.now }
         requires cell_in { cell < problem.now.cells }
         requires value_in { value < values problem.now }
-        requires before { AreLoaded problem.now (has domains.now) self.old (place problem.now cell
-            value 0) }
-        ensures after { AreLoaded problem.now (has domains.now) self.new (place problem.now cell
-            value problem.now.dirs) }
+        requires before { AreLoaded problem.now (has domains.now) self.old (counter_place
+            problem.now cell value 0) }
+        ensures after { AreLoaded problem.now (has domains.now) self.new (counter_place problem.now
+            cell value problem.now.dirs) }
         ensures steps { steps.new ≡ steps.old + problem.now.dirs }
     {
         for dir in 0..problem.dirs() {
@@ -262,11 +262,13 @@ impl Counters {
     /// One less at a place of the table, and whether none is left there and it isn't marked. It is one step.
     #[inline]
     pub fn down_at<L: Ledger>(&mut self, place: usize, steps: &mut Steps<L>) -> bool
-        requires place_in { place < length self.old.counts }
-        requires some { 0 < slice_index self.old.counts place % 32768 }
-        ensures bare { IsTrue result ↔ (slice_index self.old.counts place ≡ 1) }
+        requires place_in { counter_place < length self.old.counts }
+        requires some { 0 < slice_index self.old.counts counter_place % 32768 }
+        ensures bare { IsTrue result ↔ (slice_index self.old.counts counter_place ≡ 1) }
         ensures changed { self.new ≡ record self.old {
-            counts = slice_set self.old.counts place (slice_index self.old.counts place - 1) } }
+          counts = slice_set self.old.counts
+              counter_place (slice_index self.old.counts counter_place - 1);
+        } }
         ensures steps { steps.new ≡ steps.old + 1 }
     {
         steps.tick();
@@ -311,7 +313,7 @@ impl Counters {
     /// Marks the counts of a value at a cell, which stand from `start` on, where counts can be marked.
     #[inline]
     pub fn mark_at(&mut self, start: usize, cell: u32, value: u16)
-        requires start { start ≡ place_in self.old.values self.old.dirs cell value 0 }
+        requires start { start ≡ count_place self.old.values self.old.dirs cell value 0 }
         requires cell_in { cell < self.old.cells }
         requires value_in { value < self.old.values }
         ensures marks { Marks self.old self.new cell value }
@@ -334,7 +336,7 @@ impl Counters {
     /// it is one change of four bytes.
     #[inline]
     fn mark_four(&mut self, start: usize, cell: u32, value: u16)
-        requires start { start ≡ place_in self.old.values self.old.dirs cell value 0 }
+        requires start { start ≡ count_place self.old.values self.old.dirs cell value 0 }
         requires start_in { start + self.old.dirs ≤ length self.old.counts }
         requires limit { length self.old.counts < 2 ^ 63 }
         requires cell_in { cell < self.old.cells }
@@ -352,8 +354,8 @@ impl Counters {
     /// Marks the count of a value at a cell in one direction, which stands at `place`.
     #[inline]
     fn mark_side(&mut self, place: usize, cell: u32, value: u16, dir: usize)
-        requires place { place ≡ place_in self.old.values self.old.dirs cell value dir }
-        requires place_in { place < length self.old.counts }
+        requires place { counter_place ≡ count_place self.old.values self.old.dirs cell value dir }
+        requires place_in { counter_place < length self.old.counts }
         requires narrow { self.old.limit ≡ 127 }
         ensures changed { self.new ≡ with_count self.old cell value dir
             (entry_of self.old cell value dir % 32768 + 32768) }
@@ -420,13 +422,13 @@ fn large_part(count: u16) -> u16
 /// Fills the small part of a count, which came to 0, from the large one. Whether there is nothing to fill it from.
 #[inline]
 fn refill(small: &mut Vec<u8>, large: &mut Vec<u8>, place: usize) -> bool
-    requires place_in { place < vec_len small.old }
-    ensures none { IsTrue result → (slice_index large.old.items place ≡ 0)
+    requires place_in { counter_place < vec_len small.old }
+    ensures none { IsTrue result → (slice_index large.old.items counter_place ≡ 0)
         × (small.new.items ≡ small.old.items) × (large.new.items ≡ large.old.items) }
-    ensures some { IsFalse result → 0 < slice_index large.old.items place }
-    ensures small { IsFalse result → small.new.items ≡ slice_set small.old.items place 255 }
+    ensures some { IsFalse result → 0 < slice_index large.old.items counter_place }
+    ensures small { IsFalse result → small.new.items ≡ slice_set small.old.items counter_place 255 }
     ensures large { IsFalse result → large.new.items
-        ≡ slice_set large.old.items place (slice_index large.old.items place - 1) }
+        ≡ slice_set large.old.items counter_place (slice_index large.old.items counter_place - 1) }
 {
     if large.len() == 0 {
         return true;
@@ -437,13 +439,13 @@ fn refill(small: &mut Vec<u8>, large: &mut Vec<u8>, place: usize) -> bool
 /// The same where there are large parts.
 #[inline(never)]
 fn refill_wide(small: &mut Vec<u8>, large: &mut Vec<u8>, place: usize) -> bool
-    requires place_in { place < vec_len small.old }
-    ensures none { IsTrue result → (slice_index large.old.items place ≡ 0)
+    requires place_in { counter_place < vec_len small.old }
+    ensures none { IsTrue result → (slice_index large.old.items counter_place ≡ 0)
         × (small.new.items ≡ small.old.items) × (large.new.items ≡ large.old.items) }
-    ensures some { IsFalse result → 0 < slice_index large.old.items place }
-    ensures small { IsFalse result → small.new.items ≡ slice_set small.old.items place 255 }
+    ensures some { IsFalse result → 0 < slice_index large.old.items counter_place }
+    ensures small { IsFalse result → small.new.items ≡ slice_set small.old.items counter_place 255 }
     ensures large { IsFalse result → large.new.items
-        ≡ slice_set large.old.items place (slice_index large.old.items place - 1) }
+        ≡ slice_set large.old.items counter_place (slice_index large.old.items counter_place - 1) }
 {
     let part = part_at(large, place);
     if part == 0 {
@@ -457,12 +459,12 @@ fn refill_wide(small: &mut Vec<u8>, large: &mut Vec<u8>, place: usize) -> bool
 /// One more at a place whose small part is full.
 #[inline(never)]
 fn carry(small: &mut Vec<u8>, large: &mut Vec<u8>, place: usize)
-    requires place_in { place < vec_len small.old }
-    requires large_in { place < vec_len large.old }
-    requires room { slice_index large.old.items place < 255 }
-    ensures small { small.new.items ≡ slice_set small.old.items place 1 }
+    requires place_in { counter_place < vec_len small.old }
+    requires large_in { counter_place < vec_len large.old }
+    requires room { slice_index large.old.items counter_place < 255 }
+    ensures small { small.new.items ≡ slice_set small.old.items counter_place 1 }
     ensures large { large.new.items
-        ≡ slice_set large.old.items place (slice_index large.old.items place + 1) }
+        ≡ slice_set large.old.items counter_place (slice_index large.old.items counter_place + 1) }
 {
     let part = large[place];
     small[place] = 1;
@@ -481,7 +483,7 @@ fn copy_row(parts: &mut Vec<u8>, start: usize, row: usize, dest: usize)
 /// The part at a place, 0 where there is none.
 #[inline]
 pub(crate) fn part_at(parts: &[u8], place: usize) -> u8
-    ensures value { result ≡ slice_index parts.now place }
+    ensures value { result ≡ slice_index parts.now counter_place }
 {
     match parts.get(place) {
         Some(part) => *part,

@@ -8,13 +8,13 @@ ghost use Rattle.wfc_problem.specs.Network.{in_base};
 ghost use Rattle.wfc_problem.specs.declared.Literal.TheVariants.{Is, Not};
 ghost use Rattle.wfc_domains.specs.Counters.{count_of, with_count, counts_of, no_counts, cost_at, cost_of};
 ghost use Rattle.wfc_domains.specs.Halves.{entries_from, limit_from};
-ghost use Rattle.wfc_domains.specs.Parts.{IsSplit};
+ghost use Rattle.wfc_domains.specs.Parts.{IsCountSplit};
 ghost use Rattle.wfc_domains.specs.Log.{AreLogged, IsLogged, extent_of, sizes_after};
 ghost use Rattle.wfc_domains.specs.Numbered.{first_sizes, numbers_from, place_number, placed_removals};
 ghost use Rattle.wfc_domains.specs.Domains.{has, size_of, flags_of, base_of, less, Fits};
 ghost use Rattle.wfc_domains.specs.Removals.{without, IsUnsupported, IsCause, AreRemoved};
-ghost use Rattle.wfc_domains.specs.Sample.{two_rows, numbered, unsupported, cut_first, later, two_levels};
-ghost use Rattle.wfc_domains.specs.Store.{IsBefore, IsLeastUnsupported, IsLeastEmpty, mark_of, added_of, before_of, without_last};
+ghost use Rattle.wfc_domains.specs.Sample.{two_rows, numbered_table, unsupported_removal, cut_first, later, two_levels};
+ghost use Rattle.wfc_domains.specs.Store.{IsBefore, IsLeastUnsupported, IsLeastEmpty, level_mark, added_of, before_of, without_last};
 ghost use Rattle.wfc_domains.specs.declared.Cause.TheVariants.{Assumed, Arc};
 ghost use Rattle.wfc_domains.specs.declared.Verdict.TheVariants.{Alive};
 
@@ -30,9 +30,9 @@ pub fn domains_are_read()
         ∷ [] }
     ensures elsewhere { map (less (in_base corner) 1 2 3) (range_with_len 0 3) ≡ true ∷ false ∷ true
         ∷ [] }
-    ensures without { map (without (in_base corner) (unsupported ∷ cut_first
+    ensures without { map (without (in_base corner) (unsupported_removal ∷ cut_first
         ∷ []) 2) (range_with_len 0 3) ≡ true ∷ false ∷ true ∷ [] }
-    ensures without_more { map (without (in_base corner) (unsupported ∷ cut_first
+    ensures without_more { map (without (in_base corner) (unsupported_removal ∷ cut_first
         ∷ []) 0) (range_with_len 0 3) ≡ false ∷ true ∷ false ∷ [] }
 {}
 
@@ -44,47 +44,56 @@ pub fn removals_are_judged()
     ensures assumed { IsCause corner (Is 1 0 ∷ []) (in_base corner) 0 0 Assumed }
     ensures assumed_not { IsCause corner (Is 1 0 ∷ []) (in_base corner) 0 1 Assumed → ⊥ }
     ensures cut_first { IsCause corner (Is 1 0 ∷ []) (in_base corner) 2 1 (Arc 3) → ⊥ }
-    ensures removed { AreRemoved corner [] (in_base corner) (unsupported ∷ []) }
-    ensures before { AreRemoved corner [] (in_base corner) (record unsupported { before = 2 } ∷ [])
-        → ⊥ }
-    ensures once { AreRemoved corner [] (in_base corner) (unsupported ∷ unsupported ∷ []) → ⊥ }
+    ensures removed { AreRemoved corner [] (in_base corner) (unsupported_removal ∷ []) }
+    ensures before { AreRemoved corner [] (in_base corner) (record unsupported_removal {
+      before = 2;
+    } ∷ []) → ⊥ }
+    ensures once { AreRemoved corner [] (in_base corner) (unsupported_removal ∷ unsupported_removal
+        ∷ []) → ⊥ }
     ensures behind_the_last { AreRemoved corner (Is 1 0 ∷ []) (λ c v. nat_lt c 2)
         (record cut_first { before = 3 } ∷ []) → ⊥ }
 {}
 
 /// Levels are told apart by their marks; the cell counts before the value, and the value before the direction.
 pub fn levels_are_read()
-    ensures mark { mark_of (3 ∷ 5 ∷ 4 ∷ []) ≡ 4 }
-    ensures no_mark { mark_of [] ≡ 0 }
+    ensures mark { level_mark (3 ∷ 5 ∷ 4 ∷ []) ≡ 4 }
+    ensures no_mark { level_mark [] ≡ 0 }
     ensures added { added_of two_levels ≡ later ∷ [] }
     ensures before { map (before_of two_levels 0) (range_with_len 0 3) ≡ false ∷ true ∷ false ∷ [] }
     ensures before_later { map (before_of two_levels 3) (range_with_len 0 3) ≡ true ∷ false ∷ true
         ∷ [] }
-    ensures last { without_last two_levels ≡ record { problem = corner; standing = Is 1 0 ∷ [];
-        spare = 5; removals = unsupported ∷ cut_first ∷ []; marks = 1 ∷ []; verdict = Alive } }
+    ensures last { without_last two_levels ≡ record {
+      problem = corner;
+      standing = Is 1 0 ∷ [];
+      spare = 5;
+      removals = unsupported_removal ∷ cut_first ∷ [];
+      marks = 1 ∷ [];
+      verdict = Alive;
+    } }
     ensures cell { IsBefore 1 9 9 2 0 0 }
     ensures value { IsBefore 2 0 5 2 1 3 }
     ensures dir { IsBefore 2 1 2 2 1 3 }
     ensures itself { IsBefore 2 1 3 2 1 3 → ⊥ }
-    ensures least_not { IsLeastUnsupported corner (in_base corner) (record unsupported { cell = 3 })
-        → ⊥ }
+    ensures least_not { IsLeastUnsupported corner (in_base corner) (record unsupported_removal {
+      cell = 3;
+    }) → ⊥ }
     ensures least_empty { IsLeastEmpty corner (λ c v. nat_lt c 2) 2 }
     ensures not_least { IsLeastEmpty corner (λ c v. nat_lt c 2) 3 → ⊥ }
 {}
 
 /// Counters are read by cell, value and direction; what a removal costs is what it lowers.
 pub fn counters_are_read()
-    ensures last { count_of numbered 1 2 3 ≡ 123 }
-    ensures inner { count_of numbered 0 1 2 ≡ 106 }
-    ensures set { count_of (with_count numbered 1 0 2 7) 1 0 2 ≡ 7 }
-    ensures kept { count_of (with_count numbered 1 0 2 7) 1 0 3 ≡ 115 }
+    ensures last { count_of numbered_table 1 2 3 ≡ 123 }
+    ensures inner { count_of numbered_table 0 1 2 ≡ 106 }
+    ensures set { count_of (with_count numbered_table 1 0 2 7) 1 0 2 ≡ 7 }
+    ensures kept { count_of (with_count numbered_table 1 0 2 7) 1 0 3 ≡ 115 }
     ensures counts { map (count_of (counts_of corner (in_base corner) 127) 0 1) (range_with_len 0 4)
         ≡ 0 ∷ 2 ∷ 1 ∷ 0 ∷ [] }
     ensures removed { map (count_of (counts_of corner (in_base corner) 127) 1 0)
         (range_with_len 0 4) ≡ 0 ∷ 0 ∷ 1 ∷ 0 ∷ [] }
     ensures none { count_of (no_counts corner 127) 3 2 3 ≡ 0 }
     ensures cost { cost_at corner 0 1 ≡ 3 }
-    ensures costs { cost_of corner (unsupported ∷ record cut_first { value = 1 } ∷ []) ≡ 4 }
+    ensures costs { cost_of corner (unsupported_removal ∷ record cut_first { value = 1 } ∷ []) ≡ 4 }
 {}
 
 /// A small part alone has a count up to 127 and its mark; beside a large one it has a count up to 255.
@@ -94,9 +103,9 @@ pub fn entries_are_read()
         ≡ 133 ∷ 255 ∷ 256 ∷ 32640 ∷ [] }
     ensures narrow_limit { limit_from [] ≡ 127 }
     ensures wide_limit { limit_from (0 ∷ []) ≡ 32640 }
-    ensures split { IsSplit 255 127 }
-    ensures nothing_small { IsSplit 0 1 → ⊥ }
-    ensures no_room { IsSplit 1 128 → ⊥ }
+    ensures split { IsCountSplit 255 127 }
+    ensures nothing_small { IsCountSplit 0 1 → ⊥ }
+    ensures no_room { IsCountSplit 1 128 → ⊥ }
 {}
 
 /// A removal tells how many values its cell had; kept as a number, it is told by what the cells have left.
@@ -105,15 +114,15 @@ pub fn logs_are_read()
         ≡ record { cells = 4; values = 3; dirs = 4; sizes = 2 ∷ 2 ∷ 3 ∷ 2 ∷ [] } }
     ensures left { sizes_after (2 ∷ 2 ∷ 3 ∷ 2 ∷ []) (2 ∷ 0 ∷ 2 ∷ []) ≡ 1 ∷ 2 ∷ 1 ∷ 2 ∷ [] }
     ensures logged { AreLogged (extent_of corner) (2 ∷ 2 ∷ 3 ∷ 2 ∷ [])
-        (unsupported ∷ cut_first ∷ later ∷ []) }
+        (unsupported_removal ∷ cut_first ∷ later ∷ []) }
     ensures twice { AreLogged (extent_of corner) (2 ∷ 2 ∷ 3 ∷ 2 ∷ [])
         (cut_first ∷ cut_first ∷ []) → ⊥ }
     ensures none_left { IsLogged (extent_of corner) (0 ∷ []) (record cut_first { before = 0 }) → ⊥ }
     ensures no_direction { IsLogged (extent_of corner) (2 ∷ []) (record cut_first { cause = Arc 4 })
         → ⊥ }
     ensures first { first_sizes 3 4 (1 ∷ 2 ∷ 2 ∷ 2 ∷ []) (38 ∷ 4 ∷ []) ≡ 2 ∷ 2 ∷ 3 ∷ 2 ∷ [] }
-    ensures numbers { map (place_number 3 4) (unsupported ∷ cut_first ∷ []) ≡ 38 ∷ 4 ∷ [] }
+    ensures numbers { map (place_number 3 4) (unsupported_removal ∷ cut_first ∷ []) ≡ 38 ∷ 4 ∷ [] }
     ensures removals { placed_removals 3 4 (2 ∷ 2 ∷ 3 ∷ 2 ∷ []) (38 ∷ 4 ∷ [])
-        ≡ unsupported ∷ cut_first ∷ [] }
+        ≡ unsupported_removal ∷ cut_first ∷ [] }
     ensures parts { numbers_from (38 ∷ 4 ∷ []) (0 ∷ 1 ∷ []) ≡ 38 ∷ 65540 ∷ [] }
 {}

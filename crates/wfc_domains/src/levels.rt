@@ -2,7 +2,7 @@
 
 ghost use Rattle.std.specs.Prelude.{◌≡◌, ◌+◌, ◌-◌, ◌<◌, ◌++◌, ◌∷◌, [], length, IfOk};
 ghost use Rattle.wfc_domains.specs.Log.{Heights};
-ghost use Rattle.wfc_domains.specs.Store.{all_but_last, mark_of};
+ghost use Rattle.wfc_domains.specs.Store.{all_but_last, level_mark};
 
 use std::alloc::Global;
 use std::marker::Model;
@@ -62,7 +62,7 @@ impl Levels {
     /// How many removals there were when the last literal was put on, 0 where none stands.
     #[inline]
     pub fn mark(&self) -> u32
-        ensures value { result ≡ mark_of self.now.marks }
+        ensures value { result ≡ level_mark self.now.marks }
     {
         match self.marks.last() {
             Some(mark) => *mark,
@@ -73,8 +73,11 @@ impl Levels {
     /// Puts a literal on.
     pub fn push(&mut self, literal: Literal, mark: u32)
         requires spare { 0 < self.old.spare }
-        ensures more { self.new ≡ record { standing = self.old.standing ++ literal ∷ [];
-            marks = self.old.marks ++ mark ∷ []; spare = self.old.spare - 1 } }
+        ensures more { self.new ≡ record {
+          standing = self.old.standing ++ literal ∷ [];
+          marks = self.old.marks ++ mark ∷ [];
+          spare = self.old.spare - 1;
+        } }
     {
         self.standing.push_reserved(literal);
         self.marks.push_reserved(mark);
@@ -84,8 +87,11 @@ impl Levels {
     /// Takes the last literal away.
     pub fn pop(&mut self)
         requires some { 0 < length self.old.standing }
-        ensures less { self.new ≡ record { standing = all_but_last self.old.standing;
-            marks = all_but_last self.old.marks; spare = self.old.spare + 1 } }
+        ensures less { self.new ≡ record {
+          standing = all_but_last self.old.standing;
+          marks = all_but_last self.old.marks;
+          spare = self.old.spare + 1;
+        } }
     {
         let _ = self.standing.pop();
         let _ = self.marks.pop();
@@ -94,8 +100,11 @@ impl Levels {
 
     /// Takes all literals away.
     pub fn clear(&mut self)
-        ensures none { self.new ≡ record { standing = []; marks = [];
-            spare = self.old.spare + length self.old.standing } }
+        ensures none { self.new ≡ record {
+          standing = [];
+          marks = [];
+          spare = self.old.spare + length self.old.standing;
+        } }
     {
         self.spare += self.standing.len() as u32;
         self.standing.clear();

@@ -34,8 +34,11 @@ impl Model for Numbers {
 impl Numbers {
     /// No numbers, and room for so many: below 2 ^ 32 where they are wide, else below 2 ^ 24.
     pub fn new(alloc: Global, room: usize, wide: bool) -> Result<Numbers, AllocError>
-        ensures ok { IfOk result (λ numbers. numbers ≡ record { room = room;
-            limit = (if wide then 4294967296 else 16777216); numbers = [] }) }
+        ensures ok { IfOk result (λ numbers. numbers ≡ record {
+          room = room;
+          limit = (if wide then 4294967296 else 16777216);
+          numbers = [];
+        }) }
     {
         let (byte_room, half_room) = if wide { (0, room) } else { (room, 0) };
         Ok(Numbers {

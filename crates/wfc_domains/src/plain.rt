@@ -36,11 +36,11 @@ impl<'p> Model for PlainStore<'p> {
 
     ghost Value = { StoreView };
 
-    ghost use Rattle.wfc_domains.specs.Plain.{seen, HoldsTogether};
+    ghost use Rattle.wfc_domains.specs.Plain.{plain_view, HoldsPlain};
 
-    ghost view = { seen };
+    ghost view = { plain_view };
 
-    ghost invariant = { HoldsTogether };
+    ghost invariant = { HoldsPlain };
 }
 
 impl<'p> PlainStore<'p> {

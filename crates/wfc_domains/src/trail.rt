@@ -24,7 +24,7 @@ pub struct Trail {
 impl Model for Trail {
     ghost use Rattle.std.specs.Prelude.{◌++◌, length};
     ghost use Rattle.wfc_domains.specs.Log.{Log};
-    ghost use Rattle.wfc_domains.specs.Recent.{IsKept};
+    ghost use Rattle.wfc_domains.specs.Recent.{HasRoomForAll};
 
     ghost Value = { Log };
 
@@ -35,7 +35,7 @@ impl Model for Trail {
       removals = a.older.removals ++ a.list.items;
     } };
 
-    ghost invariant = { IsKept };
+    ghost invariant = { HasRoomForAll };
 }
 
 impl Trail {

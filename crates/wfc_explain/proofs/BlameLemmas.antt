@@ -23,7 +23,7 @@ use Rattle.wfc_search.specs.declared.Outcome.{Outcome}
 use Rattle.wfc_search.specs.declared.Outcome.TheVariants as outcome
 use Rattle.wfc_search.proofs.CallerLemmas.{outcome_map, outcome_none}
 use Rattle.wfc_explain.specs.Blame.{HasMap, IsTrueCore, IsTrueExplained, has_line, core_lines}
-use Rattle.wfc_explain.specs.Trials.{TrialView, all_lines, core_of, trial_with, explanation_by, explanation_of, mark_of, trial_after, next_trial, lines_without}
+use Rattle.wfc_explain.specs.Trials.{TrialView, all_lines, core_of, trial_with, explanation_by, explanation_of, outcome_mark, trial_after, next_trial, lines_without}
 use Rattle.wfc_explain.specs.Outcomes.{outcome_at, outcome_with}
 use Rattle.wfc_explain.specs.Pinned.{IsAlike, IsFewer, IsPinned, PinnedView}
 use Rattle.wfc_explain.specs.declared.explained.Kept.{Kept}
@@ -224,7 +224,7 @@ tried_next v p rule budget words n s inside was = by_outcome (outcome_with v rul
     problem : IsProblem (v.problem_of (lines_without s.keep n))
     problem = p.problem (lines_without s.keep n) (length-set s.keep n false ∙ was.long)
 
-    by_outcome : (o : Outcome) → outcome_with v rule budget words (lines_without s.keep n) ≡ o → IsTriedTo v (suc n) (trial_with s n (mark_of o))
+    by_outcome : (o : Outcome) → outcome_with v rule budget words (lines_without s.keep n) ≡ o → IsTriedTo v (suc n) (trial_with s n (outcome_mark o))
     by_outcome outcome.Map is = stayed v p n s Needed inside was (λ e. outcome_has (v.problem_of (lines_without s.keep n)) problem rule budget words is)
     by_outcome outcome.NoMap is = dropped v p n s inside was (outcome_lacks (v.problem_of (lines_without s.keep n)) problem rule budget words is)
     by_outcome outcome.Spent is = stayed v p n s Undecided inside was (λ e. cc)

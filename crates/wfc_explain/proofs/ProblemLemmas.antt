@@ -6,9 +6,9 @@ use Rattle.std.proofs.lemmas.List.{length-map}
 use Rattle.wfc_model.specs.Legal.{Pin}
 use Rattle.wfc_model.specs.Window.{places}
 use Rattle.wfc_outside.specs.Gives.{result_map}
-use Rattle.wfc_overlap.specs.Bridge.{pairs}
+use Rattle.wfc_overlap.specs.Bridge.{window_pair_count}
 use Rattle.wfc_overlap.specs.Built as overlap
-use Rattle.wfc_overlap.specs.Sample.{Output, base_table, is_met, meets, problem_of_sample}
+use Rattle.wfc_overlap.specs.Sample.{Output, window_base_table, is_met, window_meets_pins, problem_of_sample}
 use Rattle.wfc_overlap.proofs.CallerLemmas.{sample_problem}
 use Rattle.wfc_pattern.specs.Patterns.{PatternsView}
 use Rattle.wfc_picture.specs.declared.symbol.Symbol.{Symbol}
@@ -34,7 +34,7 @@ module _ (patterns : PatternsView) (palette : List Symbol) (output : Output) (li
   small = nat_lt output.width patterns.n || nat_lt output.height patterns.n
 
   abbrev large : Bool
-  large = nat_lt MAX_PAIRS (pairs patterns output)
+  large = nat_lt MAX_PAIRS (window_pair_count patterns output)
 
   abbrev read : List PinView → Result (List Pin) BuildFault
   read some = overlap.pins_in (overlap.texts_of palette) output.width output.height some
@@ -53,7 +53,7 @@ module _ (patterns : PatternsView) (palette : List Symbol) (output : Output) (li
   are_found s is = by_case small large (read lines) refl refl refl is
     where
       by_case : (b c : Bool) (r : Result (List Pin) BuildFault) → small ≡ b → large ≡ c → read lines ≡ r
-          → result_map found (cond b (Err SizeBelowN) (cond c (Err (TooLarge (pairs patterns output))) r)) ≡ Ok s → AreFound s
+          → result_map found (cond b (Err SizeBelowN) (cond c (Err (TooLarge (window_pair_count patterns output))) r)) ≡ Ok s → AreFound s
       by_case true c r b_is c_is r_is e = cc
       by_case false true r b_is c_is r_is e = cc
       by_case false false (Err fault) b_is c_is r_is e = cc
@@ -72,7 +72,7 @@ module _ (patterns : PatternsView) (palette : List Symbol) (output : Output) (li
   sample_kept s is keep =
       let f = are_found s is in
       let kept = kept_in_order (overlap.pin_in (overlap.texts_of palette) output.width output.height) keep lines s.pins f.pins_are in
-      (λ i. cond (f.wide i) (Err SizeBelowN) (cond (f.few i) (Err (TooLarge (pairs patterns output))) (result_map (problem_of_sample patterns output) (kept i))))
+      (λ i. cond (f.wide i) (Err SizeBelowN) (cond (f.few i) (Err (TooLarge (window_pair_count patterns output))) (result_map (problem_of_sample patterns output) (kept i))))
       ∙ ap (λ (t : SamplePins). Ok ((pinned_sample t).problem_of keep)) (sym f.is)
 
   -- there is a pin for each line
@@ -91,17 +91,17 @@ sample_is_pinned s is =
       problem = λ keep long. sample_problem s.patterns s.output (kept_of keep pins) is.patterns_are is.room;
       alike = λ keep other long as_long. refl;
       falls = λ fewer more short long falls.
-          flags_fewer (length s.patterns.weights) (base_table s.patterns.n s.output s.patterns.windows (kept_of more pins)) (base_table s.patterns.n s.output s.patterns.windows (kept_of fewer pins))
-          (flat_map_fewer (λ place. map (λ w. meets s.patterns.n s.output place w (kept_of more pins)) s.patterns.windows) (λ place. map (λ w. meets s.patterns.n s.output place w (kept_of fewer pins)) s.patterns.windows)
-          (λ place. length-map s.patterns.windows (λ w. meets s.patterns.n s.output place w (kept_of more pins)) ∙ sym (length-map s.patterns.windows (λ w. meets s.patterns.n s.output place w (kept_of fewer pins))))
-          (λ place. map_fewer (λ w. meets s.patterns.n s.output place w (kept_of more pins)) (λ w. meets s.patterns.n s.output place w (kept_of fewer pins))
+          flags_fewer (length s.patterns.weights) (window_base_table s.patterns.n s.output s.patterns.windows (kept_of more pins)) (window_base_table s.patterns.n s.output s.patterns.windows (kept_of fewer pins))
+          (flat_map_fewer (λ place. map (λ w. window_meets_pins s.patterns.n s.output place w (kept_of more pins)) s.patterns.windows) (λ place. map (λ w. window_meets_pins s.patterns.n s.output place w (kept_of fewer pins)) s.patterns.windows)
+          (λ place. length-map s.patterns.windows (λ w. window_meets_pins s.patterns.n s.output place w (kept_of more pins)) ∙ sym (length-map s.patterns.windows (λ w. window_meets_pins s.patterns.n s.output place w (kept_of fewer pins))))
+          (λ place. map_fewer (λ w. window_meets_pins s.patterns.n s.output place w (kept_of more pins)) (λ w. window_meets_pins s.patterns.n s.output place w (kept_of fewer pins))
           (λ w. kept_pass (λ pin. is_met s.patterns.n s.output place w pin) fewer more pins (short ∙ sym long) falls) s.patterns.windows)
           (places s.output.width s.output.height s.patterns.n s.output.wrap));
     }
 
 -- parts that share all but the base with the problem without pins
 pub sample_shared : (patterns : PatternsView) (output : Output) (kept : List Pin) (parts shared : Network) (base : List Bool) → parts ≡ record shared { base = base }
-    → shared ≡ record (problem_of_sample patterns output []) { base = [] } → base ≡ base_table patterns.n output patterns.windows kept → parts ≡ problem_of_sample patterns output kept
+    → shared ≡ record (problem_of_sample patterns output []) { base = [] } → base ≡ window_base_table patterns.n output patterns.windows kept → parts ≡ problem_of_sample patterns output kept
 sample_shared patterns output kept parts shared base parts_are shared_is base_is =
     parts_are ∙ ap (λ (N : Network). record N { base = base }) shared_is ∙ ap (λ b. record (problem_of_sample patterns output []) { base = b }) base_is
 
@@ -155,7 +155,7 @@ module _ (set : TileSetView) (mask : MaskView) (wrap : Bool) (lines : List PinVi
   pub tiles_found : (pins : List Pin) → tiled.built_pins set mask lines ≡ Ok pins → length pins ≡ length lines
   tiles_found pins is = tiles_as_many (tiling pins) (ap (result_map tiling) is)
 
-  -- a mask with too many pairs has no pins
+  -- a mask with too many window_pair_count has no pins
   pub crowded_fault : (fault : BuildFault) → tiled.roomy_mask set mask ≡ Err fault → tiles_pins set mask wrap lines ≡ Err fault
   crowded_fault fault is = by_case crowded refl is
     where

@@ -10,7 +10,7 @@ use Rattle.wfc_search.specs.declared.Outcome.{Outcome}
 use Rattle.wfc_runs.specs.Alike.{HaveRule, PicksAs}
 use Rattle.wfc_explain.specs.Outcomes.{outcome_at, outcome_with}
 use Rattle.wfc_explain.specs.Pinned.{PinnedView}
-use Rattle.wfc_explain.specs.Trials.{TrialView, all_lines, trial_with, mark_of, trial_after, next_trial, lines_without}
+use Rattle.wfc_explain.specs.Trials.{TrialView, all_lines, trial_with, outcome_mark, trial_after, next_trial, lines_without}
 use Rattle.wfc_runs.proofs.CallerLemmas.{runs_alike}
 use Rattle.wfc_explain.specs.declared.explained.Mark.{Mark}
 
@@ -25,13 +25,13 @@ redecided s line (Some mark) = ap (λ (keep : List Bool). record { keep = keep; 
 
 -- a line is left out, and decided by the outcome of the run of what is kept then
 pub tried_by : (run : List Bool → Outcome) (s left next : TrialView) (line : ℕ) (o : Outcome) (r : Result (Unit {0}) NoMemory)
-    → left ≡ record { keep = lines_without s.keep line; core = s.core } → o ≡ run left.keep → OnOk r (next ≡ trial_with left line (mark_of o))
+    → left ≡ record { keep = lines_without s.keep line; core = s.core } → o ≡ run left.keep → OnOk r (next ≡ trial_with left line (outcome_mark o))
     → OnOk r (next ≡ next_trial run s line)
 tried_by run s left next line o (Err fault) is said next_is = tt
 tried_by run s left next line o (Ok u) is said next_is =
-    next_is ∙ ap (λ (t : TrialView). trial_with t line (mark_of o)) is
-    ∙ ap (λ (x : Outcome). trial_with (record { keep = lines_without s.keep line; core = s.core }) line (mark_of x)) (said ∙ ap (λ (t : TrialView). run t.keep) is)
-    ∙ redecided s line (mark_of (run (lines_without s.keep line)))
+    next_is ∙ ap (λ (t : TrialView). trial_with t line (outcome_mark o)) is
+    ∙ ap (λ (x : Outcome). trial_with (record { keep = lines_without s.keep line; core = s.core }) line (outcome_mark x)) (said ∙ ap (λ (t : TrialView). run t.keep) is)
+    ∙ redecided s line (outcome_mark (run (lines_without s.keep line)))
 
 -- one entry stands for each line
 pub decided_long : (s : TrialView) (line : ℕ) (mark : Option Mark) → length (trial_with s line mark).keep ≡ length s.keep
@@ -72,6 +72,6 @@ pub next_tried : {X : Type 0} (f : X → Rule) (all xs : List X) (x : X) → all
 next_tried f all xs x is v budget words lines line s next next_is rule have before =
     let last = rule_last f all xs x is rule have in (
       last.1,
-      next_is ∙ ap (λ (o : Outcome). trial_with s line (mark_of o)) (outcome_alike v (f x) rule budget words (lines_without s.keep line) last.0)
+      next_is ∙ ap (λ (o : Outcome). trial_with s line (outcome_mark o)) (outcome_alike v (f x) rule budget words (lines_without s.keep line) last.0)
           ∙ ap (λ (t : TrialView). next_trial (outcome_with v rule budget words) t line) before ∙ sym (tried_more (outcome_with v rule budget words) lines line),
     )

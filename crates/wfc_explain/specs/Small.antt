@@ -1,11 +1,11 @@
 -- Small pinned problems without symmetry, on which laws try the definitions.
 use Rattle.std.specs.Prelude.{ℕ, Bool, true, false, not, List, [], ◌∷◌, codes}
 use Rattle.wfc_model.specs.Legal.{banned_pin, kept_pin}
-use Rattle.wfc_overlap.specs.Small.{line_of as sample_line, three_by_two, two_patterns}
+use Rattle.wfc_overlap.specs.Small.{window_pin_line as sample_line, three_by_two, two_patterns}
 use Rattle.wfc_pins.specs.PinView.{PinView}
 use Rattle.wfc_problem.specs.Network.{Network}
 use Rattle.wfc_search.specs.Small.{pair, ring}
-use Rattle.wfc_tiled.specs.Small.{line_and_cross, line_of as tile_line, two_holes}
+use Rattle.wfc_tiled.specs.Small.{line_and_cross, tile_pin_line as tile_line, two_holes}
 use Rattle.wfc_explain.specs.Pinned.{PinnedView}
 use Rattle.wfc_explain.specs.Problems.{SamplePins, TilesPins}
 use Rattle.wfc_explain.specs.declared.explained.Kept.{Kept}
@@ -13,14 +13,14 @@ use Rattle.wfc_explain.specs.declared.explained.Mark.{Mark}
 
 -- of two cells that differ, with lines that keep value 0 and value 1 at the first, and value 1 at
 -- the second
-abbrev pub pair_with : List Bool → Network
-pair_with (zero ∷ one ∷ other ∷ []) =
+abbrev pub two_cells_with : List Bool → Network
+two_cells_with (zero ∷ one ∷ other ∷ []) =
     record pair { base = not one ∷ not zero ∷ not other ∷ true ∷ [] }
-pair_with _ = pair
+two_cells_with _ = pair
 
 -- with all three lines
 abbrev pub three_lines : PinnedView
-three_lines = record { lines = 3; problem_of = pair_with }
+three_lines = record { lines = 3; problem_of = two_cells_with }
 
 -- of three cells in a ring that differ, with a line that bans value 1 from the second
 abbrev pub ring_with : List Bool → Network

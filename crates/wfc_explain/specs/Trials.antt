@@ -26,10 +26,10 @@ abbrev pub lines_without : List Bool → ℕ → List Bool
 lines_without keep line = slice_set keep line false
 
 -- how a line stays, by the outcome of the run without it: it doesn't, where there is no map
-abbrev pub mark_of : Outcome → Option Mark
-mark_of outcome.Map = Some Needed
-mark_of outcome.NoMap = None
-mark_of outcome.Spent = Some Undecided
+abbrev pub outcome_mark : Outcome → Option Mark
+outcome_mark outcome.Map = Some Needed
+outcome_mark outcome.NoMap = None
+outcome_mark outcome.Spent = Some Undecided
 
 -- a line is dropped, or stays with a mark
 abbrev pub trial_with : TrialView → ℕ → Option Mark → TrialView
@@ -41,7 +41,7 @@ trial_with s line (Some mark) = record {
 
 -- a line is looked at: the run is that of the lines kept, without it
 abbrev pub next_trial : (List Bool → Outcome) → TrialView → ℕ → TrialView
-next_trial run s line = trial_with s line (mark_of (run (lines_without s.keep line)))
+next_trial run s line = trial_with s line (outcome_mark (run (lines_without s.keep line)))
 
 -- the first lines were looked at, in their order, from all lines on
 abbrev pub trial_after : (List Bool → Outcome) → ℕ → ℕ → TrialView

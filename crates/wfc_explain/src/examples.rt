@@ -4,12 +4,12 @@
 ghost use Rattle.std.specs.Prelude.{◌≡◌, ℕ, Bool, true, false, List, [], ◌∷◌, codes, map, Ok, Err, None, Some};
 ghost use Rattle.wfc_model.specs.Legal.{banned_pin, kept_pin};
 ghost use Rattle.wfc_overlap.specs.Sample.{problem_of_sample};
-ghost use Rattle.wfc_overlap.specs.Small.{line_of as sample_line, three_by_two, three_symbols, two_patterns};
+ghost use Rattle.wfc_overlap.specs.Small.{window_pin_line as sample_line, three_by_two, three_symbols, two_patterns};
 ghost use Rattle.wfc_pins.specs.declared.fault.BuildFault.TheVariants.{PinInHole, PinOutside};
 ghost use Rattle.wfc_search.specs.Small.{pair, ring, scanline, twos};
 ghost use Rattle.wfc_search.specs.declared.Outcome.TheVariants as outcome;
 ghost use Rattle.wfc_tiled.specs.Mask.{plain_mask};
-ghost use Rattle.wfc_tiled.specs.Small.{line_and_cross, line_of as tile_line, two_holes};
+ghost use Rattle.wfc_tiled.specs.Small.{line_and_cross, tile_pin_line as tile_line, two_holes};
 ghost use Rattle.wfc_tiled.specs.Tiles.{problem_of_tiles};
 ghost use Rattle.wfc_explain.specs.Blame.{IsTrueCore, core_lines};
 ghost use Rattle.wfc_explain.specs.KeptLines.{kept_of};
@@ -17,9 +17,9 @@ ghost use Rattle.wfc_explain.specs.Masks.{given_mask};
 ghost use Rattle.wfc_explain.specs.Outcomes.{outcome_with};
 ghost use Rattle.wfc_explain.specs.Pinned.{IsAlike, IsFewer};
 ghost use Rattle.wfc_explain.specs.Problems.{pinned_sample, pinned_tiles, sample_pins, tiles_pins};
-ghost use Rattle.wfc_explain.specs.Small.{blank_line, kept, no_lines, one_line, pair_with, ring_with};
+ghost use Rattle.wfc_explain.specs.Small.{blank_line, kept, no_lines, one_line, two_cells_with, ring_with};
 ghost use Rattle.wfc_explain.specs.Small.{three_lines, turned_line, two_sample_lines, two_tile_lines};
-ghost use Rattle.wfc_explain.specs.Trials.{all_lines, core_of, trial_with, explanation_of, mark_of, lines_without};
+ghost use Rattle.wfc_explain.specs.Trials.{all_lines, core_of, trial_with, explanation_of, outcome_mark, lines_without};
 ghost use Rattle.wfc_explain.specs.declared.explained.Explained.TheVariants.{Core, MapExists, Spent};
 ghost use Rattle.wfc_explain.specs.declared.explained.Mark.TheVariants.{Needed, Undecided};
 
@@ -41,7 +41,7 @@ pub fn small_outcomes()
     ensures outcomes { map (outcome_with three_lines scanline 0 twos)
         ((false ∷ true ∷ false ∷ []) ∷ (true ∷ true ∷ false ∷ []) ∷ (true ∷ false ∷ true ∷ []) ∷ [])
         ≡ outcome.Map ∷ outcome.NoMap ∷ outcome.Map ∷ [] }
-    ensures marks { map mark_of (outcome.Map ∷ outcome.NoMap ∷ outcome.Spent ∷ [])
+    ensures marks { map outcome_mark (outcome.Map ∷ outcome.NoMap ∷ outcome.Spent ∷ [])
         ≡ Some Needed ∷ None ∷ Some Undecided ∷ [] }
 {}
 
@@ -64,7 +64,7 @@ pub fn lines_are_decided()
 pub fn relations_by_example()
     ensures fewer { IsFewer (false ∷ true ∷ []) (true ∷ true ∷ []) }
     ensures more { IsFewer (true ∷ true ∷ []) (false ∷ true ∷ []) → ⊥ }
-    ensures alike { IsAlike pair (pair_with (true ∷ false ∷ true ∷ [])) }
+    ensures alike { IsAlike pair (two_cells_with (true ∷ false ∷ true ∷ [])) }
     ensures other { IsAlike pair ring → ⊥ }
 {}
 

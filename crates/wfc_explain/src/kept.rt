@@ -5,15 +5,15 @@ ghost use Rattle.wfc_explain.specs.KeptLines.{kept_of};
 
 use std::alloc::Global;
 use wfc_outside::NoMemory;
-use wfc_overlap::Mark;
+use wfc_overlap::PinMark;
 use wfc_problem::Parts;
 
 /// Copies of the pins and bans that are kept, in their order.
 pub(crate) fn kept_marks(
     alloc: Global,
-    marks: &[Mark],
+    marks: &[PinMark],
     keep: &[bool],
-) -> Result<Vec<Mark>, NoMemory>
+) -> Result<Vec<PinMark>, NoMemory>
     requires each_line { length keep.now ≡ length marks.now }
     ensures value { IfOk result (λ kept. kept.items ≡ kept_of keep.now marks.now) }
 {
@@ -25,7 +25,7 @@ pub(crate) fn kept_marks(
 }
 
 /// Adds a copy of a pin or ban, where it is kept.
-fn push_kept(kept: &mut Vec<Mark>, mark: &Mark, keep: bool) -> Result<(), NoMemory>
+fn push_kept(kept: &mut Vec<PinMark>, mark: &PinMark, keep: bool) -> Result<(), NoMemory>
     ensures pushed { OnOk result (kept.new.items
         ≡ kept.old.items ++ kept_of (keep ∷ []) (mark.now ∷ [])) }
 {
@@ -36,10 +36,10 @@ fn push_kept(kept: &mut Vec<Mark>, mark: &Mark, keep: bool) -> Result<(), NoMemo
 }
 
 /// A copy of a pin or ban.
-fn copy_of(mark: &Mark) -> Mark
+fn copy_of(mark: &PinMark) -> PinMark
     ensures value { result ≡ mark.now }
 {
-    Mark {
+    PinMark {
         keep: mark.keep,
         column: mark.column,
         row: mark.row,

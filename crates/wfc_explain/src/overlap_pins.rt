@@ -11,7 +11,8 @@ use std::alloc::Global;
 use std::marker::Model;
 use wfc_outside::NoMemory;
 use wfc_overlap::{
-    Mark, base_of_marks, checked_marks, parts_of_marks, problem_with, support_lists,
+    PinMark, checked_window_marks, problem_with, support_lists, window_base_of_marks,
+    window_parts_of_marks,
 };
 use wfc_pattern::Patterns;
 use wfc_picture::Palette;
@@ -27,7 +28,7 @@ pub struct OverlapPins<'a> {
     height: u32,
     wrap: bool,
     /// What the lines mean.
-    marks: Vec<Mark>,
+    marks: Vec<PinMark>,
     /// What the problem is made of whichever lines are kept: all but the base.
     shared: Parts,
 }
@@ -72,9 +73,9 @@ impl<'a> OverlapPins<'a> {
         ensures exact { Gives BuildFault.NoMemory (λ pinned. pinned) result
             (sample_pins patterns.now palette.now (output_with width height wrap) pins.now) }
     {
-        let marks = checked_marks(alloc, patterns, palette, width, height, wrap, pins)?;
+        let marks = checked_window_marks(alloc, patterns, palette, width, height, wrap, pins)?;
         let supports = support_lists(alloc, patterns)?;
-        let plain = parts_of_marks(alloc, patterns, supports, width, height, wrap, &[])?;
+        let plain = window_parts_of_marks(alloc, patterns, supports, width, height, wrap, &[])?;
         Ok(OverlapPins {
             patterns,
             width,
@@ -95,7 +96,7 @@ impl<'a> PinnedProblem for OverlapPins<'a> {
 
     fn problem(&self, alloc: Global, keep: &[bool]) -> Result<Problem, NoMemory> {
         let kept = kept_marks(alloc, &self.marks, keep)?;
-        let base = base_of_marks(
+        let base = window_base_of_marks(
             alloc,
             self.patterns,
             self.width,

@@ -11,10 +11,10 @@ use crate::kept::{kept_marks, with_base, without_base};
 use std::alloc::Global;
 use std::marker::Model;
 use wfc_outside::NoMemory;
-use wfc_overlap::{Mark, problem_with};
+use wfc_overlap::{PinMark, problem_with};
 use wfc_pins::{BuildFault, PinLine};
 use wfc_problem::{Parts, Problem};
-use wfc_tiled::{Mask, base_of_marks, checked_marks, checked_plain, parts_of_marks};
+use wfc_tiled::{Mask, checked_plain, checked_tile_marks, tile_base_of_marks, tile_parts_of_marks};
 use wfc_tileset::TileSet;
 
 /// The mask that is given, or the one without holes.
@@ -45,7 +45,7 @@ pub struct TilePins<'a> {
     mask: HeldMask<'a>,
     wrap: bool,
     /// What the lines mean.
-    marks: Vec<Mark>,
+    marks: Vec<PinMark>,
     /// What the problem is made of whichever lines are kept: all but the base.
     shared: Parts,
 }
@@ -117,8 +117,8 @@ impl<'a> TilePins<'a> {
         ensures exact { Gives BuildFault.NoMemory (λ pinned. pinned) result
             (tiles_pins tiles.now (held_mask mask.entry) wrap pins.now) }
     {
-        let marks = checked_marks(alloc, tiles, mask.mask(), pins)?;
-        let plain = parts_of_marks(alloc, tiles, mask.mask(), wrap, &[])?;
+        let marks = checked_tile_marks(alloc, tiles, mask.mask(), pins)?;
+        let plain = tile_parts_of_marks(alloc, tiles, mask.mask(), wrap, &[])?;
         Ok(TilePins {
             tiles,
             mask,
@@ -138,7 +138,7 @@ impl<'a> PinnedProblem for TilePins<'a> {
 
     fn problem(&self, alloc: Global, keep: &[bool]) -> Result<Problem, NoMemory> {
         let kept = kept_marks(alloc, &self.marks, keep)?;
-        let base = base_of_marks(alloc, self.tiles, self.mask.mask(), &kept)?;
+        let base = tile_base_of_marks(alloc, self.tiles, self.mask.mask(), &kept)?;
         let parts = with_base(alloc, &self.shared, base)?;
         Ok(problem_with(parts))
     }

@@ -3,7 +3,7 @@
 ghost use Rattle.std.specs.Prelude.{◌≡◌, ◌++◌, ◌+◌, ◌∷◌, [], ◌<◌, ◌≤◌, true, IfOk, OnOk, length, map, replicate, vec_len};
 ghost use Rattle.wfc_choose.specs.Pick.{Rule};
 ghost use Rattle.wfc_explain.specs.Blame.{IsTrueExplained};
-ghost use Rattle.wfc_explain.specs.Trials.{all_lines, core_of, trial_with, explanation_of, mark_of, trial_after, next_trial, lines_without};
+ghost use Rattle.wfc_explain.specs.Trials.{all_lines, core_of, trial_with, explanation_of, outcome_mark, trial_after, next_trial, lines_without};
 ghost use Rattle.wfc_explain.specs.Outcomes.{outcome_with};
 ghost use Rattle.wfc_runs.specs.Alike.{HaveRule, PickAlike};
 ghost use Rattle.wfc_runs.specs.Words.{words_of_seed};
@@ -143,9 +143,9 @@ impl Trial {
     /// Keeps a line, or drops it, by the outcome of the run without it.
     fn decide(&mut self, line: u32, outcome: Outcome) -> Result<(), NoMemory>
         requires line_in { line < length self.old.keep }
-        ensures decided { OnOk result (self.new ≡ trial_with self.old line (mark_of outcome)) }
+        ensures decided { OnOk result (self.new ≡ trial_with self.old line (outcome_mark outcome)) }
     {
-        let mark = mark_of(outcome);
+        let mark = outcome_mark(outcome);
         self.keep[line as usize] = mark.is_some();
         if let Some(mark) = mark {
             self.list.push(Kept { index: line, mark })?;
@@ -162,8 +162,8 @@ impl Trial {
 }
 
 /// How a line stays, by the outcome of the run without it.
-fn mark_of(outcome: Outcome) -> Option<Mark>
-    ensures value { result ≡ mark_of outcome }
+fn outcome_mark(outcome: Outcome) -> Option<Mark>
+    ensures value { result ≡ outcome_mark outcome }
 {
     match outcome {
         Outcome::Map => Some(Mark::Needed),

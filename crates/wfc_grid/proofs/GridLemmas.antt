@@ -13,7 +13,7 @@ use Rattle.wfc_text.specs.Line.{LineView, lines_of}
 use Rattle.wfc_grid.specs.Grid.{GridView, IsGrid, is_cell, raster_of_grid}
 use Rattle.wfc_grid.specs.Reading.{grid_of, rows_grid, unless_fault}
 use Rattle.wfc_grid.specs.Spelling.{SpellsRows, SpellsGrid, grid_text}
-use Rattle.wfc_grid.specs.Fault.{rows_of, cells_of, width_of, first_fault, size_fault, grid_fault_of}
+use Rattle.wfc_grid.specs.Fault.{rows_of, grid_bytes, width_of, first_fault, size_fault, grid_fault_of}
 use Rattle.wfc_grid.specs.declared.reading.GridFault.{GridFault}
 use Rattle.wfc_grid.specs.declared.reading.GridFault.TheVariants.{Empty, TooLarge}
 use Rattle.wfc_grid.proofs.SpellingLemmas.{IsRow, rows_of-spelled, lines-spell}
@@ -101,7 +101,7 @@ wide_lines width (line ∷ lines) high fit = fit.0.long
 pub record AreLinesOf (lines : List LineView) (g : GridView) : Type 0 where
   pub width : width_of lines ≡ g.width
   pub right : first_fault g.width lines ≡ None
-  pub cells : cells_of lines ≡ g.bytes
+  pub cells : grid_bytes lines ≡ g.bytes
   pub height : length (rows_of lines) ≡ g.height
 
 pub spelled-lines : (text : List ℕ) (g : GridView) → SpellsGrid text g → AreLinesOf (lines_of text) g
@@ -125,17 +125,17 @@ pub line_fault_first : (lines : List LineView) (fault : GridFault) → 0 < width
 line_fault_first lines fault wide first = let test : (width_of lines == 0) ≡ false = grind (arith, nat_tests) in rw (test, first) refl
 
 -- where only the size is wrong, it is the fault
-pub large_fault : (lines : List LineView) → 0 < width_of lines → first_fault (width_of lines) lines ≡ None → 1048576 < length (cells_of lines) → grid_fault_of lines ≡ Some TooLarge
+pub large_fault : (lines : List LineView) → 0 < width_of lines → first_fault (width_of lines) lines ≡ None → 1048576 < length (grid_bytes lines) → grid_fault_of lines ≡ Some TooLarge
 large_fault lines wide right large =
     let test : (width_of lines == 0) ≡ false = grind (arith, nat_tests) in
-    let size : nat_lt 1048576 (length (cells_of lines)) ≡ true = grind (arith, nat_tests) in
+    let size : nat_lt 1048576 (length (grid_bytes lines)) ≡ true = grind (arith, nat_tests) in
     rw (test, right, size) refl
 
 -- where nothing is wrong there is no fault
-pub no_fault : (lines : List LineView) → 0 < width_of lines → first_fault (width_of lines) lines ≡ None → length (cells_of lines) ≤ 1048576 → grid_fault_of lines ≡ None
+pub no_fault : (lines : List LineView) → 0 < width_of lines → first_fault (width_of lines) lines ≡ None → length (grid_bytes lines) ≤ 1048576 → grid_fault_of lines ≡ None
 no_fault lines wide right small =
     let test : (width_of lines == 0) ≡ false = grind (arith, nat_tests) in
-    let size : nat_lt 1048576 (length (cells_of lines)) ≡ false = grind (arith, nat_tests) in
+    let size : nat_lt 1048576 (length (grid_bytes lines)) ≡ false = grind (arith, nat_tests) in
     rw (test, right, size) refl
 
 -- a text that spells a grid within the limit has no fault
@@ -163,7 +163,7 @@ right_parts (suc width) first cells none =
 -- a text without a fault spells a grid within the limit
 pub right-spelled : (text : List ℕ) → grid_fault_of (lines_of text) ≡ None → (g : GridView) × SpellsGrid text g × (g.width * g.height ≤ 1048576)
 right-spelled text none =
-    let parts = right_parts (width_of (lines_of text)) (first_fault (width_of (lines_of text)) (lines_of text)) (length (cells_of (lines_of text))) none in
+    let parts = right_parts (width_of (lines_of text)) (first_fault (width_of (lines_of text)) (lines_of text)) (length (grid_bytes (lines_of text))) none in
     let spelled : SpellsGrid text (rows_grid (width_of (lines_of text)) (rows_of (lines_of text))) = right-spells text (width_of (lines_of text)) parts.0 refl parts.1 in
     (rows_grid (width_of (lines_of text)) (rows_of (lines_of text)), spelled, omega (arith, parts.2, spelled.grid.filled.as_many))
 
@@ -194,7 +194,7 @@ written_grid g is = record {
 }
 
 -- what reading makes of lines without a fault
-pub made_grid : (text : List ℕ) (width : ℕ) (cells : List ℕ) → 0 < width → width ≡ width_of (lines_of text) → first_fault width (lines_of text) ≡ None → cells ≡ cells_of (lines_of text) → SpellsGrid text (record { width = width; height = length cells / width; bytes = cells })
+pub made_grid : (text : List ℕ) (width : ℕ) (cells : List ℕ) → 0 < width → width ≡ width_of (lines_of text) → first_fault width (lines_of text) ≡ None → cells ≡ grid_bytes (lines_of text) → SpellsGrid text (record { width = width; height = length cells / width; bytes = cells })
 made_grid text width cells wide first right is =
     let spelled : SpellsGrid text (rows_grid width (rows_of (lines_of text))) = right-spells text width wide first right in
     let high : length cells / width ≡ length (rows_of (lines_of text)) = ap (λ n. n / width) (ap length is ∙ spelled.grid.filled.as_many) ∙ mul-div_cancel_left (length (rows_of (lines_of text))) wide in

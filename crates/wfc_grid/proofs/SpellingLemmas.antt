@@ -12,7 +12,7 @@ use Rattle.wfc_text.specs.Line.{LineView, is_line_feed, lines_from, lines_of, li
 use Rattle.wfc_text.proofs.CallerLemmas.{lines_from-feed, lines_from-plain}
 use Rattle.wfc_grid.specs.Grid.{is_cell}
 use Rattle.wfc_grid.specs.Spelling.{IsLineEnd, SpellsRows}
-use Rattle.wfc_grid.specs.Fault.{rows_of, cells_of, width_of}
+use Rattle.wfc_grid.specs.Fault.{rows_of, grid_bytes, width_of}
 
 -- a row has a byte, and each may stand in a grid
 pub record IsRow (row : List ℕ) : Type 0 where
@@ -134,16 +134,16 @@ parts_shorter n ((b ∷ part) ∷ []) = omega (arith, length-append (b ∷ part)
 parts_shorter n (part ∷ next ∷ parts) =
     omega (arith, strip-shorter part, parts_shorter (n + 1) (next ∷ parts), length-append (strip_carriage_return part) (concat (rows_of (lines_of_parts (n + 1) (next ∷ parts)))), length-append part (10 ∷ join_with_byte 10 (next ∷ parts)))
 
-pub length-cells_of : (text : List ℕ) → length (cells_of (lines_of text)) ≤ length text
+pub length-cells_of : (text : List ℕ) → length (grid_bytes (lines_of text)) ≤ length text
 length-cells_of text =
-    let shorter : length (cells_of (lines_of text)) ≤ length (join_with_byte 10 (slice_split is_line_feed text)) = parts_shorter 1 (slice_split is_line_feed text) in
+    let shorter : length (grid_bytes (lines_of text)) ≤ length (join_with_byte 10 (slice_split is_line_feed text)) = parts_shorter 1 (slice_split is_line_feed text) in
     rw (join_with_byte-slice_split 10 text) at shorter
 
-pub width_of-shorter : (lines : List LineView) → width_of lines ≤ length (cells_of lines)
+pub width_of-shorter : (lines : List LineView) → width_of lines ≤ length (grid_bytes lines)
 width_of-shorter [] = omega arith
-width_of-shorter (line ∷ lines) = omega (arith, length-append line.bytes (cells_of lines))
+width_of-shorter (line ∷ lines) = omega (arith, length-append line.bytes (grid_bytes lines))
 
 -- a line that is still to come is no longer than the text
-pub line-shorter : (cells : List ℕ) (lines rest : List LineView) (line : LineView) (text : List ℕ) → cells ++ cells_of lines ≡ cells_of (lines_of text) → lines ≡ line ∷ rest → length line.bytes ≤ length text
+pub line-shorter : (cells : List ℕ) (lines rest : List LineView) (line : LineView) (text : List ℕ) → cells ++ grid_bytes lines ≡ grid_bytes (lines_of text) → lines ≡ line ∷ rest → length line.bytes ≤ length text
 line-shorter cells lines rest line text whole next =
-    omega (arith, ap length whole, ap (λ (ls : List LineView). length (cells_of ls)) next, length-append cells (cells_of lines), length-append line.bytes (cells_of rest), length-cells_of text)
+    omega (arith, ap length whole, ap (λ (ls : List LineView). length (grid_bytes ls)) next, length-append cells (grid_bytes lines), length-append line.bytes (grid_bytes rest), length-cells_of text)

@@ -38,8 +38,8 @@ abbrev pub rows_of : List LineView → List (List ℕ)
 rows_of lines = map (λ (line : LineView). line.bytes) lines
 
 -- the bytes of all lines
-abbrev pub cells_of : List LineView → List ℕ
-cells_of lines = concat (rows_of lines)
+abbrev pub grid_bytes : List LineView → List ℕ
+grid_bytes lines = concat (rows_of lines)
 
 -- too many bytes, where there are
 abbrev pub size_fault : ℕ → Option GridFault
@@ -49,4 +49,4 @@ size_fault cells = if nat_lt MAX_CELLS cells then Some TooLarge else None
 abbrev pub grid_fault_of : List LineView → Option GridFault
 grid_fault_of lines =
     if width_of lines == 0 then Some Empty
-    else option_or (first_fault (width_of lines) lines) (size_fault (length (cells_of lines)))
+    else option_or (first_fault (width_of lines) lines) (size_fault (length (grid_bytes lines)))

@@ -7,7 +7,7 @@ ghost use Rattle.wfc_text.specs.View.{line_view};
 ghost use Rattle.wfc_grid.specs.Grid.{GridView};
 ghost use Rattle.wfc_grid.specs.Reading.{grid_of};
 ghost use Rattle.wfc_grid.specs.Spelling.{SpellsGrid};
-ghost use Rattle.wfc_grid.specs.Fault.{cells_of, first_fault, is_no_cell, line_fault, width_of};
+ghost use Rattle.wfc_grid.specs.Fault.{grid_bytes, first_fault, is_no_cell, line_fault, width_of};
 
 use crate::Grid;
 use std::alloc::{AllocError, Global};
@@ -87,7 +87,7 @@ fn first_width(text: &[u8]) -> usize
 fn cells(alloc: Global, text: &[u8], width: usize) -> Result<Vec<u8>, GridFault>
     requires short { length text.now ≤ MAX_FILE_BYTES }
     ensures right { IfOk result (λ _. first_fault width (lines_of text.now) ≡ None) }
-    ensures cells { IfOk result (λ cells. cells.items ≡ cells_of (lines_of text.now)) }
+    ensures cells { IfOk result (λ cells. cells.items ≡ grid_bytes (lines_of text.now)) }
     ensures fault { IfErr result (λ fault.
         (first_fault width (lines_of text.now) ≡ Some fault) ⊎ (fault ≡ GridFault.NoMemory)) }
 {

@@ -4,7 +4,7 @@ use Rattle.wfc_grow_command.specs.GrowGiven.{IsGrowAsked}
 use Rattle.wfc_reply.proofs.CallerLemmas.{plain_kind}
 use Rattle.wfc_task.proofs.CallerLemmas.{command_source}
 use Rattle.wfc_task.specs.Asked.{AskedBy, IsSampleAsked}
-use Rattle.wfc_task.specs.Sources.{side_of}
+use Rattle.wfc_task.specs.Sources.{window_side_of}
 use Rattle.wfc_words.specs.Commands.{requires_word}
 use Rattle.wfc_words.specs.InRange.{IsInRange}
 use Rattle.wfc_words.specs.Named.{is_rankable, takes_tiles}
@@ -22,7 +22,7 @@ of_sample asked (Overlap n) untiled asks = asks
 of_sample asked Tiles untiled asks = absurd (untiled refl)
 
 -- and the least block of its map
-block_of_sample : (asked : RequestView) (source : SourceModel) → source ≢ Tiles → least_block source ≤ asked.block → side_of source ≤ asked.block
+block_of_sample : (asked : RequestView) (source : SourceModel) → source ≢ Tiles → least_block source ≤ asked.block → window_side_of source ≤ asked.block
 block_of_sample asked (Overlap n) untiled least = least
 block_of_sample asked Tiles untiled least = absurd (untiled refl)
 

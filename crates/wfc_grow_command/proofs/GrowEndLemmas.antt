@@ -42,8 +42,8 @@ use Rattle.wfc_reply.specs.RunText.{IsToldBy, writing_text}
 use Rattle.wfc_reply.specs.declared.putting.RunWriting.{RunWriting}
 use Rattle.wfc_reply.specs.declared.reply.Stop.{Stop}
 use Rattle.wfc_reply.specs.declared.reply.Stop.TheVariants.{Cut, Unanswered}
-use Rattle.wfc_reply.specs.declared.reply.Verdict.{Verdict}
-use Rattle.wfc_reply.specs.declared.reply.Verdict.TheVariants as verdict
+use Rattle.wfc_reply.specs.declared.reply.CommandVerdict.{CommandVerdict}
+use Rattle.wfc_reply.specs.declared.reply.CommandVerdict.TheVariants as verdict
 use Rattle.wfc_search.proofs.CallerLemmas.{between_start, from_computed}
 use Rattle.wfc_search.proofs.Counts.{run_counts}
 use Rattle.wfc_search.specs.Run.{State, last_of}
@@ -59,7 +59,7 @@ grow_none rules asked kinds before after sink fault same goes =
     put_none (grow_plan (kinds_of rules) asked) (GrowAnswers rules asked) before after sink fault
     (subst (λ (ks : List RuleKind). let end : Result GrowTask Fault = Err fault in Goes (grow_plan ks asked) before after end) same (goes_out (read_plan kinds asked) (grown_plan asked) before after fault goes))
 
-pub grow_on : (rules : List Rule) (asked : RequestView) (kinds : List RuleKind) (before after : FolderView) (old new : SinkView) (task : GrowTask) (ended : Result Verdict Stop) → kinds ≡ kinds_of rules
+pub grow_on : (rules : List Rule) (asked : RequestView) (kinds : List RuleKind) (before after : FolderView) (old new : SinkView) (task : GrowTask) (ended : Result CommandVerdict Stop) → kinds ≡ kinds_of rules
     → Goes (read_plan kinds asked) before after (Ok task) → EndsPut (grown_plan asked task) (GrowAnswers rules asked) after after old new ended → EndsAs grow_command rules asked before after old new ended
 grow_on rules asked kinds before after old new task ended same goes rest = record {
   reply = rest.reply;
@@ -72,7 +72,7 @@ grow_on rules asked kinds before after old new task ended same goes rest = recor
 }
 
 -- the first rule is the one that it goes by
-pub by_first : (rules : List Rule) (asked : RequestView) (kind : RuleKind) (task : GrowTask) (rule : Rule) (folder : FolderView) (old new : SinkView) (ended : Result Verdict Stop) → first_rule kind rules ≡ Some rule → kind ≡ asked.rule
+pub by_first : (rules : List Rule) (asked : RequestView) (kind : RuleKind) (task : GrowTask) (rule : Rule) (folder : FolderView) (old new : SinkView) (ended : Result CommandVerdict Stop) → first_rule kind rules ≡ Some rule → kind ≡ asked.rule
     → EndsPut (grown_plan asked task) (GrowsBy (Some rule) asked) folder folder old new ended → EndsPut (grown_plan asked task) (GrowAnswers rules asked) folder folder old new ended
 by_first rules asked kind task rule folder old new ended first of_kind ends =
     subst (λ (r : Option Rule). EndsPut (grown_plan asked task) (GrowsBy r asked) folder folder old new ended) (sym (ap (λ (k : RuleKind). first_rule k rules) (sym of_kind) ∙ first)) ends
@@ -95,7 +95,7 @@ grown_goes asked task rule made folder grows =
     by_pins (Err fault) is e = absurd (cc (e))
 
 -- and its text was put
-pub ends_grown : (asked : RequestView) (task : GrowTask) (rule : Rule) (made : Grown) (folder : FolderView) (old new : SinkView) (ended : Result Verdict Stop) → IsGrowthBy asked task rule made → PutsGrown rule asked task made old new ended
+pub ends_grown : (asked : RequestView) (task : GrowTask) (rule : Rule) (made : Grown) (folder : FolderView) (old new : SinkView) (ended : Result CommandVerdict Stop) → IsGrowthBy asked task rule made → PutsGrown rule asked task made old new ended
     → EndsPut (grown_plan asked task) (GrowsBy (Some rule) asked) folder folder old new ended
 ends_grown asked task rule made folder old new ended grows puts = by_reply puts.reply puts.replies puts.leaves
   where

@@ -12,8 +12,8 @@ use Rattle.wfc_grow_command.specs.GrowTask.{GrowTask, area_asked, grow_plan, gro
 use Rattle.wfc_grow_command.specs.declared.growing.TheConstants.{GROW_CHOOSERS}
 use Rattle.wfc_model.specs.Legal.{Pin}
 use Rattle.wfc_outside.specs.Folder.{File}
-use Rattle.wfc_overlap.specs.Bridge.{pairs}
-use Rattle.wfc_overlap.specs.Built.{pins_in, texts_of}
+use Rattle.wfc_overlap.specs.Bridge.{window_pair_count}
+use Rattle.wfc_overlap.specs.Built.{picture_pins, texts_of}
 use Rattle.wfc_pattern.specs.Patterns.{PatternsView}
 use Rattle.wfc_picture.specs.declared.symbol.Symbol.{Symbol}
 use Rattle.wfc_pins.specs.PinView.{PinView}
@@ -28,7 +28,7 @@ use Rattle.wfc_render.specs.declared.form.Layout.{Layout}
 use Rattle.wfc_task.proofs.CallerLemmas.{given_sample, sample_given}
 use Rattle.wfc_task.proofs.GivenLemmas.{given_pins, pins_given}
 use Rattle.wfc_task.specs.SamplePlans.{pins_plan, sample_plan}
-use Rattle.wfc_task.specs.Steps.{laid}
+use Rattle.wfc_task.specs.Steps.{sample_layout}
 use Rattle.wfc_task.specs.declared.lesson.Taught.{Taught}
 use Rattle.wfc_words.specs.RequestView.{RequestView}
 
@@ -41,7 +41,7 @@ abbrev pub behind_layout : RequestView → Taught → Layout → Plan GrowTask
 behind_layout asked lesson layout = and_then (pins_plan asked.pins) (behind_lines lesson layout)
 
 abbrev pub behind_lesson : RequestView → Taught → Plan GrowTask
-behind_lesson asked lesson = and_then (step (laid lesson.kind asked)) (behind_layout asked lesson)
+behind_lesson asked lesson = and_then (step (sample_layout lesson.kind asked)) (behind_layout asked lesson)
 
 abbrev pub behind_enough : RequestView → Plan GrowTask
 behind_enough asked = and_then (sample_plan asked) (behind_lesson asked)
@@ -58,7 +58,7 @@ pub record IsReadFor (kinds : List RuleKind) (asked : RequestView) (files : List
   pub layout : Layout
   pub lines : List PinView
   pub taught : outcome (sample_plan asked) files ≡ Ok lesson
-  pub written : laid lesson.kind asked ≡ Ok layout
+  pub written : sample_layout lesson.kind asked ≡ Ok layout
   pub held : outcome (pins_plan asked.pins) files ≡ Ok lines
   pub is : task_with lesson layout lines ≡ task
 
@@ -67,7 +67,7 @@ read_for kinds asked files task is =
     let chosen = outcome_parts (step (enough GROW_CHOOSERS kinds asked.rule)) (λ _. behind_enough asked) files task is in
     let known = outcome_parts (sample_plan asked) (behind_lesson asked) files task chosen.2 in
     let lesson = known.0 in
-    let written = outcome_parts (step (laid lesson.kind asked)) (behind_layout asked lesson) files task known.2 in
+    let written = outcome_parts (step (sample_layout lesson.kind asked)) (behind_layout asked lesson) files task known.2 in
     let held = outcome_parts (pins_plan asked.pins) (behind_lines lesson written.0) files task written.2 in
     record {
       chosen = given_choosers GROW_CHOOSERS kinds asked.rule (choosers_given GROW_CHOOSERS kinds asked.rule chosen.0 (step_ok (enough GROW_CHOOSERS kinds asked.rule) files chosen.0 chosen.1));
@@ -75,7 +75,7 @@ read_for kinds asked files task is =
       layout = written.0;
       lines = held.0;
       taught = known.1;
-      written = step_ok (laid lesson.kind asked) files written.0 written.1;
+      written = step_ok (sample_layout lesson.kind asked) files written.0 written.1;
       held = held.1;
       is = done_is (task_with lesson written.0 held.0) task files held.2;
     }
@@ -85,21 +85,21 @@ read_for kinds asked files task is =
 -- what holds where a map can be grown by these pins
 pub record CanGrow (patterns : PatternsView) (palette : List Symbol) (area : Area) (lines : List PinView) (pins : List Pin) : Type 0 where
   pub area_fits : IsGrowableArea patterns area
-  pub meant : pins_in (texts_of palette) area.width area.height lines ≡ Ok pins
+  pub meant : picture_pins (texts_of palette) area.width area.height lines ≡ Ok pins
 
 module _ (patterns : PatternsView) (palette : List Symbol) (area : Area) (lines : List PinView) where
   abbrev blocks : ℕ
   blocks = block_count patterns.n area
 
   abbrev product : ℕ
-  product = pairs patterns (output_of_block (block_at patterns.n area 0))
+  product = window_pair_count patterns (output_of_block (block_at patterns.n area 0))
 
   pub can_grow : (pins : List Pin) → growable_of patterns palette area lines ≡ Ok pins → CanGrow patterns palette area lines pins
   can_grow pins is =
-      by_case (nat_lt area.width patterns.n || nat_lt area.height patterns.n) (nat_lt MAX_BLOCKS blocks) (nat_lt MAX_PAIRS product) (pins_in (texts_of palette) area.width area.height lines) refl refl refl refl is
+      by_case (nat_lt area.width patterns.n || nat_lt area.height patterns.n) (nat_lt MAX_BLOCKS blocks) (nat_lt MAX_PAIRS product) (picture_pins (texts_of palette) area.width area.height lines) refl refl refl refl is
     where
       by_case : (small many large : Bool) (meant : Result (List Pin) BuildFault) → (nat_lt area.width patterns.n || nat_lt area.height patterns.n) ≡ small → nat_lt MAX_BLOCKS blocks ≡ many → nat_lt MAX_PAIRS product ≡ large
-          → pins_in (texts_of palette) area.width area.height lines ≡ meant
+          → picture_pins (texts_of palette) area.width area.height lines ≡ meant
           → (if small then Err faults.SizeBelowN else (if many then Err (faults.TooManyBlocks blocks) else (if large then Err (faults.TooLarge product) else or_grow_fault meant))) ≡ Ok pins → CanGrow patterns palette area lines pins
       by_case true many large meant s m l p e = absurd (cc (e))
       by_case false true large meant s m l p e = absurd (cc (e))
@@ -123,7 +123,7 @@ module _ (patterns : PatternsView) (palette : List Symbol) (area : Area) (lines 
       let fits = can.area_fits in
       let large = nat_lt MAX_PAIRS product in
       let many = nat_lt MAX_BLOCKS blocks in
-      let meant = pins_in (texts_of palette) area.width area.height lines in
+      let meant = picture_pins (texts_of palette) area.width area.height lines in
       let narrow : nat_lt area.width patterns.n ≡ false = le-ltb area.width patterns.n fits.wide in
       let low : nat_lt area.height patterns.n ≡ false = le-ltb area.height patterns.n fits.high in
       let few : many ≡ false = le-ltb MAX_BLOCKS blocks fits.few in
@@ -156,7 +156,7 @@ grow_given kinds asked files task is =
       held = pins_given asked.pins files growing.lines growing.held;
       area = subst (λ (t : GrowTask). IsGrowableArea t.patterns (area_asked asked)) (sym growing.is) can.area_fits;
       pins = pinned.0;
-      meant = subst (λ (t : GrowTask). let end : Result (List Pin) BuildFault = Ok pinned.0 in pins_in (texts_of t.palette) asked.width asked.height t.lines ≡ end) (sym growing.is) can.meant;
+      meant = subst (λ (t : GrowTask). let end : Result (List Pin) BuildFault = Ok pinned.0 in picture_pins (texts_of t.palette) asked.width asked.height t.lines ≡ end) (sym growing.is) can.meant;
     })
 
 pub given_grow : (kinds : List RuleKind) (asked : RequestView) (files : List File) (task : GrowTask) → IsGrowTask kinds asked files task → outcome (grow_plan kinds asked) files ≡ Ok task
@@ -166,8 +166,8 @@ given_grow kinds asked files task given =
     outcome_on (read_plan kinds asked) (grown_plan asked) files task
     (outcome_on (step (enough GROW_CHOOSERS kinds asked.rule)) (λ _. behind_enough asked) files tt (ok_step (enough GROW_CHOOSERS kinds asked.rule) files tt (given_choosers GROW_CHOOSERS kinds asked.rule given.choosers))
     ∙ outcome_on (sample_plan asked) (behind_lesson asked) files lesson (given_sample asked files given.kind task.patterns task.palette given.sample)
-    ∙ outcome_on (step (laid given.kind asked)) (behind_layout asked lesson) files task.layout
-    (ok_step (laid given.kind asked) files task.layout (ok_refused refusals.Render (layout_of given.kind asked.form asked.width asked.height 1) task.layout given.written))
+    ∙ outcome_on (step (sample_layout given.kind asked)) (behind_layout asked lesson) files task.layout
+    (ok_step (sample_layout given.kind asked) files task.layout (ok_refused refusals.Render (layout_of given.kind asked.form asked.width asked.height 1) task.layout given.written))
     ∙ outcome_on (pins_plan asked.pins) (behind_lines lesson task.layout) files task.lines (given_pins asked.pins files task.lines given.held))
     ∙ outcome_on (step (growable asked task)) (behind_growable task) files given.pins
     (ok_step (growable asked task) files given.pins

@@ -17,8 +17,8 @@ use Rattle.wfc_grow_command.specs.GrowTask.{GrowTask, area_asked, grow_plan, gro
 use Rattle.wfc_grow_command.specs.declared.growing.TheConstants.{GROW_CHOOSERS}
 use Rattle.wfc_model.specs.Legal.{Pin}
 use Rattle.wfc_outside.specs.Folder.{File}
-use Rattle.wfc_overlap.specs.Bridge.{pairs}
-use Rattle.wfc_overlap.specs.Built.{pin_in, pin_with, pins_in, texts_of}
+use Rattle.wfc_overlap.specs.Bridge.{window_pair_count}
+use Rattle.wfc_overlap.specs.Built.{picture_pin, marked_pin, picture_pins, texts_of}
 use Rattle.wfc_pins.specs.InOrder.{and_rest}
 use Rattle.wfc_pins.specs.PinView.{PinView}
 use Rattle.wfc_pins.specs.declared.fault.BuildFault.{BuildFault}
@@ -40,7 +40,7 @@ use Rattle.wfc_task.proofs.SampleOrderLemmas.{same_lesson}
 use Rattle.wfc_task.specs.Given.{HoldsPins}
 use Rattle.wfc_task.specs.SamplePlans.{pins_plan, sample_plan}
 use Rattle.wfc_task.specs.Stages.{IsBelowFault, IsCountFault, IsLayoutFault, IsPinFault, IsSizeFault}
-use Rattle.wfc_task.specs.Steps.{laid}
+use Rattle.wfc_task.specs.Steps.{sample_layout}
 use Rattle.wfc_task.specs.declared.lesson.Taught.{Taught}
 use Rattle.wfc_words.specs.RequestView.{RequestView}
 
@@ -63,23 +63,23 @@ faults_if {T} refusal files false why rest stage later has none others fault = (
 -- ---- the lines
 
 -- the fault of a line is written as that of a problem
-line_refused : (texts : List (List ℕ)) (width height : ℕ) (line : PinView) (why : BuildFault) → pin_in texts width height line ≡ Err why → grow_refusal (grow_fault why) ≡ refusals.Build why
+line_refused : (texts : List (List ℕ)) (width height : ℕ) (line : PinView) (why : BuildFault) → picture_pin texts width height line ≡ Err why → grow_refusal (grow_fault why) ≡ refusals.Build why
 line_refused texts width height line why is = by_test (nat_lt line.x width && nat_lt line.y height) (position (λ text. bytes_eq text line.symbol) texts) is
   where
     Is : BuildFault → Type 0
     Is why = grow_refusal (grow_fault why) ≡ refusals.Build why
 
-    by_test : (inside : Bool) (place : Option ℕ) → (if inside then ok_or (option_map (pin_with line) place) (UnknownSymbol line.line) else Err (PinOutside line.line)) ≡ Err why → Is why
+    by_test : (inside : Bool) (place : Option ℕ) → (if inside then ok_or (option_map (marked_pin line) place) (UnknownSymbol line.line) else Err (PinOutside line.line)) ≡ Err why → Is why
     by_test true (Some number) e = absurd (cc (e))
     by_test true None e = let same : UnknownSymbol line.line ≡ why = cc (e) in subst Is same refl
     by_test false place e = let same : PinOutside line.line ≡ why = cc (e) in subst Is same refl
 
-lines_refused : (texts : List (List ℕ)) (width height : ℕ) (lines : List PinView) (why : BuildFault) → pins_in texts width height lines ≡ Err why → grow_refusal (grow_fault why) ≡ refusals.Build why
+lines_refused : (texts : List (List ℕ)) (width height : ℕ) (lines : List PinView) (why : BuildFault) → picture_pins texts width height lines ≡ Err why → grow_refusal (grow_fault why) ≡ refusals.Build why
 lines_refused texts width height [] why is = absurd (cc (is))
-lines_refused texts width height (line ∷ lines) why is = by_first (pin_in texts width height line) (pins_in texts width height lines) refl refl is (λ later. lines_refused texts width height lines why later)
+lines_refused texts width height (line ∷ lines) why is = by_first (picture_pin texts width height line) (picture_pins texts width height lines) refl refl is (λ later. lines_refused texts width height lines why later)
   where
-    by_first : (first : Result Pin BuildFault) (rest : Result (List Pin) BuildFault) → pin_in texts width height line ≡ first → pins_in texts width height lines ≡ rest → and_rest first rest ≡ Err why
-        → (pins_in texts width height lines ≡ Err why → grow_refusal (grow_fault why) ≡ refusals.Build why) → grow_refusal (grow_fault why) ≡ refusals.Build why
+    by_first : (first : Result Pin BuildFault) (rest : Result (List Pin) BuildFault) → picture_pin texts width height line ≡ first → picture_pins texts width height lines ≡ rest → and_rest first rest ≡ Err why
+        → (picture_pins texts width height lines ≡ Err why → grow_refusal (grow_fault why) ≡ refusals.Build why) → grow_refusal (grow_fault why) ≡ refusals.Build why
     by_first (Err fault) rest p q e later =
         let same : fault ≡ why = cc (e) in
         line_refused texts width height line why (p ∙ ap (λ (f : BuildFault). let end : Result Pin BuildFault = Err f in end) same)
@@ -88,8 +88,8 @@ lines_refused texts width height (line ∷ lines) why is = by_first (pin_in text
     by_first (Ok pin) (Ok pins) p q e later = absurd (cc (e))
 
 faults_meant : (texts : List (List ℕ)) (width height : ℕ) (lines : List PinView) (files : List File)
-    → Faults (step (or_refuse grow_refusal (or_grow_fault (pins_in texts width height lines)))) files (IsRefusal refusals.Build (pins_in texts width height lines))
-faults_meant texts width height lines files fault = by_meant (pins_in texts width height lines) (λ why is. lines_refused texts width height lines why is)
+    → Faults (step (or_refuse grow_refusal (or_grow_fault (picture_pins texts width height lines)))) files (IsRefusal refusals.Build (picture_pins texts width height lines))
+faults_meant texts width height lines files fault = by_meant (picture_pins texts width height lines) (λ why is. lines_refused texts width height lines why is)
   where
     by_meant : (meant : Result (List Pin) BuildFault) → ((why : BuildFault) → meant ≡ Err why → grow_refusal (grow_fault why) ≡ refusals.Build why)
         → (outcome (step (or_refuse grow_refusal (or_grow_fault meant))) files ≡ Err fault) ↔ IsRefusal refusals.Build meant fault
@@ -109,8 +109,8 @@ abbrev grown_stages : RequestView → Taught → List PinView → List TaskStage
 grown_stages asked lesson lines =
     IsBelowFault asked lesson.patterns.n
     ∷ IsManyFault (block_count lesson.patterns.n (area_asked asked))
-    ∷ IsCountFault (pairs lesson.patterns (output_of_block (block_at lesson.patterns.n (area_asked asked) 0)))
-    ∷ IsRefusal refusals.Build (pins_in (texts_of lesson.palette) asked.width asked.height lines)
+    ∷ IsCountFault (window_pair_count lesson.patterns (output_of_block (block_at lesson.patterns.n (area_asked asked) 0)))
+    ∷ IsRefusal refusals.Build (picture_pins (texts_of lesson.palette) asked.width asked.height lines)
     ∷ []
 
 -- a side is below that of a window exactly where a test says so
@@ -133,8 +133,8 @@ faults_growable : (asked : RequestView) (lesson : Taught) (layout : Layout) (lin
 faults_growable asked lesson layout lines files =
     let n = lesson.patterns.n in
     let count = block_count n (area_asked asked) in
-    let product = pairs lesson.patterns (output_of_block (block_at n (area_asked asked) 0)) in
-    let meant = pins_in (texts_of lesson.palette) asked.width asked.height lines in
+    let product = window_pair_count lesson.patterns (output_of_block (block_at n (area_asked asked) 0)) in
+    let meant = picture_pins (texts_of lesson.palette) asked.width asked.height lines in
     let at_lines = IsRefusal refusals.Build meant ∷ [] in
     let rest : Result (List Pin) GrowFault = or_grow_fault meant in
     let counted : Result (List Pin) GrowFault = if nat_lt MAX_PAIRS product then Err (faults.TooLarge product) else rest in
@@ -154,10 +154,10 @@ growth_stages asked files = IsSizeFault asked files ∷ IsBlocksFault asked file
 same_grown : (asked : RequestView) (files : List File) (lesson : Taught) (lines : List PinView) → outcome (sample_plan asked) files ≡ Ok lesson → outcome (pins_plan asked.pins) files ≡ Ok lines
     → Same (IsFirstFault (grown_stages asked lesson lines)) (IsFirstFault (growth_stages asked files))
 same_grown asked files lesson lines was held =
-    let meant : Taught → List PinView → TaskStage = λ other lines. IsRefusal refusals.Build (pins_in (texts_of other.palette) asked.width asked.height lines) in
+    let meant : Taught → List PinView → TaskStage = λ other lines. IsRefusal refusals.Build (picture_pins (texts_of other.palette) asked.width asked.height lines) in
     let of_lines : Taught → TaskStage = λ other fault. (lines : List PinView) × HoldsPins files asked.pins lines × meant other lines fault in
     let many : Taught → TaskStage = λ other. IsManyFault (block_count other.patterns.n (area_asked asked)) in
-    let counted : Taught → TaskStage = λ other. IsCountFault (pairs other.patterns (output_of_block (block_at other.patterns.n (area_asked asked) 0))) in
+    let counted : Taught → TaskStage = λ other. IsCountFault (window_pair_count other.patterns (output_of_block (block_at other.patterns.n (area_asked asked) 0))) in
     same_first (IsBelowFault asked lesson.patterns.n) (IsSizeFault asked files) (many lesson ∷ counted lesson ∷ meant lesson lines ∷ []) (IsBlocksFault asked files ∷ IsFirstBlockFault asked files ∷ IsPinFault asked files ∷ [])
     (same_lesson asked files lesson (λ other. IsBelowFault asked other.patterns.n) was)
     (same_first (many lesson) (IsBlocksFault asked files) (counted lesson ∷ meant lesson lines ∷ []) (IsFirstBlockFault asked files ∷ IsPinFault asked files ∷ []) (same_lesson asked files lesson many was)
@@ -185,7 +185,7 @@ faults_read kinds asked files =
     (λ _ found.
     faults_group (sample_plan asked) (behind_lesson asked) files (sample_stages asked files) (IsLayoutFault asked files ∷ pins_stages files asked.pins) (faults_sample asked files)
     (λ lesson was.
-    faults_first (step (laid lesson.kind asked)) (behind_layout asked lesson) files (IsLayoutFault asked files) (pins_stages files asked.pins) (faults_layout asked files lesson was)
+    faults_first (step (sample_layout lesson.kind asked)) (behind_layout asked lesson) files (IsLayoutFault asked files) (pins_stages files asked.pins) (faults_layout asked files lesson was)
     (λ layout written.
     faults_group (pins_plan asked.pins) (behind_lines lesson layout) files (pins_stages files asked.pins) [] (faults_pins files asked.pins) (λ lines held. faults_none (task_with lesson layout lines) files))))
 

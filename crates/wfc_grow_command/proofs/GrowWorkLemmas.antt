@@ -26,7 +26,7 @@ use Rattle.wfc_reply.specs.Reply.{Answered, TakesWhole, verdict_status}
 use Rattle.wfc_task.proofs.CallerLemmas.{sample_by_request, sample_lesson, shown_palette}
 use Rattle.wfc_task.proofs.LessonLemmas.{learned_is}
 use Rattle.wfc_task.specs.Lesson.{IsLesson}
-use Rattle.wfc_task.specs.Sources.{side_of}
+use Rattle.wfc_task.specs.Sources.{window_side_of}
 use Rattle.wfc_words.proofs.RangeLemmas.{asked-in_range}
 use Rattle.wfc_words.specs.RequestView.{RequestView}
 use Rattle.wfc_words.specs.declared.kinds.CommandKind.TheVariants as commands
@@ -55,7 +55,7 @@ pub record IsKnown {rules : List Rule} {files : List File} (asked : RequestView)
   pub lesson : IsLesson (record { kind = work.given.kind; palette = work.task.palette; patterns = work.task.patterns })
   pub named : IsNamedBy work.task.palette work.task.patterns
   pub long : work.task.patterns.n ≤ asked.block
-  pub side : work.task.patterns.n ≡ side_of asked.source
+  pub side : work.task.patterns.n ≡ window_side_of asked.source
   pub windows : (width height : ℕ) → IsTaughtBy work.given.sample.picture (grow_rules asked) work.task.patterns (record { width = width; height = height; wrap = false })
 
 pub known : (call : Call) (asked : RequestView) (files : List File) → IsCommand commands.Grow call asked files → (work : GrowWork call.rules asked files) → IsKnown asked work
@@ -64,7 +64,7 @@ known call asked files is work =
     let sample = work.given.sample in
     let lesson = sample_lesson asked files work.given.kind work.task.patterns work.task.palette asks.sample sample in
     let by = sample_by_request asked files work.given.kind work.task.patterns work.task.palette sample in
-    let learned = learned_is sample.picture (side_of asked.source) asked.symmetry asked.wrap_in work.task.patterns sample.learned in
+    let learned = learned_is sample.picture (window_side_of asked.source) asked.symmetry asked.wrap_in work.task.patterns sample.learned in
     record {
       lesson = lesson;
       named = record { shown = shown_palette work.given.kind work.task.palette lesson.shown; apart = by.apart; some_symbol = lesson.shown.some_symbol; below = lesson.numbers };

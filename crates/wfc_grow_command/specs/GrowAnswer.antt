@@ -9,15 +9,15 @@ use Rattle.wfc_blocks.specs.declared.grown.Grown.TheVariants as grown
 use Rattle.wfc_choose.specs.Pick.{Rule}
 use Rattle.wfc_grow_command.specs.GrowTask.{GrowTask, area_asked}
 use Rattle.wfc_grow_command.specs.StuckText.{block_writing, stuck_text}
-use Rattle.wfc_overlap.specs.Built.{built}
+use Rattle.wfc_overlap.specs.Built.{picture_problem}
 use Rattle.wfc_problem.specs.Network.{Network}
 use Rattle.wfc_proof.specs.declared.Line.{Line}
 use Rattle.wfc_render.specs.Map.{map_text}
 use Rattle.wfc_reply.specs.Putting.{IsTextBrokenOff}
 use Rattle.wfc_reply.specs.Reply.{Answered, done_with}
 use Rattle.wfc_reply.specs.RunText.{IsBegunBy, IsToldBy, writing_text}
-use Rattle.wfc_reply.specs.declared.reply.Verdict.{Verdict}
-use Rattle.wfc_reply.specs.declared.reply.Verdict.TheVariants.{Spent, Stuck}
+use Rattle.wfc_reply.specs.declared.reply.CommandVerdict.{CommandVerdict}
+use Rattle.wfc_reply.specs.declared.reply.CommandVerdict.TheVariants.{Spent, Stuck}
 use Rattle.wfc_runs.specs.Words.{words_of_seed}
 use Rattle.wfc_search.specs.Run.{State, start}
 use Rattle.wfc_search.specs.declared.Outcome.TheVariants as outcome
@@ -29,12 +29,12 @@ IsGrowthBy asked task rule made =
     grown_of task.patterns task.palette (area_asked asked) task.lines rule asked.budget asked.seed ≡ Ok made
 
 -- the verdict of a stuck block
-abbrev pub stuck_verdict : StuckView → Verdict
+abbrev pub stuck_verdict : StuckView → CommandVerdict
 stuck_verdict stuck = Stuck stuck.block.x stuck.block.y
 
 -- the problem of a stuck block is that of the lines of its pins
 abbrev pub IsProblemOfStuck : GrowTask → StuckView → Network → Type 0
-IsProblemOfStuck task stuck P = built task.patterns task.palette (output_of_block stuck.block) stuck.pins ≡ Ok P
+IsProblemOfStuck task stuck P = picture_problem task.patterns task.palette (output_of_block stuck.block) stuck.pins ≡ Ok P
 
 -- the first state of a stuck block's run
 abbrev pub stuck_start : RequestView → StuckView → State

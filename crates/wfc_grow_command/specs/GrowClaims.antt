@@ -17,7 +17,7 @@ use Rattle.wfc_model.specs.Legal.{IsLegalPicture, Pin, Rules}
 use Rattle.wfc_model.specs.Raster.{Raster}
 use Rattle.wfc_outside.specs.Folder.{File}
 use Rattle.wfc_outside.specs.Sink.{SinkView, after_bytes, after_finish}
-use Rattle.wfc_overlap.specs.Built.{pins_in, texts_of}
+use Rattle.wfc_overlap.specs.Built.{picture_pins, texts_of}
 use Rattle.wfc_problem.specs.Network.{Network}
 use Rattle.wfc_proof.specs.ProofText.{IsProofText}
 use Rattle.wfc_proof.specs.declared.Line.{Line}
@@ -30,7 +30,7 @@ use Rattle.wfc_reply.specs.Reply.{HasAnswer}
 use Rattle.wfc_reply.specs.RunText.{IsFrontOfText, IsToldBy}
 use Rattle.wfc_search.specs.Volume.{volume_of}
 use Rattle.wfc_search.specs.declared.Outcome.TheVariants as outcome
-use Rattle.wfc_task.specs.Sources.{side_of}
+use Rattle.wfc_task.specs.Sources.{window_side_of}
 use Rattle.wfc_words.specs.RequestView.{RequestView}
 use Rattle.wfc_words.specs.declared.kinds.CommandKind.TheVariants as commands
 
@@ -44,7 +44,7 @@ pub record GrowWork (rules : List Rule) (asked : RequestView) (files : List File
 -- how windows are taken from the sample and compared with those of the map, which doesn't wrap
 abbrev pub grow_rules : RequestView → Rules
 grow_rules asked =
-    record { n = side_of asked.source; symmetry = asked.symmetry; wrap_in = asked.wrap_in; wrap_out = false }
+    record { n = window_side_of asked.source; symmetry = asked.symmetry; wrap_in = asked.wrap_in; wrap_out = false }
 
 -- the growth of this work ends so
 abbrev pub GrowsTo : {rules : List Rule} {files : List File} (asked : RequestView) → GrowWork rules asked files → Grown → Type 0
@@ -71,7 +71,7 @@ pub record IsStuckBlock {rules : List Rule} {files : List File} (asked : Request
     (stuck : StuckView) : Type 0 where
   pub among : Contains (blocks_of work.task.patterns.n (area_asked asked)) stuck.block
   pub pins : List Pin
-  pub meant : pins_in (texts_of work.task.palette) stuck.block.width stuck.block.height stuck.pins ≡ Ok pins
+  pub meant : picture_pins (texts_of work.task.palette) stuck.block.width stuck.block.height stuck.pins ≡ Ok pins
   pub none : (m : Raster) → IsLegalPicture work.given.sample.picture (grow_rules asked) pins stuck.block.width
       stuck.block.height m → ⊥
 

@@ -6,7 +6,7 @@ use Rattle.wfc_choose.specs.declared.RuleKind.{RuleKind}
 use Rattle.wfc_grow_command.specs.GrowTask.{area_asked}
 use Rattle.wfc_grow_command.specs.declared.growing.TheConstants.{GROW_CHOOSERS}
 use Rattle.wfc_outside.specs.Folder.{File}
-use Rattle.wfc_overlap.specs.Bridge.{pairs}
+use Rattle.wfc_overlap.specs.Bridge.{window_pair_count}
 use Rattle.wfc_plan.specs.Stages.{IsChooserFault, IsNamedFault, IsReadingFault, TaskStage}
 use Rattle.wfc_plan.specs.declared.fault.Fault.{Fault}
 use Rattle.wfc_plan.specs.declared.fault.Fault.TheVariants.{Refused}
@@ -28,11 +28,11 @@ IsBlocksFault asked files fault =
     (lesson : Taught) × Teaches asked files lesson
     × IsManyFault (block_count lesson.patterns.n (area_asked asked)) fault
 
--- the first block, which is the largest, has too many pairs of a place and a pattern
+-- the first block, which is the largest, has too many window_pair_count of a place and a pattern
 abbrev pub IsFirstBlockFault : RequestView → List File → TaskStage
 IsFirstBlockFault asked files fault =
     (lesson : Taught) × Teaches asked files lesson
-    × IsCountFault (pairs lesson.patterns (output_of_block (block_at lesson.patterns.n (area_asked asked) 0))) fault
+    × IsCountFault (window_pair_count lesson.patterns (output_of_block (block_at lesson.patterns.n (area_asked asked) 0))) fault
 
 -- what is looked at for `grow`, in this order
 abbrev pub grow_order : List RuleKind → RequestView → List File → List TaskStage

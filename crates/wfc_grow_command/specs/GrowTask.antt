@@ -18,7 +18,7 @@ use Rattle.wfc_plan.specs.declared.fault.Refusal.{Refusal}
 use Rattle.wfc_plan.specs.declared.fault.Refusal.TheVariants as refusals
 use Rattle.wfc_render.specs.declared.form.Layout.{Layout}
 use Rattle.wfc_task.specs.SamplePlans.{pins_plan, sample_plan}
-use Rattle.wfc_task.specs.Steps.{laid}
+use Rattle.wfc_task.specs.Steps.{sample_layout}
 use Rattle.wfc_task.specs.declared.lesson.Taught.{Taught}
 use Rattle.wfc_words.specs.RequestView.{RequestView}
 
@@ -67,7 +67,7 @@ abbrev pub read_plan : List RuleKind → RequestView → Plan GrowTask
 read_plan kinds asked =
     and_then (step (enough GROW_CHOOSERS kinds asked.rule)) (λ _.
     and_then (sample_plan asked) (λ lesson.
-    and_then (step (laid lesson.kind asked)) (λ layout.
+    and_then (step (sample_layout lesson.kind asked)) (λ layout.
     and_then (pins_plan asked.pins) (λ lines.
     done (task_with lesson layout lines)))))
 

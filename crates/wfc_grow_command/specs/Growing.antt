@@ -20,21 +20,21 @@ use Rattle.wfc_reply.specs.Ending.{Leaves}
 use Rattle.wfc_reply.specs.Ends.{Replies}
 use Rattle.wfc_reply.specs.Reply.{Reply}
 use Rattle.wfc_reply.specs.declared.reply.Stop.{Stop}
-use Rattle.wfc_reply.specs.declared.reply.Verdict.{Verdict}
+use Rattle.wfc_reply.specs.declared.reply.CommandVerdict.{CommandVerdict}
 use Rattle.wfc_runs.specs.Words.{words_of_seed}
 use Rattle.wfc_search.specs.Ends.{EndsIn}
 use Rattle.wfc_search.specs.declared.Outcome.TheVariants as outcome
 use Rattle.wfc_task.specs.Lesson.{IsLesson}
-use Rattle.wfc_task.specs.Sources.{side_of}
-use Rattle.wfc_task.specs.Steps.{laid}
+use Rattle.wfc_task.specs.Sources.{window_side_of}
+use Rattle.wfc_task.specs.Steps.{sample_layout}
 use Rattle.wfc_words.specs.RequestView.{RequestView}
 
 -- patterns of the side asked for, a palette of symbols that are apart, and the layout
 pub record IsGrowing (asked : RequestView) (growing : Growing) : Type 0 where
   pub lesson : IsLesson growing.taught
-  pub side : growing.taught.patterns.n ≡ side_of asked.source
+  pub side : growing.taught.patterns.n ≡ window_side_of asked.source
   pub apart : IsDistinct same_symbol growing.taught.palette
-  pub layout : laid growing.taught.kind asked ≡ Ok growing.layout
+  pub layout : sample_layout growing.taught.kind asked ≡ Ok growing.layout
 
 -- the run of a stuck block by this rule ends in no map of the problem that its lines make; its sides are those of a map
 pub record IsStuckRun (rule : Rule) (asked : RequestView) (task : GrowTask) (stuck : StuckView) : Type 0 where
@@ -54,7 +54,7 @@ CanBePut rule asked task grown.Spent = Unit {0}
 
 -- the code that puts the text of an end of growth may end so
 pub record PutsGrown (rule : Rule) (asked : RequestView) (task : GrowTask) (made : Grown) (old new : SinkView)
-    (ended : Result Verdict Stop) : Type 0 where
+    (ended : Result CommandVerdict Stop) : Type 0 where
   pub reply : Reply
   pub replies : Replies (AnswersGrown rule asked task) made reply
   pub leaves : Leaves reply old new ended

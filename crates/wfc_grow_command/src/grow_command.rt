@@ -33,7 +33,7 @@ use wfc_picture::Picture;
 use wfc_pins::BuildFault;
 use wfc_plan::{Fault, Refusal};
 use wfc_render::picture_bytes;
-use wfc_reply::{Stop, Verdict, first_many, kinds};
+use wfc_reply::{CommandVerdict, Stop, first_many, kinds};
 use wfc_words::Request;
 
 /// Reads the files, grows the map, and puts its text; or the block at which it is stuck, with its refutation.
@@ -43,7 +43,7 @@ pub fn grow<F: Folder, O: Sink>(
     choosers: Vec<Box<dyn Chooser>>,
     folder: &mut F,
     out: &mut O,
-) -> Result<Verdict, Stop>
+) -> Result<CommandVerdict, Stop>
     requires output { IsOutputAsked request.now }
     requires asked { IsGrowAsked request.now }
     ensures ends { EndsAs grow_command (map (λ chooser. (told chooser).rule) choosers.items)
@@ -62,7 +62,7 @@ fn grown_from<O: Sink>(
     choosers: Vec<Box<dyn Chooser>>,
     growing: &Growing,
     out: &mut O,
-) -> Result<Verdict, Stop>
+) -> Result<CommandVerdict, Stop>
     requires output { IsOutputAsked request.now }
     requires asked { IsGrowAsked request.now }
     requires choosers { HasChoosers GROW_CHOOSERS
@@ -85,7 +85,7 @@ fn grown_with<O: Sink>(
     chooser: Box<dyn Chooser>,
     choosers: Vec<Box<dyn Chooser>>,
     out: &mut O,
-) -> Result<Verdict, Stop>
+) -> Result<CommandVerdict, Stop>
     requires output { IsOutputAsked request.now }
     requires asked { IsGrowAsked request.now }
     requires growing { IsGrowing request.now growing.now }
@@ -173,7 +173,7 @@ fn put_grown<O: Sink>(
     made: &Grown,
     chooser: Box<dyn Chooser>,
     out: &mut O,
-) -> Result<Verdict, Stop>
+) -> Result<CommandVerdict, Stop>
     requires sample { IsSampleAsked request.now }
     requires can { CanBePut (told chooser).rule request.now (growing_view growing.now) made.now }
     ensures puts { PutsGrown (told chooser).rule request.now (growing_view growing.now) made.now
@@ -182,7 +182,7 @@ fn put_grown<O: Sink>(
     match made {
         Grown::Map(picture) => put_map(alloc, request, growing, picture, out),
         Grown::Stuck(stuck) => put_stuck(alloc, request, growing, stuck, chooser, out),
-        Grown::Spent => Ok(Verdict::Spent {
+        Grown::Spent => Ok(CommandVerdict::Spent {
             budget: request.budget,
         }),
     }
@@ -195,7 +195,7 @@ fn put_map<O: Sink>(
     growing: &Growing,
     picture: &Picture,
     out: &mut O,
-) -> Result<Verdict, Stop>
+) -> Result<CommandVerdict, Stop>
     requires written { IsWritten growing.now.layout growing.now.taught.palette picture.now }
     ensures puts { (rule : Rule) → PutsGrown rule request.now (growing_view growing.now)
         (grown.Map picture.now) (O.seen out.old) (O.seen out.new) result }
@@ -203,5 +203,5 @@ fn put_map<O: Sink>(
     let text = picture_bytes(alloc, &growing.layout, &growing.taught.palette, picture)?;
     write_all(out, &text)?;
     out.finish()?;
-    Ok(Verdict::Done)
+    Ok(CommandVerdict::Done)
 }

@@ -14,7 +14,7 @@ use wfc_outside::Folder;
 use wfc_pins::PinLine;
 use wfc_plan::{Fault, enough};
 use wfc_render::Layout;
-use wfc_task::{Taught, laid, pins, sample};
+use wfc_task::{Taught, pins, sample, sample_layout};
 use wfc_words::Request;
 
 /// How many choosers it needs: one for each block that a map may have, and one more for the lines of a stuck one.
@@ -45,7 +45,7 @@ pub fn growing_task<F: Folder>(
 {
     enough(GROW_CHOOSERS, kinds, request.rule)?;
     let taught = sample(alloc, request, folder)?;
-    let layout = laid(taught.kind, request)?;
+    let layout = sample_layout(taught.kind, request)?;
     let lines = pins(alloc, folder, request.pins())?;
     Ok(Growing {
         taught,

@@ -18,7 +18,7 @@ ghost use Rattle.wfc_pins.specs.declared.fault.BuildFault.TheVariants as builds;
 ghost use Rattle.wfc_plan.specs.Plan.{outcome};
 ghost use Rattle.wfc_plan.specs.declared.fault.Refusal.TheVariants as refusals;
 ghost use Rattle.wfc_render.specs.declared.form.Form.TheVariants.{P6};
-ghost use Rattle.wfc_reply.specs.declared.reply.Verdict.TheVariants as verdicts;
+ghost use Rattle.wfc_reply.specs.declared.reply.CommandVerdict.TheVariants as verdicts;
 ghost use Rattle.wfc_task.specs.Small.{sample_asked};
 ghost use Rattle.wfc_words.specs.RequestView.{RequestView};
 
@@ -52,8 +52,10 @@ pub fn growth_is_asked_so()
 
 /// What is written of a stuck block, by example: its lines are those of a pins file.
 pub fn stuck_blocks_are_written_so()
-    ensures text { stuck_text (record { block = block_with 5 12 7 3 4;
-        pins = pin_line 0 true 1 10 (codes "a") ∷ pin_line 6 false 2 0 (codes "1,2,3") ∷ [] })
+    ensures text { stuck_text (record {
+      block = block_with 5 12 7 3 4;
+      pins = pin_line 0 true 1 10 (codes "a") ∷ pin_line 6 false 2 0 (codes "1,2,3") ∷ [];
+    })
         ≡ codes "stuck 12 7 3 4 pins 2\npin 1 10 a\nban 2 0 1,2,3\n" }
     ensures read { pins_of (pin_text (pin_line 0 true 1 10 (codes "a"))
         ++ pin_text (pin_line 6 false 2 0 (codes "b")))
@@ -62,7 +64,18 @@ pub fn stuck_blocks_are_written_so()
         ≡ verdicts.Stuck 12 7 }
     ensures writing { block_writing
         (record (sample_asked 2 P6) { seed = 100; budget = 9; symmetry = 8 })
-        (block_with 5 12 7 3 4) ≡ record { format = 2; shape = record { n = 2; width = 3;
-        height = 4; depth = 1; symmetry = 8; wrap_in = false; wrap_out = false }; budget = 9;
-        seed = 105 } }
+        (block_with 5 12 7 3 4) ≡ record {
+          format = 2;
+          shape = record {
+            n = 2;
+            width = 3;
+            height = 4;
+            depth = 1;
+            symmetry = 8;
+            wrap_in = false;
+            wrap_out = false;
+          };
+          budget = 9;
+          seed = 105;
+        } }
 {}

@@ -4,10 +4,10 @@ ghost use Rattle.std.specs.List.{flat_map};
 ghost use Rattle.std.specs.Prelude.{IfOk, OnOk, ◌++◌, ◌≡◌, ◌≤◌};
 ghost use Rattle.wfc_grow_command.specs.GrowTask.{growing_view};
 ghost use Rattle.wfc_grow_command.specs.Growing.{GivesProblem, IsStuckRun, PutsGrown};
-ghost use Rattle.wfc_grow_command.specs.StuckText.{stuck_head, block_writing, pin_text, pin_word, spaced, stuck_text};
+ghost use Rattle.wfc_grow_command.specs.StuckText.{stuck_head, block_writing, pin_text, pin_word, blank_and_number, stuck_text};
 ghost use Rattle.wfc_blocks.specs.Blocks.{output_of_block};
 ghost use Rattle.wfc_blocks.specs.declared.grown.Grown.TheVariants as grown;
-ghost use Rattle.wfc_overlap.specs.Built.{built};
+ghost use Rattle.wfc_overlap.specs.Built.{picture_problem};
 ghost use Rattle.wfc_task.specs.Asked.{IsSampleAsked};
 
 use crate::growing::Growing;
@@ -21,8 +21,8 @@ use wfc_pins::PinLine;
 use wfc_plan::Fault;
 use wfc_problem::Problem;
 use wfc_proof::Shape;
-use wfc_reply::{RunWriting, Stop, Verdict, put_run_behind};
-use wfc_task::{Output, posed_for, side_of};
+use wfc_reply::{CommandVerdict, RunWriting, Stop, put_run_behind};
+use wfc_task::{AskedOutput, posed_for, window_side_of};
 use wfc_text::push_number;
 use wfc_words::Request;
 
@@ -34,7 +34,7 @@ pub(crate) fn put_stuck<O: Sink>(
     stuck: &Stuck,
     chooser: Box<dyn Chooser>,
     out: &mut O,
-) -> Result<Verdict, Stop>
+) -> Result<CommandVerdict, Stop>
     requires sample { IsSampleAsked request.now }
     requires run { IsStuckRun (told chooser).rule request.now (growing_view growing.now) stuck.now }
     ensures puts { PutsGrown (told chooser).rule request.now (growing_view growing.now)
@@ -45,7 +45,7 @@ pub(crate) fn put_stuck<O: Sink>(
     let writing = block_writing(request, stuck.block);
     put_run_behind::<O, Brand>(alloc, &text, writing, &problem, chooser, out, Blank::new(1))?;
     out.finish()?;
-    Ok(Verdict::Stuck {
+    Ok(CommandVerdict::Stuck {
         x: stuck.block.x,
         y: stuck.block.y,
     })
@@ -57,10 +57,10 @@ fn stuck_problem(alloc: Global, growing: &Growing, stuck: &Stuck) -> Result<Prob
     requires some_height { 1 ≤ stuck.now.block.height }
     requires width_limit { stuck.now.block.width ≤ 4096 }
     requires height_limit { stuck.now.block.height ≤ 4096 }
-    ensures exact { GivesProblem (built growing.now.taught.patterns growing.now.taught.palette
-        (output_of_block stuck.now.block) stuck.now.pins) result }
+    ensures exact { GivesProblem (picture_problem growing.now.taught.patterns
+        growing.now.taught.palette (output_of_block stuck.now.block) stuck.now.pins) result }
 {
-    let output = Output {
+    let output = AskedOutput {
         width: stuck.block.width,
         height: stuck.block.height,
         wrap: false,
@@ -84,7 +84,7 @@ fn block_writing(request: &Request, block: Block) -> RunWriting
     RunWriting {
         format: 2,
         shape: Shape {
-            n: side_of(request.source),
+            n: window_side_of(request.source),
             width: block.width,
             height: block.height,
             depth: 1,
@@ -124,7 +124,7 @@ fn push_block(text: &mut Vec<u8>, block: Block) -> Result<(), NoMemory>
 
 /// Writes a blank and the number behind the text.
 fn push_spaced(text: &mut Vec<u8>, n: u64) -> Result<(), NoMemory>
-    ensures pushed { OnOk result (text.new.items ≡ text.old.items ++ spaced n) }
+    ensures pushed { OnOk result (text.new.items ≡ text.old.items ++ blank_and_number n) }
 {
     text.push(b' ')?;
     push_number(text, n)?;

@@ -4,7 +4,7 @@ ghost use Rattle.std.specs.Prelude.{◌≡◌};
 ghost use Rattle.wfc_lines.specs.Line.{IsSaid};
 ghost use Rattle.wfc_lines.specs.Build.{text_of_build};
 
-use crate::line::{count, numbered, plain};
+use crate::line::{count, plain, put_numbered};
 use crate::outcome::no_memory;
 use wfc_outside::{Sink, SinkFault};
 use wfc_pins::BuildFault;
@@ -15,8 +15,8 @@ pub fn build<E: Sink>(err: &mut E, fault: BuildFault, file: &str) -> Result<(), 
 {
     match fault {
         BuildFault::SizeBelowN => plain(err, "build SizeBelowN"),
-        BuildFault::PinOutside { line } => numbered(err, "build PinOutside line=", line, file),
-        BuildFault::UnknownSymbol { line } => numbered(
+        BuildFault::PinOutside { line } => put_numbered(err, "build PinOutside line=", line, file),
+        BuildFault::UnknownSymbol { line } => put_numbered(
             err,
             "build UnknownSymbol line=",
             line,
@@ -24,6 +24,6 @@ pub fn build<E: Sink>(err: &mut E, fault: BuildFault, file: &str) -> Result<(), 
         ),
         BuildFault::TooLarge { product } => count(err, "build TooLarge product=", product),
         BuildFault::NoMemory => no_memory(err),
-        BuildFault::PinInHole { line } => numbered(err, "build PinInHole line=", line, file),
+        BuildFault::PinInHole { line } => put_numbered(err, "build PinInHole line=", line, file),
     }
 }

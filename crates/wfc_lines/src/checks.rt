@@ -5,7 +5,7 @@ ghost use Rattle.wfc_proof.specs.Heads.{bit};
 ghost use Rattle.wfc_lines.specs.Check.{bad_line_text, header_text, options_text, rejected_text, text_of_check, text_of_rejected};
 ghost use Rattle.wfc_lines.specs.Line.{IsSaid};
 
-use crate::line::{named, put};
+use crate::line::{put, put_named};
 use crate::reads::reading;
 use itoa::Buffer;
 use wfc_check::{CheckFault, Reject};
@@ -21,7 +21,7 @@ pub fn check<E: Sink>(err: &mut E, fault: &CheckFault, file: &str) -> Result<(),
         CheckFault::Rejected { line, reject } => refused(err, line, reject, file),
         CheckFault::BadLine { line } => bad_line(err, line, file),
         CheckFault::HeaderDiffers { cells, values } => header_differs(err, cells, values, file),
-        CheckFault::NotEnded => named(err, "check NotEnded", file),
+        CheckFault::NotEnded => put_named(err, "check NotEnded", file),
         CheckFault::OptionsDiffer { found } => options_differ(err, &found, file),
         CheckFault::Missing => reading(err, ReadFault::Missing, file),
         CheckFault::Failed => reading(err, ReadFault::Failed, file),

@@ -4,7 +4,7 @@ ghost use Rattle.std.specs.Prelude.{◌≡◌};
 ghost use Rattle.wfc_lines.specs.Line.{IsSaid};
 ghost use Rattle.wfc_lines.specs.Learn.{text_of_learn};
 
-use crate::line::{named, numbered};
+use crate::line::{put_named, put_numbered};
 use crate::outcome::no_memory;
 use wfc_outside::{Sink, SinkFault};
 use wfc_pattern::LearnFault;
@@ -14,8 +14,8 @@ pub fn learn<E: Sink>(err: &mut E, fault: LearnFault, file: &str) -> Result<(), 
     ensures told { IsSaid (E.seen err.old) (E.seen err.new) (text_of_learn fault file.now) result }
 {
     match fault {
-        LearnFault::SampleBelowN => named(err, "learn SampleBelowN", file),
-        LearnFault::TooManyPatterns { count } => numbered(
+        LearnFault::SampleBelowN => put_named(err, "learn SampleBelowN", file),
+        LearnFault::TooManyPatterns { count } => put_numbered(
             err,
             "learn TooManyPatterns count=",
             count,

@@ -33,7 +33,7 @@ pub use grids::grid;
 pub use growing::{many_blocks, stuck};
 pub use layouts::render;
 pub use learning::learn;
-pub use line::{count, named, numbered, plain, twice_numbered};
+pub use line::{count, plain, put_named, put_numbered, twice_numbered};
 pub use masks::{mask, mask_grid};
 pub use outcome::{budget_spent, map_exists, no_domains, no_map, no_memory, out_failed};
 pub use palettes::palette;

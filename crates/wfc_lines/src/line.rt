@@ -25,7 +25,7 @@ pub fn count<E: Sink>(err: &mut E, text: &str, n: u64) -> Result<(), SinkFault>
 }
 
 /// Puts the line of a text that speaks of a file.
-pub fn named<E: Sink>(err: &mut E, text: &str, file: &str) -> Result<(), SinkFault>
+pub fn put_named<E: Sink>(err: &mut E, text: &str, file: &str) -> Result<(), SinkFault>
     ensures told { IsSaid (E.seen err.old) (E.seen err.new) (about text.now file.now) result }
 {
     put(
@@ -35,7 +35,7 @@ pub fn named<E: Sink>(err: &mut E, text: &str, file: &str) -> Result<(), SinkFau
 }
 
 /// Puts the line of a text, the number straight behind it, and the file that it speaks of.
-pub fn numbered<E: Sink>(err: &mut E, text: &str, n: u32, file: &str) -> Result<(), SinkFault>
+pub fn put_numbered<E: Sink>(err: &mut E, text: &str, n: u32, file: &str) -> Result<(), SinkFault>
     ensures told { IsSaid (E.seen err.old) (E.seen err.new)
         (numbered_text text.now n file.now) result }
 {

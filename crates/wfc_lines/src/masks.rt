@@ -4,7 +4,7 @@ ghost use Rattle.std.specs.Prelude.{◌≡◌};
 ghost use Rattle.wfc_lines.specs.Line.{IsSaid};
 ghost use Rattle.wfc_lines.specs.Mask.{text_of_mask, text_of_mask_grid};
 
-use crate::line::{named, numbered, twice_numbered};
+use crate::line::{put_named, put_numbered, twice_numbered};
 use crate::outcome::no_memory;
 use wfc_grid::GridFault;
 use wfc_outside::{Sink, SinkFault};
@@ -16,8 +16,8 @@ pub fn mask_grid<E: Sink>(err: &mut E, fault: GridFault, file: &str) -> Result<(
         (text_of_mask_grid fault file.now) result }
 {
     match fault {
-        GridFault::Empty => named(err, "mask Empty", file),
-        GridFault::Ragged { line } => numbered(err, "mask Ragged line=", line, file),
+        GridFault::Empty => put_named(err, "mask Empty", file),
+        GridFault::Ragged { line } => put_numbered(err, "mask Ragged line=", line, file),
         GridFault::BadByte { line, column } => twice_numbered(
             err,
             "mask BadByte line=",
@@ -26,7 +26,7 @@ pub fn mask_grid<E: Sink>(err: &mut E, fault: GridFault, file: &str) -> Result<(
             column,
             file,
         ),
-        GridFault::TooLarge => named(err, "mask TooLarge", file),
+        GridFault::TooLarge => put_named(err, "mask TooLarge", file),
         GridFault::NoMemory => no_memory(err),
     }
 }
@@ -52,7 +52,7 @@ pub fn mask<E: Sink>(err: &mut E, fault: MaskFault, file: &str) -> Result<(), Si
             column,
             file,
         ),
-        MaskFault::AllHoles => named(err, "mask AllHoles", file),
+        MaskFault::AllHoles => put_named(err, "mask AllHoles", file),
         MaskFault::NoMemory => no_memory(err),
     }
 }

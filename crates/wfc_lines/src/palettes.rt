@@ -4,7 +4,7 @@ ghost use Rattle.std.specs.Prelude.{◌≡◌};
 ghost use Rattle.wfc_lines.specs.Line.{IsSaid};
 ghost use Rattle.wfc_lines.specs.Palette.{text_of_palette};
 
-use crate::line::numbered;
+use crate::line::put_numbered;
 use crate::outcome::no_memory;
 use wfc_outside::{Sink, SinkFault};
 use wfc_picture::PaletteFault;
@@ -15,7 +15,7 @@ pub fn palette<E: Sink>(err: &mut E, fault: PaletteFault, file: &str) -> Result<
         (text_of_palette fault file.now) result }
 {
     match fault {
-        PaletteFault::TooManyColours { at } => numbered(
+        PaletteFault::TooManyColours { at } => put_numbered(
             err,
             "palette TooManyColours at=",
             at,

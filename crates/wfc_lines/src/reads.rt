@@ -4,7 +4,7 @@ ghost use Rattle.std.specs.Prelude.{◌≡◌};
 ghost use Rattle.wfc_lines.specs.Line.{IsSaid};
 ghost use Rattle.wfc_lines.specs.Reading.{text_of_reading};
 
-use crate::line::named;
+use crate::line::put_named;
 use crate::outcome::no_memory;
 use wfc_outside::{ReadFault, Sink, SinkFault};
 
@@ -14,9 +14,9 @@ pub fn reading<E: Sink>(err: &mut E, fault: ReadFault, file: &str) -> Result<(),
         (text_of_reading fault file.now) result }
 {
     match fault {
-        ReadFault::Missing => named(err, "device Missing", file),
-        ReadFault::Failed => named(err, "device Failed", file),
-        ReadFault::TooLong => named(err, "file TooLong", file),
+        ReadFault::Missing => put_named(err, "device Missing", file),
+        ReadFault::Failed => put_named(err, "device Failed", file),
+        ReadFault::TooLong => put_named(err, "file TooLong", file),
         ReadFault::NoMemory => no_memory(err),
     }
 }

@@ -4,7 +4,7 @@ ghost use Rattle.std.specs.Prelude.{◌≡◌};
 ghost use Rattle.wfc_lines.specs.Line.{IsSaid};
 ghost use Rattle.wfc_lines.specs.Stacks.{end_text, name_of_end, text_of_stacks};
 
-use crate::line::{named, numbered};
+use crate::line::{put_named, put_numbered};
 use crate::outcome::no_memory;
 use crate::tile_sets::keyed_at;
 use wfc_box::{StackFault, StackKey};
@@ -15,12 +15,17 @@ pub fn stack<E: Sink>(err: &mut E, fault: StackFault, file: &str) -> Result<(), 
     ensures told { IsSaid (E.seen err.old) (E.seen err.new) (text_of_stacks fault file.now) result }
 {
     match fault {
-        StackFault::NotArray => named(err, "stack NotArray", file),
-        StackFault::NotTable { stack } => numbered(err, "stack NotTable stack=", stack, file),
+        StackFault::NotArray => put_named(err, "stack NotArray", file),
+        StackFault::NotTable { stack } => put_numbered(err, "stack NotTable stack=", stack, file),
         StackFault::MissingKey { stack, key } => end(err, "stack MissingKey", stack, key, file),
         StackFault::NotText { stack, key } => end(err, "stack NotText", stack, key, file),
-        StackFault::UnknownTile { stack } => numbered(err, "stack UnknownTile stack=", stack, file),
-        StackFault::BadTurn { stack } => numbered(err, "stack BadTurn stack=", stack, file),
+        StackFault::UnknownTile { stack } => put_numbered(
+            err,
+            "stack UnknownTile stack=",
+            stack,
+            file,
+        ),
+        StackFault::BadTurn { stack } => put_numbered(err, "stack BadTurn stack=", stack, file),
         StackFault::NoMemory => no_memory(err),
     }
 }

@@ -5,7 +5,7 @@ ghost use Rattle.wfc_lines.specs.Line.{IsSaid};
 ghost use Rattle.wfc_lines.specs.Tiles.{keyed_text, name_of_key, text_of_place, text_of_tiles};
 ghost use Rattle.wfc_tileset.specs.declared.fault.Place.TheVariants as places;
 
-use crate::line::{named, numbered, put};
+use crate::line::{put, put_named, put_numbered};
 use crate::outcome::no_memory;
 use itoa::Buffer;
 use wfc_outside::{Sink, SinkFault};
@@ -17,28 +17,28 @@ pub fn tiles<E: Sink>(err: &mut E, fault: TileFault, file: &str) -> Result<(), S
     ensures told { IsSaid (E.seen err.old) (E.seen err.new) (text_of_tiles fault file.now) result }
 {
     match fault {
-        TileFault::Toml => named(err, "tiles Toml", file),
-        TileFault::NoTiles => named(err, "tiles NoTiles", file),
+        TileFault::Toml => put_named(err, "tiles Toml", file),
+        TileFault::NoTiles => put_named(err, "tiles NoTiles", file),
         TileFault::MissingKey { place, key } => keyed(err, "tiles MissingKey", place, key, file),
         TileFault::WrongKind { place, key } => keyed(err, "tiles WrongKind", place, key, file),
-        TileFault::BadClass { tile } => numbered(err, "tiles BadClass tile=", tile, file),
-        TileFault::BadWeight { tile } => numbered(err, "tiles BadWeight tile=", tile, file),
-        TileFault::BadPicture { tile } => numbered(err, "tiles BadPicture tile=", tile, file),
-        TileFault::SizeDiffers { tile } => numbered(err, "tiles SizeDiffers tile=", tile, file),
-        TileFault::DoubleName { tile } => numbered(err, "tiles DoubleName tile=", tile, file),
-        TileFault::UnknownTile { pair } => numbered(err, "tiles UnknownTile pair=", pair, file),
-        TileFault::BadTurn { pair } => numbered(err, "tiles BadTurn pair=", pair, file),
-        TileFault::TooManyVariants { count } => numbered(
+        TileFault::BadClass { tile } => put_numbered(err, "tiles BadClass tile=", tile, file),
+        TileFault::BadWeight { tile } => put_numbered(err, "tiles BadWeight tile=", tile, file),
+        TileFault::BadPicture { tile } => put_numbered(err, "tiles BadPicture tile=", tile, file),
+        TileFault::SizeDiffers { tile } => put_numbered(err, "tiles SizeDiffers tile=", tile, file),
+        TileFault::DoubleName { tile } => put_numbered(err, "tiles DoubleName tile=", tile, file),
+        TileFault::UnknownTile { pair } => put_numbered(err, "tiles UnknownTile pair=", pair, file),
+        TileFault::BadTurn { pair } => put_numbered(err, "tiles BadTurn pair=", pair, file),
+        TileFault::TooManyVariants { count } => put_numbered(
             err,
             "tiles TooManyVariants count=",
             count,
             file,
         ),
-        TileFault::Missing { tile } => numbered(err, "device Missing tile=", tile, file),
-        TileFault::Failed { tile } => numbered(err, "device Failed tile=", tile, file),
-        TileFault::MixedKinds { tile } => numbered(err, "tiles MixedKinds tile=", tile, file),
+        TileFault::Missing { tile } => put_numbered(err, "device Missing tile=", tile, file),
+        TileFault::Failed { tile } => put_numbered(err, "device Failed tile=", tile, file),
+        TileFault::MixedKinds { tile } => put_numbered(err, "tiles MixedKinds tile=", tile, file),
         TileFault::NoMemory => no_memory(err),
-        TileFault::BadName { tile } => numbered(err, "tiles BadName tile=", tile, file),
+        TileFault::BadName { tile } => put_numbered(err, "tiles BadName tile=", tile, file),
     }
 }
 

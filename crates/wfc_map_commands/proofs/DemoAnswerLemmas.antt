@@ -8,10 +8,10 @@ use Rattle.wfc_problem.specs.Network.{Network}
 use Rattle.wfc_reply.proofs.CallerLemmas.{chosen_end}
 use Rattle.wfc_reply.specs.Choosers.{first_rule}
 use Rattle.wfc_reply.specs.Reply.{Answered, verdict_status}
-use Rattle.wfc_runs.specs.Runs.{IsHeld, IsRan}
+use Rattle.wfc_runs.specs.Runs.{HoldsOutcome, IsRan}
 use Rattle.wfc_reply.specs.RunEnds.{end_of}
-use Rattle.wfc_runs.specs.declared.runs.End.{End}
-use Rattle.wfc_runs.specs.declared.runs.End.TheVariants as held
+use Rattle.wfc_runs.specs.declared.runs.RunEnd.{RunEnd}
+use Rattle.wfc_runs.specs.declared.runs.RunEnd.TheVariants as held
 use Rattle.wfc_runs.specs.declared.runs.Ran.{Ran}
 use Rattle.wfc_search.specs.declared.Outcome.{Outcome}
 use Rattle.wfc_search.specs.declared.Outcome.TheVariants as outcome
@@ -28,7 +28,7 @@ demo_ran rules kind patterns P rule seed ran answer found is verdict_is answers 
     text : ℕ → ℕ → List ℕ
     text retractions status = demo_text (length patterns.windows) P.cells retractions status
 
-    by_end : (o : Outcome) (end : End) → IsHeld P is.state.standing o end → answer.verdict ≡ demo_verdict end
+    by_end : (o : Outcome) (end : RunEnd) → HoldsOutcome P is.state.standing o end → answer.verdict ≡ demo_verdict end
         → demo_answer patterns P (Some (o, is.state)) ≡ Some (record { verdict = answer.verdict; text = Some (text ran.retractions (verdict_status answer.verdict)); whole = true })
     by_end outcome.Map (held.Map assignment) same v = λ i. Some (record { verdict = sym v i; text = Some (text (sym is.retractions i) (verdict_status (sym v i))); whole = true })
     by_end outcome.NoMap held.NoMap same v = λ i. Some (record { verdict = sym v i; text = Some (text (sym is.retractions i) (verdict_status (sym v i))); whole = true })

@@ -13,7 +13,7 @@ use Rattle.wfc_model.specs.Raster.{Raster}
 use Rattle.wfc_model.specs.Window.{places, starts}
 use Rattle.wfc_outside.specs.Folder.{File}
 use Rattle.wfc_overlap.proofs.CallerLemmas.{sample_problem, there}
-use Rattle.wfc_overlap.specs.Bridge.{IsRoom, IsTaughtBy, numbers_of_windows, pairs}
+use Rattle.wfc_overlap.specs.Bridge.{IsRoom, IsTaughtBy, numbers_of_windows, window_pair_count}
 use Rattle.wfc_overlap.specs.Sample.{Output, output_with}
 use Rattle.wfc_problem.specs.Assignment.{IsLegalAssignment}
 use Rattle.wfc_problem.specs.Network.{IsProblem}
@@ -54,7 +54,7 @@ room n =
       wide = omega (arith, side);
       high = omega (arith, side);
       few_pairs =
-          let few : pairs (demo_patterns n) square ≤ 2116 * 484
+          let few : window_pair_count (demo_patterns n) square ≤ 2116 * 484
           = subst (λ m. m * length (demo_patterns n).windows ≤ 2116 * 484) (sym all) (mul-le 2116 (length (demo_patterns n).windows) 2116 484 (omega arith) (few_windows n)) in
           omega (arith, few);
     }

@@ -13,8 +13,8 @@ use Rattle.wfc_model.proofs.CallerLemmas.{IsSized-raster_of, length-places}
 use Rattle.wfc_model.specs.Learned.{arising, learned}
 use Rattle.wfc_model.specs.Raster.{IsFilled, Raster, height_of, raster_of}
 use Rattle.wfc_model.specs.Window.{places, starts}
-use Rattle.wfc_overlap.specs.Bridge.{pairs}
-use Rattle.wfc_overlap.specs.Built.{built}
+use Rattle.wfc_overlap.specs.Bridge.{window_pair_count}
+use Rattle.wfc_overlap.specs.Built.{picture_problem}
 use Rattle.wfc_overlap.specs.Sample.{Output, output_with, problem_of_sample}
 use Rattle.wfc_pattern.proofs.CallerLemmas.{few_enough, taught_are_patterns}
 use Rattle.wfc_pattern.proofs.LearningLemmas.{length-arising}
@@ -28,7 +28,7 @@ use Rattle.wfc_picture.specs.declared.palette.TheConstants.{MAX_COLOURS}
 use Rattle.wfc_picture.specs.declared.symbol.Symbol.{Symbol}
 use Rattle.wfc_plan.specs.Fault.{class_of}
 use Rattle.wfc_plan.specs.Plan.{GivesStep, or_refuse}
-use Rattle.wfc_plan.specs.declared.fault.Class.TheVariants.{Memory}
+use Rattle.wfc_plan.specs.declared.fault.FaultClass.TheVariants.{Memory}
 use Rattle.wfc_plan.specs.declared.fault.Refusal.{Refusal}
 use Rattle.wfc_plan.specs.declared.fault.Refusal.TheVariants.{Build, Colours, Learn}
 
@@ -81,13 +81,13 @@ demo_learned n side some small =
 
 -- its problem
 pub demo_built : (patterns : PatternsView) (palette : List Symbol) → patterns.n ≡ 3 → length patterns.windows ≤ 484
-    → built patterns palette (output_with demo_output demo_output false) [] ≡ Ok (problem_of_sample patterns (output_with demo_output demo_output false) [])
+    → picture_problem patterns palette (output_with demo_output demo_output false) [] ≡ Ok (problem_of_sample patterns (output_with demo_output demo_output false) [])
 demo_built patterns palette side few =
     let output : Output = output_with demo_output demo_output false in
     let as_wide : nat_lt demo_output patterns.n ≡ false = ap (nat_lt demo_output) side in
     let all : length (places demo_output demo_output patterns.n false) ≡ 46 * 46 = length-places demo_output demo_output patterns.n false ∙ ap (λ n. starts demo_output n false * starts demo_output n false) side in
-    let pairs_few : pairs patterns output ≤ 2116 * 484 = subst (λ m. m * length patterns.windows ≤ 2116 * 484) (sym all) (mul-le 2116 (length patterns.windows) 2116 484 (omega arith) few) in
-    let not_over : nat_lt 8388608 (pairs patterns output) ≡ false = grind (arith, nat_tests, pairs_few) in
+    let pairs_few : window_pair_count patterns output ≤ 2116 * 484 = subst (λ m. m * length patterns.windows ≤ 2116 * 484) (sym all) (mul-le 2116 (length patterns.windows) 2116 484 (omega arith) few) in
+    let not_over : nat_lt 8388608 (window_pair_count patterns output) ≡ false = grind (arith, nat_tests, pairs_few) in
     rw (as_wide, not_over) refl
 
 -- one pixel more
@@ -116,10 +116,10 @@ unfolding demo_patterns
 demo_taught n picture is = ap (λ picture. or_refuse Learn (patterns_of picture 3 1 false)) is ∙ ap (or_refuse Learn) (demo_learned n demo_side (omega arith) (omega arith))
 
 pub demo_posed : (n : ℕ) (patterns : PatternsView) (palette : List Symbol) → patterns ≡ demo_patterns n
-    → or_refuse Build (built patterns palette (output_with demo_output demo_output false) []) ≡ Ok (demo_problem n)
+    → or_refuse Build (picture_problem patterns palette (output_with demo_output demo_output false) []) ≡ Ok (demo_problem n)
 unfolding demo_patterns demo_problem
 demo_posed n patterns palette is =
-    ap (λ patterns. or_refuse Build (built patterns palette (output_with demo_output demo_output false) [])) is
+    ap (λ patterns. or_refuse Build (picture_problem patterns palette (output_with demo_output demo_output false) [])) is
     ∙ ap (or_refuse Build) (demo_built (learned_patterns (demo_picture n demo_side) 3 1 false) palette refl (demo_few n demo_side (omega arith) (omega arith)))
 
 length-numbered : (symbols : List Symbol) → length (numbered symbols) ≡ length symbols

@@ -6,7 +6,7 @@ use Rattle.wfc_map_commands.specs.DomainsOrder.{domains_order}
 use Rattle.wfc_map_commands.specs.DomainsTask.{DomainsTask, domains, domains_plan}
 use Rattle.wfc_map_commands.specs.StepPlans.{steps_plan}
 use Rattle.wfc_map_commands.specs.StepStages.{IsOutsideOf, IsRangeFault, IsStepOutside, IsStepsFault}
-use Rattle.wfc_map_commands.specs.Stepping.{fitting, steps_in, unless_out}
+use Rattle.wfc_map_commands.specs.Stepping.{fitting_steps, steps_in, unless_out}
 use Rattle.wfc_outside.specs.Folder.{File}
 use Rattle.wfc_pins.specs.Steps.{range_fault, steps_of}
 use Rattle.wfc_pins.specs.declared.steps.RangeFault.{RangeFault}
@@ -28,17 +28,17 @@ use Rattle.wfc_words.specs.RequestView.{RequestView}
 -- ---- steps
 
 -- steps that are looked up in a problem
-faults_fitting : (P : Network) (steps : List StepLine) (files : List File) → Faults (step (fitting P steps)) files (IsStepOutside P steps)
+faults_fitting : (P : Network) (steps : List StepLine) (files : List File) → Faults (step (fitting_steps P steps)) files (IsStepOutside P steps)
 faults_fitting P steps files fault = (to (range_fault P steps) refl, from)
   where
     by_fault : (found : Option RangeFault) → range_fault P steps ≡ found → outcome (step (unless_out steps found)) files ≡ Err fault → IsStepOutside P steps fault
     by_fault None was is = absurd (cc (is))
     by_fault (Some why) was is = record { why = why; outside = was; is = cc (is) }
 
-    to : (found : Option RangeFault) → range_fault P steps ≡ found → outcome (step (fitting P steps)) files ≡ Err fault → IsStepOutside P steps fault
+    to : (found : Option RangeFault) → range_fault P steps ≡ found → outcome (step (fitting_steps P steps)) files ≡ Err fault → IsStepOutside P steps fault
     to found was is = by_fault found was (subst (λ f. outcome (step (unless_out steps f)) files ≡ Err fault) was is)
 
-    from : IsStepOutside P steps fault → outcome (step (fitting P steps)) files ≡ Err fault
+    from : IsStepOutside P steps fault → outcome (step (fitting_steps P steps)) files ≡ Err fault
     from has = ap (λ f. outcome (step (unless_out steps f)) files) has.outside ∙ ap (λ f. let end : Result (List StepLine) Fault = Err f in end) (sym has.is)
 
 abbrev steps_stages : List File → Option (List ℕ) → Network → List TaskStage
@@ -59,18 +59,18 @@ faults_steps files None P = λ fault. (λ is. absurd (cc (is)), from fault)
     from fault (inr (_, inr (_, inl (steps, held, out)))) = let never : range_fault P [] ≡ Some out.why = subst (λ s. range_fault P s ≡ Some out.why) (sym held) out.outside in absurd (cc (never))
     from fault (inr (_, inr (_, inr (_, none)))) = absurd none
 faults_steps files (Some name) P =
-    faults_first (file_plan Steps name) (λ bytes. and_then (step (steps_in bytes)) (λ steps. step (fitting P steps))) files (IsReadingFault Steps files name)
+    faults_first (file_plan Steps name) (λ bytes. and_then (step (steps_in bytes)) (λ steps. step (fitting_steps P steps))) files (IsReadingFault Steps files name)
     (IsStepsFault files (Some name) ∷ IsOutsideOf files (Some name) P ∷ []) (faults_reading Steps files name)
     (λ bytes was.
     let file = file_given Steps name files bytes was in
-    faults_first (step (steps_in bytes)) (λ steps. step (fitting P steps)) files (IsStepsFault files (Some name)) (IsOutsideOf files (Some name) P ∷ [])
+    faults_first (step (steps_in bytes)) (λ steps. step (fitting_steps P steps)) files (IsStepsFault files (Some name)) (IsOutsideOf files (Some name) P ∷ [])
     (faults_as (step (steps_in bytes)) files (IsRefusal refusals.Steps (steps_of bytes)) (IsStepsFault files (Some name))
     (same_known (λ other. IsFile files name other) (λ other. IsRefusal refusals.Steps (steps_of other)) bytes file (λ other also. one_file files name bytes other file also))
     (faults_step refusals.Steps (steps_of bytes) files))
     (λ steps read.
     let held : HoldsSteps files (Some name) steps = (bytes, file, unrefused refusals.Steps (steps_of bytes) steps (step_ok (steps_in bytes) files steps read)) in
-    faults_last (step (fitting P steps)) files (IsOutsideOf files (Some name) P)
-    (faults_as (step (fitting P steps)) files (IsStepOutside P steps) (IsOutsideOf files (Some name) P)
+    faults_last (step (fitting_steps P steps)) files (IsOutsideOf files (Some name) P)
+    (faults_as (step (fitting_steps P steps)) files (IsStepOutside P steps) (IsOutsideOf files (Some name) P)
     (same_known (λ other. HoldsSteps files (Some name) other) (λ other. IsStepOutside P other) steps held (λ other also. one_steps files name steps other held also))
     (faults_fitting P steps files))))
 

@@ -17,7 +17,7 @@ use Rattle.wfc_reply.specs.Asking.{IsCommand}
 use Rattle.wfc_reply.specs.Call.{Call}
 use Rattle.wfc_reply.specs.CutClaims.{CutsText}
 use Rattle.wfc_reply.specs.Reply.{Answered, TakesWhole, verdict_status}
-use Rattle.wfc_reply.specs.declared.reply.Verdict.TheVariants as verdict
+use Rattle.wfc_reply.specs.declared.reply.CommandVerdict.TheVariants as verdict
 use Rattle.wfc_words.specs.RequestView.{RequestView}
 use Rattle.wfc_words.specs.declared.kinds.CommandKind.TheVariants as commands
 

@@ -16,7 +16,7 @@ use Rattle.wfc_render.specs.declared.form.Layout.{Layout}
 use Rattle.wfc_task.proofs.CallerLemmas.{given_problem, given_sample, given_tiled, given_tiles, problem_given, sample_given, tiled_given, tiles_given}
 use Rattle.wfc_task.specs.SamplePlans.{problem_plan, sample_plan}
 use Rattle.wfc_task.specs.Sources.{is_of_windows}
-use Rattle.wfc_task.specs.Steps.{laid}
+use Rattle.wfc_task.specs.Steps.{sample_layout}
 use Rattle.wfc_task.specs.TilePlans.{tiled_plan, tiles_plan}
 use Rattle.wfc_task.specs.TileSteps.{laid_tiles}
 use Rattle.wfc_task.specs.declared.lesson.Taught.{Taught}
@@ -51,12 +51,12 @@ abbrev pub behind_layout : RequestView → Taught → Layout → Plan FillTask
 behind_layout asked lesson layout = and_then (problem_plan asked lesson) (λ P. done (fill lesson.patterns lesson.palette layout P))
 
 abbrev pub behind_sample : RequestView → Taught → Plan FillTask
-behind_sample asked lesson = and_then (step (laid lesson.kind asked)) (behind_layout asked lesson)
+behind_sample asked lesson = and_then (step (sample_layout lesson.kind asked)) (behind_layout asked lesson)
 
 sample_filled : (asked : RequestView) (files : List File) (task : FillTask) → outcome (fill_sample_plan asked) files ≡ Ok task → SampleFilled asked files task
 sample_filled asked files task is =
     let known = outcome_parts (sample_plan asked) (behind_sample asked) files task is in
-    let written = outcome_parts (step (laid known.0.kind asked)) (behind_layout asked known.0) files task known.2 in
+    let written = outcome_parts (step (sample_layout known.0.kind asked)) (behind_layout asked known.0) files task known.2 in
     let made = outcome_parts (problem_plan asked known.0) (λ P. let end : Plan FillTask = done (fill known.0.patterns known.0.palette written.0 P) in end) files task written.2 in
     record {
       patterns = known.0.patterns;
@@ -68,7 +68,7 @@ sample_filled asked files task is =
         chooser = there;
         kind = known.0.kind;
         sample = sample_given asked files known.0 known.1;
-        written = unrefused refusals.Render (layout_of known.0.kind asked.form asked.width asked.height 1) written.0 (step_ok (laid known.0.kind asked) files written.0 written.1);
+        written = unrefused refusals.Render (layout_of known.0.kind asked.form asked.width asked.height 1) written.0 (step_ok (sample_layout known.0.kind asked) files written.0 written.1);
         problem = problem_given asked files known.0 made.0 made.1;
       };
     }
@@ -78,7 +78,7 @@ filled_of_sample : (kinds : List RuleKind) (asked : RequestView) (files : List F
 filled_of_sample kinds asked files patterns palette layout P task =
     let lesson : Taught = record { kind = task.kind; palette = palette; patterns = patterns } in
     outcome_on (sample_plan asked) (behind_sample asked) files lesson (given_sample asked files task.kind patterns palette task.sample)
-    ∙ outcome_on (step (laid task.kind asked)) (behind_layout asked lesson) files layout (ok_step (laid task.kind asked) files layout (ok_refused refusals.Render (layout_of task.kind asked.form asked.width asked.height 1) layout task.written))
+    ∙ outcome_on (step (sample_layout task.kind asked)) (behind_layout asked lesson) files layout (ok_step (sample_layout task.kind asked) files layout (ok_refused refusals.Render (layout_of task.kind asked.form asked.width asked.height 1) layout task.written))
     ∙ outcome_on (problem_plan asked lesson) (λ P. let end : Plan FillTask = done (fill patterns palette layout P) in end) files P (given_problem asked files lesson P task.problem)
 
 -- what follows the problem of a tile set in `fill`, what follows its layout, and what follows the tile set

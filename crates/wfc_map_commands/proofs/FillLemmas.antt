@@ -29,8 +29,8 @@ use Rattle.wfc_render.specs.Tiled.{IsTiled, IsVariantOrHole}
 use Rattle.wfc_render.specs.declared.form.Layout.{Layout}
 use Rattle.wfc_task.proofs.CallerLemmas.{IsLaidOut, each_joined, laid_out}
 use Rattle.wfc_task.specs.Asked.{IsOutputAsked}
-use Rattle.wfc_task.specs.Maps.{output_of}
-use Rattle.wfc_task.specs.Tiling.{masked}
+use Rattle.wfc_task.specs.Maps.{asked_output}
+use Rattle.wfc_task.specs.Tiling.{mask_or_whole}
 use Rattle.wfc_tiled.specs.Maps.{number_of_cell, numbers_of_cells, tile_map}
 use Rattle.wfc_tiled.specs.Mask.{MaskView, cell_number, plain_mask}
 use Rattle.wfc_tiled.specs.Tiles.{problem_of_tiles}
@@ -81,7 +81,7 @@ painted_sized patterns output a wide high =
     }
 
 -- the picture of an assignment can be written
-pub picture_written : (asked : RequestView) (task : Filling) (a : List ℕ) (m : Raster) → IsOutputAsked asked → IsFilling asked task → m ≡ picture_of task.patterns (output_of asked) a
+pub picture_written : (asked : RequestView) (task : Filling) (a : List ℕ) (m : Raster) → IsOutputAsked asked → IsFilling asked task → m ≡ picture_of task.patterns (asked_output asked) a
     → IsWritten task.layout task.palette m
 picture_written asked task a m output filling is =
     let laid : IsLaidOut filling.kind asked.width asked.height 1 task.layout
@@ -92,10 +92,10 @@ picture_written asked task a m output filling is =
       kind = subst (λ k. All (λ symbol. IsTrue (is_of_kind k symbol)) task.palette) (sym laid.same_kind) filling.shown.symbols;
       some_symbol = filling.shown.some_symbol;
       sized =
-          subst (λ w. IsSized (picture_of task.patterns (output_of asked) a) w task.layout.height) (sym laid.width_is)
-          (subst (λ h. IsSized (picture_of task.patterns (output_of asked) a) asked.width h) (sym laid.height_is)
-          (painted_sized task.patterns (output_of asked) a output.some_width output.some_height));
-      numbers = painted_small (length task.palette) task.patterns (output_of asked) a filling.shown.some_symbol filling.numbers;
+          subst (λ w. IsSized (picture_of task.patterns (asked_output asked) a) w task.layout.height) (sym laid.width_is)
+          (subst (λ h. IsSized (picture_of task.patterns (asked_output asked) a) asked.width h) (sym laid.height_is)
+          (painted_sized task.patterns (asked_output asked) a output.some_width output.some_height));
+      numbers = painted_small (length task.palette) task.patterns (asked_output asked) a filling.shown.some_symbol filling.numbers;
     })
 
 -- ---- the assignment
@@ -154,11 +154,11 @@ all_pictured set l kind same is (inr pictured) = inr pictured
 
 -- the map of an assignment can be written
 pub tiles_written : (asked : RequestView) (task : TileFilling) (kind : Kind) (a : List ℕ) (m : Raster) → IsOutputAsked asked → IsTileFilling asked task → IsProblem task.problem → kind ≡ kind_of task.tiles.pictures
-    → (picture_name task.tiles (length task.tiles.pictures) ≡ None → (kind ≡ kinds.Plain) ⊎ IsPictured task.tiles) → IsLegalAssignment task.problem a → m ≡ tile_map (masked asked task.mask) a
+    → (picture_name task.tiles (length task.tiles.pictures) ≡ None → (kind ≡ kinds.Plain) ⊎ IsPictured task.tiles) → IsLegalAssignment task.problem a → m ≡ tile_map (mask_or_whole asked task.mask) a
     → IsTiled task.layout task.tiles m
 tiles_written asked task kind a m output filling problem kind_is complete legal is =
     let set = task.tiles in
-    let mask = masked asked task.mask in
+    let mask = mask_or_whole asked task.mask in
     let tiled = filling.tiled in
     let laid = laid_out (kind_of set.pictures) asked.form asked.width asked.height (side_of set.pictures) task.layout
     (unrefused Render (layout_of (kind_of set.pictures) asked.form asked.width asked.height (side_of set.pictures)) task.layout filling.layout) in

@@ -15,7 +15,7 @@ use Rattle.wfc_reply.specs.Command.{Command}
 use Rattle.wfc_reply.specs.Outcomes.{outcome_status, verdict_of}
 use Rattle.wfc_reply.specs.Reply.{Answered, CutsOff, Takes, TakesWhole, verdict_status}
 use Rattle.wfc_reply.specs.RunEnds.{end_of}
-use Rattle.wfc_reply.specs.declared.reply.Verdict.TheVariants as verdict
+use Rattle.wfc_reply.specs.declared.reply.CommandVerdict.TheVariants as verdict
 use Rattle.wfc_runs.specs.Words.{words_of_seed}
 use Rattle.wfc_search.proofs.CallerLemmas.{outcome_map, outcome_none, outcome_spent}
 use Rattle.wfc_search.specs.Run.{State}

@@ -14,7 +14,7 @@ use Rattle.wfc_plan.specs.declared.fault.Source.TheVariants.{Pins, Sample}
 use Rattle.wfc_task.proofs.CallerLemmas.{faults_layout, faults_problem, faults_sample, faults_tile_layout, faults_tiled, faults_tiles, problem_stages, sample_stages, tiled_stages, tiles_stages}
 use Rattle.wfc_task.specs.SamplePlans.{problem_plan, sample_plan}
 use Rattle.wfc_task.specs.Stages.{IsFormFault, IsLayoutFault, IsLearnFault, IsPairsFault, IsPinFault, IsPinsFault, IsSizeFault, IsSymbolsFault}
-use Rattle.wfc_task.specs.Steps.{laid}
+use Rattle.wfc_task.specs.Steps.{sample_layout}
 use Rattle.wfc_task.specs.TilePlans.{tiled_plan, tiles_plan}
 use Rattle.wfc_task.specs.TileStages.{IsDocumentFault, IsTileLayoutFault, IsTilesFault}
 use Rattle.wfc_task.specs.TileSteps.{laid_tiles}
@@ -35,7 +35,7 @@ pub faults_fill_sample : (asked : RequestView) (files : List File)
 faults_fill_sample asked files =
     let pinned : List TaskStage = IsNamedFault Pins files asked.pins ∷ IsPinsFault files asked.pins ∷ problem_stages asked files in
     faults_group (sample_plan asked) (behind_sample asked) files (sample_stages asked files) (IsLayoutFault asked files ∷ pinned) (faults_sample asked files)
-    (λ lesson was. faults_first (step (laid lesson.kind asked)) (behind_layout asked lesson) files (IsLayoutFault asked files) pinned (faults_layout asked files lesson was)
+    (λ lesson was. faults_first (step (sample_layout lesson.kind asked)) (behind_layout asked lesson) files (IsLayoutFault asked files) pinned (faults_layout asked files lesson was)
     (λ layout written. faults_group (problem_plan asked lesson) (λ P. let end : Plan FillTask = done (fill lesson.patterns lesson.palette layout P) in end) files pinned [] (faults_problem asked files lesson was)
     (λ P made. faults_none (fill lesson.patterns lesson.palette layout P) files)))
 

@@ -4,7 +4,7 @@ use Rattle.wfc_choose.specs.Pick.{Rule}
 use Rattle.wfc_map_commands.specs.FillAnswer.{fill_by}
 use Rattle.wfc_map_commands.specs.FillCommand.{FillAnswers}
 use Rattle.wfc_map_commands.specs.FillTask.{filled_by}
-use Rattle.wfc_map_commands.specs.Held.{problem_in, rules_text, text_in}
+use Rattle.wfc_map_commands.specs.Held.{problem_in, rules_text, text_of_assignment}
 use Rattle.wfc_map_commands.specs.LearnCommand.{LearnAnswers}
 use Rattle.wfc_map_commands.specs.LearnTask.{learned_by}
 use Rattle.wfc_map_commands.specs.declared.filling.Filled.{Filled}
@@ -20,6 +20,6 @@ learn_said (learned.Windows taught) answered is = sym is
 learn_said (learned.Tiles set) answered is = sym is
 
 -- of `fill`
-pub fill_said : (rules : List Rule) (asked : RequestView) (held : Filled) (answered : Answered) → fill_by rules asked (text_in asked held) (problem_in held) ≡ Some answered → FillAnswers rules asked (filled_by asked held) answered
+pub fill_said : (rules : List Rule) (asked : RequestView) (held : Filled) (answered : Answered) → fill_by rules asked (text_of_assignment asked held) (problem_in held) ≡ Some answered → FillAnswers rules asked (filled_by asked held) answered
 fill_said rules asked (filled.Windows made) answered is = is
 fill_said rules asked (filled.Tiles made) answered is = is

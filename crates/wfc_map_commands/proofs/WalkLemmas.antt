@@ -6,7 +6,7 @@ use Rattle.std.proofs.lemmas.List.{drop_all, drop_more, get_or_default, take_mor
 use Rattle.wfc_domains.specs.Store.{IsAssumed, IsOpened, IsSound, StoreView, left_of, without_last}
 use Rattle.wfc_domains.specs.declared.Verdict.{Verdict}
 use Rattle.wfc_domains.specs.declared.Verdict.TheVariants.{Alive, Dead}
-use Rattle.wfc_map_commands.specs.DomainsAnswer.{after_step, domains_answer, later, root_verdict, shown, steps_text}
+use Rattle.wfc_map_commands.specs.DomainsAnswer.{after_step, domains_answer, literals_after_steps, root_verdict, shown_domains, steps_text}
 use Rattle.wfc_map_commands.specs.Walk.{IsWalk, WalksTo, left_text, stood}
 use Rattle.wfc_outside.proofs.CallerLemmas.{fault_out, puts_none, puts_on}
 use Rattle.wfc_outside.specs.Sink.{IsFaultAfterFront, Puts, SinkView, after_bytes}
@@ -21,8 +21,8 @@ use Rattle.wfc_problem.specs.Sizes.{is_dead}
 use Rattle.wfc_problem.specs.declared.Literal.{Literal}
 use Rattle.wfc_render.specs.Block.{block_text, blocks_from}
 use Rattle.wfc_reply.specs.Reply.{Answered}
-use Rattle.wfc_reply.specs.declared.reply.Verdict as verdict_type
-use Rattle.wfc_reply.specs.declared.reply.Verdict.TheVariants as verdict
+use Rattle.wfc_reply.specs.declared.reply.CommandVerdict as verdict_type
+use Rattle.wfc_reply.specs.declared.reply.CommandVerdict.TheVariants as verdict
 use Rattle.wfc_search.proofs.CallerLemmas.{alive_alive, alive_left, dead_dead}
 
 -- ---- dead and alive
@@ -69,12 +69,12 @@ all_alive : (v : StoreView) (beside : ℕ) (standing : List Literal) → IsWalk 
 all_alive v beside standing walk none alive =
     subst (λ (ls : List Literal). is_dead v.problem (greatest v.problem ls) ≡ false) (sym (all_stand v beside standing walk none)) (alive_alive v walk.sound alive)
 
--- ---- what is shown
+-- ---- what is shown_domains
 
-pub shown_dead : (v : StoreView) (beside : ℕ) (standing : List Literal) → IsWalk v beside standing → (beside ≡ 0 → v.verdict ≡ Alive → ⊥) → shown v.problem standing ≡ None
+pub shown_dead : (v : StoreView) (beside : ℕ) (standing : List Literal) → IsWalk v beside standing → (beside ≡ 0 → v.verdict ≡ Alive → ⊥) → shown_domains v.problem standing ≡ None
 shown_dead v beside standing walk not = ap (λ b. if b then None else Some (greatest v.problem standing)) (all_dead v beside standing walk not)
 
-pub shown_alive : (v : StoreView) (beside : ℕ) (standing : List Literal) (D : Test) → IsWalk v beside standing → beside ≡ 0 → v.verdict ≡ Alive → D ≡ left_of v → shown v.problem standing ≡ Some D
+pub shown_alive : (v : StoreView) (beside : ℕ) (standing : List Literal) (D : Test) → IsWalk v beside standing → beside ≡ 0 → v.verdict ≡ Alive → D ≡ left_of v → shown_domains v.problem standing ≡ Some D
 shown_alive v beside standing D walk none alive is =
     ap (λ b. if b then None else Some (greatest v.problem standing)) (all_alive v beside standing walk none alive)
     ∙ ap Some (ap (greatest v.problem) (all_stand v beside standing walk none) ∙ sym (alive_left v walk.sound alive) ∙ sym is)
@@ -152,25 +152,25 @@ stood_next lines i line inside is =
 
 -- the next block, and those behind it
 left_more : (P : Network) (values cells : ℕ) (lines : List StepLine) (i : ℕ) (line : StepLine) → i < length lines → get_or lines i line ≡ line
-    → left_text P values cells lines i ≡ block_text (i + 1) (shown P (stood [] (take (i + 1) lines))) values cells ++ left_text P values cells lines (i + 1)
+    → left_text P values cells lines i ≡ block_text (i + 1) (shown_domains P (stood [] (take (i + 1) lines))) values cells ++ left_text P values cells lines (i + 1)
 left_more P values cells lines i line inside is =
-    ap (λ ls. blocks_from (i + 1) (map (shown P) (later (stood [] (take i lines)) ls)) values cells) (drop_more lines i line inside ∙ ap (λ l. l ∷ drop (i + 1) lines) is)
-    ∙ ap (λ (ls : List Literal). block_text (i + 1) (shown P ls) values cells ++ blocks_from (i + 1 + 1) (map (shown P) (later ls (drop (i + 1) lines))) values cells) (sym (stood_next lines i line inside is))
+    ap (λ ls. blocks_from (i + 1) (map (shown_domains P) (literals_after_steps (stood [] (take i lines)) ls)) values cells) (drop_more lines i line inside ∙ ap (λ l. l ∷ drop (i + 1) lines) is)
+    ∙ ap (λ (ls : List Literal). block_text (i + 1) (shown_domains P ls) values cells ++ blocks_from (i + 1 + 1) (map (shown_domains P) (literals_after_steps ls (drop (i + 1) lines))) values cells) (sym (stood_next lines i line inside is))
 
 -- a block was put, and what is left of the blocks makes those that were left before
 pub blocks_on : (P : Network) (values cells : ℕ) (lines : List StepLine) (i : ℕ) (line : StepLine) → i < length lines → get_or lines i line ≡ line
-    → (old mid new : SinkView) (result : Result (Unit {0}) SinkFault) → mid ≡ after_bytes old (block_text (i + 1) (shown P (stood [] (take (i + 1) lines))) values cells)
+    → (old mid new : SinkView) (result : Result (Unit {0}) SinkFault) → mid ≡ after_bytes old (block_text (i + 1) (shown_domains P (stood [] (take (i + 1) lines))) values cells)
     → Puts mid new (left_text P values cells lines (i + 1)) result → Puts old new (left_text P values cells lines i) result
 blocks_on P values cells lines i line inside is old mid new result put rest =
     subst (λ text. Puts old new text result) (sym (left_more P values cells lines i line inside is))
-    (puts_on old mid new (block_text (i + 1) (shown P (stood [] (take (i + 1) lines))) values cells) (left_text P values cells lines (i + 1)) result put rest)
+    (puts_on old mid new (block_text (i + 1) (shown_domains P (stood [] (take (i + 1) lines))) values cells) (left_text P values cells lines (i + 1)) result put rest)
 
 -- the fault of a block is one of those that were left
 pub blocks_out : (P : Network) (values cells : ℕ) (lines : List StepLine) (i : ℕ) (line : StepLine) → i < length lines → get_or lines i line ≡ line
-    → (old new : SinkView) → IsFaultAfterFront old new (block_text (i + 1) (shown P (stood [] (take (i + 1) lines))) values cells) → IsFaultAfterFront old new (left_text P values cells lines i)
+    → (old new : SinkView) → IsFaultAfterFront old new (block_text (i + 1) (shown_domains P (stood [] (take (i + 1) lines))) values cells) → IsFaultAfterFront old new (left_text P values cells lines i)
 blocks_out P values cells lines i line inside is old new fault =
     subst (λ text. IsFaultAfterFront old new text) (sym (left_more P values cells lines i line inside is))
-    (fault_out old new (block_text (i + 1) (shown P (stood [] (take (i + 1) lines))) values cells) (left_text P values cells lines (i + 1)) fault)
+    (fault_out old new (block_text (i + 1) (shown_domains P (stood [] (take (i + 1) lines))) values cells) (left_text P values cells lines (i + 1)) fault)
 
 -- the walk after one step more
 pub walk_next : (lines : List StepLine) (i : ℕ) (d : StepLine) (old new : StoreView) (before behind : ℕ) → i < length lines → WalksTo old before new behind (get_or lines i d).step
@@ -180,17 +180,17 @@ walk_next lines i d old new before behind inside walks walk =
 
 -- the first block was put, and those that are left make all of them
 pub blocks_start : (P Q : Network) (count cells : ℕ) (lines : List StepLine) → Q ≡ P → count ≡ values P → cells ≡ P.cells
-    → (old mid new : SinkView) (result : Result (Unit {0}) SinkFault) → mid ≡ after_bytes old (block_text 0 (shown Q []) count cells) → Puts mid new (left_text Q count cells lines 0) result → Puts old new (steps_text P lines) result
+    → (old mid new : SinkView) (result : Result (Unit {0}) SinkFault) → mid ≡ after_bytes old (block_text 0 (shown_domains Q []) count cells) → Puts mid new (left_text Q count cells lines 0) result → Puts old new (steps_text P lines) result
 blocks_start P Q count cells lines same counted as_many old mid new result put rest =
-    subst (λ text. Puts old new text result) (λ i. block_text 0 (shown (same i) []) (counted i) (as_many i) ++ left_text (same i) (counted i) (as_many i) lines 0)
-    (puts_on old mid new (block_text 0 (shown Q []) count cells) (left_text Q count cells lines 0) result put rest)
+    subst (λ text. Puts old new text result) (λ i. block_text 0 (shown_domains (same i) []) (counted i) (as_many i) ++ left_text (same i) (counted i) (as_many i) lines 0)
+    (puts_on old mid new (block_text 0 (shown_domains Q []) count cells) (left_text Q count cells lines 0) result put rest)
 
 -- the fault of the first block
 pub start_out : (P Q : Network) (count cells : ℕ) (lines : List StepLine) → Q ≡ P → count ≡ values P → cells ≡ P.cells
-    → (old new : SinkView) → IsFaultAfterFront old new (block_text 0 (shown Q []) count cells) → IsFaultAfterFront old new (steps_text P lines)
+    → (old new : SinkView) → IsFaultAfterFront old new (block_text 0 (shown_domains Q []) count cells) → IsFaultAfterFront old new (steps_text P lines)
 start_out P Q count cells lines same counted as_many old new fault =
-    subst (λ text. IsFaultAfterFront old new text) (λ i. block_text 0 (shown P []) (counted i) (as_many i) ++ left_text P (counted i) (as_many i) lines 0)
-    (fault_out old new (block_text 0 (shown P []) count cells) (left_text P count cells lines 0) (subst (λ R. IsFaultAfterFront old new (block_text 0 (shown R []) count cells)) same fault))
+    subst (λ text. IsFaultAfterFront old new text) (λ i. block_text 0 (shown_domains P []) (counted i) (as_many i) ++ left_text P (counted i) (as_many i) lines 0)
+    (fault_out old new (block_text 0 (shown_domains P []) count cells) (left_text P count cells lines 0) (subst (λ R. IsFaultAfterFront old new (block_text 0 (shown_domains R []) count cells)) same fault))
 
 -- a step where there is none
 no_step : StepLine
@@ -198,24 +198,24 @@ no_step = record { line = 0; step = Undo }
 
 -- the block of a step, as the code puts it
 pub next_on : (P Q : Network) (count cells : ℕ) (lines : List StepLine) (i k : ℕ) → i < length lines → Q ≡ P → k ≡ i
-    → (old mid new : SinkView) (result : Result (Unit {0}) SinkFault) → mid ≡ after_bytes old (block_text (k + 1) (shown Q (stood [] (take (i + 1) lines))) count cells)
+    → (old mid new : SinkView) (result : Result (Unit {0}) SinkFault) → mid ≡ after_bytes old (block_text (k + 1) (shown_domains Q (stood [] (take (i + 1) lines))) count cells)
     → Puts mid new (left_text P count cells lines (i + 1)) result → Puts old new (left_text P count cells lines i) result
 next_on P Q count cells lines i k inside same number old mid new result put rest =
     blocks_on P count cells lines i (get_or lines i no_step) inside (get_or_default lines i (get_or lines i no_step) no_step inside) old mid new result
-    (put ∙ (λ j. after_bytes old (block_text (number j + 1) (shown (same j) (stood [] (take (i + 1) lines))) count cells))) rest
+    (put ∙ (λ j. after_bytes old (block_text (number j + 1) (shown_domains (same j) (stood [] (take (i + 1) lines))) count cells))) rest
 
 -- and its fault
 pub next_out : (P Q : Network) (count cells : ℕ) (lines : List StepLine) (i k : ℕ) → i < length lines → Q ≡ P → k ≡ i
-    → (old new : SinkView) → IsFaultAfterFront old new (block_text (k + 1) (shown Q (stood [] (take (i + 1) lines))) count cells) → IsFaultAfterFront old new (left_text P count cells lines i)
+    → (old new : SinkView) → IsFaultAfterFront old new (block_text (k + 1) (shown_domains Q (stood [] (take (i + 1) lines))) count cells) → IsFaultAfterFront old new (left_text P count cells lines i)
 next_out P Q count cells lines i k inside same number old new fault =
-    let text : block_text (k + 1) (shown Q (stood [] (take (i + 1) lines))) count cells ≡ block_text (i + 1) (shown P (stood [] (take (i + 1) lines))) count cells =
-    λ j. block_text (number j + 1) (shown (same j) (stood [] (take (i + 1) lines))) count cells in
+    let text : block_text (k + 1) (shown_domains Q (stood [] (take (i + 1) lines))) count cells ≡ block_text (i + 1) (shown_domains P (stood [] (take (i + 1) lines))) count cells =
+    λ j. block_text (number j + 1) (shown_domains (same j) (stood [] (take (i + 1) lines))) count cells in
     blocks_out P count cells lines i (get_or lines i no_step) inside (get_or_default lines i (get_or lines i no_step) no_step inside) old new (subst (λ t. IsFaultAfterFront old new t) text fault)
 
 -- behind the last step nothing is left
 pub blocks_end : (P : Network) (count cells : ℕ) (lines : List StepLine) (i : ℕ) (sink : SinkView) → length lines ≤ i → sink ≡ after_bytes sink (left_text P count cells lines i)
 blocks_end P count cells lines i sink past =
-    let none : left_text P count cells lines i ≡ [] = ap (λ ls. blocks_from (i + 1) (map (shown P) (later (stood [] (take i lines)) ls)) count cells) (drop_all i lines past) in
+    let none : left_text P count cells lines i ≡ [] = ap (λ ls. blocks_from (i + 1) (map (shown_domains P) (literals_after_steps (stood [] (take i lines)) ls)) count cells) (drop_all i lines past) in
     subst (λ text. sink ≡ after_bytes sink text) (sym none) (puts_none sink)
 
 -- ---- the command

@@ -4,10 +4,10 @@ use Rattle.wfc_pattern.specs.Patterns.{PatternsView}
 use Rattle.wfc_problem.specs.Network.{Network}
 use Rattle.wfc_reply.specs.Outcomes.{outcome_status, verdict_of}
 use Rattle.wfc_reply.specs.Reply.{Answered}
-use Rattle.wfc_reply.specs.declared.reply.Verdict.{Verdict}
-use Rattle.wfc_reply.specs.declared.reply.Verdict.TheVariants.{Done, NoMap, Spent}
-use Rattle.wfc_runs.specs.declared.runs.End.{End}
-use Rattle.wfc_runs.specs.declared.runs.End.TheVariants as held
+use Rattle.wfc_reply.specs.declared.reply.CommandVerdict.{CommandVerdict}
+use Rattle.wfc_reply.specs.declared.reply.CommandVerdict.TheVariants.{Done, NoMap, Spent}
+use Rattle.wfc_runs.specs.declared.runs.RunEnd.{RunEnd}
+use Rattle.wfc_runs.specs.declared.runs.RunEnd.TheVariants as held
 use Rattle.wfc_search.specs.Run.{State}
 use Rattle.wfc_search.specs.declared.Outcome.{Outcome}
 
@@ -35,7 +35,7 @@ demo_answer patterns P (Some end) = Some (record {
 })
 
 -- how a demonstration ends whose run ends so
-abbrev pub demo_verdict : End → Verdict
+abbrev pub demo_verdict : RunEnd → CommandVerdict
 demo_verdict (held.Map assignment) = Done
 demo_verdict held.NoMap = NoMap
 demo_verdict held.Spent = Spent demo_budget

@@ -8,7 +8,7 @@ use Rattle.wfc_pattern.specs.Patterns.{PatternsView}
 use Rattle.wfc_plan.specs.Fault.{class_of}
 use Rattle.wfc_plan.specs.Kinds.{enough}
 use Rattle.wfc_plan.specs.Plan.{Plan, and_then, done, step}
-use Rattle.wfc_plan.specs.declared.fault.Class.TheVariants.{Memory}
+use Rattle.wfc_plan.specs.declared.fault.FaultClass.TheVariants.{Memory}
 use Rattle.wfc_plan.specs.declared.fault.Fault.{Fault}
 use Rattle.wfc_plan.specs.declared.fault.Refusal.{Refusal}
 use Rattle.wfc_problem.specs.Network.{Network}

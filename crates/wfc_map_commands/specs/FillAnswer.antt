@@ -15,7 +15,7 @@ use Rattle.wfc_search.specs.Run.{State}
 use Rattle.wfc_search.specs.Search.{assignment_of}
 use Rattle.wfc_search.specs.declared.Outcome.{Outcome}
 use Rattle.wfc_search.specs.declared.Outcome.TheVariants as outcome
-use Rattle.wfc_task.specs.Maps.{output_of}
+use Rattle.wfc_task.specs.Maps.{asked_output}
 use Rattle.wfc_tiled.specs.Maps.{tile_map}
 use Rattle.wfc_tiled.specs.Mask.{MaskView}
 use Rattle.wfc_tileset.specs.Tiles.{TileSetView}
@@ -23,7 +23,7 @@ use Rattle.wfc_words.specs.RequestView.{RequestView}
 
 -- the text of the picture that an assignment of patterns paints
 abbrev pub picture_text : RequestView → PatternsView → List Symbol → Layout → List ℕ → List ℕ
-picture_text asked patterns palette layout a = map_text layout palette (picture_of patterns (output_of asked) a)
+picture_text asked patterns palette layout a = map_text layout palette (picture_of patterns (asked_output asked) a)
 
 -- the text of the map that an assignment of variants makes
 abbrev pub tiles_text : TileSetView → MaskView → Layout → List ℕ → List ℕ

@@ -11,10 +11,10 @@ use Rattle.wfc_plan.specs.declared.fault.Fault.{Fault}
 use Rattle.wfc_problem.specs.Network.{Network}
 use Rattle.wfc_render.specs.declared.form.Layout.{Layout}
 use Rattle.wfc_task.specs.SamplePlans.{problem_plan, sample_plan}
-use Rattle.wfc_task.specs.Steps.{laid}
+use Rattle.wfc_task.specs.Steps.{sample_layout}
 use Rattle.wfc_task.specs.TilePlans.{tiled_plan, tiles_plan}
 use Rattle.wfc_task.specs.TileSteps.{laid_tiles}
-use Rattle.wfc_task.specs.Tiling.{masked}
+use Rattle.wfc_task.specs.Tiling.{mask_or_whole}
 use Rattle.wfc_tiled.specs.Mask.{MaskView}
 use Rattle.wfc_tileset.specs.Tiles.{TileSetView}
 use Rattle.wfc_words.specs.RequestView.{RequestView}
@@ -30,7 +30,7 @@ pub data FillTask : Type 0 where
 abbrev pub fill_sample_plan : RequestView → Plan FillTask
 fill_sample_plan asked =
     and_then (sample_plan asked) (λ lesson.
-    and_then (step (laid lesson.kind asked)) (λ layout.
+    and_then (step (sample_layout lesson.kind asked)) (λ layout.
     and_then (problem_plan asked lesson) (λ P.
     done (fill lesson.patterns lesson.palette layout P))))
 
@@ -54,7 +54,7 @@ fill_plan kinds asked = and_then (step (enough 1 kinds asked.rule)) (λ _. fill_
 -- what `fill` works on, by what its map is made of
 abbrev pub filled_by : RequestView → Filled → FillTask
 filled_by asked (filled.Windows made) = fill made.patterns made.palette made.layout made.problem
-filled_by asked (filled.Tiles made) = fill_tiles made.tiles (masked asked made.mask) made.layout made.problem
+filled_by asked (filled.Tiles made) = fill_tiles made.tiles (mask_or_whole asked made.mask) made.layout made.problem
 
 -- what the code makes for `fill`, as its task, or the fault
 abbrev pub fill_made : RequestView → Result Filled Fault → Result FillTask Fault

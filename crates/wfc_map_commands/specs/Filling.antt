@@ -10,9 +10,9 @@ use Rattle.wfc_pattern.specs.Patterns.{IsPatterns}
 use Rattle.wfc_picture.specs.declared.symbol.Kind.{Kind}
 use Rattle.wfc_problem.specs.Network.{IsProblem}
 use Rattle.wfc_task.specs.Lesson.{IsShown}
-use Rattle.wfc_task.specs.Steps.{laid}
+use Rattle.wfc_task.specs.Steps.{sample_layout}
 use Rattle.wfc_task.specs.TileSteps.{laid_tiles}
-use Rattle.wfc_task.specs.Tiling.{IsTiled, masked}
+use Rattle.wfc_task.specs.Tiling.{IsTilingTask, mask_or_whole}
 use Rattle.wfc_tileset.specs.Pictures.{picture_name}
 use Rattle.wfc_words.specs.RequestView.{RequestView}
 
@@ -21,7 +21,7 @@ pub record IsFilling (asked : RequestView) (task : Filling) : Type 0 where
   pub taught : IsPatterns task.patterns
   pub sound : IsProblem task.problem
   pub kind : Kind
-  pub layout : laid kind asked ≡ Ok task.layout
+  pub layout : sample_layout kind asked ≡ Ok task.layout
   pub wide : task.patterns.n ≤ asked.width
   pub high : task.patterns.n ≤ asked.height
   pub problem : (pins : List Pin)
@@ -33,7 +33,7 @@ pub record IsFilling (asked : RequestView) (task : Filling) : Type 0 where
 -- are all taken, on the mask
 pub record IsTileFilling (asked : RequestView) (task : TileFilling) : Type 0 where
   pub layout : laid_tiles task.tiles asked ≡ Ok task.layout
-  pub tiled : IsTiled asked task.tiles (masked asked task.mask) task.problem
+  pub tiled : IsTilingTask asked task.tiles (mask_or_whole asked task.mask) task.problem
   pub pictured : picture_name task.tiles (length task.tiles.pictures) ≡ None
 
 -- by what the map is made of

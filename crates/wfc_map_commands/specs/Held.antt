@@ -8,7 +8,7 @@ use Rattle.wfc_map_commands.specs.declared.learning.Learned.TheVariants as learn
 use Rattle.wfc_problem.specs.Network.{Network}
 use Rattle.wfc_render.specs.Learned.{learned_text}
 use Rattle.wfc_render.specs.LearnedTiles.{learned_tiles_text}
-use Rattle.wfc_task.specs.Tiling.{masked}
+use Rattle.wfc_task.specs.Tiling.{mask_or_whole}
 use Rattle.wfc_words.specs.RequestView.{RequestView}
 
 -- the text of the rules of a sample or of a tile set
@@ -22,6 +22,6 @@ problem_in (filled.Windows made) = made.problem
 problem_in (filled.Tiles made) = made.problem
 
 -- the text of the map that an assignment makes
-abbrev pub text_in : RequestView → Filled → List ℕ → List ℕ
-text_in asked (filled.Windows made) a = picture_text asked made.patterns made.palette made.layout a
-text_in asked (filled.Tiles made) a = tiles_text made.tiles (masked asked made.mask) made.layout a
+abbrev pub text_of_assignment : RequestView → Filled → List ℕ → List ℕ
+text_of_assignment asked (filled.Windows made) a = picture_text asked made.patterns made.palette made.layout a
+text_of_assignment asked (filled.Tiles made) a = tiles_text made.tiles (mask_or_whole asked made.mask) made.layout a

@@ -10,8 +10,8 @@ use Rattle.wfc_plan.specs.declared.fault.Fault.{Fault}
 use Rattle.wfc_words.specs.RequestView.{RequestView}
 
 -- what `fill` comes to with one chooser
-abbrev pub filled : RequestView → List File → Result FillTask Fault
-filled asked files = outcome (fill_plan (Fewest ∷ []) asked) files
+abbrev pub fill_outcome : RequestView → List File → Result FillTask Fault
+fill_outcome asked files = outcome (fill_plan (Fewest ∷ []) asked) files
 
 -- a step, and the number of the line of a steps file that says it
 abbrev pub step_line : ℕ → Step → StepLine

@@ -18,5 +18,5 @@ unless_out steps None = Ok steps
 unless_out steps (Some fault) = Err (Range fault)
 
 -- steps that are all in the problem
-abbrev pub fitting : Network → List StepLine → Result (List StepLine) Refusal
-fitting P steps = unless_out steps (range_fault P steps)
+abbrev pub fitting_steps : Network → List StepLine → Result (List StepLine) Refusal
+fitting_steps P steps = unless_out steps (range_fault P steps)

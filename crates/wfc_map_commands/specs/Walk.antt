@@ -1,7 +1,7 @@
 -- Where the steps of `domains` have led.
 use Rattle.std.specs.Prelude.{List, [], drop, length, map, take, true, ℕ, ◌++◌, ◌+◌, ◌<◌, ◌∷◌, ◌≡◌}
 use Rattle.wfc_domains.specs.Store.{IsSound, StoreView}
-use Rattle.wfc_map_commands.specs.DomainsAnswer.{after_step, later, shown}
+use Rattle.wfc_map_commands.specs.DomainsAnswer.{after_step, literals_after_steps, shown_domains}
 use Rattle.wfc_pins.specs.declared.steps.Step.{Step}
 use Rattle.wfc_pins.specs.declared.steps.StepLine.{StepLine}
 use Rattle.wfc_problem.specs.Network.{Network}
@@ -32,5 +32,5 @@ stood standing (line ∷ lines) = stood (after_step standing line.step) lines
 -- the blocks that are still to be put after so many steps
 abbrev pub left_text : Network → ℕ → ℕ → List StepLine → ℕ → List ℕ
 left_text P values cells lines i =
-    blocks_from (i + 1) (map (shown P) (later (stood [] (take i lines)) (drop i lines))) values
+    blocks_from (i + 1) (map (shown_domains P) (literals_after_steps (stood [] (take i lines)) (drop i lines))) values
     cells

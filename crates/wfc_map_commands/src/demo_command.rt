@@ -15,8 +15,8 @@ use std::alloc::Global;
 use wfc_choose::{Chooser, RuleKind};
 use wfc_outside::{Folder, NoMemory};
 use wfc_plan::Fault;
-use wfc_reply::{Answer, Verdict, first_of, kinds};
-use wfc_runs::{End, run};
+use wfc_reply::{Answer, CommandVerdict, first_chooser, kinds};
+use wfc_runs::{RunEnd, run};
 use wfc_text::push_number;
 use wfc_words::Request;
 
@@ -52,7 +52,7 @@ fn answer(
         (end_of (map (λ chooser. (told chooser).rule) choosers.items) Fewest task.now.problem
         demo_budget request.now.number) ≡ Some (answer_view answer)) }
 {
-    let chooser = first_of(alloc, choosers, RuleKind::Fewest)?;
+    let chooser = first_chooser(alloc, choosers, RuleKind::Fewest)?;
     let ran = run(
         alloc,
         &task.problem,
@@ -75,13 +75,13 @@ fn answer(
 }
 
 /// How a demonstration ends whose run ends so.
-fn verdict(end: &End) -> Verdict
+fn verdict(end: &RunEnd) -> CommandVerdict
     ensures value { result ≡ demo_verdict end.now }
 {
     match end {
-        End::Map { .. } => Verdict::Done,
-        End::NoMap => Verdict::NoMap,
-        End::Spent => Verdict::Spent {
+        RunEnd::Map { .. } => CommandVerdict::Done,
+        RunEnd::NoMap => CommandVerdict::NoMap,
+        RunEnd::Spent => CommandVerdict::Spent {
             budget: DEMO_BUDGET,
         },
     }

@@ -14,7 +14,7 @@ use wfc_pattern::Patterns;
 use wfc_picture::Symbol;
 use wfc_plan::{Fault, Refusal, enough};
 use wfc_problem::Problem;
-use wfc_task::{Output, indexed, learned, posed_for};
+use wfc_task::{AskedOutput, numbered_picture, patterns_of_picture, posed_for};
 use wfc_words::Request;
 
 /// The side of the grid that a demonstration learns from, in pixels.
@@ -31,9 +31,9 @@ fn demo(alloc: Global, number: u32) -> Result<Demonstration, Refusal>
     ensures exact { IsDemoMade number result }
 {
     let symbols = demo_symbols(alloc, number, SIDE)?;
-    let (picture, palette) = indexed(alloc, &symbols, SIDE)?;
-    let patterns = learned(alloc, &picture, N, 1, false)?;
-    let output = Output {
+    let (picture, palette) = numbered_picture(alloc, &symbols, SIDE)?;
+    let patterns = patterns_of_picture(alloc, &picture, N, 1, false)?;
+    let output = AskedOutput {
         width: OUTPUT,
         height: OUTPUT,
         wrap: false,

@@ -21,7 +21,7 @@ use wfc_domains::Steps;
 use wfc_outside::{Folder, Sink, SinkFault};
 use wfc_pins::StepLine;
 use wfc_problem::Problem;
-use wfc_reply::{Stop, Verdict};
+use wfc_reply::{CommandVerdict, Stop};
 use wfc_words::Request;
 
 /// Reads the files, and puts the block of the root and one of each step.
@@ -30,7 +30,7 @@ pub fn domains<F: Folder, O: Sink>(
     request: &Request,
     folder: &mut F,
     out: &mut O,
-) -> Result<Verdict, Stop>
+) -> Result<CommandVerdict, Stop>
     requires source { IsSourceAsked request.now }
     requires output { IsOutputAsked request.now }
     ensures ends { EndsPut (domains_plan request.now) DomainsAnswers

@@ -6,14 +6,14 @@ ghost use Rattle.wfc_map_commands.specs.FillAnswer.{fill_by, picture_text, tiles
 ghost use Rattle.wfc_map_commands.specs.FillCommand.{FillAnswers, fill_command};
 ghost use Rattle.wfc_map_commands.specs.FillTask.{filled_by};
 ghost use Rattle.wfc_map_commands.specs.Filling.{IsFilling, IsFillingBy, IsTileFilling};
-ghost use Rattle.wfc_map_commands.specs.Held.{problem_in, text_in};
+ghost use Rattle.wfc_map_commands.specs.Held.{problem_in, text_of_assignment};
 ghost use Rattle.wfc_problem.specs.Assignment.{IsLegalAssignment};
 ghost use Rattle.wfc_reply.specs.Choosers.{kinds_of};
 ghost use Rattle.wfc_reply.specs.Ends.{EndsBy, Replies};
 ghost use Rattle.wfc_reply.specs.Reply.{done_with};
 ghost use Rattle.wfc_reply.specs.ReplyView.{answer_view, reply_view};
 ghost use Rattle.wfc_task.specs.Asked.{IsOutputAsked, IsSourceAsked};
-ghost use Rattle.wfc_task.specs.Tiling.{masked};
+ghost use Rattle.wfc_task.specs.Tiling.{mask_or_whole};
 ghost use Rattle.wfc_tiled.specs.Maps.{tile_map};
 
 use crate::filling::{Filled, Filling, TileFilling, fill_task};
@@ -25,8 +25,8 @@ use wfc_picture::Picture;
 use wfc_plan::Fault;
 use wfc_problem::Problem;
 use wfc_render::{picture_bytes, tile_bytes};
-use wfc_reply::{Answer, Verdict, first_of, kinds};
-use wfc_runs::{End, run};
+use wfc_reply::{Answer, CommandVerdict, first_chooser, kinds};
+use wfc_runs::{RunEnd, run};
 use wfc_tiled::{tiles_of, tiles_of_masked};
 use wfc_words::Request;
 
@@ -93,21 +93,21 @@ fn answer(
         (kinds_of (map (λ chooser. (told chooser).rule) choosers.items)) request.now.rule }
     requires output { IsOutputAsked request.now }
     requires filling { IsFillingBy request.now filled.now }
-    ensures answers { IfOk result
-        (λ answer. fill_by (map (λ chooser. (told chooser).rule) choosers.items) request.now
-        (text_in request.now filled.now) (problem_in filled.now) ≡ Some (answer_view answer)) }
+    ensures answers { IfOk result (λ answer. fill_by (map (λ chooser. (told chooser).rule)
+        choosers.items) request.now (text_of_assignment request.now filled.now) (problem_in
+        filled.now) ≡ Some (answer_view answer)) }
 {
-    let chooser = first_of(alloc, choosers, request.rule)?;
+    let chooser = first_chooser(alloc, choosers, request.rule)?;
     let problem = problem_in(filled);
     let ran = run(alloc, problem, chooser, request.budget, request.seed)?;
     match ran.end {
-        End::Map { assignment } => found(alloc, request, filled, &assignment),
-        End::NoMap => Ok(Answer {
-            verdict: Verdict::NoMap,
+        RunEnd::Map { assignment } => found(alloc, request, filled, &assignment),
+        RunEnd::NoMap => Ok(Answer {
+            verdict: CommandVerdict::NoMap,
             text: None,
         }),
-        End::Spent => Ok(Answer {
-            verdict: Verdict::Spent {
+        RunEnd::Spent => Ok(Answer {
+            verdict: CommandVerdict::Spent {
                 budget: request.budget,
             },
             text: None,
@@ -135,15 +135,15 @@ fn found(
     requires output { IsOutputAsked request.now }
     requires filling { IsFillingBy request.now filled.now }
     requires legal { IsLegalAssignment (problem_in filled.now) assignment.now }
-    ensures text { IfOk result
-        (λ answer. answer_view answer ≡ done_with (text_in request.now filled.now assignment.now)) }
+    ensures text { IfOk result (λ answer. answer_view answer ≡ done_with (text_of_assignment
+        request.now filled.now assignment.now)) }
 {
     let text = match filled {
         Filled::Windows(filling) => picture_text(alloc, request, filling, assignment)?,
         Filled::Tiles(filling) => tiles_text(alloc, request, filling, assignment)?,
     };
     Ok(Answer {
-        verdict: Verdict::Done,
+        verdict: CommandVerdict::Done,
         text: Some(text),
     })
 }
@@ -183,7 +183,7 @@ fn tiles_text(
     requires filling { IsTileFilling request.now filling.now }
     requires legal { IsLegalAssignment filling.now.problem assignment.now }
     ensures text { IfOk result (λ text. text.items ≡ tiles_text filling.now.tiles
-        (masked request.now filling.now.mask) filling.now.layout assignment.now) }
+        (mask_or_whole request.now filling.now.mask) filling.now.layout assignment.now) }
 {
     let _read = (filling.tiles.kind(), filling.problem.cells());
     let map = tiles_in(alloc, request, filling, assignment)?;
@@ -201,7 +201,7 @@ fn tiles_in(
     requires filling { IsTileFilling request.now filling.now }
     requires legal { IsLegalAssignment filling.now.problem assignment.now }
     ensures map { IfOk result
-        (λ map. map ≡ tile_map (masked request.now filling.now.mask) assignment.now) }
+        (λ map. map ≡ tile_map (mask_or_whole request.now filling.now.mask) assignment.now) }
 {
     match &filling.mask {
         Some(mask) => tiles_of_masked(alloc, mask, assignment),

@@ -7,7 +7,7 @@ ghost use Rattle.wfc_map_commands.specs.Filling.{IsFilling, IsFillingBy, IsTileF
 ghost use Rattle.wfc_outside.specs.Gives.{result_map};
 ghost use Rattle.wfc_plan.specs.Plan.{Goes};
 ghost use Rattle.wfc_task.specs.Asked.{AskedBy, IsOutputAsked, IsSampleAsked, IsSourceAsked};
-ghost use Rattle.wfc_task.specs.Tiling.{masked};
+ghost use Rattle.wfc_task.specs.Tiling.{mask_or_whole};
 
 use std::alloc::Global;
 use wfc_choose::RuleKind;
@@ -17,7 +17,7 @@ use wfc_picture::Palette;
 use wfc_plan::{Fault, enough};
 use wfc_problem::Problem;
 use wfc_render::Layout;
-use wfc_task::{laid, laid_tiles, problem, sample, tile_set, tiled_problem};
+use wfc_task::{laid_tiles, problem, sample, sample_layout, tile_set, tiled_problem};
 use wfc_tiled::Mask;
 use wfc_tileset::TileSet;
 use wfc_words::{Request, SourceModel};
@@ -100,7 +100,7 @@ fn sample_filling<F: Folder>(
     ensures filling { IfOk result (IsFilling request.now) }
 {
     let taught = sample(alloc, request, folder)?;
-    let layout = laid(taught.kind, request)?;
+    let layout = sample_layout(taught.kind, request)?;
     let problem = problem(alloc, request, &taught, folder)?;
     Ok(Filling {
         palette: taught.palette,
@@ -118,7 +118,7 @@ fn tile_filling<F: Folder>(
 ) -> Result<TileFilling, Fault>
     requires output { IsOutputAsked request.now }
     ensures goes { Goes (fill_tiles_plan request.now) (F.seen folder.old) (F.seen folder.new)
-        (result_map (λ made. fill_tiles made.tiles (masked request.now made.mask) made.layout
+        (result_map (λ made. fill_tiles made.tiles (mask_or_whole request.now made.mask) made.layout
         made.problem) result) }
     ensures filling { IfOk result (IsTileFilling request.now) }
 {

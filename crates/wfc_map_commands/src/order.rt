@@ -11,7 +11,7 @@ ghost use Rattle.wfc_map_commands.specs.FillOrder.{fill_order};
 ghost use Rattle.wfc_map_commands.specs.FillTask.{fill_plan};
 ghost use Rattle.wfc_map_commands.specs.LearnOrder.{learn_order};
 ghost use Rattle.wfc_map_commands.specs.LearnTask.{learn_plan};
-ghost use Rattle.wfc_map_commands.specs.Small.{filled};
+ghost use Rattle.wfc_map_commands.specs.Small.{fill_outcome};
 ghost use Rattle.wfc_outside.specs.Folder.{File};
 ghost use Rattle.wfc_outside.specs.declared.whole.ReadFault.TheVariants.{Missing};
 ghost use Rattle.wfc_pattern.specs.declared.learning.LearnFault.TheVariants.{SampleBelowN};
@@ -64,31 +64,31 @@ pub fn demo_refuses_in_order()
 pub fn first_of_several_faults()
     ensures chooser_and_file { outcome (fill_plan [] (sample_asked 1 P6)) []
         ≡ Err (Refused (refusals.Chooser Fewest)) }
-    ensures file_and_pins { filled (sample_asked 1 P6) [] ≡ Err (Unread Sample Missing) }
-    ensures learning_and_layout { filled (sample_asked 3 P6) (with_sample [])
+    ensures file_and_pins { fill_outcome (sample_asked 1 P6) [] ≡ Err (Unread Sample Missing) }
+    ensures learning_and_layout { fill_outcome (sample_asked 3 P6) (with_sample [])
         ≡ Err (Refused (refusals.Learn SampleBelowN)) }
-    ensures layout_and_pins { filled (sample_asked 1 P6) (with_sample [])
+    ensures layout_and_pins { fill_outcome (sample_asked 1 P6) (with_sample [])
         ≡ Err (Refused (refusals.Render FormDiffers)) }
-    ensures pins_and_size { filled (sample_asked 2 Grid) (with_sample [])
+    ensures pins_and_size { fill_outcome (sample_asked 2 Grid) (with_sample [])
         ≡ Err (Unread Pins Missing) }
-    ensures lines_and_size { filled (sample_asked 2 Grid) (with_pins (codes "pin\n"))
+    ensures lines_and_size { fill_outcome (sample_asked 2 Grid) (with_pins (codes "pin\n"))
         ≡ Err (Refused (refusals.Pins (pins.BadLine 1))) }
-    ensures size_and_pin { filled (sample_asked 2 Grid) (with_pins (codes "pin 9 9 x\n"))
+    ensures size_and_pin { fill_outcome (sample_asked 2 Grid) (with_pins (codes "pin 9 9 x\n"))
         ≡ Err (Refused (refusals.Build builds.SizeBelowN)) }
-    ensures pin { filled (sample_asked 1 Grid) (with_pins (codes "pin 9 9 x\n"))
+    ensures pin { fill_outcome (sample_asked 1 Grid) (with_pins (codes "pin 9 9 x\n"))
         ≡ Err (Refused (refusals.Build (builds.PinOutside 1))) }
 {}
 
 /// And of a tile set, whatever the tile set is: the pins before the mask, and the mask before what the pins mean.
 pub fn first_of_several_faults_of_tiles()
     ensures pins_and_mask { (files : List File) (set : TileSetView) → IsLaid tiles_asked files set →
-        AreBeside files None → filled tiles_asked files ≡ Err (Unread Pins Missing) }
+        AreBeside files None → fill_outcome tiles_asked files ≡ Err (Unread Pins Missing) }
     ensures lines_and_mask { (files : List File) (set : TileSetView) →
         IsLaid tiles_asked files set → AreBeside files (Some (codes "pin\n")) →
-        filled tiles_asked files ≡ Err (Refused (refusals.Pins (pins.BadLine 1))) }
+        fill_outcome tiles_asked files ≡ Err (Refused (refusals.Pins (pins.BadLine 1))) }
     ensures mask_and_pin { (files : List File) (set : TileSetView) →
         IsLaid tiles_asked files set → AreBeside files (Some (codes "pin 9 9 x\n")) →
-        filled tiles_asked files ≡ Err (Unread Mask Missing) }
+        fill_outcome tiles_asked files ≡ Err (Unread Mask Missing) }
 {}
 
 /// And of what stands behind a problem: the problem before the steps, which no layout is looked at for.

@@ -4,7 +4,7 @@ ghost use Rattle.std.specs.Option.{option_map};
 ghost use Rattle.std.specs.Prelude.{All, IfOk, length, ◌+◌, ◌<◌, ◌≡◌, ◌≤◌};
 ghost use Rattle.wfc_map_commands.specs.DomainsTask.{domains_made, domains_plan};
 ghost use Rattle.wfc_map_commands.specs.StepPlans.{steps_file_plan, steps_plan};
-ghost use Rattle.wfc_map_commands.specs.Stepping.{fitting, steps_in};
+ghost use Rattle.wfc_map_commands.specs.Stepping.{fitting_steps, steps_in};
 ghost use Rattle.wfc_outside.specs.Gives.{result_map};
 ghost use Rattle.wfc_pins.specs.Steps.{IsStepIn};
 ghost use Rattle.wfc_pins.specs.declared.steps.StepLine.{StepLine};
@@ -34,7 +34,7 @@ fn steps_file<F: Folder>(
 {
     let bytes = whole_file(alloc, folder, Source::Steps, name)?;
     let steps = steps_in(alloc, &bytes)?;
-    let steps = fitting(problem, steps)?;
+    let steps = fitting_steps(problem, steps)?;
     Ok(steps)
 }
 
@@ -70,8 +70,8 @@ fn steps_in(alloc: Global, bytes: &[u8]) -> Result<Vec<StepLine>, Refusal>
 }
 
 /// The steps, if they are all in the problem.
-fn fitting(problem: &Problem, steps: Vec<StepLine>) -> Result<Vec<StepLine>, Refusal>
-    ensures exact { result_map (λ steps. steps.items) result ≡ fitting problem.now steps.items }
+fn fitting_steps(problem: &Problem, steps: Vec<StepLine>) -> Result<Vec<StepLine>, Refusal>
+    ensures exact { result_map (λ steps. steps.items) result ≡ fitting_steps problem.now steps.items }
     ensures inside { IfOk result (λ steps. All (λ
         (line : StepLine). IsStepIn problem.now line.step) steps.items) }
     ensures few { IfOk result (λ kept. length kept.items ≡ length steps.items) }

@@ -3,7 +3,7 @@
 ghost use Rattle.std.specs.Prelude.{All, IfOk, IsTrue, List, OnOk, [], length, ◌+◌, ◌<◌, ◌^◌, ◌↔◌, ◌≡◌, ◌≤◌};
 ghost use Rattle.wfc_domains.specs.Store.{IsOpened};
 ghost use Rattle.wfc_domains.specs.declared.Verdict.TheVariants.{Alive};
-ghost use Rattle.wfc_map_commands.specs.DomainsAnswer.{root_verdict, shown};
+ghost use Rattle.wfc_map_commands.specs.DomainsAnswer.{root_verdict, shown_domains};
 ghost use Rattle.wfc_map_commands.specs.Walk.{IsWalk, WalksTo, left_text};
 ghost use Rattle.wfc_outside.specs.Sink.{Puts};
 ghost use Rattle.wfc_pins.specs.Steps.{IsStepIn};
@@ -22,7 +22,7 @@ use wfc_outside::{NoMemory, Sink, SinkFault};
 use wfc_pins::{Step, StepLine};
 use wfc_problem::Literal;
 use wfc_render::write_block;
-use wfc_reply::Verdict;
+use wfc_reply::CommandVerdict;
 
 /// Where steps have led: the literals of the engine stand, and beside them so many that were assumed while some cell had
 /// no value.
@@ -58,14 +58,14 @@ impl<'p> Walk<'p> {
     }
 
     /// How the command ends that begins here.
-    pub(crate) fn verdict(&self) -> Verdict
+    pub(crate) fn verdict(&self) -> CommandVerdict
         ensures value { IsWalk self.now.engine self.now.beside [] →
             result ≡ root_verdict self.now.engine.problem }
     {
         if self.is_alive() {
-            Verdict::Done
+            CommandVerdict::Done
         } else {
-            Verdict::Dead
+            CommandVerdict::Dead
         }
     }
 
@@ -80,8 +80,8 @@ impl<'p> Walk<'p> {
         requires values { count ≡ values self.now.engine.problem }
         requires cells { cells ≡ self.now.engine.problem.cells }
         ensures put { (standing : List Literal) → IsWalk self.now.engine self.now.beside standing →
-            Puts (O.seen out.old) (O.seen out.new)
-            (block_text number (shown self.now.engine.problem standing) count cells) result }
+            Puts (O.seen out.old) (O.seen out.new) (block_text number (shown_domains
+            self.now.engine.problem standing) count cells) result }
     {
         if self.is_alive() {
             write_block(out, number, Some(self.engine.domains()), count, cells)
@@ -139,8 +139,8 @@ impl<'p> Walk<'p> {
         ensures spare { self.old.engine.spare ≤ self.new.engine.spare + 1 }
         ensures beside { self.new.beside ≤ self.old.beside + 1 }
         ensures put { (standing : List Literal) → IsWalk self.new.engine self.new.beside standing →
-            Puts (O.seen out.old) (O.seen out.new)
-            (block_text number (shown self.new.engine.problem standing) count cells) result }
+            Puts (O.seen out.old) (O.seen out.new) (block_text number (shown_domains
+            self.new.engine.problem standing) count cells) result }
     {
         self.step(step, steps);
         self.put(out, number, count, cells)

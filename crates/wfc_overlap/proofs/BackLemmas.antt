@@ -23,7 +23,7 @@ use Rattle.wfc_problem.specs.Assignment.{IsLegalAssignment}
 use Rattle.wfc_lists.proofs.Lists.{has_Contains}
 use Rattle.wfc_problem.proofs.CallerLemmas.{base_inside}
 use Rattle.wfc_places.specs.Steps.{stepped, is_there, cell_of}
-use Rattle.wfc_overlap.specs.Sample.{Output, meets, problem_of_sample}
+use Rattle.wfc_overlap.specs.Sample.{Output, window_meets_pins, problem_of_sample}
 use Rattle.wfc_overlap.specs.Bridge.{IsRoom, AreInside, nearest, pixel_of, picture_of}
 use Rattle.wfc_places.proofs.CallerLemmas.{mod_low, forth_there, stay_there, stayed, held-from_suits}
 use Rattle.wfc_overlap.proofs.SampleLemmas.{cell_inside, place-neighbour, support-agrees, base-at, sample_problem}
@@ -218,7 +218,7 @@ module _ (patterns : PatternsView) (output : Output) (pins : List Pin) (a : List
       let below = near output.height n output.wrap pin.row place.1 taught.some_side room.high in
       let U = nearest output.width n output.wrap pin.column in
       let V = nearest output.height n output.wrap pin.row in
-      let meets_all : meets n output (U, V) (W U V) pins ≡ true =
+      let meets_all : window_meets_pins n output (U, V) (W U V) pins ≡ true =
       sym (base-at patterns output pins taught U V (value U V) across.inside below.inside (value_in U V across.inside below.inside))
       ∙ legal.based (cell_of columns U V) (cell_inside patterns output pins U V across.inside below.inside) in
       let column : U + (pin.column - U) ≡ pin.column = omega (arith, across.before) in

@@ -18,7 +18,7 @@ use Rattle.wfc_places.specs.Flags.{flag}
 use Rattle.wfc_overlap.specs.Flags.{AreCut, IsTable}
 use Rattle.wfc_places.specs.Marks.{suits}
 use Rattle.wfc_places.specs.Steps.{cell_of}
-use Rattle.wfc_overlap.specs.Sample.{Output, suits_at}
+use Rattle.wfc_overlap.specs.Sample.{Output, window_suits_at}
 use Rattle.wfc_lists.proofs.Growing.{one_more}
 use Rattle.wfc_places.proofs.CallerLemmas.{mod_low, mod_once}
 
@@ -93,7 +93,7 @@ module _ (patterns : PatternsView) (output : Output) where
   -- ---- one entry of a window on a pixel
 
   -- where no window has the pixel as its entry, each number suits
-  pub suits_nowhere : (mark : Pin) (i j : ℕ) (place : ℕ × ℕ) (w : List ℕ) → ((place.0 + i) % output.width ≡ mark.column → (place.1 + j) % output.height ≡ mark.row → ⊥) → suits_at patterns.n output place w mark i j ≡ true
+  pub suits_nowhere : (mark : Pin) (i j : ℕ) (place : ℕ × ℕ) (w : List ℕ) → ((place.0 + i) % output.width ≡ mark.column → (place.1 + j) % output.height ≡ mark.row → ⊥) → window_suits_at patterns.n output place w mark i j ≡ true
   suits_nowhere mark i j place w apart = by ((place.0 + i) % output.width == mark.column) ((place.1 + j) % output.height == mark.row) refl refl
     where
       by : (a b : Bool) → ((place.0 + i) % output.width == mark.column) ≡ a → ((place.1 + j) % output.height == mark.row) ≡ b → (not (a && b) || suits mark (slice_index w (j * patterns.n + i))) ≡ true
@@ -102,14 +102,14 @@ module _ (patterns : PatternsView) (output : Output) where
       by false b column row = refl
 
   -- where the entry stands on the pixel, its number has to suit
-  pub suits_here : (mark : Pin) (i j : ℕ) (place : ℕ × ℕ) (w : List ℕ) → (place.0 + i) % output.width ≡ mark.column → (place.1 + j) % output.height ≡ mark.row → suits_at patterns.n output place w mark i j ≡ suits mark (slice_index w (j * patterns.n + i))
+  pub suits_here : (mark : Pin) (i j : ℕ) (place : ℕ × ℕ) (w : List ℕ) → (place.0 + i) % output.width ≡ mark.column → (place.1 + j) % output.height ≡ mark.row → window_suits_at patterns.n output place w mark i j ≡ suits mark (slice_index w (j * patterns.n + i))
   suits_here mark i j place w column row =
       ap (λ b. not (b && ((place.1 + j) % output.height == mark.row)) || suits mark (slice_index w (j * patterns.n + i))) (eq-eqb _ _ column)
       ∙ ap (λ b. not b || suits mark (slice_index w (j * patterns.n + i))) (eq-eqb _ _ row)
 
   -- where no window has the pixel as its entry, nothing is taken away
   pub cut_nowhere : (flags : List Bool) (mark : Pin) (i j : ℕ) → ((x y : ℕ) → x < columns → y < rows → (x + i) % output.width ≡ mark.column → (y + j) % output.height ≡ mark.row → ⊥)
-      → AreCut patterns output flags flags (λ place w. suits_at patterns.n output place w mark i j)
+      → AreCut patterns output flags flags (λ place w. window_suits_at patterns.n output place w mark i j)
   cut_nowhere flags mark i j apart = record {
     as_long = refl;
     left = λ x y v column row inside.
@@ -128,20 +128,20 @@ module _ (patterns : PatternsView) (output : Output) where
       → length new ≡ length old
       → ((w : ℕ) → w < count → flag count new (cell_of columns u v) w ≡ (flag count old (cell_of columns u v) w && suits mark (slice_index (window_at patterns w) (j * patterns.n + i))))
       → ((k : ℕ) → (k < cell_of columns u v * count) ⊎ (cell_of columns u v * count + count ≤ k) → get_or new k false ≡ get_or old k false)
-      → AreCut patterns output old new (λ place w. suits_at patterns.n output place w mark i j)
+      → AreCut patterns output old new (λ place w. window_suits_at patterns.n output place w mark i j)
   cut_at old new mark i j u v u_in column row only_x only_y as_long here others = record { as_long = as_long; left = λ x y w x_in y_in inside. by x y w x_in y_in inside (cases_eq x u) (cases_eq y v) }
     where
       cases_eq : (a b : ℕ) → (a ≡ b) ⊎ (a ≢ b)
       cases_eq a b = elim (cases_lt a b) [ inl l ↦ inr (λ e. absurd (omega arith)) | inr ge ↦ elim (cases_lt b a) [ inl l ↦ inr (λ e. absurd (omega arith)) | inr le ↦ inl (omega arith) ] ]
 
       away : (x y w : ℕ) → x < columns → y < rows → w < count → (x ≡ u → y ≡ v → ⊥)
-          → flag count new (cell_of columns x y) w ≡ (flag count old (cell_of columns x y) w && suits_at patterns.n output (x, y) (window_at patterns w) mark i j)
+          → flag count new (cell_of columns x y) w ≡ (flag count old (cell_of columns x y) w && window_suits_at patterns.n output (x, y) (window_at patterns w) mark i j)
       away x y w x_in y_in inside apart =
           others (cell_of columns x y * count + w) (apart_rows count (cell_of columns x y) (cell_of columns u v) w inside (apart_cells x y u v x_in u_in apart))
           ∙ sym (ap (λ b. flag count old (cell_of columns x y) w && b) (suits_nowhere mark i j (x, y) (window_at patterns w) (λ on_x on_y. apart (only_x x x_in on_x) (only_y y y_in on_y))) ∙ and-true (flag count old (cell_of columns x y) w))
 
       by : (x y w : ℕ) → x < columns → y < rows → w < count → (x ≡ u) ⊎ (x ≢ u) → (y ≡ v) ⊎ (y ≢ v)
-          → flag count new (cell_of columns x y) w ≡ (flag count old (cell_of columns x y) w && suits_at patterns.n output (x, y) (window_at patterns w) mark i j)
+          → flag count new (cell_of columns x y) w ≡ (flag count old (cell_of columns x y) w && window_suits_at patterns.n output (x, y) (window_at patterns w) mark i j)
       by x y w x_in y_in inside (inr other) q = away x y w x_in y_in inside (λ e _. other e)
       by x y w x_in y_in inside (inl e) (inr other) = away x y w x_in y_in inside (λ _ f. other f)
       by x y w x_in y_in inside (inl e) (inl f) =
@@ -175,7 +175,7 @@ module _ (patterns : PatternsView) (output : Output) where
       → length new ≡ length old
       → ((w : ℕ) → w < count → flag count new (v * across + u) w ≡ (flag count old (v * across + u) w && suits mark (slice_index (window_at patterns w) (j * n + i))))
       → ((k : ℕ) → (k < (v * across + u) * count) ⊎ ((v * across + u) * count + count ≤ k) → get_or new k false ≡ get_or old k false)
-      → AreCut patterns output old new (λ place w. suits_at n output place w mark i j)
+      → AreCut patterns output old new (λ place w. window_suits_at n output place w mark i j)
 
   -- the entry is cut, with the patterns' side and the places' columns by other names
   pub cut_entry_at : (old new : List Bool) (mark : Pin) (i j u v n across : ℕ) → n ≡ patterns.n → across ≡ starts output.width n output.wrap → IsEntry old new mark i j u v n across

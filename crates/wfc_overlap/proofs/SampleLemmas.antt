@@ -19,7 +19,7 @@ use Rattle.wfc_lists.proofs.Tables.{length-table, table-at, row_below}
 use Rattle.wfc_model.proofs.CallerLemmas.{opposite_below}
 use Rattle.wfc_problem.proofs.CallerLemmas.{neighbour_read, neighbour_not_none, neighbour_is, supports_inside, flag_at}
 use Rattle.wfc_places.specs.Steps.{stepped, is_there, cell_of}
-use Rattle.wfc_overlap.specs.Sample.{Output, beside, agreeing, meets, problem_of_sample}
+use Rattle.wfc_overlap.specs.Sample.{Output, window_beside, agreeing, window_meets_pins, problem_of_sample}
 use Rattle.wfc_overlap.specs.Bridge.{IsRoom}
 use Rattle.wfc_places.proofs.CallerLemmas as shared
 use Rattle.wfc_places.proofs.CallerLemmas.{one_across, one_down, length-supports, support-fits, fits-support, supports_rise, stepped-is, stepped-stepped, there_again}
@@ -56,14 +56,14 @@ module _ (patterns : PatternsView) (output : Output) (pins : List Pin) where
   pub cell_place : (c : ℕ) → c < P.cells → IsCell columns rows c (c % columns) (c / columns)
   cell_place c inside = cell_is columns rows c (omega (arith, cells-is))
 
-  -- ---- what lies beside a place
+  -- ---- what lies window_beside a place
 
-  pub entry : (x y d : ℕ) → x < columns → y < rows → d < 4 → get_or P.neighbours (cell_of columns x y * 4 + d) NO_CELL ≡ beside patterns.n output (x, y) d
+  pub entry : (x y d : ℕ) → x < columns → y < rows → d < 4 → get_or P.neighbours (cell_of columns x y * 4 + d) NO_CELL ≡ window_beside patterns.n output (x, y) d
   entry x y d column row dir =
-      table-at (λ place. map (λ d. beside patterns.n output place d) (range_with_len 0 4)) 4
-      (λ place. length-map-range_with_len (λ d. beside patterns.n output place d) 0 4) all (cell_of columns x y) d (0, 0) NO_CELL (cell_inside x y column row) dir
-      ∙ ap (λ place. get_or (map (λ d. beside patterns.n output place d) (range_with_len 0 4)) d NO_CELL) (places-at output.width output.height patterns.n output.wrap x y (0, 0) column row)
-      ∙ get_or-map-range_with_len (λ d. beside patterns.n output (x, y) d) 0 4 d d NO_CELL dir (zero-add d)
+      table-at (λ place. map (λ d. window_beside patterns.n output place d) (range_with_len 0 4)) 4
+      (λ place. length-map-range_with_len (λ d. window_beside patterns.n output place d) 0 4) all (cell_of columns x y) d (0, 0) NO_CELL (cell_inside x y column row) dir
+      ∙ ap (λ place. get_or (map (λ d. window_beside patterns.n output place d) (range_with_len 0 4)) d NO_CELL) (places-at output.width output.height patterns.n output.wrap x y (0, 0) column row)
+      ∙ get_or-map-range_with_len (λ d. window_beside patterns.n output (x, y) d) 0 4 d d NO_CELL dir (zero-add d)
 
   pub record IsBeside (x y d m : ℕ) : Type 0 where
     pub dir : d < 4
@@ -77,10 +77,10 @@ module _ (patterns : PatternsView) (output : Output) (pins : List Pin) where
   pub neighbour-place : (x y d m : ℕ) → x < columns → y < rows → neighbour P (cell_of columns x y) d ≡ Some m → IsBeside x y d m
   neighbour-place x y d m column row at =
       let read = neighbour_read P (cell_of columns x y) d m at in
-      let is_m : beside patterns.n output (x, y) d ≡ m = sym (entry x y d column row read.dir_in) ∙ read.entry in
+      let is_m : window_beside patterns.n output (x, y) d ≡ m = sym (entry x y d column row read.dir_in) ∙ read.entry in
       by read.dir_in is_m (both_there x y d) refl
     where
-      by : d < 4 → beside patterns.n output (x, y) d ≡ m → (b : Bool) → both_there x y d ≡ b → IsBeside x y d m
+      by : d < 4 → window_beside patterns.n output (x, y) d ≡ m → (b : Bool) → both_there x y d ≡ b → IsBeside x y d m
       by dir is_m true e =
           let parts = and_parts _ _ e in
           record { dir = dir; across_there = parts.0; down_there = parts.1; cell = sym is_m ∙ cond-true (both_there x y d) (cell_of columns (across x d) (down y d)) NO_CELL e }
@@ -91,7 +91,7 @@ module _ (patterns : PatternsView) (output : Output) (pins : List Pin) where
   neighbour-cell c d m at =
       let read = neighbour_read P c d m at in
       row_below c d 4 P.cells
-      (omega (arith, read.inside, length-table (λ place. map (λ d. beside patterns.n output place d) (range_with_len 0 4)) 4 (λ place. length-map-range_with_len (λ d. beside patterns.n output place d) 0 4) all))
+      (omega (arith, read.inside, length-table (λ place. map (λ d. window_beside patterns.n output place d) (range_with_len 0 4)) 4 (λ place. length-map-range_with_len (λ d. window_beside patterns.n output place d) 0 4) all))
 
   few_cells : IsPatterns patterns → IsRoom patterns output → P.cells ≤ MAX_PAIRS
   few_cells taught room =
@@ -188,16 +188,16 @@ module _ (patterns : PatternsView) (output : Output) (pins : List Pin) where
 
   pub length-base : IsPatterns patterns → length P.base ≡ P.cells * length patterns.weights
   length-base taught =
-      length-table (λ place. map (λ w. meets patterns.n output place w pins) patterns.windows) count (λ place. length-map patterns.windows (λ w. meets patterns.n output place w pins)) all
+      length-table (λ place. map (λ w. window_meets_pins patterns.n output place w pins) patterns.windows) count (λ place. length-map patterns.windows (λ w. window_meets_pins patterns.n output place w pins)) all
       ∙ ap (λ k. P.cells * k) (sym taught.weighed)
 
-  pub base-at : IsPatterns patterns → (x y v : ℕ) → x < columns → y < rows → v < count → in_base P (cell_of columns x y) v ≡ meets patterns.n output (x, y) (window_at patterns v) pins
+  pub base-at : IsPatterns patterns → (x y v : ℕ) → x < columns → y < rows → v < count → in_base P (cell_of columns x y) v ≡ window_meets_pins patterns.n output (x, y) (window_at patterns v) pins
   base-at taught x y v column row inside =
       ap (λ k. has_flag k P.base (cell_of columns x y) v) taught.weighed
       ∙ flag_at count P.base (cell_of columns x y) v inside
-      ∙ table-at (λ place. map (λ w. meets patterns.n output place w pins) patterns.windows) count (λ place. length-map patterns.windows (λ w. meets patterns.n output place w pins)) all (cell_of columns x y) v (0, 0) false (cell_inside x y column row) inside
-      ∙ ap (λ place. get_or (map (λ w. meets patterns.n output place w pins) patterns.windows) v false) (places-at output.width output.height patterns.n output.wrap x y (0, 0) column row)
-      ∙ get_or-map (λ w. meets patterns.n output (x, y) w pins) patterns.windows v [] false inside
+      ∙ table-at (λ place. map (λ w. window_meets_pins patterns.n output place w pins) patterns.windows) count (λ place. length-map patterns.windows (λ w. window_meets_pins patterns.n output place w pins)) all (cell_of columns x y) v (0, 0) false (cell_inside x y column row) inside
+      ∙ ap (λ place. get_or (map (λ w. window_meets_pins patterns.n output place w pins) patterns.windows) v false) (places-at output.width output.height patterns.n output.wrap x y (0, 0) column row)
+      ∙ get_or-map (λ w. window_meets_pins patterns.n output (x, y) w pins) patterns.windows v [] false inside
 
   some_row : IsPatterns patterns → IsRoom patterns output → (0 < columns) × (0 < rows)
   some_row taught room = by output.wrap
@@ -215,7 +215,7 @@ module _ (patterns : PatternsView) (output : Output) (pins : List Pin) where
       some_value = omega (arith, taught.some_window, taught.weighed);
       few_values = omega (arith, taught.few, taught.weighed);
       few_pairs = subst (λ k. P.cells * k ≤ MAX_PAIRS) (sym taught.weighed) room.few_pairs;
-      neighbours_table = length-table (λ place. map (λ d. beside patterns.n output place d) (range_with_len 0 4)) 4 (λ place. length-map-range_with_len (λ d. beside patterns.n output place d) 0 4) all;
+      neighbours_table = length-table (λ place. map (λ d. window_beside patterns.n output place d) (range_with_len 0 4)) 4 (λ place. length-map-range_with_len (λ d. window_beside patterns.n output place d) 0 4) all;
       supports_table = length-supports P count agree_in refl ∙ ap (λ k. k * 4) (sym taught.weighed);
       base_table = length-base taught;
     };

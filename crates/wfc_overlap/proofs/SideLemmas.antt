@@ -14,7 +14,7 @@ use Rattle.wfc_pattern.specs.Agreement.{Agrees, agrees}
 use Rattle.wfc_pattern.specs.Patterns.{PatternsView, window_at}
 use Rattle.wfc_pattern.proofs.AgreementLemmas.{same_test}
 use Rattle.wfc_overlap.specs.Sample.{agreeing}
-use Rattle.wfc_overlap.specs.Sides.{IsGrouped, members, part, side}
+use Rattle.wfc_overlap.specs.Sides.{IsGrouped, members, part, shared_part}
 use Rattle.wfc_lists.proofs.Growing.{kept_same}
 use Rattle.wfc_places.proofs.CallerLemmas.{one_across, one_down}
 
@@ -53,7 +53,7 @@ module _ (n : ℕ) (p q : List ℕ) (d : ℕ) where
   abbrev rows : ℕ
   rows = n - (down_by d + up_by d)
 
-  -- p has on its side in the direction what q has on its other side
+  -- p has on its shared_part in the direction what q has on its other shared_part
   abbrev Shares : Type 0
   Shares = part n p (right_by d) (down_by d) columns rows ≡ part n q (left_by d) (up_by d) columns rows
 
@@ -84,8 +84,8 @@ module _ (n : ℕ) (p q : List ℕ) (d : ℕ) where
       parts_same n p q (right_by d) (down_by d) (left_by d) (up_by d) columns rows (λ c r column row.
       agree (right_by d + c) (down_by d + r) (left_by d + c) (up_by d + r) (omega arith) (omega arith) (omega arith) (omega arith) (record { across = omega arith; down = omega arith }))
 
--- the side that q has towards p
-back_side : (n : ℕ) (q : List ℕ) (d : ℕ) → d < 4 → side n q (opposite d) ≡ part n q (left_by d) (up_by d) (n - (right_by d + left_by d)) (n - (down_by d + up_by d))
+-- the shared_part that q has towards p
+back_side : (n : ℕ) (q : List ℕ) (d : ℕ) → d < 4 → shared_part n q (opposite d) ≡ part n q (left_by d) (up_by d) (n - (right_by d + left_by d)) (n - (down_by d + up_by d))
 back_side n q zero dir = refl
 back_side n q (suc zero) dir = refl
 back_side n q (suc (suc zero)) dir = refl
@@ -93,18 +93,18 @@ back_side n q (suc (suc (suc zero))) dir = refl
 back_side n q (suc (suc (suc (suc d)))) dir = absurd (omega arith)
 
 -- two patterns agree where they have the same numbers on the sides that they turn to each other
-pub sides_agree : (n : ℕ) (p q : List ℕ) (d : ℕ) → d < 4 → pointwise nat_eq (side n p d) (side n q (opposite d)) ≡ agrees n p q d
+pub sides_agree : (n : ℕ) (p q : List ℕ) (d : ℕ) → d < 4 → pointwise nat_eq (shared_part n p d) (shared_part n q (opposite d)) ≡ agrees n p q d
 sides_agree n p q d dir =
-    let decides = same_window-Decides (side n p d) (side n q (opposite d)) in
-    same_test n p q d (pointwise nat_eq (side n p d) (side n q (opposite d)))
+    let decides = same_window-Decides (shared_part n p d) (shared_part n q (opposite d)) in
+    same_test n p q d (pointwise nat_eq (shared_part n p d) (shared_part n q (opposite d)))
     (λ test. agree_from n p q d (decides.0 test ∙ back_side n q d dir))
     (λ agree. decides.1 (shared_from n p q d agree ∙ sym (back_side n q d dir)))
 
--- the members of a pattern's side are the patterns that agree with it
-pub members_agree : (patterns : PatternsView) (groups : List (List ℕ × List ℕ)) (p d : ℕ) → d < 4 → IsGrouped patterns (opposite d) groups → members groups (side patterns.n (window_at patterns p) d) ≡ agreeing patterns p d
+-- the members of a pattern's shared_part are the patterns that agree with it
+pub members_agree : (patterns : PatternsView) (groups : List (List ℕ × List ℕ)) (p d : ℕ) → d < 4 → IsGrouped patterns (opposite d) groups → members groups (shared_part patterns.n (window_at patterns p) d) ≡ agreeing patterns p d
 members_agree patterns groups p d dir grouped =
-    grouped (side patterns.n (window_at patterns p) d)
-    ∙ kept_same (λ q. pointwise nat_eq (side patterns.n (window_at patterns p) d) (side patterns.n (window_at patterns q) (opposite d))) (λ q. agrees patterns.n (window_at patterns p) (window_at patterns q) d)
+    grouped (shared_part patterns.n (window_at patterns p) d)
+    ∙ kept_same (λ q. pointwise nat_eq (shared_part patterns.n (window_at patterns p) d) (shared_part patterns.n (window_at patterns q) (opposite d))) (λ q. agrees patterns.n (window_at patterns p) (window_at patterns q) d)
     (λ q. sides_agree patterns.n (window_at patterns p) (window_at patterns q) d dir) (range_with_len 0 (length patterns.windows))
 
 -- ---- a part, cut out row by row

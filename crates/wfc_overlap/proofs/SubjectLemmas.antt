@@ -9,7 +9,7 @@ use Rattle.wfc_pattern.proofs.CallerLemmas.{everywhere, tested}
 use Rattle.wfc_problem.specs.Network.{neighbour, supports_of, in_base}
 use Rattle.wfc_overlap.specs.Bridge.{IsRoom}
 use Rattle.wfc_places.specs.Steps.{cell_of, stepped, IsStepFrom}
-use Rattle.wfc_overlap.specs.Sample.{Output, meets, problem_of_sample}
+use Rattle.wfc_overlap.specs.Sample.{Output, window_meets_pins, problem_of_sample}
 use Rattle.wfc_overlap.specs.Subject.{HoldsPin, IsPlaceOf, place_cell, place_columns, place_rows}
 use Rattle.wfc_places.proofs.CallerLemmas.{apart-stepped, apart-there, held-from_suits, one_across, one_down, same_column, same_row, step-apart, step_across, step_down, step_from, stepped-is, suits-from}
 use Rattle.wfc_overlap.proofs.PinLemmas.{meets-from, from-meets}
@@ -82,6 +82,6 @@ module _ (patterns : PatternsView) (output : Output) (pins : List Pin) where
       suits-from (get_or pins k d) _ (holds k d l i j column row on_column on_row))
 
 -- a window that passes the test of one pin holds it
-pub met-holds : (n : ℕ) (output : Output) (x y : ℕ) (w : List ℕ) (pin : Pin) → meets n output (x, y) w (pin ∷ []) ≡ true → HoldsPin n output x y w pin
+pub met-holds : (n : ℕ) (output : Output) (x y : ℕ) (w : List ℕ) (pin : Pin) → window_meets_pins n output (x, y) w (pin ∷ []) ≡ true → HoldsPin n output x y w pin
 met-holds n output x y w pin met i j column row on_column on_row =
     held-from_suits pin _ (from-meets n output (x, y) w (pin ∷ []) met 0 pin (omega arith) i j column row on_column on_row)

@@ -20,7 +20,7 @@ use Rattle.wfc_problem.specs.Network.{Network, neighbour, ok, supports_of, in_ba
 use Rattle.wfc_problem.specs.Assignment.{IsLegalAssignment}
 use Rattle.wfc_lists.proofs.Lists.{Contains_has}
 use Rattle.wfc_places.specs.Steps.{stepped, is_there, cell_of}
-use Rattle.wfc_overlap.specs.Sample.{Output, meets, problem_of_sample}
+use Rattle.wfc_overlap.specs.Sample.{Output, window_meets_pins, problem_of_sample}
 use Rattle.wfc_overlap.specs.Bridge.{pattern_number, numbers_of_windows}
 use Rattle.wfc_places.proofs.CallerLemmas.{stepped-is, exact, stepped_modulo, one_across, one_down, suits-from}
 use Rattle.wfc_model.proofs.CallerLemmas.{places-at}
@@ -80,8 +80,8 @@ module _ (patterns : PatternsView) (output : Output) (pins : List Pin) (m : Rast
       numbered patterns (window m x y patterns.n)
       (at_place (λ (place : ℕ × ℕ). Contains patterns.windows (window m place.0 place.1 patterns.n)) output.width output.height patterns.n output.wrap learned x y column row)
 
-  -- a window meets the pins that hold in the picture
-  window_meets : IsSized m output.width output.height → All (IsHeld m) pins → (x y : ℕ) → meets patterns.n output (x, y) (window m x y patterns.n) pins ≡ true
+  -- a window window_meets_pins the pins that hold in the picture
+  window_meets : IsSized m output.width output.height → All (IsHeld m) pins → (x y : ℕ) → window_meets_pins patterns.n output (x, y) (window m x y patterns.n) pins ≡ true
   window_meets sized held x y =
       meets-from patterns.n output (x, y) (window m x y patterns.n) pins (λ k d l i j column row on_column on_row.
       let pin = get_or pins k d in
@@ -104,7 +104,7 @@ module _ (patterns : PatternsView) (output : Output) (pins : List Pin) (m : Rast
       ap (λ k. in_base P k (get_or a k 0)) (sym place.cell)
       ∙ ap (in_base P (cell_of columns x y)) (number-at x y place.column place.row)
       ∙ base-at patterns output pins taught x y (number x y) place.column place.row is.inside
-      ∙ ap (λ w. meets patterns.n output (x, y) w pins) is.same
+      ∙ ap (λ w. window_meets_pins patterns.n output (x, y) w pins) is.same
       ∙ window_meets sized held x y
 
   windows_agree : IsSized m output.width output.height → (x y d : ℕ) → x < columns → y < rows

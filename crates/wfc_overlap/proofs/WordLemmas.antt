@@ -14,8 +14,8 @@ use Rattle.wfc_picture.specs.declared.symbol.Symbol.{Symbol}
 use Rattle.wfc_picture.proofs.CallerLemmas.{one_symbol, same_symbol-sound, same_symbol-whole}
 use Rattle.wfc_pins.specs.PinView.{PinView}
 use Rattle.wfc_pins.specs.declared.fault.BuildFault.TheVariants.{UnknownSymbol, PinOutside}
-use Rattle.wfc_places.specs.Marks.{pin_with}
-use Rattle.wfc_overlap.specs.Built.{pin_in, texts_of}
+use Rattle.wfc_places.specs.Marks.{marked_pin}
+use Rattle.wfc_overlap.specs.Built.{picture_pin, texts_of}
 
 -- tests that say the same pass at the same position
 same_position_or_len : {X Y : Type 0} (f : X → Y) (p : Y → Bool) (q : X → Bool) (xs : List X) → AllByRecursion (λ x. p (f x) ≡ q x) xs → position_or_len p (map f xs) ≡ position_or_len q xs
@@ -70,24 +70,24 @@ never_found xs =
     (λ e. absurd (false≢true e)))
 
 module _ (palette : List Symbol) (width height : ℕ) (line : PinView) (column : line.x < width) (row : line.y < height) (shown : AllPass is_shown palette) where
-  inside_is : pin_in (texts_of palette) width height line ≡ ok_or (option_map (pin_with line) (position (λ text. bytes_eq text line.symbol) (texts_of palette))) (UnknownSymbol line.line)
-  inside_is = ap (λ t. cond t (ok_or (option_map (pin_with line) (position (λ text. bytes_eq text line.symbol) (texts_of palette))) (UnknownSymbol line.line)) (Err (PinOutside line.line)))
+  inside_is : picture_pin (texts_of palette) width height line ≡ ok_or (option_map (marked_pin line) (position (λ text. bytes_eq text line.symbol) (texts_of palette))) (UnknownSymbol line.line)
+  inside_is = ap (λ t. cond t (ok_or (option_map (marked_pin line) (position (λ text. bytes_eq text line.symbol) (texts_of palette))) (UnknownSymbol line.line)) (Err (PinOutside line.line)))
       (and_from _ _ (lt-ltb line.x width column) (lt-ltb line.y height row))
 
   -- a word that spells a symbol means its number
   pub spelled-pin : (symbol : Symbol) → Spells line.symbol symbol
-      → pin_in (texts_of palette) width height line ≡ ok_or (option_map (pin_with line) (symbol_number palette symbol)) (UnknownSymbol line.line)
+      → picture_pin (texts_of palette) width height line ≡ ok_or (option_map (marked_pin line) (symbol_number palette symbol)) (UnknownSymbol line.line)
   spelled-pin symbol spells =
       inside_is
-      ∙ ap (λ o. ok_or (option_map (pin_with line) o) (UnknownSymbol line.line))
+      ∙ ap (λ o. ok_or (option_map (marked_pin line) o) (UnknownSymbol line.line))
       (same_position symbol_text (λ text. bytes_eq text line.symbol) (same_symbol symbol) palette
       (text_is line.symbol symbol spells palette (recursion_from_All (λ s. is_shown s ≡ true) palette shown)))
 
   -- and one that spells nothing means none
-  pub unspelled-pin : ((symbol : Symbol) → Spells line.symbol symbol → ⊥) → pin_in (texts_of palette) width height line ≡ Err (UnknownSymbol line.line)
+  pub unspelled-pin : ((symbol : Symbol) → Spells line.symbol symbol → ⊥) → picture_pin (texts_of palette) width height line ≡ Err (UnknownSymbol line.line)
   unspelled-pin unspelled =
       inside_is
-      ∙ ap (λ o. ok_or (option_map (pin_with line) o) (UnknownSymbol line.line))
+      ∙ ap (λ o. ok_or (option_map (marked_pin line) o) (UnknownSymbol line.line))
       (same_position symbol_text (λ text. bytes_eq text line.symbol) (λ s. false) palette
       (no_text_is line.symbol unspelled palette (recursion_from_All (λ s. is_shown s ≡ true) palette shown))
       ∙ never_found palette)

@@ -13,16 +13,16 @@ use Rattle.wfc_problem.specs.Assignment.{IsLegalAssignment}
 use Rattle.wfc_places.specs.Steps.{cell_of}
 use Rattle.wfc_overlap.specs.Sample.{Output, problem_of_sample}
 
--- how many pairs of a place and a pattern there are
-abbrev pub pairs : PatternsView → Output → ℕ
-pairs patterns output =
+-- how many window_pair_count of a place and a pattern there are
+abbrev pub window_pair_count : PatternsView → Output → ℕ
+window_pair_count patterns output =
     length (places output.width output.height patterns.n output.wrap) * length patterns.windows
 
--- an output that has room for a window, and few enough pairs of a place and a pattern
+-- an output that has room for a window, and few enough window_pair_count of a place and a pattern
 pub record IsRoom (patterns : PatternsView) (output : Output) : Type 0 where
   pub wide : patterns.n ≤ output.width
   pub high : patterns.n ≤ output.height
-  pub few_pairs : pairs patterns output ≤ MAX_PAIRS
+  pub few_pairs : window_pair_count patterns output ≤ MAX_PAIRS
 
 -- the number of a window: that of the first pattern that is it
 abbrev pub pattern_number : PatternsView → List ℕ → ℕ
@@ -48,15 +48,15 @@ pixel_of patterns output a x y =
     slice_index (window_at patterns (slice_index a cell)) ((y - v) * patterns.n + (x - u))
 
 -- the numbers of row y
-abbrev pub row_of : PatternsView → Output → List ℕ → ℕ → List ℕ
-row_of patterns output a y =
+abbrev pub picture_row : PatternsView → Output → List ℕ → ℕ → List ℕ
+picture_row patterns output a y =
     map (λ x. pixel_of patterns output a x y) (range_with_len 0 output.width)
 
 -- the picture that an assignment of patterns to places paints
 abbrev pub picture_of : PatternsView → Output → List ℕ → Raster
 picture_of patterns output a = record {
   width = output.width;
-  rows = map (λ y. row_of patterns output a y) (range_with_len 0 output.height);
+  rows = map (λ y. picture_row patterns output a y) (range_with_len 0 output.height);
 }
 
 -- the patterns are those that a sample teaches by the rules, and the output wraps as they say
@@ -90,8 +90,8 @@ HasWindowsOf patterns output a m =
 
 -- the picture is legal for each sample that teaches the patterns and all pins inside, where the
 -- assignment is legal for their problem
-abbrev pub IsLegalWith : PatternsView → Output → List ℕ → Raster → Type 0
-IsLegalWith patterns output a m =
+abbrev pub IsLegalPictureWith : PatternsView → Output → List ℕ → Raster → Type 0
+IsLegalPictureWith patterns output a m =
     (sample : Raster) (rules : Rules) (pins : List Pin) → IsRoom patterns output
     → IsTaughtBy sample rules patterns output → AreInside output pins
     → IsLegalAssignment (problem_of_sample patterns output pins) a

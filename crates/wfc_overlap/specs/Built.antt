@@ -1,4 +1,4 @@
--- What is built of learned patterns, an output and the lines of a pins file: a problem, or the
+-- What is picture_problem of learned patterns, an output and the lines of a pins file: a problem, or the
 -- first fault.
 use Rattle.std.specs.Prelude.{ℕ, ◌&&◌, ◌||◌, nat_lt, List, map, position, Result, Err, if◌then◌else◌}
 use Rattle.std.specs.Option.{ok_or, option_map}
@@ -12,10 +12,10 @@ use Rattle.wfc_pins.specs.InOrder.{all_in_order}
 use Rattle.wfc_pins.specs.PinView.{PinView}
 use Rattle.wfc_pins.specs.declared.fault.BuildFault.{BuildFault}
 use Rattle.wfc_pins.specs.declared.fault.BuildFault.TheVariants.{SizeBelowN, PinOutside, UnknownSymbol, TooLarge}
-pub use Rattle.wfc_places.specs.Marks.{pin_with}
+pub use Rattle.wfc_places.specs.Marks.{marked_pin}
 use Rattle.wfc_problem.specs.Network.{Network}
 use Rattle.wfc_problem.specs.declared.TheConstants.{MAX_PAIRS}
-use Rattle.wfc_overlap.specs.Bridge.{pairs}
+use Rattle.wfc_overlap.specs.Bridge.{window_pair_count}
 use Rattle.wfc_overlap.specs.Sample.{Output, problem_of_sample}
 
 -- the texts of a palette's symbols, in their order
@@ -24,28 +24,28 @@ texts_of palette = map symbol_text palette
 
 -- the pin that a line means: its place has to be inside, and its symbol one of these texts, whose
 -- position is its number
-abbrev pub pin_in : List (List ℕ) → ℕ → ℕ → PinView → Result Pin BuildFault
-pin_in texts width height line =
+abbrev pub picture_pin : List (List ℕ) → ℕ → ℕ → PinView → Result Pin BuildFault
+picture_pin texts width height line =
     if nat_lt line.x width && nat_lt line.y height
-    then ok_or (option_map (pin_with line) (position (λ text. bytes_eq text line.symbol) texts))
+    then ok_or (option_map (marked_pin line) (position (λ text. bytes_eq text line.symbol) texts))
     (UnknownSymbol line.line)
     else Err (PinOutside line.line)
 
 -- the pins that the lines mean, or the fault of the first line that has one
-abbrev pub pins_in : List (List ℕ) → ℕ → ℕ → List PinView → Result (List Pin) BuildFault
-pins_in texts width height lines = all_in_order (map (pin_in texts width height) lines)
+abbrev pub picture_pins : List (List ℕ) → ℕ → ℕ → List PinView → Result (List Pin) BuildFault
+picture_pins texts width height lines = all_in_order (map (picture_pin texts width height) lines)
 
--- the pins that the lines mean, but for a side below that of a window, and for too many pairs
-abbrev pub built_pins : PatternsView → List Symbol → Output → List PinView → Result (List Pin) BuildFault
-built_pins patterns palette output lines =
+-- the pins that the lines mean, but for a side below that of a window, and for too many window_pair_count
+abbrev pub checked_picture_pins : PatternsView → List Symbol → Output → List PinView → Result (List Pin) BuildFault
+checked_picture_pins patterns palette output lines =
     if nat_lt output.width patterns.n || nat_lt output.height patterns.n then Err SizeBelowN
-    else (if nat_lt MAX_PAIRS (pairs patterns output) then Err (TooLarge (pairs patterns output))
-    else pins_in (texts_of palette) output.width output.height lines)
+    else (if nat_lt MAX_PAIRS (window_pair_count patterns output) then Err (TooLarge (window_pair_count patterns output))
+    else picture_pins (texts_of palette) output.width output.height lines)
 
--- the problem, but for a side below that of a window, for too many pairs, and for a line at fault
-abbrev pub built : PatternsView → List Symbol → Output → List PinView → Result Network BuildFault
-built patterns palette output lines =
+-- the problem, but for a side below that of a window, for too many window_pair_count, and for a line at fault
+abbrev pub picture_problem : PatternsView → List Symbol → Output → List PinView → Result Network BuildFault
+picture_problem patterns palette output lines =
     if nat_lt output.width patterns.n || nat_lt output.height patterns.n then Err SizeBelowN
-    else (if nat_lt MAX_PAIRS (pairs patterns output) then Err (TooLarge (pairs patterns output))
+    else (if nat_lt MAX_PAIRS (window_pair_count patterns output) then Err (TooLarge (window_pair_count patterns output))
     else result_map (problem_of_sample patterns output)
-    (pins_in (texts_of palette) output.width output.height lines))
+    (picture_pins (texts_of palette) output.width output.height lines))

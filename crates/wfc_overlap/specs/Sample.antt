@@ -22,9 +22,9 @@ pub record Output : Type 0 where
 abbrev pub output_with : ℕ → ℕ → Bool → Output
 output_with width height wrap = record { width = width; height = height; wrap = wrap }
 
--- the cell beside a place in a direction, where there is one
-abbrev pub beside : ℕ → Output → ℕ × ℕ → ℕ → ℕ
-beside n output place d =
+-- the cell window_beside a place in a direction, where there is one
+abbrev pub window_beside : ℕ → Output → ℕ × ℕ → ℕ → ℕ
+window_beside n output place d =
     let columns = starts output.width n output.wrap in
     let rows = starts output.height n output.wrap in
     if is_there columns output.wrap (right_by d) (left_by d) place.0
@@ -33,14 +33,14 @@ beside n output place d =
     (stepped rows (down_by d) (up_by d) place.1)
     else NO_CELL
 
--- the cells beside a place, direction by direction
-abbrev pub all_beside : ℕ → Output → ℕ × ℕ → List ℕ
-all_beside n output place = map (λ d. beside n output place d) (range_with_len 0 4)
+-- the cells window_beside a place, direction by direction
+abbrev pub places_beside : ℕ → Output → ℕ × ℕ → List ℕ
+places_beside n output place = map (λ d. window_beside n output place d) (range_with_len 0 4)
 
--- the cells beside each place
-abbrev pub neighbour_table : ℕ → Output → List ℕ
-neighbour_table n output =
-    flat_map (λ place. all_beside n output place)
+-- the cells window_beside each place
+abbrev pub window_neighbour_table : ℕ → Output → List ℕ
+window_neighbour_table n output =
+    flat_map (λ place. places_beside n output place)
     (places output.width output.height n output.wrap)
 
 -- the patterns that agree with p in a direction, rising
@@ -54,47 +54,47 @@ abbrev pub all_agreeing : PatternsView → ℕ → List (List ℕ)
 all_agreeing patterns p = map (λ d. agreeing patterns p d) (range_with_len 0 4)
 
 -- the patterns that agree with each
-abbrev pub support_table : PatternsView → List (List ℕ)
-support_table patterns =
+abbrev pub agreement_table : PatternsView → List (List ℕ)
+agreement_table patterns =
     flat_map (λ p. all_agreeing patterns p) (range_with_len 0 (length patterns.windows))
 
 -- whether the number in column i and row j of a window at a place suits a pin, where it stands on
 -- the pin's pixel
-abbrev pub suits_at : ℕ → Output → ℕ × ℕ → List ℕ → Pin → ℕ → ℕ → Bool
-suits_at n output place w pin i j =
+abbrev pub window_suits_at : ℕ → Output → ℕ × ℕ → List ℕ → Pin → ℕ → ℕ → Bool
+window_suits_at n output place w pin i j =
     not ((place.0 + i) % output.width == pin.column && (place.1 + j) % output.height == pin.row)
     || suits pin (slice_index w (j * n + i))
 
 -- whether each number in column i of a window suits it
 abbrev pub suits_in_column : ℕ → Output → ℕ × ℕ → List ℕ → Pin → ℕ → Bool
 suits_in_column n output place w pin i =
-    list_all (λ j. suits_at n output place w pin i j) (range_with_len 0 n)
+    list_all (λ j. window_suits_at n output place w pin i j) (range_with_len 0 n)
 
--- whether a window at a place meets a pin or a ban: each of its numbers suits it
+-- whether a window at a place window_meets_pins a pin or a ban: each of its numbers suits it
 abbrev pub is_met : ℕ → Output → ℕ × ℕ → List ℕ → Pin → Bool
 is_met n output place w pin =
     list_all (λ i. suits_in_column n output place w pin i) (range_with_len 0 n)
 
--- whether it meets all of them
-abbrev pub meets : ℕ → Output → ℕ × ℕ → List ℕ → List Pin → Bool
-meets n output place w pins = list_all (λ pin. is_met n output place w pin) pins
+-- whether it window_meets_pins all of them
+abbrev pub window_meets_pins : ℕ → Output → ℕ × ℕ → List ℕ → List Pin → Bool
+window_meets_pins n output place w pins = list_all (λ pin. is_met n output place w pin) pins
 
--- for each place and window whether it meets them there
-abbrev pub base_table : ℕ → Output → List (List ℕ) → List Pin → List Bool
-base_table n output windows pins =
-    flat_map (λ place. map (λ w. meets n output place w pins) windows)
+-- for each place and window whether it window_meets_pins them there
+abbrev pub window_base_table : ℕ → Output → List (List ℕ) → List Pin → List Bool
+window_base_table n output windows pins =
+    flat_map (λ place. map (λ w. window_meets_pins n output place w pins) windows)
     (places output.width output.height n output.wrap)
 
--- a cell for each place of the output, row by row, beside it the places one step away, the patterns
--- with their weights, beside each the patterns that agree with it, and at each cell those that meet
+-- a cell for each place of the output, row by row, window_beside it the places one step away, the patterns
+-- with their weights, window_beside each the patterns that agree with it, and at each cell those that meet
 -- the pins and bans
 abbrev pub problem_of_sample : PatternsView → Output → List Pin → Network
 problem_of_sample patterns output pins =
     record {
       cells = length (places output.width output.height patterns.n output.wrap);
       dirs = 4;
-      neighbours = neighbour_table patterns.n output;
+      neighbours = window_neighbour_table patterns.n output;
       weights = patterns.weights;
-      supports = support_table patterns;
-      base = base_table patterns.n output patterns.windows pins;
+      supports = agreement_table patterns;
+      base = window_base_table patterns.n output patterns.windows pins;
     }

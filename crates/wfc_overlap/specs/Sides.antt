@@ -13,8 +13,8 @@ part n w left top columns rows =
     (range_with_len 0 rows)
 
 -- the numbers of a window that the one beside it in a direction has too
-abbrev pub side : ℕ → List ℕ → ℕ → List ℕ
-side n w d =
+abbrev pub shared_part : ℕ → List ℕ → ℕ → List ℕ
+shared_part n w d =
     part n w (right_by d) (down_by d) (n - (right_by d + left_by d)) (n - (down_by d + up_by d))
 
 -- the members of the first group with a key
@@ -32,7 +32,7 @@ IsAdded old new key member =
 abbrev pub IsGrouped : PatternsView → ℕ → List (List ℕ × List ℕ) → Type 0
 IsGrouped patterns d groups =
     (key : List ℕ) → members groups key
-    ≡ filter (λ q. pointwise nat_eq key (side patterns.n (window_at patterns q) d))
+    ≡ filter (λ q. pointwise nat_eq key (shared_part patterns.n (window_at patterns q) d))
     (range_with_len 0 (length patterns.windows))
 
 -- for each direction there are the groups of the opposite one

@@ -38,8 +38,8 @@ abbrev pub three_symbols : List Symbol
 three_symbols = Char 97 ∷ Char 32 ∷ rgb 1 0 30 ∷ []
 
 -- a line that keeps a symbol at a column and a row, or bans it from there
-abbrev pub line_of : ℕ → Bool → ℕ → ℕ → List ℕ → PinView
-line_of number keep x y symbol =
+abbrev pub window_pin_line : ℕ → Bool → ℕ → ℕ → List ℕ → PinView
+window_pin_line number keep x y symbol =
     record { line = number; keep = keep; x = x; y = y; symbol = symbol }
 
 -- the rules for this side and these images, and whether the sample and the output wrap

@@ -5,7 +5,7 @@ ghost use Rattle.wfc_model.specs.Window.{starts};
 ghost use Rattle.wfc_overlap.specs.Bridge.{AreInside};
 ghost use Rattle.wfc_overlap.specs.Flags.{AreCut, IsTable};
 ghost use Rattle.wfc_overlap.specs.Layout.{output_of};
-ghost use Rattle.wfc_overlap.specs.Sample.{base_table, is_met, suits_at, suits_in_column};
+ghost use Rattle.wfc_overlap.specs.Sample.{window_base_table, is_met, window_suits_at, suits_in_column};
 ghost use Rattle.wfc_pattern.specs.Patterns.{window_at};
 ghost use Rattle.wfc_places.specs.Flags.{IsRowCut};
 ghost use Rattle.wfc_places.specs.Marks.{suits};
@@ -14,19 +14,19 @@ use crate::layout::Layout;
 use std::alloc::Global;
 use wfc_outside::NoMemory;
 use wfc_pattern::Patterns;
-use wfc_places::{Mark, all_set};
+use wfc_places::{PinMark, all_set};
 
 /// For each place and pattern whether the pattern meets all pins and bans there.
 pub(crate) fn base(
     alloc: Global,
     patterns: &Patterns,
     layout: Layout,
-    marks: &[Mark],
+    marks: &[PinMark],
 ) -> Result<Vec<bool>, NoMemory>
     requires n { layout.n ≡ patterns.now.n }
     requires inside { AreInside (output_of layout) marks.now }
     ensures value { IfOk result (λ flags. flags.items
-        ≡ base_table layout.n (output_of layout) patterns.now.windows marks.now) }
+        ≡ window_base_table layout.n (output_of layout) patterns.now.windows marks.now) }
 {
     let count = patterns.count() as usize;
     let mut flags = all_set(alloc, layout.cells() as usize * count)?;
@@ -37,7 +37,7 @@ pub(crate) fn base(
 }
 
 /// Takes away what doesn't meet a pin or a ban, at each place whose window has its pixel.
-fn cut(flags: &mut [bool], patterns: &Patterns, layout: Layout, mark: &Mark)
+fn cut(flags: &mut [bool], patterns: &Patterns, layout: Layout, mark: &PinMark)
     requires n { layout.n ≡ patterns.now.n }
     requires table { IsTable patterns.now (output_of layout) flags.old }
     requires column_in { mark.now.column < layout.width }
@@ -51,7 +51,7 @@ fn cut(flags: &mut [bool], patterns: &Patterns, layout: Layout, mark: &Mark)
 }
 
 /// The same where column `i` of a window has the pixel.
-fn cut_column(flags: &mut [bool], patterns: &Patterns, layout: Layout, mark: &Mark, i: u32)
+fn cut_column(flags: &mut [bool], patterns: &Patterns, layout: Layout, mark: &PinMark, i: u32)
     requires n { layout.n ≡ patterns.now.n }
     requires table { IsTable patterns.now (output_of layout) flags.old }
     requires column_in { mark.now.column < layout.width }
@@ -67,7 +67,14 @@ fn cut_column(flags: &mut [bool], patterns: &Patterns, layout: Layout, mark: &Ma
 
 /// The same where column `i` of row `j` of a window has the pixel, at the one place where it has,
 /// if there is one.
-fn cut_entry(flags: &mut [bool], patterns: &Patterns, layout: Layout, mark: &Mark, i: u32, j: u32)
+fn cut_entry(
+    flags: &mut [bool],
+    patterns: &Patterns,
+    layout: Layout,
+    mark: &PinMark,
+    i: u32,
+    j: u32,
+)
     requires n { layout.n ≡ patterns.now.n }
     requires table { IsTable patterns.now (output_of layout) flags.old }
     requires column_in { mark.now.column < layout.width }
@@ -75,7 +82,7 @@ fn cut_entry(flags: &mut [bool], patterns: &Patterns, layout: Layout, mark: &Mar
     requires i_in { i < layout.n }
     requires j_in { j < layout.n }
     ensures cut { AreCut patterns.now (output_of layout) flags.old flags.new
-        (λ place w. suits_at layout.n (output_of layout) place w mark.now i j) }
+        (λ place w. window_suits_at layout.n (output_of layout) place w mark.now i j) }
 {
     let Some(x) = start_of(mark.column, i, layout.n, layout.width, layout.wrap) else {
         return;
@@ -89,7 +96,7 @@ fn cut_entry(flags: &mut [bool], patterns: &Patterns, layout: Layout, mark: &Mar
 }
 
 /// Takes away at a place the patterns whose number at an entry doesn't suit the pin or ban.
-fn cut_place(flags: &mut [bool], patterns: &Patterns, mark: &Mark, cell: usize, entry: usize)
+fn cut_place(flags: &mut [bool], patterns: &Patterns, mark: &PinMark, cell: usize, entry: usize)
     requires row { cell * length patterns.now.windows + length patterns.now.windows
         ≤ length flags.old }
     requires entry { entry < patterns.now.n * patterns.now.n }

@@ -5,12 +5,12 @@ ghost use Rattle.std.specs.Prelude.{◌≡◌, ℕ, ◌<◌, ◌≤◌, List, []
 ghost use Rattle.wfc_model.specs.Legal.{banned_pin, kept_pin};
 ghost use Rattle.wfc_model.specs.Raster.{raster_of};
 ghost use Rattle.wfc_outside.specs.Gives.{result_map};
-ghost use Rattle.wfc_overlap.specs.Bridge.{AreInside, HasWindowsOf, IsRoom, IsTaughtBy, numbers_of_windows, pairs, picture_of};
-ghost use Rattle.wfc_overlap.specs.Built.{built, built_pins, pin_in, pins_in, texts_of};
+ghost use Rattle.wfc_overlap.specs.Bridge.{AreInside, HasWindowsOf, IsRoom, IsTaughtBy, numbers_of_windows, window_pair_count, picture_of};
+ghost use Rattle.wfc_overlap.specs.Built.{picture_problem, checked_picture_pins, picture_pin, picture_pins, texts_of};
 ghost use Rattle.wfc_overlap.specs.Sample.{Output, output_with, problem_of_sample};
 ghost use Rattle.wfc_places.specs.Steps.{IsStepFrom};
 ghost use Rattle.wfc_overlap.specs.Subject.{HoldsPin, IsPlaceOf, place_cell};
-ghost use Rattle.wfc_overlap.specs.Small.{line_of, no_pattern, one_pattern, rules_with};
+ghost use Rattle.wfc_overlap.specs.Small.{window_pin_line, no_pattern, one_pattern, rules_with};
 ghost use Rattle.wfc_overlap.specs.Small.{six_numbers, three_by_two, three_symbols, two_patterns};
 ghost use Rattle.wfc_pattern.specs.Patterns.{PatternsView};
 ghost use Rattle.wfc_picture.specs.declared.symbol.Symbol.{Symbol};
@@ -65,14 +65,14 @@ pub fn small_pictures()
 /// The sides of an output are to have room for a window, and its pairs of a place and a pattern are
 /// limited.
 pub fn outputs_with_room()
-    ensures flat { pairs two_patterns (output_with 4 3 false) ≡ 12 }
-    ensures wrapped { pairs two_patterns (output_with 4 3 true) ≡ 24 }
+    ensures flat { window_pair_count two_patterns (output_with 4 3 false) ≡ 12 }
+    ensures wrapped { window_pair_count two_patterns (output_with 4 3 true) ≡ 24 }
     ensures limit { MAX_PAIRS ≡ 8388608 }
     ensures taken { IsRoom two_patterns (output_with 2 2 false) }
     ensures narrow { IsRoom two_patterns (output_with 1 2 true) → ⊥ }
     ensures low { IsRoom two_patterns (output_with 2 1 true) → ⊥ }
     ensures crowded { (patterns : PatternsView) (output : Output) →
-        MAX_PAIRS < pairs patterns output → IsRoom patterns output → ⊥ }
+        MAX_PAIRS < window_pair_count patterns output → IsRoom patterns output → ⊥ }
 {}
 
 /// Whether the sample wraps decides on the patterns, and whether the output wraps doesn't.
@@ -100,58 +100,59 @@ pub fn pins_inside()
 /// A line is read by the texts of the symbols, and a place outside is its first fault.
 pub fn lines_by_symbols()
     ensures texts { texts_of three_symbols ≡ codes "a" ∷ codes "\\s" ∷ codes "1,0,30" ∷ [] }
-    ensures kept { pin_in (texts_of three_symbols) 3 2 (line_of 7 true 2 1 (codes "\\s"))
-        ≡ Ok (kept_pin 2 1 1) }
-    ensures banned { pin_in (texts_of three_symbols) 3 2 (line_of 7 false 0 1 (codes "1,0,30"))
-        ≡ Ok (banned_pin 0 1 2) }
-    ensures column { pin_in (texts_of three_symbols) 3 2 (line_of 7 true 3 1 (codes "b"))
+    ensures kept { picture_pin (texts_of three_symbols) 3 2 (window_pin_line 7 true 2 1 (codes
+        "\\s")) ≡ Ok (kept_pin 2 1 1) }
+    ensures banned { picture_pin (texts_of three_symbols) 3 2 (window_pin_line 7 false 0 1 (codes
+        "1,0,30")) ≡ Ok (banned_pin 0 1 2) }
+    ensures column { picture_pin (texts_of three_symbols) 3 2 (window_pin_line 7 true 3 1 (codes
+        "b")) ≡ Err (PinOutside 7) }
+    ensures row { picture_pin (texts_of three_symbols) 3 2 (window_pin_line 7 false 1 2 (codes "a"))
         ≡ Err (PinOutside 7) }
-    ensures row { pin_in (texts_of three_symbols) 3 2 (line_of 7 false 1 2 (codes "a"))
-        ≡ Err (PinOutside 7) }
-    ensures unknown { pin_in (texts_of three_symbols) 3 2 (line_of 7 true 2 1 (codes " "))
-        ≡ Err (UnknownSymbol 7) }
+    ensures unknown { picture_pin (texts_of three_symbols) 3 2 (window_pin_line 7 true 2 1 (codes
+        " ")) ≡ Err (UnknownSymbol 7) }
 {}
 
 /// All lines are read in order, and the first that has a fault is answered.
 pub fn lines_in_order()
-    ensures read { pins_in (codes "a" ∷ codes "b" ∷ []) 3 2 (line_of 1 true 2 0 (codes "b")
-        ∷ line_of 3 false 1 1 (codes "a") ∷ []) ≡ Ok (kept_pin 2 0 1 ∷ banned_pin 1 1 0 ∷ []) }
-    ensures unknown { pins_in (codes "a" ∷ []) 3 2
-        (line_of 1 true 2 0 (codes "a") ∷ line_of 3 true 1 1 (codes "b")
-        ∷ line_of 4 true 3 0 (codes "a") ∷ []) ≡ Err (UnknownSymbol 3) }
-    ensures outside { pins_in (codes "a" ∷ []) 3 2 (line_of 2 true 3 0 (codes "a")
-        ∷ line_of 3 true 1 1 (codes "b") ∷ []) ≡ Err (PinOutside 2) }
+    ensures read { picture_pins (codes "a" ∷ codes "b" ∷ []) 3 2 (window_pin_line 1 true 2 0 (codes
+        "b") ∷ window_pin_line 3 false 1 1 (codes "a") ∷ []) ≡ Ok (kept_pin 2 0 1 ∷ banned_pin 1 1 0
+        ∷ []) }
+    ensures unknown { picture_pins (codes "a" ∷ []) 3 2
+        (window_pin_line 1 true 2 0 (codes "a") ∷ window_pin_line 3 true 1 1 (codes "b")
+        ∷ window_pin_line 4 true 3 0 (codes "a") ∷ []) ≡ Err (UnknownSymbol 3) }
+    ensures outside { picture_pins (codes "a" ∷ []) 3 2 (window_pin_line 2 true 3 0 (codes "a")
+        ∷ window_pin_line 3 true 1 1 (codes "b") ∷ []) ≡ Err (PinOutside 2) }
 {}
 
 /// A problem is built of the pins that the lines mean; a side below that of a window comes before
 /// too many pairs, and those come before the lines.
 pub fn small_builds()
-    ensures pins { built_pins two_patterns three_symbols three_by_two
-        (line_of 1 true 1 0 (codes "\\s") ∷ line_of 2 false 2 1 (codes "a") ∷ [])
+    ensures pins { checked_picture_pins two_patterns three_symbols three_by_two
+        (window_pin_line 1 true 1 0 (codes "\\s") ∷ window_pin_line 2 false 2 1 (codes "a") ∷ [])
         ≡ Ok (kept_pin 1 0 1 ∷ banned_pin 2 1 0 ∷ []) }
-    ensures narrow_pins { built_pins two_patterns three_symbols (output_with 1 2 true)
-        (line_of 5 true 9 9 [] ∷ []) ≡ Err SizeBelowN }
-    ensures problem { built two_patterns three_symbols three_by_two
-        (line_of 1 true 1 0 (codes "\\s") ∷ [])
+    ensures narrow_pins { checked_picture_pins two_patterns three_symbols (output_with 1 2 true)
+        (window_pin_line 5 true 9 9 [] ∷ []) ≡ Err SizeBelowN }
+    ensures problem { picture_problem two_patterns three_symbols three_by_two
+        (window_pin_line 1 true 1 0 (codes "\\s") ∷ [])
         ≡ Ok (problem_of_sample two_patterns three_by_two (kept_pin 1 0 1 ∷ [])) }
-    ensures line { built two_patterns three_symbols three_by_two
-        (line_of 5 true 1 2 (codes "a") ∷ []) ≡ Err (PinOutside 5) }
-    ensures narrow { built two_patterns three_symbols (output_with 1 2 true)
-        (line_of 5 true 9 9 [] ∷ []) ≡ Err SizeBelowN }
-    ensures low { built two_patterns three_symbols (output_with 2 1 true)
-        (line_of 5 true 9 9 [] ∷ []) ≡ Err SizeBelowN }
+    ensures line { picture_problem two_patterns three_symbols three_by_two
+        (window_pin_line 5 true 1 2 (codes "a") ∷ []) ≡ Err (PinOutside 5) }
+    ensures narrow { picture_problem two_patterns three_symbols (output_with 1 2 true)
+        (window_pin_line 5 true 9 9 [] ∷ []) ≡ Err SizeBelowN }
+    ensures low { picture_problem two_patterns three_symbols (output_with 2 1 true)
+        (window_pin_line 5 true 9 9 [] ∷ []) ≡ Err SizeBelowN }
 {}
 
 /// Of an output that is large enough, too many pairs are refused, and else the lines decide.
 pub fn builds_by_pairs()
-    ensures crowded { (patterns : PatternsView) (palette : List Symbol) (output : Output)
-        (lines : List PinView) → patterns.n ≤ output.width → patterns.n ≤ output.height
-        → MAX_PAIRS < pairs patterns output
-        → built patterns palette output lines ≡ Err (TooLarge (pairs patterns output)) }
-    ensures roomy { (patterns : PatternsView) (palette : List Symbol) (output : Output)
-        (lines : List PinView) → IsRoom patterns output → built patterns palette output lines
-        ≡ result_map (problem_of_sample patterns output)
-        (pins_in (texts_of palette) output.width output.height lines) }
+    ensures crowded { (patterns : PatternsView) (palette : List Symbol) (output : Output) (lines :
+        List PinView) → patterns.n ≤ output.width → patterns.n ≤ output.height → MAX_PAIRS <
+        window_pair_count patterns output → picture_problem patterns palette output lines ≡ Err
+        (TooLarge (window_pair_count patterns output)) }
+    ensures roomy { (patterns : PatternsView) (palette : List Symbol) (output : Output) (lines :
+        List PinView) → IsRoom patterns output → picture_problem patterns palette output lines ≡
+        result_map (problem_of_sample patterns output) (picture_pins (texts_of palette) output.width
+        output.height lines) }
 {}
 
 /// Places of an output of three by two: two side by side; and the cells of one of four by three.

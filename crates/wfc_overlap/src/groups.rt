@@ -1,7 +1,7 @@
 //! Patterns, grouped by the numbers that they share with the patterns beside them.
 
 ghost use Rattle.std.specs.Prelude.{◌≡◌, ℕ, ◌+◌, ◌*◌, ◌<◌, ◌≤◌, [], List, length, IfOk, OnOk};
-ghost use Rattle.wfc_overlap.specs.Sides.{IsAdded, IsGrouped, members, part, side};
+ghost use Rattle.wfc_overlap.specs.Sides.{IsAdded, IsGrouped, members, part, shared_part};
 
 use indexmap::IndexMap;
 use std::alloc::Global;
@@ -64,19 +64,24 @@ pub(crate) fn group(alloc: Global, patterns: &Patterns, dir: u8) -> Result<Group
 {
     let mut groups = Groups::new(alloc);
     for q in 0..patterns.count() {
-        let key = side(alloc, patterns.window(q), patterns.n(), dir)?;
+        let key = shared_part(alloc, patterns.window(q), patterns.n(), dir)?;
         groups.add(alloc, key, q)?;
     }
     Ok(groups)
 }
 
 /// The numbers of a window that the one beside it in a direction has too, row by row.
-pub(crate) fn side(alloc: Global, window: &[u32], n: u32, dir: u8) -> Result<Vec<u32>, NoMemory>
+pub(crate) fn shared_part(
+    alloc: Global,
+    window: &[u32],
+    n: u32,
+    dir: u8,
+) -> Result<Vec<u32>, NoMemory>
     requires some_side { 0 < n }
     requires small_side { n ≤ 6 }
     requires square { length window.now ≡ n * n }
     requires dir_in { dir < 4 }
-    ensures value { IfOk result (λ numbers. numbers.items ≡ side n window.now dir) }
+    ensures value { IfOk result (λ numbers. numbers.items ≡ shared_part n window.now dir) }
 {
     let n = n as usize;
     match dir {

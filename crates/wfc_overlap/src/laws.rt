@@ -15,8 +15,8 @@ ghost use Rattle.wfc_pins.specs.PinView.{PinView};
 ghost use Rattle.wfc_pins.specs.declared.fault.BuildFault.TheVariants.{UnknownSymbol};
 ghost use Rattle.wfc_problem.specs.Network.{IsProblem, in_base, neighbour};
 ghost use Rattle.wfc_overlap.specs.Sample.{Output, problem_of_sample};
-ghost use Rattle.wfc_places.specs.Marks.{pin_with};
-ghost use Rattle.wfc_overlap.specs.Built.{pin_in, texts_of};
+ghost use Rattle.wfc_places.specs.Marks.{marked_pin};
+ghost use Rattle.wfc_overlap.specs.Built.{picture_pin, texts_of};
 ghost use Rattle.wfc_overlap.specs.Subject.{HoldsPin, IsAgreeing, IsPlaceOf, IsPlaceStep, IsSampleSupport, place_cell};
 ghost use Rattle.wfc_overlap.specs.Bridge.{IsRoom, IsTaughtBy, IsLegalOutput, IsSampleAssignment};
 ghost use Rattle.wfc_overlap.specs.Bridge.{AreInside, numbers_of_windows, picture_of, HasWindowsOf};
@@ -109,10 +109,10 @@ pub fn bases_hold_pins()
 pub fn pins_name_symbols()
     ensures spelled { (palette : List Symbol) (width height : ℕ) (line : PinView) →
         line.x < width → line.y < height → AllPass is_shown palette → (symbol : Symbol) →
-        Spells line.symbol symbol → pin_in (texts_of palette) width height line ≡ ok_or
-        (option_map (pin_with line) (symbol_number palette symbol)) (UnknownSymbol line.line) }
+        Spells line.symbol symbol → picture_pin (texts_of palette) width height line ≡ ok_or
+        (option_map (marked_pin line) (symbol_number palette symbol)) (UnknownSymbol line.line) }
     ensures unknown { (palette : List Symbol) (width height : ℕ) (line : PinView) →
         line.x < width → line.y < height → AllPass is_shown palette →
         ((symbol : Symbol) → Spells line.symbol symbol → ⊥) →
-        pin_in (texts_of palette) width height line ≡ Err (UnknownSymbol line.line) }
+        picture_pin (texts_of palette) width height line ≡ Err (UnknownSymbol line.line) }
 {}

@@ -16,7 +16,9 @@ mod problem;
 mod supports;
 
 pub use painting::picture_of;
-pub use pins::{marks, texts};
-pub use problem::{base_of_marks, build, checked_marks, parts_of_marks, problem_of_marks};
+pub use pins::{marks, symbol_texts};
+pub use problem::{
+    build, checked_window_marks, problem_of_marks, window_base_of_marks, window_parts_of_marks,
+};
 pub use supports::support_lists;
-pub use wfc_places::{Mark, problem_with};
+pub use wfc_places::{PinMark, problem_with};

@@ -4,7 +4,7 @@ ghost use Rattle.std.specs.Prelude.{◌≡◌, ◌<◌, ◌++◌, OnOk, IfOk};
 ghost use Rattle.std.specs.Option.{ForSome};
 ghost use Rattle.std.specs.List.{flat_map};
 ghost use Rattle.wfc_overlap.specs.Layout.{cell_in, output_of, row_places};
-ghost use Rattle.wfc_overlap.specs.Sample.{all_beside, neighbour_table};
+ghost use Rattle.wfc_overlap.specs.Sample.{places_beside, window_neighbour_table};
 
 use crate::layout::Layout;
 use std::alloc::Global;
@@ -15,7 +15,7 @@ use wfc_problem::NO_CELL;
 /// For each place and direction the place that lies there, or `NO_CELL`.
 pub(crate) fn neighbours(alloc: Global, layout: Layout) -> Result<Vec<u32>, NoMemory>
     ensures value { IfOk result (λ table. table.items
-        ≡ neighbour_table layout.n (output_of layout)) }
+        ≡ window_neighbour_table layout.n (output_of layout)) }
 {
     let mut table = Vec::with_capacity(alloc, layout.cells() as usize * 4)?;
     for y in 0..layout.rows {
@@ -28,7 +28,7 @@ pub(crate) fn neighbours(alloc: Global, layout: Layout) -> Result<Vec<u32>, NoMe
 fn push_row(table: &mut Vec<u32>, layout: Layout, y: u32) -> Result<(), NoMemory>
     requires y_in { y < layout.rows }
     ensures row { OnOk result (table.new.items ≡ table.old.items
-        ++ flat_map (all_beside layout.n (output_of layout)) (row_places layout.columns y)) }
+        ++ flat_map (places_beside layout.n (output_of layout)) (row_places layout.columns y)) }
 {
     for x in 0..layout.columns {
         push_place(table, layout, x, y)?;
@@ -41,7 +41,7 @@ fn push_place(table: &mut Vec<u32>, layout: Layout, x: u32, y: u32) -> Result<()
     requires x_in { x < layout.columns }
     requires y_in { y < layout.rows }
     ensures place { OnOk result (table.new.items
-        ≡ table.old.items ++ all_beside layout.n (output_of layout) (x, y)) }
+        ≡ table.old.items ++ places_beside layout.n (output_of layout) (x, y)) }
 {
     let left = along(x, 0, 1, layout.columns, layout.wrap);
     let right = along(x, 1, 0, layout.columns, layout.wrap);

@@ -3,7 +3,7 @@
 ghost use Rattle.std.specs.Prelude.{◌≡◌, ◌<◌, ◌≤◌, ◌-◌, ◌++◌, length, min, All, IfOk, OnOk};
 ghost use Rattle.wfc_model.specs.Raster.{IsFilled, raster_of};
 ghost use Rattle.wfc_model.specs.Window.{places};
-ghost use Rattle.wfc_overlap.specs.Bridge.{IsLegalWith, ShowsAssigned, picture_of, pixel_of, row_of};
+ghost use Rattle.wfc_overlap.specs.Bridge.{IsLegalPictureWith, ShowsAssigned, picture_of, pixel_of, picture_row};
 ghost use Rattle.wfc_overlap.specs.Layout.{output_of};
 ghost use Rattle.wfc_overlap.specs.Sample.{output_with};
 
@@ -35,7 +35,7 @@ pub fn picture_of(
     // Of an assignment that is legal for a sample's problem, the picture is legal, with the
     // assigned windows.
     ensures legal { IfOk result
-        (IsLegalWith patterns.now (output_with width height wrap) assignment.now) }
+        (IsLegalPictureWith patterns.now (output_with width height wrap) assignment.now) }
     ensures windows { IfOk result
         (ShowsAssigned patterns.now (output_with width height wrap) assignment.now) }
 {
@@ -69,7 +69,7 @@ fn push_row(
     requires values { All (λ v. v < length patterns.now.windows) assignment.now }
     requires y_in { y < layout.height }
     ensures row { OnOk result (numbers.new.items
-        ≡ numbers.old.items ++ row_of patterns.now (output_of layout) assignment.now y) }
+        ≡ numbers.old.items ++ picture_row patterns.now (output_of layout) assignment.now y) }
 {
     for x in 0..layout.width {
         numbers.push(number_at(patterns, layout, assignment, x, y))?;

@@ -5,13 +5,13 @@ ghost use Rattle.std.specs.Str.{bytes_eq};
 ghost use Rattle.wfc_model.specs.Legal.{Pin};
 ghost use Rattle.wfc_outside.specs.Gives.{Gives};
 ghost use Rattle.wfc_picture.specs.Symbol.{symbol_text};
-ghost use Rattle.wfc_overlap.specs.Built.{pin_in, pins_in, texts_of};
+ghost use Rattle.wfc_overlap.specs.Built.{picture_pin, picture_pins, texts_of};
 
 use std::alloc::Global;
 use wfc_outside::NoMemory;
 use wfc_picture::{Palette, Symbol};
 use wfc_pins::{BuildFault, PinLine};
-use wfc_places::Mark;
+use wfc_places::PinMark;
 use wfc_text::push_number;
 
 /// What the lines of a pins file mean, or the first line at fault.
@@ -21,13 +21,13 @@ pub fn marks(
     width: u32,
     height: u32,
     pins: &[PinLine],
-) -> Result<Vec<Mark>, BuildFault>
+) -> Result<Vec<PinMark>, BuildFault>
     ensures exact { Gives BuildFault.NoMemory (λ marks. marks.items) result
-        (pins_in (texts_of palette.now) width height pins.now) }
+        (picture_pins (texts_of palette.now) width height pins.now) }
     ensures inside { IfOk result (λ marks.
         All (λ (pin : Pin). (pin.column < width) × (pin.row < height)) marks.items) }
 {
-    let texts = texts(alloc, palette)?;
+    let texts = symbol_texts(alloc, palette)?;
     let mut marks = Vec::with_capacity(alloc, pins.len())?;
     for line in pins {
         marks.push(mark(&texts, width, height, line)?)?;
@@ -36,16 +36,16 @@ pub fn marks(
 }
 
 /// What one line means.
-fn mark(texts: &[Vec<u8>], width: u32, height: u32, line: &PinLine) -> Result<Mark, BuildFault>
+fn mark(texts: &[Vec<u8>], width: u32, height: u32, line: &PinLine) -> Result<PinMark, BuildFault>
     requires few { length texts.now ≤ 4096 }
-    ensures exact { result ≡ pin_in (map (λ text. text.items) texts.now) width height line.now }
+    ensures exact { result ≡ picture_pin (map (λ text. text.items) texts.now) width height line.now }
     ensures inside { IfOk result (λ mark. (mark.column < width) × (mark.row < height)) }
 {
     if line.x >= width || line.y >= height {
         return Err(BuildFault::PinOutside { line: line.line });
     }
     match number_of(texts, &line.symbol) {
-        Some(number) => Ok(Mark {
+        Some(number) => Ok(PinMark {
             keep: line.keep,
             column: line.x,
             row: line.y,
@@ -73,7 +73,7 @@ fn place_of(texts: &[Vec<u8>], word: &[u8]) -> Option<usize>
 }
 
 /// The texts of a palette's symbols, in their order.
-pub fn texts(alloc: Global, palette: &Palette) -> Result<Vec<Vec<u8>>, NoMemory>
+pub fn symbol_texts(alloc: Global, palette: &Palette) -> Result<Vec<Vec<u8>>, NoMemory>
     ensures value { IfOk result (λ texts.
         map (λ text. text.items) texts.items ≡ texts_of palette.now) }
     ensures few { IfOk result (λ texts. vec_len texts ≤ 4096) }

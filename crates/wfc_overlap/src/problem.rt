@@ -4,9 +4,9 @@ ghost use Rattle.std.specs.Prelude.{◌≡◌, ◌<◌, ◌≤◌, map, IfOk};
 ghost use Rattle.wfc_outside.specs.Gives.{Gives};
 ghost use Rattle.wfc_pattern.specs.Patterns.{IsPatterns};
 ghost use Rattle.wfc_overlap.specs.Bridge.{AreInside, IsRoom};
-ghost use Rattle.wfc_overlap.specs.Built.{built, built_pins};
+ghost use Rattle.wfc_overlap.specs.Built.{picture_problem, checked_picture_pins};
 ghost use Rattle.wfc_overlap.specs.Layout.{output_of};
-ghost use Rattle.wfc_overlap.specs.Sample.{base_table, output_with, problem_of_sample, support_table};
+ghost use Rattle.wfc_overlap.specs.Sample.{window_base_table, output_with, problem_of_sample, agreement_table};
 
 use crate::base::base;
 use crate::layout::Layout;
@@ -18,7 +18,7 @@ use wfc_outside::NoMemory;
 use wfc_pattern::Patterns;
 use wfc_picture::Palette;
 use wfc_pins::{BuildFault, PinLine};
-use wfc_places::{Mark, problem_with};
+use wfc_places::{PinMark, problem_with};
 use wfc_problem::{MAX_PAIRS, Parts, Problem};
 
 /// The problem of learned patterns for an output of `width` by `height` pixels: a cell for each
@@ -42,9 +42,9 @@ pub fn build(
     requires width_limit { width ≤ 4096 }
     requires height_limit { height ≤ 4096 }
     ensures exact { Gives BuildFault.NoMemory (λ problem. problem) result
-        (built patterns.now palette.now (output_with width height wrap) pins.now) }
+        (picture_problem patterns.now palette.now (output_with width height wrap) pins.now) }
 {
-    let marks = checked_marks(alloc, patterns, palette, width, height, wrap, pins)?;
+    let marks = checked_window_marks(alloc, patterns, palette, width, height, wrap, pins)?;
     let supports = support_lists(alloc, patterns)?;
     let problem = problem_of_marks(alloc, patterns, supports, width, height, wrap, &marks)?;
     Ok(problem)
@@ -52,7 +52,7 @@ pub fn build(
 
 /// What the lines of a pins file mean for the problem that `build` builds, or the first of its
 /// faults. Then the output has room for a window.
-pub fn checked_marks(
+pub fn checked_window_marks(
     alloc: Global,
     patterns: &Patterns,
     palette: &Palette,
@@ -60,13 +60,13 @@ pub fn checked_marks(
     height: u32,
     wrap: bool,
     pins: &[PinLine],
-) -> Result<Vec<Mark>, BuildFault>
+) -> Result<Vec<PinMark>, BuildFault>
     requires some_width { 0 < width }
     requires some_height { 0 < height }
     requires width_limit { width ≤ 4096 }
     requires height_limit { height ≤ 4096 }
     ensures exact { Gives BuildFault.NoMemory (λ marks. marks.items) result
-        (built_pins patterns.now palette.now (output_with width height wrap) pins.now) }
+        (checked_picture_pins patterns.now palette.now (output_with width height wrap) pins.now) }
     ensures room { IfOk result (λ marks. IsRoom patterns.now (output_with width height wrap)) }
     ensures inside { IfOk result (λ marks.
         AreInside (output_with width height wrap) marks.items) }
@@ -93,35 +93,35 @@ pub fn problem_of_marks(
     width: u32,
     height: u32,
     wrap: bool,
-    marks: &[Mark],
+    marks: &[PinMark],
 ) -> Result<Problem, NoMemory>
     requires room { IsRoom patterns.now (output_with width height wrap) }
     requires width_limit { width ≤ 4096 }
     requires height_limit { height ≤ 4096 }
     requires inside { AreInside (output_with width height wrap) marks.now }
-    requires supports { map (λ list. list.items) supports.items ≡ support_table patterns.now }
+    requires supports { map (λ list. list.items) supports.items ≡ agreement_table patterns.now }
     ensures value { IfOk result (λ problem. problem
         ≡ problem_of_sample patterns.now (output_with width height wrap) marks.now) }
 {
-    let parts = parts_of_marks(alloc, patterns, supports, width, height, wrap, marks)?;
+    let parts = window_parts_of_marks(alloc, patterns, supports, width, height, wrap, marks)?;
     Ok(problem_with(parts))
 }
 
 /// What that problem is made of.
-pub fn parts_of_marks(
+pub fn window_parts_of_marks(
     alloc: Global,
     patterns: &Patterns,
     supports: Vec<Vec<u16>>,
     width: u32,
     height: u32,
     wrap: bool,
-    marks: &[Mark],
+    marks: &[PinMark],
 ) -> Result<Parts, NoMemory>
     requires room { IsRoom patterns.now (output_with width height wrap) }
     requires width_limit { width ≤ 4096 }
     requires height_limit { height ≤ 4096 }
     requires inside { AreInside (output_with width height wrap) marks.now }
-    requires supports { map (λ list. list.items) supports.items ≡ support_table patterns.now }
+    requires supports { map (λ list. list.items) supports.items ≡ agreement_table patterns.now }
     ensures value { IfOk result (λ parts. parts
         ≡ problem_of_sample patterns.now (output_with width height wrap) marks.now) }
     ensures patterns { IsPatterns patterns.now }
@@ -132,19 +132,19 @@ pub fn parts_of_marks(
 
 /// The base of that problem: for each place and pattern, place by place, whether the pattern meets
 /// all pins and bans there.
-pub fn base_of_marks(
+pub fn window_base_of_marks(
     alloc: Global,
     patterns: &Patterns,
     width: u32,
     height: u32,
     wrap: bool,
-    marks: &[Mark],
+    marks: &[PinMark],
 ) -> Result<Vec<bool>, NoMemory>
     requires room { IsRoom patterns.now (output_with width height wrap) }
     requires width_limit { width ≤ 4096 }
     requires height_limit { height ≤ 4096 }
     requires inside { AreInside (output_with width height wrap) marks.now }
-    ensures value { IfOk result (λ flags. flags.items ≡ base_table patterns.now.n
+    ensures value { IfOk result (λ flags. flags.items ≡ window_base_table patterns.now.n
         (output_with width height wrap) patterns.now.windows marks.now) }
 {
     let layout = Layout::new(patterns.n(), width, height, wrap);
@@ -157,10 +157,10 @@ fn parts(
     patterns: &Patterns,
     supports: Vec<Vec<u16>>,
     layout: Layout,
-    marks: &[Mark],
+    marks: &[PinMark],
 ) -> Result<Parts, NoMemory>
     requires n { layout.n ≡ patterns.now.n }
-    requires supports { map (λ list. list.items) supports.items ≡ support_table patterns.now }
+    requires supports { map (λ list. list.items) supports.items ≡ agreement_table patterns.now }
     requires inside { AreInside (output_of layout) marks.now }
     ensures value { IfOk result (λ parts. parts
         ≡ problem_of_sample patterns.now (output_of layout) marks.now) }

@@ -2,10 +2,10 @@
 
 ghost use Rattle.std.specs.Prelude.{◌≡◌, ◌<◌, ◌++◌, length, map, IfOk, OnOk};
 ghost use Rattle.wfc_model.specs.Direction.{opposite};
-ghost use Rattle.wfc_overlap.specs.Sample.{all_agreeing, support_table};
+ghost use Rattle.wfc_overlap.specs.Sample.{all_agreeing, agreement_table};
 ghost use Rattle.wfc_overlap.specs.Sides.{AreGrouped};
 
-use crate::groups::{Groups, group, side};
+use crate::groups::{Groups, group, shared_part};
 use std::alloc::Global;
 use wfc_outside::NoMemory;
 use wfc_pattern::Patterns;
@@ -15,7 +15,7 @@ use wfc_problem::opposite;
 /// memory than they need.
 pub fn support_lists(alloc: Global, patterns: &Patterns) -> Result<Vec<Vec<u16>>, NoMemory>
     ensures value { IfOk result (λ lists.
-        map (λ list. list.items) lists.items ≡ support_table patterns.now) }
+        map (λ list. list.items) lists.items ≡ agreement_table patterns.now) }
 {
     let groups = groups(alloc, patterns)?;
     let mut lists = Vec::with_capacity(alloc, patterns.count() as usize * 4)?;
@@ -50,7 +50,7 @@ fn push_lists(
         ≡ map (λ list. list.items) lists.old.items ++ all_agreeing patterns.now p) }
 {
     for dir in 0..4 {
-        let shared = side(alloc, patterns.window(p), patterns.n(), dir)?;
+        let shared = shared_part(alloc, patterns.window(p), patterns.n(), dir)?;
         let agreeing = groups[dir as usize].get(&shared);
         lists.push(Vec::from_slice(alloc, agreeing)?)?;
     }

@@ -41,14 +41,21 @@ pub fn agreement_of_two()
 /// A sample of four by two that teaches three patterns, and samples that are too small and not.
 pub fn small_samples()
     ensures patterns { patterns_of (raster_of 4 2 (1 ∷ 1 ∷ 1 ∷ 2 ∷ 1 ∷ 1 ∷ 1 ∷ 2 ∷ [])) 2 2 false
-        ≡ Ok (record { n = 2; windows = (1 ∷ 1 ∷ 1 ∷ 1 ∷ []) ∷ (1 ∷ 2 ∷ 1 ∷ 2 ∷ [])
-        ∷ (2 ∷ 1 ∷ 2 ∷ 1 ∷ []) ∷ []; weights = 4 ∷ 1 ∷ 1 ∷ [] }) }
+        ≡ Ok (record {
+          n = 2;
+          windows = (1 ∷ 1 ∷ 1 ∷ 1 ∷ []) ∷ (1 ∷ 2 ∷ 1 ∷ 2 ∷ [])
+              ∷ (2 ∷ 1 ∷ 2 ∷ 1 ∷ []) ∷ [];
+          weights = 4 ∷ 1 ∷ 1 ∷ [];
+        }) }
     ensures narrow { patterns_of (raster_of 1 2 (1 ∷ 2 ∷ [])) 2 1 false
         ≡ Err LearnFault.SampleBelowN }
     ensures low { patterns_of (raster_of 2 1 (1 ∷ 2 ∷ [])) 2 1 false
         ≡ Err LearnFault.SampleBelowN }
-    ensures wrapped { patterns_of (raster_of 2 1 (1 ∷ 2 ∷ [])) 2 1 true ≡ Ok (record { n = 2;
-        windows = (1 ∷ 2 ∷ 1 ∷ 2 ∷ []) ∷ (2 ∷ 1 ∷ 2 ∷ 1 ∷ []) ∷ []; weights = 1 ∷ 1 ∷ [] }) }
+    ensures wrapped { patterns_of (raster_of 2 1 (1 ∷ 2 ∷ [])) 2 1 true ≡ Ok (record {
+      n = 2;
+      windows = (1 ∷ 2 ∷ 1 ∷ 2 ∷ []) ∷ (2 ∷ 1 ∷ 2 ∷ 1 ∷ []) ∷ [];
+      weights = 1 ∷ 1 ∷ [];
+    }) }
 {}
 
 /// Up to 4,096 patterns are taught. With one more there are too many, and the fault says how many.

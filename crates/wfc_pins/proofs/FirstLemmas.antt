@@ -11,7 +11,7 @@ use Rattle.wfc_problem.specs.declared.Literal.TheVariants.{Is, Not}
 use Rattle.wfc_pins.specs.InOrder.{IsFirstWith, all_in_order, and_rest}
 use Rattle.wfc_pins.specs.PinView.{PinView}
 use Rattle.wfc_pins.specs.Pins.{pin_of, pin_said}
-use Rattle.wfc_pins.specs.Steps.{IsStepIn, fits, range_fault}
+use Rattle.wfc_pins.specs.Steps.{IsStepIn, step_fits, range_fault}
 use Rattle.wfc_pins.specs.declared.pins.PinFault.{PinFault}
 use Rattle.wfc_pins.specs.declared.pins.PinFault.TheVariants as pin_faults
 use Rattle.wfc_pins.specs.declared.steps.RangeFault.TheVariants.{OutOfRange}
@@ -71,12 +71,12 @@ found_none p Q has (x ∷ xs) is = by (p x) refl is (found_none p Q has xs)
 -- ---- steps in a problem
 
 -- the test says whether a step is in a problem
-pub fits-in : (P : Network) (step : Step) → fits P step ≡ true → IsStepIn P step
+pub fits-in : (P : Network) (step : Step) → step_fits P step ≡ true → IsStepIn P step
 fits-in P (Assume (Is value cell)) is = let parts = and_parts _ _ is in (ltb-true cell P.cells parts.0, ltb-true value (values P) parts.1)
 fits-in P (Assume (Not value cell)) is = let parts = and_parts _ _ is in (ltb-true cell P.cells parts.0, ltb-true value (values P) parts.1)
 fits-in P Undo is = tt
 
-pub in-fits : (P : Network) (step : Step) → IsStepIn P step → fits P step ≡ true
+pub in-fits : (P : Network) (step : Step) → IsStepIn P step → step_fits P step ≡ true
 in-fits P (Assume (Is value cell)) is = and_from _ _ (lt-ltb cell P.cells is.0) (lt-ltb value (values P) is.1)
 in-fits P (Assume (Not value cell)) is = and_from _ _ (lt-ltb cell P.cells is.0) (lt-ltb value (values P) is.1)
 in-fits P Undo is = refl
@@ -99,16 +99,16 @@ abbrev IsOut : Network → StepLine → Type 0
 IsOut P line = IsStepIn P line.step → ⊥
 
 abbrev is_out : Network → StepLine → Bool
-is_out P line = not (fits P line.step)
+is_out P line = not (step_fits P line.step)
 
 out-true : (P : Network) (line : StepLine) → is_out P line ≡ true → IsOut P line
-out-true P line is within = no_not (fits P line.step) is (in-fits P line.step within)
+out-true P line is within = no_not (step_fits P line.step) is (in-fits P line.step within)
 
 out-false : (P : Network) (line : StepLine) → is_out P line ≡ false → IsOut P line → ⊥
-out-false P line is out = out (fits-in P line.step (kept_not (fits P line.step) is))
+out-false P line is out = out (fits-in P line.step (kept_not (step_fits P line.step) is))
 
 true-out : (P : Network) (line : StepLine) → IsOut P line → is_out P line ≡ true
-true-out P line out = not_true (fits P line.step) (λ is. out (fits-in P line.step is))
+true-out P line out = not_true (step_fits P line.step) (λ is. out (fits-in P line.step is))
 
 false-in : (P : Network) (line : StepLine) → IsStepIn P line.step → is_out P line ≡ false
 false-in P line within = ap not (in-fits P line.step within)
@@ -141,7 +141,7 @@ pub range_fault-none : (P : Network) (steps : List StepLine) → range_fault P s
 range_fault-none P steps is = by (find (is_out P) steps) refl is
   where
     by : (o : Option StepLine) → find (is_out P) steps ≡ o → option_map (λ (l : StepLine). OutOfRange l.line) o ≡ None → All (λ (l : StepLine). IsStepIn P l.step) steps
-    by None e none = found_none (is_out P) (λ l. IsStepIn P l.step) (λ l is. fits-in P l.step (kept_not (fits P l.step) is)) steps e
+    by None e none = found_none (is_out P) (λ l. IsStepIn P l.step) (λ l is. fits-in P l.step (kept_not (step_fits P l.step) is)) steps e
     by (Some line) e some = absurd (cc)
 
 pub none-range_fault : (P : Network) (steps : List StepLine) → All (λ (l : StepLine). IsStepIn P l.step) steps → range_fault P steps ≡ None

@@ -15,7 +15,7 @@ use Rattle.wfc_pins.specs.declared.steps.StepLine.{StepLine}
 use Rattle.wfc_pins.specs.declared.steps.StepFault.{StepFault}
 use Rattle.wfc_pins.specs.declared.steps.StepFault.TheVariants.{BadLine, NothingToUndo}
 use Rattle.wfc_pins.specs.InOrder.{and_rest}
-use Rattle.wfc_pins.specs.Steps.{said, is_assumption, is_undo, assumptions, undos, step_of, step_behind, steps_behind, steps_of}
+use Rattle.wfc_pins.specs.Steps.{step_of_line, is_assumption, is_undo, assumptions, undos, step_of, step_behind, steps_behind, steps_of}
 use Rattle.wfc_pins.proofs.InOrderLemmas.{behind, behind-and_rest, behind-none}
 
 -- ---- how many lines there are
@@ -57,8 +57,8 @@ spent_is : (standing u a : ℕ) → standing + u ≡ a → (standing == 0) ≡ (
 spent_is standing u a level = grind (arith, nat_tests)
 
 -- the step of a line, by the count of what stands
-pub step_behind-by : (before : List LineView) (line : LineView) (standing : ℕ) → standing + undos before ≡ assumptions before → step_of line.number (standing == 0) (said line) ≡ step_behind before line
-step_behind-by before line standing level = ap (λ spent. step_of line.number spent (said line)) (spent_is standing (undos before) (assumptions before) level)
+pub step_behind-by : (before : List LineView) (line : LineView) (standing : ℕ) → standing + undos before ≡ assumptions before → step_of line.number (standing == 0) (step_of_line line) ≡ step_behind before line
+step_behind-by before line standing level = ap (λ spent. step_of line.number spent (step_of_line line)) (spent_is standing (undos before) (assumptions before) level)
 
 -- how often a test passes with one more line behind
 count-more : (p : LineView → Bool) (lines : List LineView) (line : LineView) → count_by p (lines ++ line ∷ []) ≡ count_by p lines + one_if (p line)
@@ -71,12 +71,12 @@ one_more undone false after standing is = omega arith
 
 -- what stands after a step
 pub level_after : (before : List LineView) (line : LineView) (standing after : ℕ) (step : StepLine) → standing + undos before ≡ assumptions before
-    → step_of line.number (standing == 0) (said line) ≡ Ok step → after + one_if (is_undo (Some step.step)) ≡ standing + one_if (is_assumption (Some step.step))
+    → step_of line.number (standing == 0) (step_of_line line) ≡ Ok step → after + one_if (is_undo (Some step.step)) ≡ standing + one_if (is_assumption (Some step.step))
     → after + undos (before ++ line ∷ []) ≡ assumptions (before ++ line ∷ [])
 level_after before line standing after step level is counted =
-    let says = said_is line.number (standing == 0) (said line) step is in
-    let undone : undos (before ++ line ∷ []) ≡ undos before + one_if (is_undo (Some step.step)) = subst (λ o. undos (before ++ line ∷ []) ≡ undos before + one_if (is_undo o)) says (count-more (λ l. is_undo (said l)) before line) in
-    let made : assumptions (before ++ line ∷ []) ≡ assumptions before + one_if (is_assumption (Some step.step)) = subst (λ o. assumptions (before ++ line ∷ []) ≡ assumptions before + one_if (is_assumption o)) says (count-more (λ l. is_assumption (said l)) before line) in
+    let says = said_is line.number (standing == 0) (step_of_line line) step is in
+    let undone : undos (before ++ line ∷ []) ≡ undos before + one_if (is_undo (Some step.step)) = subst (λ o. undos (before ++ line ∷ []) ≡ undos before + one_if (is_undo o)) says (count-more (λ l. is_undo (step_of_line l)) before line) in
+    let made : assumptions (before ++ line ∷ []) ≡ assumptions before + one_if (is_assumption (Some step.step)) = subst (λ o. assumptions (before ++ line ∷ []) ≡ assumptions before + one_if (is_assumption o)) says (count-more (λ l. is_assumption (step_of_line l)) before line) in
     omega arith
 
 -- the steps that are left, with one more in front of them
@@ -104,7 +104,7 @@ reading_begins text = record { whole = behind-none (steps_of text); level = refl
 
 -- after one more step
 pub reading_on : (whole : Result (List StepLine) StepFault) (read left : List LineView) (steps : List StepLine) (standing after : ℕ) (line : LineView) (step : StepLine) → IsReading whole read (line ∷ left) steps standing
-    → is_skipped line.bytes ≡ false → step_of line.number (standing == 0) (said line) ≡ Ok step
+    → is_skipped line.bytes ≡ false → step_of line.number (standing == 0) (step_of_line line) ≡ Ok step
     → after + one_if (is_undo (Some step.step)) ≡ standing + one_if (is_assumption (Some step.step)) → IsReading whole (read ++ line ∷ []) left (steps ++ step ∷ []) after
 reading_on whole read left steps standing after line step so_far skipped is counted =
     let more = read_more read line skipped in
@@ -118,7 +118,7 @@ reading_on whole read left steps standing after line step so_far skipped is coun
 
 -- at a fault
 pub reading_ends : (whole : Result (List StepLine) StepFault) (read left : List LineView) (steps : List StepLine) (standing : ℕ) (line : LineView) (fault : StepFault) → IsReading whole read (line ∷ left) steps standing
-    → is_skipped line.bytes ≡ false → step_of line.number (standing == 0) (said line) ≡ Err fault → Err fault ≡ whole
+    → is_skipped line.bytes ≡ false → step_of line.number (standing == 0) (step_of_line line) ≡ Err fault → Err fault ≡ whole
 reading_ends whole read left steps standing line fault so_far skipped is =
     sym (steps_end steps (read_among read) (read_among left) line fault (sym (step_behind-by (read_among read) line standing so_far.level) ∙ is))
     ∙ (ap (λ lines. behind steps (steps_behind (read_among read) lines)) (sym (read-one line left skipped)) ∙ so_far.whole)
@@ -155,10 +155,10 @@ pub fault_of_steps : (before : List LineView) (line : LineView) (after : List Li
 fault_of_steps before line after steps fault right is = steps_past [] before (line ∷ after) steps right ∙ steps_end steps before after line fault is
 
 -- a line that says nothing
-pub bad_line : (before : List LineView) (line : LineView) → said line ≡ None → step_behind before line ≡ Err (BadLine line.number)
+pub bad_line : (before : List LineView) (line : LineView) → step_of_line line ≡ None → step_behind before line ≡ Err (BadLine line.number)
 bad_line before line is = ap (step_of line.number (undos before == assumptions before)) is
 
 -- an `undo` where nothing stands
-pub nothing_to_undo : (before : List LineView) (line : LineView) → said line ≡ Some Undo → undos before ≡ assumptions before → step_behind before line ≡ Err (NothingToUndo line.number)
+pub nothing_to_undo : (before : List LineView) (line : LineView) → step_of_line line ≡ Some Undo → undos before ≡ assumptions before → step_behind before line ≡ Err (NothingToUndo line.number)
 nothing_to_undo before line is level =
     ap (step_of line.number (undos before == assumptions before)) is ∙ ap (λ spent. step_of line.number spent (Some Undo)) (eq-eqb (undos before) (assumptions before) level)

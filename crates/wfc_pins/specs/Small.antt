@@ -6,8 +6,8 @@ use Rattle.wfc_pins.specs.declared.steps.Step.TheVariants.{Assume}
 use Rattle.wfc_pins.specs.declared.steps.StepLine.{StepLine}
 
 -- three cells and two values; no neighbours are asked for
-abbrev pub three_by_two : Network
-three_by_two = record { cells = 3; dirs = 4; neighbours = []; weights = 7 ∷ 5 ∷ []; supports = []; base = [] }
+abbrev pub three_cells : Network
+three_cells = record { cells = 3; dirs = 4; neighbours = []; weights = 7 ∷ 5 ∷ []; supports = []; base = [] }
 
 -- three steps, of which the first fits that problem, the second names a value that it lacks and the third a cell
 abbrev pub three_steps : List StepLine

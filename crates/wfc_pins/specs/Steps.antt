@@ -18,23 +18,23 @@ use Rattle.wfc_pins.specs.declared.steps.StepFault.TheVariants.{BadLine, Nothing
 use Rattle.wfc_pins.specs.declared.steps.RangeFault.{RangeFault}
 use Rattle.wfc_pins.specs.declared.steps.RangeFault.TheVariants.{OutOfRange}
 
--- what is assumed of a cell and a value, if both are there: `choose` says that the cell has it,
+-- what is assumed_step of a cell and a value, if both are there: `choose` says that the cell has it,
 -- `forbid` that it doesn't
-abbrev pub assumed : List ℕ → Option ℕ → Option ℕ → Option Step
-assumed word (Some cell) (Some value) =
+abbrev pub assumed_step : List ℕ → Option ℕ → Option ℕ → Option Step
+assumed_step word (Some cell) (Some value) =
     if bytes_eq word (codes "choose") then Some (Assume (Is value cell))
     else (if bytes_eq word (codes "forbid") then Some (Assume (Not value cell)) else None)
-assumed word _ _ = None
+assumed_step word _ _ = None
 
 -- what the words of a line say: `choose` or `forbid`, a cell and a value; or `undo` alone
 abbrev pub step_of_words : List (List ℕ) → Option Step
 step_of_words (word ∷ []) = if bytes_eq word (codes "undo") then Some Undo else None
-step_of_words (word ∷ cell ∷ value ∷ []) = assumed word (number32 cell) (number16 value)
+step_of_words (word ∷ cell ∷ value ∷ []) = assumed_step word (number32 cell) (number16 value)
 step_of_words _ = None
 
 -- the same of a line
-abbrev pub said : LineView → Option Step
-said line = step_of_words (words_of line.bytes)
+abbrev pub step_of_line : LineView → Option Step
+step_of_line line = step_of_words (words_of line.bytes)
 
 -- whether a line assumes
 abbrev pub is_assumption : Option Step → Bool
@@ -48,11 +48,11 @@ is_undo _ = false
 
 -- how many lines assume
 abbrev pub assumptions : List LineView → ℕ
-assumptions lines = count_by (λ line. is_assumption (said line)) lines
+assumptions lines = count_by (λ line. is_assumption (step_of_line line)) lines
 
 -- how many lines take an assumption back
 abbrev pub undos : List LineView → ℕ
-undos lines = count_by (λ line. is_undo (said line)) lines
+undos lines = count_by (λ line. is_undo (step_of_line line)) lines
 
 -- the step of a line, or its fault: it says no step, or it is an `undo` where nothing stands to be undone
 abbrev pub step_of : ℕ → Bool → Option Step → Result StepLine StepFault
@@ -62,7 +62,7 @@ step_of line spent (Some Undo) = if spent then Err (NothingToUndo line) else Ok 
 
 -- nothing stands to be undone where as many lines before undo as assume
 abbrev pub step_behind : List LineView → LineView → Result StepLine StepFault
-step_behind before line = step_of line.number (undos before == assumptions before) (said line)
+step_behind before line = step_of line.number (undos before == assumptions before) (step_of_line line)
 
 -- the steps of lines behind others, or the first fault
 abbrev pub steps_behind : List LineView → List LineView → Result (List StepLine) StepFault
@@ -78,12 +78,12 @@ abbrev pub steps_of : List ℕ → Result (List StepLine) StepFault
 steps_of text = steps_behind [] (read_lines text)
 
 -- whether the cell and the value of a step are in a problem
-abbrev pub fits : Network → Step → Bool
-fits P (Assume (Is value cell)) = nat_lt cell P.cells && nat_lt value (values P)
-fits P (Assume (Not value cell)) = nat_lt cell P.cells && nat_lt value (values P)
-fits P Undo = true
+abbrev pub step_fits : Network → Step → Bool
+step_fits P (Assume (Is value cell)) = nat_lt cell P.cells && nat_lt value (values P)
+step_fits P (Assume (Not value cell)) = nat_lt cell P.cells && nat_lt value (values P)
+step_fits P Undo = true
 
--- the same as a fact: what is assumed speaks of a cell and a value of the problem
+-- the same as a fact: what is assumed_step speaks of a cell and a value of the problem
 abbrev pub IsStepIn : Network → Step → Type 0
 IsStepIn P (Assume literal) = IsLiteralIn P literal
 IsStepIn P Undo = Unit {0}
@@ -92,4 +92,4 @@ IsStepIn P Undo = Unit {0}
 abbrev pub range_fault : Network → List StepLine → Option RangeFault
 range_fault P steps =
     option_map (λ (line : StepLine). OutOfRange line.line)
-    (find (λ (line : StepLine). not (fits P line.step)) steps)
+    (find (λ (line : StepLine). not (step_fits P line.step)) steps)

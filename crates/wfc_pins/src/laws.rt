@@ -2,12 +2,12 @@
 
 ghost use Rattle.std.specs.Prelude.{◌≡◌, ◌↔◌, ℕ, All, IsTrue, map, true, false, List, [], ◌∷◌, ◌++◌, codes, Ok, Err, Some, None};
 ghost use Rattle.wfc_text.specs.Line.{LineView};
-ghost use Rattle.wfc_pins.specs.Small.{three_by_two, three_steps};
+ghost use Rattle.wfc_pins.specs.Small.{three_cells, three_steps};
 ghost use Rattle.wfc_pins.specs.Words.{is_skipped, read_lines, words_of};
 ghost use Rattle.wfc_pins.specs.InOrder.{IsFirstWith};
 ghost use Rattle.wfc_pins.specs.PinView.{PinView};
 ghost use Rattle.wfc_pins.specs.Pins.{pin_said, pins_of};
-ghost use Rattle.wfc_pins.specs.Steps.{IsStepIn, IsUndoTooMany, assumptions, fits, range_fault, said, steps_behind, steps_of, undos};
+ghost use Rattle.wfc_pins.specs.Steps.{IsStepIn, IsUndoTooMany, assumptions, step_fits, range_fault, step_of_line, steps_behind, steps_of, undos};
 ghost use Rattle.wfc_pins.specs.declared.pins.PinFault.TheVariants as pin_faults;
 ghost use Rattle.wfc_pins.specs.declared.steps.Step.{Step};
 ghost use Rattle.wfc_pins.specs.declared.steps.Step.TheVariants.{Assume, Undo};
@@ -49,10 +49,10 @@ pub fn steps()
 /// A step behind steps without a fault is at fault exactly where it says none, or undoes where as many undo as assume.
 pub fn faults_of_steps()
     ensures bad { (before : List LineView) (line : LineView) (after : List LineView)
-        (steps : List StepLine) → steps_behind [] before ≡ Ok steps → said line ≡ None
+        (steps : List StepLine) → steps_behind [] before ≡ Ok steps → step_of_line line ≡ None
         → steps_behind [] (before ++ line ∷ after) ≡ Err (step_faults.BadLine line.number) }
     ensures nothing { (before : List LineView) (line : LineView) (after : List LineView)
-        (steps : List StepLine) → steps_behind [] before ≡ Ok steps → said line ≡ Some Undo
+        (steps : List StepLine) → steps_behind [] before ≡ Ok steps → step_of_line line ≡ Some Undo
         → undos before ≡ assumptions before → IsUndoTooMany before line after }
 {}
 
@@ -67,7 +67,7 @@ pub fn faults_of_pins()
 
 /// Steps fit a problem exactly where each speaks of its cells and values, and else the first line that doesn't is at fault.
 pub fn steps_in_range()
-    ensures test { (P : Network) (step : Step) → IsTrue (fits P step) ↔ IsStepIn P step }
+    ensures test { (P : Network) (step : Step) → IsTrue (step_fits P step) ↔ IsStepIn P step }
     ensures all { (P : Network) (steps : List StepLine) →
         (range_fault P steps ≡ None) ↔ All (λ (l : StepLine). IsStepIn P l.step) steps }
     ensures first { (P : Network) (steps : List StepLine) (n : ℕ) →
@@ -77,9 +77,9 @@ pub fn steps_in_range()
 
 /// In a problem of three cells and two values: the last cell and the last value, and what is past them.
 pub fn small_steps()
-    ensures both { map (fits three_by_two) (Assume (Is 1 2) ∷ Assume (Not 1 2) ∷ Undo ∷ [])
+    ensures both { map (step_fits three_cells) (Assume (Is 1 2) ∷ Assume (Not 1 2) ∷ Undo ∷ [])
         ≡ true ∷ true ∷ true ∷ [] }
-    ensures past { map (fits three_by_two) (Assume (Is 2 1) ∷ Assume (Not 2 1) ∷ Assume (Is 1 3)
+    ensures past { map (step_fits three_cells) (Assume (Is 2 1) ∷ Assume (Not 2 1) ∷ Assume (Is 1 3)
         ∷ Assume (Not 1 3) ∷ []) ≡ false ∷ false ∷ false ∷ false ∷ [] }
-    ensures first { range_fault three_by_two three_steps ≡ Some (OutOfRange 5) }
+    ensures first { range_fault three_cells three_steps ≡ Some (OutOfRange 5) }
 {}

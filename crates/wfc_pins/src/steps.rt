@@ -58,7 +58,7 @@ pub enum RangeFault {
     OutOfRange { line: u32 },
 }
 
-ghost use Rattle.wfc_pins.specs.Steps.{IsStepIn, assumed, fits, is_assumption, is_undo, range_fault, said, step_of};
+ghost use Rattle.wfc_pins.specs.Steps.{IsStepIn, assumed_step, step_fits, is_assumption, is_undo, range_fault, step_of_line, step_of};
 ghost use Rattle.wfc_pins.specs.Steps.{step_of_words, steps_of};
 
 /// The steps of a steps file, in the order of its lines. A line is `choose CELL VALUE`, `forbid CELL VALUE` or `undo`,
@@ -82,7 +82,7 @@ pub fn read_steps(alloc: Global, bytes: &[u8]) -> Result<Vec<StepLine>, StepFaul
 
 /// The step of a line; `spent` says that nothing stands to be undone.
 fn step_of(line: &TextLine<'_>, spent: bool) -> Result<StepLine, StepFault>
-    ensures exact { result ≡ step_of line.now.number spent (said (line_view line.now)) }
+    ensures exact { result ≡ step_of line.now.number spent (step_of_line (line_view line.now)) }
 {
     let step = step_words(line.bytes).ok_or(StepFault::BadLine { line: line.number })?;
     if spent && matches!(step, Step::Undo) {
@@ -118,7 +118,7 @@ fn step_words(line: &[u8]) -> Option<Step>
             let value = words.next()?;
             match words.next() {
                 Some(_) => None,
-                None => assumed(word, number32(cell)?, number16(value)?),
+                None => assumed_step(word, number32(cell)?, number16(value)?),
             }
         }
         None => is_word(word, "undo").then_some(Step::Undo),
@@ -126,8 +126,8 @@ fn step_words(line: &[u8]) -> Option<Step>
 }
 
 /// What a first word says of a cell and a value.
-fn assumed(word: &[u8], cell: u32, value: u16) -> Option<Step>
-    ensures value { result ≡ assumed word.now (Some cell) (Some value) }
+fn assumed_step(word: &[u8], cell: u32, value: u16) -> Option<Step>
+    ensures value { result ≡ assumed_step word.now (Some cell) (Some value) }
 {
     if is_word(word, "choose") {
         Some(Step::Assume(Literal::Is { cell, value }))
@@ -145,15 +145,15 @@ pub fn steps_fit(steps: &[StepLine], problem: &Problem) -> Result<(), RangeFault
     ensures exact { result_err result ≡ range_fault problem.now steps.now }
     ensures ok { OnOk result (All (λ (line : StepLine). IsStepIn problem.now line.step) steps.now) }
 {
-    match steps.iter().find(|line| !fits(problem, line.step)) {
+    match steps.iter().find(|line| !step_fits(problem, line.step)) {
         Some(line) => Err(RangeFault::OutOfRange { line: line.line }),
         None => Ok(()),
     }
 }
 
 /// Whether the cell and the value of a step are in the problem.
-fn fits(problem: &Problem, step: Step) -> bool
-    ensures value { result ≡ fits problem.now step }
+fn step_fits(problem: &Problem, step: Step) -> bool
+    ensures value { result ≡ step_fits problem.now step }
 {
     match step {
         Step::Assume(Literal::Is { cell, value }) | Step::Assume(Literal::Not { cell, value }) => {

@@ -8,5 +8,5 @@ abbrev pub suits : Pin → ℕ → Bool
 suits pin number = if pin.keep then number == pin.number else not (number == pin.number)
 
 -- the pin that a line means, where its symbol has this number
-abbrev pub pin_with : PinView → ℕ → Pin
-pin_with line number = record { keep = line.keep; column = line.x; row = line.y; number = number }
+abbrev pub marked_pin : PinView → ℕ → Pin
+marked_pin line number = record { keep = line.keep; column = line.x; row = line.y; number = number }

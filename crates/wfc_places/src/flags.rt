@@ -4,7 +4,7 @@ ghost use Rattle.std.specs.Prelude.{◌≡◌, ◌+◌, ◌*◌, ◌≤◌, leng
 ghost use Rattle.wfc_places.specs.Flags.{IsRowCut};
 ghost use Rattle.wfc_places.specs.Marks.{suits};
 
-use crate::mark::Mark;
+use crate::mark::PinMark;
 use std::alloc::Global;
 use wfc_outside::NoMemory;
 
@@ -16,7 +16,7 @@ pub fn all_set(alloc: Global, count: usize) -> Result<Vec<bool>, NoMemory>
 }
 
 /// Takes away in the row of a cell, of `count` flags, the numbers that don't suit a pin or a ban.
-pub fn cut_row(flags: &mut [bool], count: u16, mark: &Mark, cell: usize)
+pub fn cut_row(flags: &mut [bool], count: u16, mark: &PinMark, cell: usize)
     requires row { cell * count + count ≤ length flags.old }
     ensures cut { IsRowCut count flags.old flags.new cell (suits mark.now) }
 {

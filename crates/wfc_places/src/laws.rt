@@ -4,7 +4,7 @@ ghost use Rattle.std.specs.Prelude.{◌≡◌, ◌↔◌, ℕ, ◌+◌, ◌<◌,
 ghost use Rattle.wfc_model.specs.Direction.{left_by, down_by, right_by, up_by};
 ghost use Rattle.wfc_model.specs.Legal.{kept_pin, banned_pin};
 ghost use Rattle.wfc_places.specs.Flags.{HasFlags, IsRowCut, flag};
-ghost use Rattle.wfc_places.specs.Marks.{pin_with, suits};
+ghost use Rattle.wfc_places.specs.Marks.{marked_pin, suits};
 ghost use Rattle.wfc_places.specs.Steps.{IsStepFrom, along, cell_of};
 
 /// A step from each of three columns forth, back and neither, to the next one and not past the ends; where they wrap, on
@@ -31,7 +31,7 @@ pub fn places_by_rows()
 pub fn numbers_that_suit()
     ensures kept { map (suits (kept_pin 2 1 7)) (6 ∷ 7 ∷ []) ≡ false ∷ true ∷ [] }
     ensures banned { map (suits (banned_pin 2 1 7)) (6 ∷ 7 ∷ []) ≡ true ∷ false ∷ [] }
-    ensures line { pin_with (record { line = 9; keep = false; x = 2; y = 1; symbol = 97 ∷ [] }) 7
+    ensures line { marked_pin (record { line = 9; keep = false; x = 2; y = 1; symbol = 97 ∷ [] }) 7
         ≡ banned_pin 2 1 7 }
 {}
 

@@ -8,14 +8,14 @@ use std::marker::Model;
 /// What stands in a column of a row has the number, or with `keep` false hasn't: a pixel that of its
 /// symbol, or a tile that of its variant.
 #[derive(Drop)]
-pub struct Mark {
+pub struct PinMark {
     pub keep: bool,
     pub column: u32,
     pub row: u32,
     pub number: u32,
 }
 
-impl Model for Mark {
+impl Model for PinMark {
     ghost use Rattle.wfc_model.specs.Legal.{Pin};
 
     ghost Value = { Pin };
@@ -28,7 +28,7 @@ impl Model for Mark {
     } };
 }
 
-impl Mark {
+impl PinMark {
     /// Whether a flag stays that is set for a number: the number is what is kept, or not what is
     /// banned.
     #[inline]

@@ -8,8 +8,8 @@ use Rattle.wfc_outside.specs.declared.whole.ReadFault.{ReadFault}
 use Rattle.wfc_outside.specs.declared.whole.ReadFault.TheVariants as reading
 use Rattle.wfc_plan.specs.Fault.{class_of, class_status, status_of}
 use Rattle.wfc_plan.specs.Plan.{Asks, CausesUnread, Follows, GivesStep, Goes, IsRead, IsShort, Plan, ToldEnd, after_reading, and_then, done, outcome, read, reading_of, refuse, step}
-use Rattle.wfc_plan.specs.declared.fault.Class.{Class}
-use Rattle.wfc_plan.specs.declared.fault.Class.TheVariants.{Input, Memory, NoChooser}
+use Rattle.wfc_plan.specs.declared.fault.FaultClass.{FaultClass}
+use Rattle.wfc_plan.specs.declared.fault.FaultClass.TheVariants.{Input, Memory, NoChooser}
 use Rattle.wfc_plan.specs.declared.fault.Fault.{Fault}
 use Rattle.wfc_plan.specs.declared.fault.Fault.TheVariants.{Refused, Unread}
 use Rattle.wfc_plan.specs.declared.fault.Refusal.{Refusal}
@@ -102,7 +102,7 @@ pub goes_device : {T : Type 0} (plan : Plan T) (before after : FolderView) (faul
     → (name : List ℕ) × Asks plan name × (IsMissing before after name ⊎ IsFaultOf before after name)
 goes_device plan before after fault (inl follows) five = by_plan plan before after fault follows five
   where
-    not_5 : (class : Class) → class_status class ≡ 5 → ⊥
+    not_5 : (class : FaultClass) → class_status class ≡ 5 → ⊥
     not_5 Input is = omega arith
     not_5 Memory is = omega arith
     not_5 NoChooser is = omega arith

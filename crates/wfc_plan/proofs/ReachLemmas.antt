@@ -7,8 +7,8 @@ use Rattle.wfc_plan.proofs.PlanLemmas.{goes_told}
 use Rattle.wfc_plan.specs.Fault.{class_of, class_status, reading_status, status_of}
 use Rattle.wfc_plan.specs.Plan.{CausesUnread, Follows, Goes, IsShort, Plan, ToldEnd, done, outcome, read, refuse}
 use Rattle.wfc_plan.specs.Reaching.{IsDeviceCause, Reaches}
-use Rattle.wfc_plan.specs.declared.fault.Class.{Class}
-use Rattle.wfc_plan.specs.declared.fault.Class.TheVariants.{Input, Memory, NoChooser}
+use Rattle.wfc_plan.specs.declared.fault.FaultClass.{FaultClass}
+use Rattle.wfc_plan.specs.declared.fault.FaultClass.TheVariants.{Input, Memory, NoChooser}
 use Rattle.wfc_plan.specs.declared.fault.Fault.{Fault}
 use Rattle.wfc_plan.specs.declared.fault.Fault.TheVariants.{Refused, Unread}
 use Rattle.wfc_plan.specs.declared.fault.Source.{Source}
@@ -26,7 +26,7 @@ pub record EndsReading {T : Type 0} (plan : Plan T) (before after : FolderView) 
 pub goes_reading : {T : Type 0} (plan : Plan T) (before after : FolderView) (fault : Fault) → Goes plan before after (Err fault) → status_of fault ≡ 5 → EndsReading plan before after fault
 goes_reading plan before after fault (inl follows) five = by_plan plan before after fault follows five
   where
-    not_5 : (class : Class) → class_status class ≡ 5 → ⊥
+    not_5 : (class : FaultClass) → class_status class ≡ 5 → ⊥
     not_5 Input is = omega arith
     not_5 Memory is = omega arith
     not_5 NoChooser is = omega arith

@@ -3,8 +3,8 @@ use Rattle.std.proofs.Common.{arith, ◌≡◌, ◌≤◌}
 use Rattle.wfc_outside.specs.declared.whole.ReadFault.{ReadFault}
 use Rattle.wfc_outside.specs.declared.whole.ReadFault.TheVariants as reading
 use Rattle.wfc_plan.specs.Fault.{class_of, class_status, reading_status, status_of}
-use Rattle.wfc_plan.specs.declared.fault.Class.{Class}
-use Rattle.wfc_plan.specs.declared.fault.Class.TheVariants.{Input, Memory, NoChooser}
+use Rattle.wfc_plan.specs.declared.fault.FaultClass.{FaultClass}
+use Rattle.wfc_plan.specs.declared.fault.FaultClass.TheVariants.{Input, Memory, NoChooser}
 use Rattle.wfc_plan.specs.declared.fault.Fault.{Fault}
 use Rattle.wfc_plan.specs.declared.fault.Fault.TheVariants.{Refused, Unread}
 
@@ -19,7 +19,7 @@ fault_between (Unread source fault) = by_reading fault
     by_reading reading.NoMemory = (omega arith, omega arith)
 fault_between (Refused refusal) = by_class (class_of refusal)
   where
-    by_class : (class : Class) → (4 ≤ class_status class) × (class_status class ≤ 7)
+    by_class : (class : FaultClass) → (4 ≤ class_status class) × (class_status class ≤ 7)
     by_class Input = (omega arith, omega arith)
     by_class Memory = (omega arith, omega arith)
     by_class NoChooser = (omega arith, omega arith)

@@ -7,7 +7,7 @@ use Rattle.wfc_outside.specs.Gives.{Gives, result_map}
 use Rattle.wfc_plan.proofs.PlanLemmas.{goes_on, goes_out, goes_step, refused}
 use Rattle.wfc_plan.specs.Fault.{class_of}
 use Rattle.wfc_plan.specs.Plan.{GivesStep, Goes, Plan, and_then, done, or_refuse, outcome, step}
-use Rattle.wfc_plan.specs.declared.fault.Class.TheVariants.{Memory}
+use Rattle.wfc_plan.specs.declared.fault.FaultClass.TheVariants.{Memory}
 use Rattle.wfc_plan.specs.declared.fault.Fault.{Fault}
 use Rattle.wfc_plan.specs.declared.fault.Fault.TheVariants.{Refused}
 use Rattle.wfc_plan.specs.declared.fault.Refusal.{Refusal}

@@ -16,8 +16,8 @@ use Rattle.wfc_pins.specs.declared.pins.PinFault.{PinFault}
 use Rattle.wfc_pins.specs.declared.pins.PinFault.TheVariants as pins
 use Rattle.wfc_pins.specs.declared.steps.StepFault.{StepFault}
 use Rattle.wfc_pins.specs.declared.steps.StepFault.TheVariants as steps
-use Rattle.wfc_plan.specs.declared.fault.Class.{Class}
-use Rattle.wfc_plan.specs.declared.fault.Class.TheVariants.{Input, Memory, NoChooser}
+use Rattle.wfc_plan.specs.declared.fault.FaultClass.{FaultClass}
+use Rattle.wfc_plan.specs.declared.fault.FaultClass.TheVariants.{Input, Memory, NoChooser}
 use Rattle.wfc_plan.specs.declared.fault.Fault.{Fault}
 use Rattle.wfc_plan.specs.declared.fault.Fault.TheVariants.{Refused, Unread}
 use Rattle.wfc_plan.specs.declared.fault.Refusal.{Refusal}
@@ -32,57 +32,57 @@ use Rattle.wfc_tileset.specs.declared.fault.TileFault.{TileFault}
 use Rattle.wfc_tileset.specs.declared.fault.TileFault.TheVariants as tiles
 
 -- the class of a fault in a grid: want of memory is the machine's, all else the file's, as with each kind below
-abbrev pub grid_class : GridFault → Class
+abbrev pub grid_class : GridFault → FaultClass
 grid_class grids.NoMemory = Memory
 grid_class _ = Input
 
 -- the class of a fault in the file of a picture in colours
-abbrev pub ppm_class : PpmFault → Class
+abbrev pub ppm_class : PpmFault → FaultClass
 ppm_class ppms.NoMemory = Memory
 ppm_class _ = Input
 
 -- the class of a fault of giving the symbols of a sample their numbers
-abbrev pub colours_class : PaletteFault → Class
+abbrev pub colours_class : PaletteFault → FaultClass
 colours_class palettes.NoMemory = Memory
 colours_class _ = Input
 
 -- the class of a fault of learning patterns from a sample
-abbrev pub learn_class : LearnFault → Class
+abbrev pub learn_class : LearnFault → FaultClass
 learn_class learning.NoMemory = Memory
 learn_class _ = Input
 
 -- the class of a fault in the text of a pins file
-abbrev pub pins_class : PinFault → Class
+abbrev pub pins_class : PinFault → FaultClass
 pins_class pins.NoMemory = Memory
 pins_class _ = Input
 
 -- the class of a fault of making a problem
-abbrev pub build_class : BuildFault → Class
+abbrev pub build_class : BuildFault → FaultClass
 build_class builds.NoMemory = Memory
 build_class _ = Input
 
 -- the class of a fault in the text of a steps file
-abbrev pub steps_class : StepFault → Class
+abbrev pub steps_class : StepFault → FaultClass
 steps_class steps.NoMemory = Memory
 steps_class _ = Input
 
 -- the class of a fault in the document of a tile set, or in the picture of a tile
-abbrev pub tiles_class : TileFault → Class
+abbrev pub tiles_class : TileFault → FaultClass
 tiles_class tiles.NoMemory = Memory
 tiles_class _ = Input
 
 -- the class of a fault in a mask
-abbrev pub mask_class : MaskFault → Class
+abbrev pub mask_class : MaskFault → FaultClass
 mask_class masks.NoMemory = Memory
 mask_class _ = Input
 
 -- the class of a fault in the part of a tile set that says which tile may stand on which
-abbrev pub stacks_class : StackFault → Class
+abbrev pub stacks_class : StackFault → FaultClass
 stacks_class stacks.NoMemory = Memory
 stacks_class _ = Input
 
 -- the class of a refusal
-abbrev pub class_of : Refusal → Class
+abbrev pub class_of : Refusal → FaultClass
 class_of (Chooser rule) = NoChooser
 class_of (Grid source fault) = grid_class fault
 class_of (Ppm source fault) = ppm_class fault
@@ -103,7 +103,7 @@ class_of (TooManyPins count) = Input
 class_of (TooManyBlocks count) = Input
 
 -- the exit status of a class
-abbrev pub class_status : Class → ℕ
+abbrev pub class_status : FaultClass → ℕ
 class_status Input = 4
 class_status Memory = 6
 class_status NoChooser = 7

@@ -6,7 +6,7 @@ use Rattle.wfc_outside.specs.Whole.{IsLongerThan}
 use Rattle.wfc_outside.specs.declared.whole.ReadFault.{ReadFault}
 use Rattle.wfc_outside.specs.declared.whole.ReadFault.TheVariants as reading
 use Rattle.wfc_plan.specs.Fault.{class_of, status_of}
-use Rattle.wfc_plan.specs.declared.fault.Class.TheVariants.{Memory}
+use Rattle.wfc_plan.specs.declared.fault.FaultClass.TheVariants.{Memory}
 use Rattle.wfc_plan.specs.declared.fault.Fault.{Fault}
 use Rattle.wfc_plan.specs.declared.fault.Fault.TheVariants.{Refused, Unread}
 use Rattle.wfc_plan.specs.declared.fault.Refusal.{Refusal}

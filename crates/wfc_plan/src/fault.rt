@@ -82,7 +82,7 @@ pub enum Fault {
 
 /// What refusals of one status have in common.
 #[derive(Clone, Copy, Debug, PartialEq, Eq)]
-pub enum Class {
+pub enum FaultClass {
     /// A file, a size or a limit is at fault.
     Input,
     /// Memory ran out.
@@ -95,11 +95,11 @@ impl Refusal {
     ghost use Rattle.wfc_plan.specs.Fault.{class_of};
 
     /// Its class.
-    pub fn class(&self) -> Class
+    pub fn class(&self) -> FaultClass
         ensures value { result ≡ class_of self.now }
     {
         match self {
-            Refusal::Chooser { .. } => Class::NoChooser,
+            Refusal::Chooser { .. } => FaultClass::NoChooser,
             Refusal::Grid { fault, .. } => grid_class(*fault),
             Refusal::Ppm { fault, .. } => ppm_class(*fault),
             Refusal::Colours { fault } => colours_class(*fault),
@@ -112,8 +112,8 @@ impl Refusal {
             | Refusal::TooLong { .. }
             | Refusal::RaceTooLarge { .. }
             | Refusal::TooManyPins { .. }
-            | Refusal::TooManyBlocks { .. } => Class::Input,
-            Refusal::NoMemory => Class::Memory,
+            | Refusal::TooManyBlocks { .. } => FaultClass::Input,
+            Refusal::NoMemory => FaultClass::Memory,
             Refusal::Tiles { fault } => tiles_class(*fault),
             Refusal::Mask { fault } => mask_class(*fault),
             Refusal::Stacks { fault } => stacks_class(*fault),
@@ -121,105 +121,105 @@ impl Refusal {
     }
 }
 
-fn grid_class(fault: GridFault) -> Class
+fn grid_class(fault: GridFault) -> FaultClass
     ensures value { result ≡ grid_class fault }
 {
     match fault {
-        GridFault::NoMemory => Class::Memory,
-        _ => Class::Input,
+        GridFault::NoMemory => FaultClass::Memory,
+        _ => FaultClass::Input,
     }
 }
 
-fn ppm_class(fault: PpmFault) -> Class
+fn ppm_class(fault: PpmFault) -> FaultClass
     ensures value { result ≡ ppm_class fault }
 {
     match fault {
-        PpmFault::NoMemory => Class::Memory,
-        _ => Class::Input,
+        PpmFault::NoMemory => FaultClass::Memory,
+        _ => FaultClass::Input,
     }
 }
 
-fn colours_class(fault: PaletteFault) -> Class
+fn colours_class(fault: PaletteFault) -> FaultClass
     ensures value { result ≡ colours_class fault }
 {
     match fault {
-        PaletteFault::NoMemory => Class::Memory,
-        _ => Class::Input,
+        PaletteFault::NoMemory => FaultClass::Memory,
+        _ => FaultClass::Input,
     }
 }
 
-fn learn_class(fault: LearnFault) -> Class
+fn learn_class(fault: LearnFault) -> FaultClass
     ensures value { result ≡ learn_class fault }
 {
     match fault {
-        LearnFault::NoMemory => Class::Memory,
-        _ => Class::Input,
+        LearnFault::NoMemory => FaultClass::Memory,
+        _ => FaultClass::Input,
     }
 }
 
-fn pins_class(fault: PinFault) -> Class
+fn pins_class(fault: PinFault) -> FaultClass
     ensures value { result ≡ pins_class fault }
 {
     match fault {
-        PinFault::NoMemory => Class::Memory,
-        _ => Class::Input,
+        PinFault::NoMemory => FaultClass::Memory,
+        _ => FaultClass::Input,
     }
 }
 
-fn build_class(fault: BuildFault) -> Class
+fn build_class(fault: BuildFault) -> FaultClass
     ensures value { result ≡ build_class fault }
 {
     match fault {
-        BuildFault::NoMemory => Class::Memory,
-        _ => Class::Input,
+        BuildFault::NoMemory => FaultClass::Memory,
+        _ => FaultClass::Input,
     }
 }
 
-fn steps_class(fault: StepFault) -> Class
+fn steps_class(fault: StepFault) -> FaultClass
     ensures value { result ≡ steps_class fault }
 {
     match fault {
-        StepFault::NoMemory => Class::Memory,
-        _ => Class::Input,
+        StepFault::NoMemory => FaultClass::Memory,
+        _ => FaultClass::Input,
     }
 }
 
-fn tiles_class(fault: TileFault) -> Class
+fn tiles_class(fault: TileFault) -> FaultClass
     ensures value { result ≡ tiles_class fault }
 {
     match fault {
-        TileFault::NoMemory => Class::Memory,
-        _ => Class::Input,
+        TileFault::NoMemory => FaultClass::Memory,
+        _ => FaultClass::Input,
     }
 }
 
-fn mask_class(fault: MaskFault) -> Class
+fn mask_class(fault: MaskFault) -> FaultClass
     ensures value { result ≡ mask_class fault }
 {
     match fault {
-        MaskFault::NoMemory => Class::Memory,
-        _ => Class::Input,
+        MaskFault::NoMemory => FaultClass::Memory,
+        _ => FaultClass::Input,
     }
 }
 
-fn stacks_class(fault: StackFault) -> Class
+fn stacks_class(fault: StackFault) -> FaultClass
     ensures value { result ≡ stacks_class fault }
 {
     match fault {
-        StackFault::NoMemory => Class::Memory,
-        _ => Class::Input,
+        StackFault::NoMemory => FaultClass::Memory,
+        _ => FaultClass::Input,
     }
 }
 
-impl Class {
+impl FaultClass {
     /// The exit status.
     pub fn status(self) -> u8
         ensures value { result ≡ class_status self }
     {
         match self {
-            Class::Input => 4,
-            Class::Memory => 6,
-            Class::NoChooser => 7,
+            FaultClass::Input => 4,
+            FaultClass::Memory => 6,
+            FaultClass::NoChooser => 7,
         }
     }
 }

@@ -9,5 +9,5 @@ pub mod laws;
 mod reading;
 
 pub use choosing::enough;
-pub use fault::{Class, Fault, Refusal, Source};
+pub use fault::{Fault, FaultClass, Refusal, Source};
 pub use reading::whole_file;

@@ -4,9 +4,9 @@ use Rattle.std.proofs.lemmas.Bool.Decides.{nat_tests}
 use Rattle.std.specs.List.{position}
 use Rattle.std.specs.Option.{option_or}
 use Rattle.wfc_lists.proofs.Options.{or_none}
-use Rattle.wfc_ppm.specs.Fault.{head_of, ends_token, field_fault, side_fault, gap_fault, end_fault, header_fault, maxval_fault, size_fault, sample_size, raw_samples, raw_fault, sample_fault, pixel_fault, tail_fault, samples_fault, fault_of}
+use Rattle.wfc_ppm.specs.Fault.{head_of, ends_token, field_fault, side_fault, gap_fault, end_fault, header_fault, maxval_fault, pixel_count_fault, sample_size, raw_samples, raw_fault, sample_fault, pixel_fault, tail_fault, samples_fault, fault_of}
 use Rattle.wfc_ppm.specs.Field.{stop_of, start_of, behind_field, field_value, place_of}
-use Rattle.wfc_ppm.specs.declared.reading.Form.{Form}
+use Rattle.wfc_ppm.specs.declared.reading.PpmForm.{PpmForm}
 use Rattle.wfc_ppm.specs.declared.reading.PpmFault.{PpmFault}
 use Rattle.wfc_ppm.specs.declared.reading.PpmFault.TheVariants.{Header, Maxval, TooLarge, Truncated, SampleAboveMaxval, BadSample, Trailing}
 
@@ -54,31 +54,31 @@ cut_gap total text longer broken = let test = unlike (length (start_of text)) (l
 -- ---- the header
 
 -- what is looked at behind the width, and behind the height
-abbrev behind_width : Form → ℕ → List ℕ → Option PpmFault
+abbrev behind_width : PpmForm → ℕ → List ℕ → Option PpmFault
 behind_width form total text = option_or (side_fault total (behind_field text)) (option_or (field_fault total (behind_field (behind_field text))) (end_fault form total (behind_field (behind_field (behind_field text)))))
 
-abbrev behind_height : Form → ℕ → List ℕ → Option PpmFault
+abbrev behind_height : PpmForm → ℕ → List ℕ → Option PpmFault
 behind_height form total text = option_or (field_fault total (behind_field (behind_field text))) (end_fault form total (behind_field (behind_field (behind_field text))))
 
-pub right_header : (form : Form) (total : ℕ) (text : List ℕ) → side_fault total text ≡ None → side_fault total (behind_field text) ≡ None → field_fault total (behind_field (behind_field text)) ≡ None → end_fault form total (behind_field (behind_field (behind_field text))) ≡ None → header_fault form total text ≡ None
+pub right_header : (form : PpmForm) (total : ℕ) (text : List ℕ) → side_fault total text ≡ None → side_fault total (behind_field text) ≡ None → field_fault total (behind_field (behind_field text)) ≡ None → end_fault form total (behind_field (behind_field (behind_field text))) ≡ None → header_fault form total text ≡ None
 right_header form total text one two three four =
     or_none (side_fault total text) (behind_width form total text) one
     (or_none (side_fault total (behind_field text)) (behind_height form total text) two
     (or_none (field_fault total (behind_field (behind_field text))) (end_fault form total (behind_field (behind_field (behind_field text)))) three four))
 
-pub width_fault : (form : Form) (total : ℕ) (text : List ℕ) (fault : PpmFault) → side_fault total text ≡ Some fault → header_fault form total text ≡ Some fault
+pub width_fault : (form : PpmForm) (total : ℕ) (text : List ℕ) (fault : PpmFault) → side_fault total text ≡ Some fault → header_fault form total text ≡ Some fault
 width_fault form total text fault is = first (side_fault total text) (behind_width form total text) fault is
 
-pub height_fault : (form : Form) (total : ℕ) (text : List ℕ) (fault : PpmFault) → side_fault total text ≡ None → side_fault total (behind_field text) ≡ Some fault → header_fault form total text ≡ Some fault
+pub height_fault : (form : PpmForm) (total : ℕ) (text : List ℕ) (fault : PpmFault) → side_fault total text ≡ None → side_fault total (behind_field text) ≡ Some fault → header_fault form total text ≡ Some fault
 height_fault form total text fault one is = second (side_fault total text) (behind_width form total text) fault one (first (side_fault total (behind_field text)) (behind_height form total text) fault is)
 
-pub maxval_field_fault : (form : Form) (total : ℕ) (text : List ℕ) (fault : PpmFault) → side_fault total text ≡ None → side_fault total (behind_field text) ≡ None → field_fault total (behind_field (behind_field text)) ≡ Some fault → header_fault form total text ≡ Some fault
+pub maxval_field_fault : (form : PpmForm) (total : ℕ) (text : List ℕ) (fault : PpmFault) → side_fault total text ≡ None → side_fault total (behind_field text) ≡ None → field_fault total (behind_field (behind_field text)) ≡ Some fault → header_fault form total text ≡ Some fault
 maxval_field_fault form total text fault one two is =
     second (side_fault total text) (behind_width form total text) fault one
     (second (side_fault total (behind_field text)) (behind_height form total text) fault two
     (first (field_fault total (behind_field (behind_field text))) (end_fault form total (behind_field (behind_field (behind_field text)))) fault is))
 
-pub end_fault_last : (form : Form) (total : ℕ) (text : List ℕ) (fault : PpmFault) → side_fault total text ≡ None → side_fault total (behind_field text) ≡ None → field_fault total (behind_field (behind_field text)) ≡ None → end_fault form total (behind_field (behind_field (behind_field text))) ≡ Some fault → header_fault form total text ≡ Some fault
+pub end_fault_last : (form : PpmForm) (total : ℕ) (text : List ℕ) (fault : PpmFault) → side_fault total text ≡ None → side_fault total (behind_field text) ≡ None → field_fault total (behind_field (behind_field text)) ≡ None → end_fault form total (behind_field (behind_field (behind_field text))) ≡ Some fault → header_fault form total text ≡ Some fault
 end_fault_last form total text fault one two three is =
     second (side_fault total text) (behind_width form total text) fault one
     (second (side_fault total (behind_field text)) (behind_height form total text) fault two
@@ -104,10 +104,10 @@ bad_maxval maxval bad = by (maxval == 0) refl (nat_lt 65535 maxval) refl
     by false zero true is = rw (zero, is) refl
     by false zero false is = absurd (bad (some maxval zero) (small maxval is))
 
-pub right_size : (width height : ℕ) → width * height ≤ 1048576 → size_fault width height ≡ None
+pub right_size : (width height : ℕ) → width * height ≤ 1048576 → pixel_count_fault width height ≡ None
 right_size width height small = let test = not_below 1048576 (width * height) small in rw test refl
 
-pub too_large : (width height : ℕ) → 1048576 < width * height → size_fault width height ≡ Some TooLarge
+pub too_large : (width height : ℕ) → 1048576 < width * height → pixel_count_fault width height ≡ Some TooLarge
 too_large width height large = let test = below 1048576 (width * height) large in rw test refl
 
 -- ---- raw samples
@@ -164,25 +164,25 @@ bad_tail total text some = let test = unlike (length (start_of text)) 0 some in 
 
 -- ---- the whole text
 
-abbrev behind_header : Form → List ℕ → Option PpmFault
-behind_header form text = option_or (maxval_fault (head_of text).maxval) (option_or (size_fault (head_of text).width (head_of text).height) (samples_fault form (length text) (head_of text)))
+abbrev behind_header : PpmForm → List ℕ → Option PpmFault
+behind_header form text = option_or (maxval_fault (head_of text).maxval) (option_or (pixel_count_fault (head_of text).width (head_of text).height) (samples_fault form (length text) (head_of text)))
 
-abbrev behind_maxval : Form → List ℕ → Option PpmFault
-behind_maxval form text = option_or (size_fault (head_of text).width (head_of text).height) (samples_fault form (length text) (head_of text))
+abbrev behind_maxval : PpmForm → List ℕ → Option PpmFault
+behind_maxval form text = option_or (pixel_count_fault (head_of text).width (head_of text).height) (samples_fault form (length text) (head_of text))
 
-pub header_first : (form : Form) (text : List ℕ) (fault : PpmFault) → header_fault form (length text) (drop 2 text) ≡ Some fault → fault_of form text ≡ Some fault
+pub header_first : (form : PpmForm) (text : List ℕ) (fault : PpmFault) → header_fault form (length text) (drop 2 text) ≡ Some fault → fault_of form text ≡ Some fault
 header_first form text fault is = first (header_fault form (length text) (drop 2 text)) (behind_header form text) fault is
 
-pub maxval_second : (form : Form) (text : List ℕ) (fault : PpmFault) → header_fault form (length text) (drop 2 text) ≡ None → maxval_fault (head_of text).maxval ≡ Some fault → fault_of form text ≡ Some fault
+pub maxval_second : (form : PpmForm) (text : List ℕ) (fault : PpmFault) → header_fault form (length text) (drop 2 text) ≡ None → maxval_fault (head_of text).maxval ≡ Some fault → fault_of form text ≡ Some fault
 maxval_second form text fault one is = second (header_fault form (length text) (drop 2 text)) (behind_header form text) fault one (first (maxval_fault (head_of text).maxval) (behind_maxval form text) fault is)
 
-pub size_third : (form : Form) (text : List ℕ) (fault : PpmFault) → header_fault form (length text) (drop 2 text) ≡ None → maxval_fault (head_of text).maxval ≡ None → size_fault (head_of text).width (head_of text).height ≡ Some fault → fault_of form text ≡ Some fault
+pub size_third : (form : PpmForm) (text : List ℕ) (fault : PpmFault) → header_fault form (length text) (drop 2 text) ≡ None → maxval_fault (head_of text).maxval ≡ None → pixel_count_fault (head_of text).width (head_of text).height ≡ Some fault → fault_of form text ≡ Some fault
 size_third form text fault one two is =
     second (header_fault form (length text) (drop 2 text)) (behind_header form text) fault one
     (second (maxval_fault (head_of text).maxval) (behind_maxval form text) fault two
-    (first (size_fault (head_of text).width (head_of text).height) (samples_fault form (length text) (head_of text)) fault is))
+    (first (pixel_count_fault (head_of text).width (head_of text).height) (samples_fault form (length text) (head_of text)) fault is))
 
-pub samples_last : (form : Form) (text : List ℕ) (found : Option PpmFault) → header_fault form (length text) (drop 2 text) ≡ None → maxval_fault (head_of text).maxval ≡ None → size_fault (head_of text).width (head_of text).height ≡ None → samples_fault form (length text) (head_of text) ≡ found → fault_of form text ≡ found
+pub samples_last : (form : PpmForm) (text : List ℕ) (found : Option PpmFault) → header_fault form (length text) (drop 2 text) ≡ None → maxval_fault (head_of text).maxval ≡ None → pixel_count_fault (head_of text).width (head_of text).height ≡ None → samples_fault form (length text) (head_of text) ≡ found → fault_of form text ≡ found
 samples_last form text found one two three is =
     ap (λ q. option_or q (behind_header form text)) one
     ∙ ap (λ q. option_or q (behind_maxval form text)) two

@@ -6,9 +6,9 @@ use Rattle.std.proofs.lemmas.List.{get_or-drop, length-drop, length-take}
 use Rattle.std.proofs.lemmas.List.Sums.{passes_at_first, position_or_len_is}
 use Rattle.wfc_text.specs.Number.{is_other}
 use Rattle.wfc_ppm.specs.Fault.{end_fault, ends_token, field_fault, header_fault, side_fault}
-use Rattle.wfc_ppm.specs.Field.{Stop, behind_digits, behind_field, comment_behind, digits_of, field_value, is_space, place_of, start_of, stop_of}
-use Rattle.wfc_ppm.specs.declared.reading.Form.{Form}
-use Rattle.wfc_ppm.specs.declared.reading.Form.TheVariants.{Raw, Plain}
+use Rattle.wfc_ppm.specs.Field.{SpaceEnd, behind_digits, behind_field, comment_behind, digits_of, field_value, is_space, place_of, start_of, stop_of}
+use Rattle.wfc_ppm.specs.declared.reading.PpmForm.{PpmForm}
+use Rattle.wfc_ppm.specs.declared.reading.PpmForm.TheVariants.{Raw, Plain}
 use Rattle.wfc_ppm.specs.declared.reading.PpmFault.{PpmFault}
 use Rattle.wfc_ppm.specs.declared.reading.PpmFault.TheVariants.{Header}
 use Rattle.wfc_ppm.proofs.FieldLemmas.{Stops, length-digits}
@@ -22,8 +22,8 @@ rest_shorter opened [] = omega arith
 rest_shorter opened (byte ∷ text) = by (comment_behind opened byte) refl (λ next. rest_shorter next text)
   where
     by : (found : Option Bool) → comment_behind opened byte ≡ found → ((next : Bool) → length (stop_of next text).rest ≤ length text) → length (stop_of opened (byte ∷ text)).rest ≤ length (byte ∷ text)
-    by None e later = omega (arith, ap (λ (s : Stop). length s.rest) (stop-step opened byte text None e))
-    by (Some next) e later = omega (arith, ap (λ (s : Stop). length s.rest) (stop-step opened byte text (Some next) e), later next)
+    by None e later = omega (arith, ap (λ (s : SpaceEnd). length s.rest) (stop-step opened byte text None e))
+    by (Some next) e later = omega (arith, ap (λ (s : SpaceEnd). length s.rest) (stop-step opened byte text (Some next) e), later next)
 
 pub behind_shorter : (text : List ℕ) → length (behind_field text) ≤ length text
 behind_shorter text = omega (arith, rest_shorter false text, length-digits (start_of text))
@@ -83,7 +83,7 @@ side_place total t at fault = by (field_fault total t) refl (field_value t == 0)
     by None e true found = let place : place_of total (start_of t) ≡ at = cc in place_in total (start_of t) t at (rest_shorter false t) place
     by None e false found = absurd (cc)
 
-pub end_place : (form : Form) (total : ℕ) (t : List ℕ) (at : ℕ) → end_fault form total t ≡ Some (Header at) → total ≤ at + length t
+pub end_place : (form : PpmForm) (total : ℕ) (t : List ℕ) (at : ℕ) → end_fault form total t ≡ Some (Header at) → total ≤ at + length t
 end_place Raw total [] at fault = let place : total ≡ at = cc in omega (arith, place)
 end_place Raw total (byte ∷ t) at fault = by (is_space byte) fault
   where
@@ -97,14 +97,14 @@ end_place Plain total t at fault = by (length (start_of t) == length t) ((stop_o
     by false true found = let place : total ≡ at = cc in omega (arith, place)
     by false false found = absurd (cc)
 
-pub most_place : (form : Form) (total : ℕ) (t : List ℕ) (at : ℕ) → option_or (field_fault total t) (end_fault form total (behind_field t)) ≡ Some (Header at) → total ≤ at + length t
+pub most_place : (form : PpmForm) (total : ℕ) (t : List ℕ) (at : ℕ) → option_or (field_fault total t) (end_fault form total (behind_field t)) ≡ Some (Header at) → total ≤ at + length t
 most_place form total t at fault = by (field_fault total t) refl fault
   where
     by : (o : Option PpmFault) → field_fault total t ≡ o → option_or o (end_fault form total (behind_field t)) ≡ Some (Header at) → total ≤ at + length t
     by (Some other) e found = field_place total t at (e ∙ found)
     by None e found = omega (arith, end_place form total (behind_field t) at found, behind_shorter t)
 
-pub high_place : (form : Form) (total : ℕ) (t : List ℕ) (at : ℕ)
+pub high_place : (form : PpmForm) (total : ℕ) (t : List ℕ) (at : ℕ)
     → option_or (side_fault total t) (option_or (field_fault total (behind_field t)) (end_fault form total (behind_field (behind_field t)))) ≡ Some (Header at) → total ≤ at + length t
 high_place form total t at fault = by (side_fault total t) refl fault
   where
@@ -112,7 +112,7 @@ high_place form total t at fault = by (side_fault total t) refl fault
     by (Some other) e found = side_place total t at (e ∙ found)
     by None e found = omega (arith, most_place form total (behind_field t) at found, behind_shorter t)
 
-pub header_place : (form : Form) (total : ℕ) (t : List ℕ) (at : ℕ) → header_fault form total t ≡ Some (Header at) → total ≤ at + length t
+pub header_place : (form : PpmForm) (total : ℕ) (t : List ℕ) (at : ℕ) → header_fault form total t ≡ Some (Header at) → total ≤ at + length t
 header_place form total t at fault = by (side_fault total t) refl fault
   where
     by : (o : Option PpmFault) → side_fault total t ≡ o
@@ -128,10 +128,10 @@ unmoved byte text same = by (comment_behind false byte) refl
   where
     by : (found : Option Bool) → comment_behind false byte ≡ found → comment_behind false byte ≡ None
     by None e = e
-    by (Some next) e = absurd (omega (arith, same, ap (λ (s : Stop). length s.rest) (stop-step false byte text (Some next) e), rest_shorter next text))
+    by (Some next) e = absurd (omega (arith, same, ap (λ (s : SpaceEnd). length s.rest) (stop-step false byte text (Some next) e), rest_shorter next text))
 
 pub unmoved_start : (byte : ℕ) (text : List ℕ) → comment_behind false byte ≡ None → length (start_of (byte ∷ text)) ≡ length (byte ∷ text)
-unmoved_start byte text none = ap (λ (s : Stop). length s.rest) (stop-other byte text none)
+unmoved_start byte text none = ap (λ (s : SpaceEnd). length s.rest) (stop-other byte text none)
 
 -- the first byte behind gaps is no gap's
 pub first_is : (t : List ℕ) (byte : ℕ) (rest : List ℕ) → start_of t ≡ byte ∷ rest → comment_behind false byte ≡ None

@@ -9,7 +9,7 @@ use Rattle.std.specs.List.{AllPass, AllByRecursion, concat, position_or_len}
 use Rattle.std.specs.Str.Parse.{digits_value}
 use Rattle.wfc_text.specs.Number.{is_other}
 use Rattle.wfc_ppm.specs.Fault.{ends_token, field_fault}
-use Rattle.wfc_ppm.specs.Field.{is_space, comment_behind, Stop, stop_of, start_of, digits_of, behind_digits, value_of, field_value, behind_field, place_of}
+use Rattle.wfc_ppm.specs.Field.{is_space, comment_behind, SpaceEnd, stop_of, start_of, digits_of, behind_digits, value_of, field_value, behind_field, place_of}
 use Rattle.wfc_ppm.specs.Spelling.{IsGap, IsField}
 use Rattle.wfc_ppm.specs.declared.reading.PpmFault.TheVariants.{Header}
 use Rattle.wfc_ppm.proofs.GapLemmas.{stop-gaps, stop-other, gaps-end, parts-whole}
@@ -109,7 +109,7 @@ pub field-reads : (bytes rest : List ℕ) (n : ℕ) → (field : IsField bytes n
 field-reads bytes rest n field stops =
     let parts : bytes ++ rest ≡ concat field.apart.gaps ++ (field.digits ++ rest) = ap (λ b. b ++ rest) (field.is ∙ ap (λ s. s ++ field.digits) field.apart.is) ∙ append_assoc (concat field.apart.gaps) field.digits rest in
     let stop : stop_of false (bytes ++ rest) ≡ record { rest = field.digits ++ rest; cut = false } = ap (stop_of false) parts ∙ stop-gaps field.apart.gaps (field.digits ++ rest) field.apart.each ∙ start-digits field.digits rest field.numeral.each field.numeral.some in
-    let start : start_of (bytes ++ rest) ≡ field.digits ++ rest = ap (λ (s : Stop). s.rest) stop in
+    let start : start_of (bytes ++ rest) ≡ field.digits ++ rest = ap (λ (s : SpaceEnd). s.rest) stop in
     record {
       stop = stop;
       value = ap (λ t. min (digits_value 10 (digits_of t)) 4294967295) start ∙ ap (λ t. min (digits_value 10 t) 4294967295) (digits_of-front field.digits rest field.numeral.each stops) ∙ ap (λ v. min v 4294967295) field.numeral.value;
@@ -122,7 +122,7 @@ field-reads bytes rest n field stops =
 -- where a field stands there is no fault
 pub reads-no_fault : (total : ℕ) (text digits rest : List ℕ) (n : ℕ) → Stops rest → AllPass is_ascii_digit digits → ReadsField text digits rest n → field_fault total text ≡ None
 reads-no_fault total text digits rest n stops each reads =
-    let start : start_of text ≡ digits ++ rest = ap (λ (s : Stop). s.rest) reads.stop in
+    let start : start_of text ≡ digits ++ rest = ap (λ (s : SpaceEnd). s.rest) reads.stop in
     let long : (length (start_of text) == length text) ≡ false = unlike (length (start_of text)) (length text) (omega (arith, ap length start, reads.longer)) in
     let some : (length (digits_of (start_of text)) == 0) ≡ false = nonzero (length (digits_of (start_of text))) (omega (arith, ap length (ap digits_of start ∙ digits_of-front digits rest each stops), reads.some)) in
     rw (long, some) refl

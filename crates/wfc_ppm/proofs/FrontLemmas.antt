@@ -9,11 +9,11 @@ use Rattle.std.proofs.lemmas.Bool.Decides.{nat_tests}
 use Rattle.std.proofs.lemmas.List.{take-append-le, take_all}
 use Rattle.std.proofs.lemmas.List.Elements.{All-cons, All-nil}
 use Rattle.wfc_ppm.specs.Fault.{end_fault, field_fault, gap_fault, header_fault, side_fault, space_fault, form_of}
-use Rattle.wfc_ppm.specs.Field.{Stop, behind_field, digits_of, field_value, is_space, place_of, start_of, stop_of}
+use Rattle.wfc_ppm.specs.Field.{SpaceEnd, behind_field, digits_of, field_value, is_space, place_of, start_of, stop_of}
 use Rattle.wfc_ppm.specs.Front.{IsHeadEnd, IsWholeHead, StartsHead, form_magic}
 use Rattle.wfc_ppm.specs.Spelling.{IsCommentFront, IsField, IsGap, IsNumeral, IsSeparator, IsSpace}
-use Rattle.wfc_ppm.specs.declared.reading.Form.{Form}
-use Rattle.wfc_ppm.specs.declared.reading.Form.TheVariants.{Raw, Plain}
+use Rattle.wfc_ppm.specs.declared.reading.PpmForm.{PpmForm}
+use Rattle.wfc_ppm.specs.declared.reading.PpmForm.TheVariants.{Raw, Plain}
 use Rattle.wfc_ppm.specs.declared.reading.PpmFault.{PpmFault}
 use Rattle.wfc_ppm.specs.declared.reading.PpmFault.TheVariants.{Header}
 use Rattle.wfc_ppm.proofs.FieldLemmas.{StandsField, longer_gaps, no_fault-stands, written_value}
@@ -71,7 +71,7 @@ one = 32 ∷ 49 ∷ []
 one_is : IsField one 1
 one_is = separated_one (32 ∷ []) blank_apart
 
-blank_ends : (form : Form) → IsHeadEnd form (32 ∷ [])
+blank_ends : (form : PpmForm) → IsHeadEnd form (32 ∷ [])
 blank_ends Raw = (32, blank, refl)
 blank_ends Plain = blank_apart
 
@@ -95,18 +95,18 @@ closed gaps cut each comment = record {
 -- ---- fronts
 
 -- a field of 1 behind the front leaves it open
-abbrev pub GoesOn : Form → List ℕ → Type 0
+abbrev pub GoesOn : PpmForm → List ℕ → Type 0
 GoesOn form front = (bytes : List ℕ) → IsField bytes 1 → StartsHead form (front ++ bytes)
 
 -- less can be continued too
-shorter : (form : Form) (a b : List ℕ) → StartsHead form (a ++ b) → StartsHead form a
+shorter : (form : PpmForm) (a b : List ℕ) → StartsHead form (a ++ b) → StartsHead form a
 shorter form a b starts = (b ++ starts.0, subst (IsWholeHead form) (append_assoc a b starts.0) starts.1)
 
-pub open_front : (form : Form) (front : List ℕ) → GoesOn form front → StartsHead form front
+pub open_front : (form : PpmForm) (front : List ℕ) → GoesOn form front → StartsHead form front
 open_front form front goes = shorter form front one (goes one one_is)
 
 -- the magic
-pub magic_goes : (form : Form) → GoesOn form (form_magic form)
+pub magic_goes : (form : PpmForm) → GoesOn form (form_magic form)
 magic_goes form bytes field = (
   one ++ (one ++ 32 ∷ []),
   record {
@@ -127,7 +127,7 @@ magic_goes form bytes field = (
   },
 )
 
-module _ (form : Form) (wide : List ℕ) (width : ℕ) (wide_is : IsField wide width) (some_width : 0 < width) where
+module _ (form : PpmForm) (wide : List ℕ) (width : ℕ) (wide_is : IsField wide width) (some_width : 0 < width) where
   -- and the width
   wide_goes : GoesOn form (form_magic form ++ wide)
   wide_goes bytes field = (
@@ -194,7 +194,7 @@ module _ (form : Form) (wide : List ℕ) (width : ℕ) (wide_is : IsField wide w
 
 -- ---- faults of fields
 
-module _ (form : Form) (text front t : List ℕ) (is : text ≡ front ++ t) where
+module _ (form : PpmForm) (text front t : List ℕ) (is : text ≡ front ++ t) where
   -- at the place of what stands behind the front
   at_front : GoesOn form front → StartsHead form (take (place_of (length text) t) text)
   at_front goes = subst (StartsHead form) (sym (before_place text front t is)) (open_front form front goes)
@@ -270,7 +270,7 @@ module _ (form : Form) (text front t : List ℕ) (is : text ≡ front ++ t) wher
 
 -- ---- what ends a header
 
-module _ (form : Form) (text front t : List ℕ) (is : text ≡ front ++ t) (whole : (behind : List ℕ) → IsHeadEnd form behind → IsWholeHead form (front ++ behind)) where
+module _ (form : PpmForm) (text front t : List ℕ) (is : text ≡ front ++ t) (whole : (behind : List ℕ) → IsHeadEnd form behind → IsWholeHead form (front ++ behind)) where
   at_whole : StartsHead form (take (place_of (length text) t) text)
   at_whole = subst (StartsHead form) (sym (before_place text front t is)) (32 ∷ [], whole (32 ∷ []) (blank_ends form))
 
@@ -301,7 +301,7 @@ gap_front text front t at is whole fault = by (length (start_of t) == length t) 
         (subst (StartsHead Plain) (sym (take_all (length text) text (omega arith) ∙ is)) (ended parts.gaps parts.cut parts.each parts.last parts.is e))
     by false false e found = absurd (cc)
 
-end_front : (form : Form) (text front t : List ℕ) (at : ℕ) → text ≡ front ++ t → ((behind : List ℕ) → IsHeadEnd form behind → IsWholeHead form (front ++ behind)) → end_fault form (length text) t ≡ Some (Header at) → StartsHead form (take at text)
+end_front : (form : PpmForm) (text front t : List ℕ) (at : ℕ) → text ≡ front ++ t → ((behind : List ℕ) → IsHeadEnd form behind → IsWholeHead form (front ++ behind)) → end_fault form (length text) t ≡ Some (Header at) → StartsHead form (take at text)
 end_front Raw text front t at is whole fault = space_front text front t at is whole fault
 end_front Plain text front t at is whole fault = gap_front text front t at is whole fault
 
@@ -327,7 +327,7 @@ side_is total t none = by (field_fault total t) refl (field_value t == 0) refl n
         record { bytes = stands.bytes; field = stands.field; some = omega (arith, some); is = stands.is }
 
 -- the two bytes of the form stand in front
-magic_front : (form : Form) (text : List ℕ) → form_of text ≡ Some form → text ≡ form_magic form ++ drop 2 text
+magic_front : (form : PpmForm) (text : List ℕ) → form_of text ≡ Some form → text ≡ form_magic form ++ drop 2 text
 magic_front Raw text formed = magic-stands Raw text formed
 magic_front Plain text formed = magic-stands Plain text formed
 
@@ -335,7 +335,7 @@ magic_front Plain text formed = magic-stands Plain text formed
 further : (text front t bytes rest : List ℕ) → text ≡ front ++ t → t ≡ bytes ++ rest → text ≡ (front ++ bytes) ++ rest
 further text front t bytes rest is parts = is ∙ ap (λ r. front ++ r) parts ∙ sym (append_assoc front bytes rest)
 
-module _ (form : Form) (text : List ℕ) (at : ℕ) where
+module _ (form : PpmForm) (text : List ℕ) (at : ℕ) where
   abbrev total : ℕ
   total = length text
 
@@ -378,7 +378,7 @@ module _ (form : Form) (text : List ℕ) (at : ℕ) where
 -- ---- a header without a fault
 
 -- what ends it, where it has no fault
-abbrev EndsHead : Form → List ℕ → Type 0
+abbrev EndsHead : PpmForm → List ℕ → Type 0
 EndsHead form t = (behind : List ℕ) × (rest : List ℕ) × IsHeadEnd form behind × (t ≡ behind ++ rest)
 
 no_gap_fault_ends : (total : ℕ) (t : List ℕ) → gap_fault total t ≡ None → EndsHead Plain t
@@ -399,12 +399,12 @@ no_gap_fault_ends total t none = by (length (start_of t) == length t) refl ((sto
         let parts = parts_of t in
         gapped parts.gaps parts.cut parts.each parts.last parts.is f (λ like. false≢true (sym e ∙ eq-eqb _ _ like))
 
-no_fault_ends : (form : Form) (total : ℕ) (t : List ℕ) → end_fault form total t ≡ None → EndsHead form t
+no_fault_ends : (form : PpmForm) (total : ℕ) (t : List ℕ) → end_fault form total t ≡ None → EndsHead form t
 no_fault_ends Raw total t none = let space = none-space total t none in (space.0 ∷ [], drop 1 t, (space.0, space.1, refl), space.2)
 no_fault_ends Plain total t none = no_gap_fault_ends total t none
 
 -- a text whose header has no fault begins with a whole one
-pub header_whole : (form : Form) (text : List ℕ) → form_of text ≡ Some form → header_fault form (length text) (drop 2 text) ≡ None
+pub header_whole : (form : PpmForm) (text : List ℕ) → form_of text ≡ Some form → header_fault form (length text) (drop 2 text) ≡ None
     → (front : List ℕ) × (rest : List ℕ) × (text ≡ front ++ rest) × IsWholeHead form front
 header_whole form text formed none =
     let stands = head-stands form (length text) text none in

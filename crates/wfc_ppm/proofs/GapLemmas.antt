@@ -4,7 +4,7 @@ use Rattle.std.proofs.lemmas.List.{at_drop_more, at_drop_all, drop_more}
 use Rattle.std.proofs.lemmas.Bool.Decides.{nat_tests}
 use Rattle.std.specs.List.{AllByRecursion, concat}
 use Rattle.wfc_ppm.specs.Fault.{ends_token}
-use Rattle.wfc_ppm.specs.Field.{is_space, ends_comment, comment_behind, Stop, stop_at, stop_of, start_of}
+use Rattle.wfc_ppm.specs.Field.{is_space, ends_comment, comment_behind, SpaceEnd, stop_at, stop_of, start_of}
 use Rattle.wfc_ppm.specs.Spelling.{IsSpace, IsCommentFront, IsGap, IsTail}
 
 -- ---- bytes
@@ -101,11 +101,11 @@ cut_comment (byte ∷ body) no_end = in-step byte body false (no_end-test byte n
 
 -- behind the last gaps nothing stands
 pub start-tail : (tail : List ℕ) → IsTail tail → start_of tail ≡ []
-start-tail tail ends = ap start_of ends.is ∙ ap (λ (stop : Stop). stop.rest) (stop-gaps ends.gaps ends.cut ends.each) ∙ last ends.cut ends.last
+start-tail tail ends = ap start_of ends.is ∙ ap (λ (stop : SpaceEnd). stop.rest) (stop-gaps ends.gaps ends.cut ends.each) ∙ last ends.cut ends.last
   where
     last : (cut : List ℕ) → (cut ≡ []) ⊎ IsCommentFront cut → start_of cut ≡ []
     last cut (inl none) = rw none refl
-    last cut (inr front) = ap start_of front.is ∙ ap (λ (stop : Stop). stop.rest) (cut_comment front.body front.no_end)
+    last cut (inr front) = ap start_of front.is ∙ ap (λ (stop : SpaceEnd). stop.rest) (cut_comment front.body front.no_end)
 
 -- a byte that is no gap's stays
 pub stop-other : (byte : ℕ) (text : List ℕ) → comment_behind false byte ≡ None → stop_of false (byte ∷ text) ≡ record { rest = byte ∷ text; cut = false }
@@ -135,7 +135,7 @@ tail-ends tail ends = ap ends_token ends.is ∙ by ends.gaps ends.each
 -- ---- a text is gaps, a comment that is cut, if there is one, and what stands behind them
 
 -- how the front of a text ends: whole, or in a comment
-pub data Last (cut : List ℕ) (stop : Stop) : Type 0 where
+pub data Last (cut : List ℕ) (stop : SpaceEnd) : Type 0 where
   whole : cut ≡ [] → stop.cut ≡ false → Last cut stop
   broken : IsCommentFront cut → stop.rest ≡ [] → stop.cut ≡ true → Last cut stop
 
@@ -173,7 +173,7 @@ outside_parts byte text parts body (mark is behind ends) = by body.ends
           gaps = [];
           cut = byte ∷ text;
           each = tt;
-          last = broken (record { body = body.body; is = rw (is, all) refl; no_end = body.no_end }) (ap (λ (s : Stop). s.rest) same) (ap (λ (s : Stop). s.cut) same);
+          last = broken (record { body = body.body; is = rw (is, all) refl; no_end = body.no_end }) (ap (λ (s : SpaceEnd). s.rest) same) (ap (λ (s : SpaceEnd). s.cut) same);
           is = rw same (sym (append-nil (byte ∷ text)));
         }
     by (inr (close, rest, ends, all, stop, later)) =
@@ -185,8 +185,8 @@ outside_parts byte text parts body (other behind ends) = record {
   gaps = [];
   cut = [];
   each = tt;
-  last = whole refl (ap (λ (s : Stop). s.cut) (stop-step false byte text None behind));
-  is = sym (ap (λ (s : Stop). s.rest) (stop-step false byte text None behind));
+  last = whole refl (ap (λ (s : SpaceEnd). s.cut) (stop-step false byte text None behind));
+  is = sym (ap (λ (s : SpaceEnd). s.rest) (stop-step false byte text None behind));
 }
 
 inside_body : (byte : ℕ) (text : List ℕ) → Parts text → Body text → (close : Bool) → ends_comment byte ≡ close → Body (byte ∷ text)
@@ -247,7 +247,7 @@ longer-ends (byte ∷ text) longer = by (outside byte)
     by : Outside byte → ends_token (byte ∷ text) ≡ true
     by (blank space behind ends) = ends
     by (mark is behind ends) = ends
-    by (other behind ends) = let start : length (start_of (byte ∷ text)) ≡ length (byte ∷ text) = ap (λ (s : Stop). length s.rest) (stop-step false byte text None behind) in let same : (length (start_of (byte ∷ text)) == length (byte ∷ text)) ≡ true = eq-eqb (length (start_of (byte ∷ text))) (length (byte ∷ text)) start in absurd (cc)
+    by (other behind ends) = let start : length (start_of (byte ∷ text)) ≡ length (byte ∷ text) = ap (λ (s : SpaceEnd). length s.rest) (stop-step false byte text None behind) in let same : (length (start_of (byte ∷ text)) == length (byte ∷ text)) ≡ true = eq-eqb (length (start_of (byte ∷ text))) (length (byte ∷ text)) start in absurd (cc)
 
 -- ---- one byte after another
 

@@ -8,12 +8,12 @@ use Rattle.std.proofs.lemmas.List.{take-append-drop}
 use Rattle.std.specs.Option.{option_or}
 use Rattle.std.specs.Str.{bytes_eq}
 use Rattle.wfc_lists.proofs.Options.{both_none, or_none}
-use Rattle.wfc_ppm.specs.Fault.{form_of, head_of, ends_token, field_fault, side_fault, space_fault, gap_fault, end_fault, header_fault, maxval_fault, size_fault}
-use Rattle.wfc_ppm.specs.Field.{is_space, Stop, stop_of, start_of, field_value, behind_field, place_of}
+use Rattle.wfc_ppm.specs.Fault.{form_of, head_of, ends_token, field_fault, side_fault, space_fault, gap_fault, end_fault, header_fault, maxval_fault, pixel_count_fault}
+use Rattle.wfc_ppm.specs.Field.{is_space, SpaceEnd, stop_of, start_of, field_value, behind_field, place_of}
 use Rattle.wfc_ppm.specs.Ppm.{PpmView}
 use Rattle.wfc_ppm.specs.Spelling.{IsField, IsHead, IsSpace}
-use Rattle.wfc_ppm.specs.declared.reading.Form.{Form}
-use Rattle.wfc_ppm.specs.declared.reading.Form.TheVariants.{Raw, Plain}
+use Rattle.wfc_ppm.specs.declared.reading.PpmForm.{PpmForm}
+use Rattle.wfc_ppm.specs.declared.reading.PpmForm.TheVariants.{Raw, Plain}
 use Rattle.wfc_ppm.specs.declared.reading.PpmFault.{PpmFault}
 use Rattle.wfc_ppm.specs.declared.reading.PpmFault.TheVariants.{Header, Maxval, TooLarge}
 use Rattle.wfc_ppm.proofs.GapLemmas.{space-test, test-space, longer-ends}
@@ -60,10 +60,10 @@ none-maxval maxval none = by (maxval == 0) refl (nat_lt 65535 maxval) refl none
     by false z true large is = absurd (cc)
     by false z false large is = (some_number maxval z, ltb-false 65535 maxval large)
 
-pub size-none : (width height : ℕ) → width * height ≤ 1048576 → size_fault width height ≡ None
+pub size-none : (width height : ℕ) → width * height ≤ 1048576 → pixel_count_fault width height ≡ None
 size-none width height small = let test : nat_lt 1048576 (width * height) ≡ false = grind (arith, nat_tests) in rw test refl
 
-pub none-size : (width height : ℕ) → size_fault width height ≡ None → width * height ≤ 1048576
+pub none-size : (width height : ℕ) → pixel_count_fault width height ≡ None → width * height ≤ 1048576
 none-size width height none = ltb-false 1048576 (width * height) (zero_none (nat_lt 1048576 (width * height)) TooLarge none)
 
 -- ---- the magic
@@ -77,14 +77,14 @@ form-plain rest = refl
 magic_parts : (text magic : List ℕ) → bytes_eq (take 2 text) magic ≡ true → text ≡ magic ++ drop 2 text
 magic_parts text magic test = sym (take-append-drop 2 text) ∙ ap (λ m. m ++ drop 2 text) ((bytes_eq-Decides (take 2 text) magic).0 test)
 
-abbrev pub magic_of : Form → List ℕ
+abbrev pub magic_of : PpmForm → List ℕ
 magic_of Raw = codes "P6"
 magic_of Plain = codes "P3"
 
-pub magic-stands : (form : Form) (text : List ℕ) → form_of text ≡ Some form → text ≡ magic_of form ++ drop 2 text
+pub magic-stands : (form : PpmForm) (text : List ℕ) → form_of text ≡ Some form → text ≡ magic_of form ++ drop 2 text
 magic-stands form text is = by (bytes_eq (take 2 text) (codes "P6")) refl (bytes_eq (take 2 text) (codes "P3")) refl form is
   where
-    by : (six : Bool) → bytes_eq (take 2 text) (codes "P6") ≡ six → (three : Bool) → bytes_eq (take 2 text) (codes "P3") ≡ three → (form : Form) → (if six then Some Raw else if three then Some Plain else None) ≡ Some form → text ≡ magic_of form ++ drop 2 text
+    by : (six : Bool) → bytes_eq (take 2 text) (codes "P6") ≡ six → (three : Bool) → bytes_eq (take 2 text) (codes "P3") ≡ three → (form : PpmForm) → (if six then Some Raw else if three then Some Plain else None) ≡ Some form → text ≡ magic_of form ++ drop 2 text
     by true six three other Raw is = magic_parts text (codes "P6") six
     by true six three other Plain is = absurd (cc)
     by false six true three Raw is = absurd (cc)
@@ -93,7 +93,7 @@ magic-stands form text is = by (bytes_eq (take 2 text) (codes "P6")) refl (bytes
 
 -- ---- what is read where a header stands
 
-pub record ReadsHead (form : Form) (text rest : List ℕ) (ppm : PpmView) : Type 0 where
+pub record ReadsHead (form : PpmForm) (text rest : List ℕ) (ppm : PpmView) : Type 0 where
   pub width : (head_of text).width ≡ ppm.width
   pub height : (head_of text).height ≡ ppm.height
   pub maxval : (head_of text).maxval ≡ ppm.maxval
@@ -107,7 +107,7 @@ side-no_fault total bytes rest n field stops some small =
     or_none (field_fault total (bytes ++ rest)) (if field_value (bytes ++ rest) == 0 then Some (Header (place_of total (start_of (bytes ++ rest)))) else None)
     (field-no_fault total bytes rest n field stops) (rw test refl)
 
-pub head-reads : (form : Form) (magic head rest text : List ℕ) (ppm : PpmView) → (heads : IsHead magic head ppm) → ((t : List ℕ) → drop 2 (magic ++ t) ≡ t) → text ≡ head ++ rest → Stops rest → 0 < ppm.width → ppm.width ≤ 1048576 → 0 < ppm.height → ppm.height ≤ 1048576 → ppm.maxval ≤ 65535 → ReadsHead form text rest ppm
+pub head-reads : (form : PpmForm) (magic head rest text : List ℕ) (ppm : PpmView) → (heads : IsHead magic head ppm) → ((t : List ℕ) → drop 2 (magic ++ t) ≡ t) → text ≡ head ++ rest → Stops rest → 0 < ppm.width → ppm.width ≤ 1048576 → 0 < ppm.height → ppm.height ≤ 1048576 → ppm.maxval ≤ 65535 → ReadsHead form text rest ppm
 head-reads form magic head rest text ppm heads two is stops wide wide_small high high_small most =
     let t : List ℕ = heads.wide ++ (heads.high ++ (heads.most ++ rest)) in
     let behind_magic : drop 2 text ≡ heads.wide ++ (heads.high ++ (heads.most ++ rest)) =
@@ -137,7 +137,7 @@ head-reads form magic head rest text ppm heads two is stops wide wide_small high
 
 -- ---- the header that stands where no fault is
 
-pub record StandsHead (form : Form) (total : ℕ) (text : List ℕ) : Type 0 where
+pub record StandsHead (form : PpmForm) (total : ℕ) (text : List ℕ) : Type 0 where
   pub wide : StandsField (drop 2 text)
   pub some_width : 0 < (head_of text).width
   pub high : StandsField (behind_field (drop 2 text))
@@ -150,7 +150,7 @@ side-stands total text none =
     let parts = both_none (field_fault total text) (if field_value text == 0 then Some (Header (place_of total (start_of text))) else None) none in
     (no_fault-stands total text parts.0, some_number (field_value text) (zero_none (field_value text == 0) (Header (place_of total (start_of text))) parts.1))
 
-pub head-stands : (form : Form) (total : ℕ) (text : List ℕ) → header_fault form total (drop 2 text) ≡ None → StandsHead form total text
+pub head-stands : (form : PpmForm) (total : ℕ) (text : List ℕ) → header_fault form total (drop 2 text) ≡ None → StandsHead form total text
 head-stands form total text none =
     let one = both_none (side_fault total (drop 2 text)) (option_or (side_fault total (behind_field (drop 2 text))) (option_or (field_fault total (behind_field (behind_field (drop 2 text)))) (end_fault form total (behind_field (behind_field (behind_field (drop 2 text))))))) none in
     let two = both_none (side_fault total (behind_field (drop 2 text))) (option_or (field_fault total (behind_field (behind_field (drop 2 text)))) (end_fault form total (behind_field (behind_field (behind_field (drop 2 text)))))) one.1 in
@@ -163,7 +163,7 @@ head-stands form total text none =
 field-read : (bytes text : List ℕ) → IsField bytes (written_value text) → field_value text ≤ 1048576 → IsField bytes (field_value text)
 field-read bytes text field small = subst (IsField bytes) (uncapped (written_value text) small) field
 
-pub stands-head : (form : Form) (total : ℕ) (text magic : List ℕ) (ppm : PpmView) → (stands : StandsHead form total text) → (head_of text).width ≡ ppm.width → (head_of text).height ≡ ppm.height → (head_of text).maxval ≡ ppm.maxval → ppm.width ≤ 1048576 → ppm.height ≤ 1048576 → ppm.maxval ≤ 65535 → text ≡ magic ++ drop 2 text → (head : List ℕ) × IsHead magic head ppm × (text ≡ head ++ (head_of text).rest)
+pub stands-head : (form : PpmForm) (total : ℕ) (text magic : List ℕ) (ppm : PpmView) → (stands : StandsHead form total text) → (head_of text).width ≡ ppm.width → (head_of text).height ≡ ppm.height → (head_of text).maxval ≡ ppm.maxval → ppm.width ≤ 1048576 → ppm.height ≤ 1048576 → ppm.maxval ≤ 65535 → text ≡ magic ++ drop 2 text → (head : List ℕ) × IsHead magic head ppm × (text ≡ head ++ (head_of text).rest)
 stands-head form total text magic ppm stands width height maxval wide high most magics =
     let one = field-read stands.wide.bytes (drop 2 text) stands.wide.field (omega (arith, width, wide)) in
     let two = field-read stands.high.bytes (behind_field (drop 2 text)) stands.high.field (omega (arith, height, high)) in
@@ -200,8 +200,8 @@ none-space total (byte ∷ rest) none = (byte, test-space byte (by (is_space byt
 
 pub gap-none : (total : ℕ) (text digits rest : List ℕ) (n : ℕ) → ReadsField text digits rest n → gap_fault total text ≡ None
 gap-none total text digits rest n reads =
-    let cut : (stop_of false text).cut ≡ false = ap (λ (s : Stop). s.cut) reads.stop in
-    let start : length (start_of text) ≡ length (digits ++ rest) = ap (λ (s : Stop). length s.rest) reads.stop in
+    let cut : (stop_of false text).cut ≡ false = ap (λ (s : SpaceEnd). s.cut) reads.stop in
+    let start : length (start_of text) ≡ length (digits ++ rest) = ap (λ (s : SpaceEnd). length s.rest) reads.stop in
     let test : (length (start_of text) == length text) ≡ false = unlike (length (start_of text)) (length text) (omega (arith, start, reads.longer)) in
     rw (test, cut) refl
   where

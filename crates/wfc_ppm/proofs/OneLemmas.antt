@@ -8,8 +8,8 @@ use Rattle.wfc_ppm.specs.Field.{behind_field}
 use Rattle.wfc_ppm.specs.Ppm.{PpmView, IsPpm, is_within, samples_of, raw_bytes}
 use Rattle.wfc_ppm.specs.Reading.{colours_of, plain_pixels}
 use Rattle.wfc_ppm.specs.Spelling.{IsHead, SpellsP6, SpellsP3, SpellsPpm}
-use Rattle.wfc_ppm.specs.declared.reading.Form.{Form}
-use Rattle.wfc_ppm.specs.declared.reading.Form.TheVariants.{Raw, Plain}
+use Rattle.wfc_ppm.specs.declared.reading.PpmForm.{PpmForm}
+use Rattle.wfc_ppm.specs.declared.reading.PpmForm.TheVariants.{Raw, Plain}
 use Rattle.wfc_ppm.proofs.GapLemmas.{space-test, tail-ends}
 use Rattle.wfc_ppm.proofs.FieldLemmas.{Stops, token-stops, field-reads, field-stops, written_value}
 use Rattle.wfc_ppm.proofs.RawLemmas.{AreWithin, raw-bytes, colours_of-samples, pixels-within}

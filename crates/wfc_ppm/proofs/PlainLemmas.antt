@@ -7,7 +7,7 @@ use Rattle.std.specs.Option.{option_or}
 use Rattle.wfc_picture.specs.declared.symbol.Colour.{Colour}
 use Rattle.wfc_lists.proofs.Options.{both_none, or_none}
 use Rattle.wfc_ppm.specs.Fault.{ends_token, sample_fault, pixel_fault, behind_pixel, tail_fault, plain_fault}
-use Rattle.wfc_ppm.specs.Field.{Stop, stop_of, start_of, digits_of, field_value, behind_field, place_of}
+use Rattle.wfc_ppm.specs.Field.{SpaceEnd, stop_of, start_of, digits_of, field_value, behind_field, place_of}
 use Rattle.wfc_ppm.specs.Ppm.{samples_of}
 use Rattle.wfc_ppm.specs.Reading.{plain_pixel, plain_pixels}
 use Rattle.wfc_ppm.specs.Spelling.{IsCommentFront, IsField, AreFields, IsTail}
@@ -28,7 +28,7 @@ above_no maxval n small = grind (arith, nat_tests)
 pub sample-none : (total maxval wanted found : ℕ) (bytes rest : List ℕ) (n : ℕ) → IsField bytes n → ends_token rest ≡ true → n ≤ maxval → maxval ≤ 65535 → sample_fault total maxval wanted found (bytes ++ rest) ≡ None
 sample-none total maxval wanted found bytes rest n field ends within most =
     let reads = field-reads bytes rest n field (token-stops rest ends) in
-    let start : length (start_of (bytes ++ rest)) ≡ length (field.digits ++ rest) = ap (λ (s : Stop). length s.rest) reads.stop in
+    let start : length (start_of (bytes ++ rest)) ≡ length (field.digits ++ rest) = ap (λ (s : SpaceEnd). length s.rest) reads.stop in
     let some : (length (start_of (bytes ++ rest)) == 0) ≡ false = nonzero (length (start_of (bytes ++ rest))) (omega (arith, start, reads.some, length-append field.digits rest)) in
     let token : ends_token (behind_field (bytes ++ rest)) ≡ true = ap ends_token reads.behind ∙ ends in
     let small : nat_lt maxval (field_value (bytes ++ rest)) ≡ false = above_no maxval (field_value (bytes ++ rest)) (omega (arith, reads.value)) in
@@ -116,7 +116,7 @@ none-tail total text none =
     empty zero is = refl
     empty (suc n) is = absurd (let test : (suc n == 0) ≡ false = nonzero (suc n) (omega arith) in let made = (rw test at is) in cc)
 
-    last : (cut : List ℕ) (stop : Stop) → Last cut stop → (cut ≡ []) ⊎ IsCommentFront cut
+    last : (cut : List ℕ) (stop : SpaceEnd) → Last cut stop → (cut ≡ []) ⊎ IsCommentFront cut
     last cut stop (whole none rest) = inl none
     last cut stop (broken front none rest) = inr front
 

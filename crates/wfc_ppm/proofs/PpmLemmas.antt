@@ -6,12 +6,12 @@ use Rattle.std.specs.List.{All, AllByRecursion, concat}
 use Rattle.std.specs.Option.{option_or}
 use Rattle.wfc_picture.specs.declared.symbol.Colour.{Colour}
 use Rattle.wfc_lists.proofs.Options.{both_none, or_none}
-use Rattle.wfc_ppm.specs.Fault.{head_of, form_of, fault_of, header_fault, end_fault, maxval_fault, size_fault, samples_fault, sample_size, raw_samples, plain_fault, ends_token}
+use Rattle.wfc_ppm.specs.Fault.{head_of, form_of, fault_of, header_fault, end_fault, maxval_fault, pixel_count_fault, samples_fault, sample_size, raw_samples, plain_fault, ends_token}
 use Rattle.wfc_ppm.specs.Ppm.{PpmView, IsPpm, is_within, samples_of, raw_bytes}
-use Rattle.wfc_ppm.specs.Reading.{colours_of, plain_pixels, pixels_of, made_of, unless_fault, ppm_in, ppm_of}
+use Rattle.wfc_ppm.specs.Reading.{colours_of, plain_pixels, pixels_of, made_of, unless_ppm_fault, ppm_in, ppm_of}
 use Rattle.wfc_ppm.specs.Spelling.{AreFields, SpellsP6, SpellsP3, SpellsPpm}
-use Rattle.wfc_ppm.specs.declared.reading.Form.{Form}
-use Rattle.wfc_ppm.specs.declared.reading.Form.TheVariants.{Raw, Plain}
+use Rattle.wfc_ppm.specs.declared.reading.PpmForm.{PpmForm}
+use Rattle.wfc_ppm.specs.declared.reading.PpmForm.TheVariants.{Raw, Plain}
 use Rattle.wfc_ppm.specs.declared.reading.PpmFault.{PpmFault}
 use Rattle.wfc_ppm.proofs.GapLemmas.{space-test, tail-ends}
 use Rattle.wfc_ppm.proofs.FieldLemmas.{Stops, token-stops, field-reads}
@@ -22,28 +22,28 @@ use Rattle.wfc_ppm.proofs.PlainLemmas.{pixels-read, none-pixels, fields-end}
 -- ---- a text that spells a picture is read as it
 
 -- what a text that spells a picture in a form has
-pub record Reads (form : Form) (text : List ℕ) (ppm : PpmView) : Type 0 where
+pub record Reads (form : PpmForm) (text : List ℕ) (ppm : PpmView) : Type 0 where
   pub formed : form_of text ≡ Some form
   pub none : fault_of form text ≡ None
   pub made : made_of form text ≡ ppm
 
 -- the same of header and pixels
-reads_parts : (form : Form) (text rest : List ℕ) (ppm : PpmView) → ReadsHead form text rest ppm → IsPpm ppm → ppm.width * ppm.height ≤ 1048576 → form_of text ≡ Some form → end_fault form (length text) rest ≡ None → samples_fault form (length text) (head_of text) ≡ None → pixels_of form (head_of text) ≡ ppm.pixels → Reads form text ppm
+reads_parts : (form : PpmForm) (text rest : List ℕ) (ppm : PpmView) → ReadsHead form text rest ppm → IsPpm ppm → ppm.width * ppm.height ≤ 1048576 → form_of text ≡ Some form → end_fault form (length text) rest ≡ None → samples_fault form (length text) (head_of text) ≡ None → pixels_of form (head_of text) ≡ ppm.pixels → Reads form text ppm
 reads_parts form text rest ppm head is within formed end_none samples_none pixels = record {
   formed = formed;
   none =
-      or_none (header_fault form (length text) (drop 2 text)) (option_or (maxval_fault (head_of text).maxval) (option_or (size_fault (head_of text).width (head_of text).height) (samples_fault form (length text) (head_of text))))
+      or_none (header_fault form (length text) (drop 2 text)) (option_or (maxval_fault (head_of text).maxval) (option_or (pixel_count_fault (head_of text).width (head_of text).height) (samples_fault form (length text) (head_of text))))
       (head.no_fault (length text) ∙ end_none)
-      (or_none (maxval_fault (head_of text).maxval) (option_or (size_fault (head_of text).width (head_of text).height) (samples_fault form (length text) (head_of text)))
+      (or_none (maxval_fault (head_of text).maxval) (option_or (pixel_count_fault (head_of text).width (head_of text).height) (samples_fault form (length text) (head_of text)))
       (ap maxval_fault head.maxval ∙ maxval-none ppm.maxval is.some_maxval is.small_maxval)
-      (or_none (size_fault (head_of text).width (head_of text).height) (samples_fault form (length text) (head_of text))
-      ((λ i. size_fault (head.width i) (head.height i)) ∙ size-none ppm.width ppm.height within)
+      (or_none (pixel_count_fault (head_of text).width (head_of text).height) (samples_fault form (length text) (head_of text))
+      ((λ i. pixel_count_fault (head.width i) (head.height i)) ∙ size-none ppm.width ppm.height within)
       samples_none));
   made = λ i. record { width = head.width i; height = head.height i; maxval = head.maxval i; pixels = pixels i };
 }
 
 -- the header as it is read
-head_is : (form : Form) (text rest : List ℕ) (ppm : PpmView) → ReadsHead form text rest ppm → head_of text ≡ record { width = ppm.width; height = ppm.height; maxval = ppm.maxval; rest = rest }
+head_is : (form : PpmForm) (text rest : List ℕ) (ppm : PpmView) → ReadsHead form text rest ppm → head_of text ≡ record { width = ppm.width; height = ppm.height; maxval = ppm.maxval; rest = rest }
 head_is form text rest ppm head = λ i. record { width = head.width i; height = head.height i; maxval = head.maxval i; rest = head.behind i }
 
 -- the samples of a picture are at most maxval
@@ -115,17 +115,17 @@ plain-reads text ppm spelled within =
 -- ---- a text without a fault spells a picture
 
 -- what holds where no fault is
-record NoFault (form : Form) (text : List ℕ) : Type 0 where
+record NoFault (form : PpmForm) (text : List ℕ) : Type 0 where
   head : StandsHead form (length text) text
   maxval : (0 < (head_of text).maxval) × ((head_of text).maxval ≤ 65535)
   size : (head_of text).width * (head_of text).height ≤ 1048576
   samples : samples_fault form (length text) (head_of text) ≡ None
 
-no_fault : (form : Form) (text : List ℕ) → fault_of form text ≡ None → NoFault form text
+no_fault : (form : PpmForm) (text : List ℕ) → fault_of form text ≡ None → NoFault form text
 no_fault form text none =
-    let one = both_none (header_fault form (length text) (drop 2 text)) (option_or (maxval_fault (head_of text).maxval) (option_or (size_fault (head_of text).width (head_of text).height) (samples_fault form (length text) (head_of text)))) none in
-    let two = both_none (maxval_fault (head_of text).maxval) (option_or (size_fault (head_of text).width (head_of text).height) (samples_fault form (length text) (head_of text))) one.1 in
-    let three = both_none (size_fault (head_of text).width (head_of text).height) (samples_fault form (length text) (head_of text)) two.1 in
+    let one = both_none (header_fault form (length text) (drop 2 text)) (option_or (maxval_fault (head_of text).maxval) (option_or (pixel_count_fault (head_of text).width (head_of text).height) (samples_fault form (length text) (head_of text)))) none in
+    let two = both_none (maxval_fault (head_of text).maxval) (option_or (pixel_count_fault (head_of text).width (head_of text).height) (samples_fault form (length text) (head_of text))) one.1 in
+    let three = both_none (pixel_count_fault (head_of text).width (head_of text).height) (samples_fault form (length text) (head_of text)) two.1 in
     record {
       head = head-stands form (length text) text one.0;
       maxval = none-maxval (head_of text).maxval two.0;
@@ -134,7 +134,7 @@ no_fault form text none =
     }
 
 -- the picture that no fault makes is one
-made_picture : (form : Form) (text : List ℕ) → NoFault form text → (pixels : List Colour) → length pixels ≡ (head_of text).width * (head_of text).height → AreWithin (head_of text).maxval (samples_of pixels) → IsPpm (record { width = (head_of text).width; height = (head_of text).height; maxval = (head_of text).maxval; pixels = pixels })
+made_picture : (form : PpmForm) (text : List ℕ) → NoFault form text → (pixels : List Colour) → length pixels ≡ (head_of text).width * (head_of text).height → AreWithin (head_of text).maxval (samples_of pixels) → IsPpm (record { width = (head_of text).width; height = (head_of text).height; maxval = (head_of text).maxval; pixels = pixels })
 made_picture form text is pixels many within = record {
   filled = record { some_column = is.head.some_width; some_row = is.head.some_height; as_many = many };
   some_maxval = is.maxval.0;
@@ -192,16 +192,16 @@ plain_spells text formed is =
     }
 
 -- the picture that a text without a fault makes is spelled, and within the limit
-pub none-spells : (form : Form) (text : List ℕ) → All (λ b. b < 256) text → form_of text ≡ Some form → fault_of form text ≡ None → SpellsPpm text (made_of form text) × ((made_of form text).width * (made_of form text).height ≤ 1048576)
+pub none-spells : (form : PpmForm) (text : List ℕ) → All (λ b. b < 256) text → form_of text ≡ Some form → fault_of form text ≡ None → SpellsPpm text (made_of form text) × ((made_of form text).width * (made_of form text).height ≤ 1048576)
 none-spells Raw text bytes formed none = let is = no_fault Raw text none in (inl (raw_spells text bytes formed is), is.size)
 none-spells Plain text bytes formed none = let is = no_fault Plain text none in (inr (plain_spells text formed is), is.size)
 
 -- ---- what reading answers
 
-reads_ok : (form : Form) (text : List ℕ) (ppm : PpmView) → Reads form text ppm → ppm_of text ≡ Ok ppm
+reads_ok : (form : PpmForm) (text : List ℕ) (ppm : PpmView) → Reads form text ppm → ppm_of text ≡ Ok ppm
 reads_ok form text ppm reads =
     ap (λ f. ppm_in f text) reads.formed
-    ∙ ap (λ fault. unless_fault fault (made_of form text)) reads.none
+    ∙ ap (λ fault. unless_ppm_fault fault (made_of form text)) reads.none
     ∙ ap (λ p. Ok p) reads.made
 
 -- a text that spells a picture within the limit is read as it
@@ -213,13 +213,13 @@ spelled-read text ppm (inr plain) within = reads_ok Plain text ppm (plain-reads 
 pub read-spelled : (text : List ℕ) (ppm : PpmView) → All (λ b. b < 256) text → ppm_of text ≡ Ok ppm → SpellsPpm text ppm × (ppm.width * ppm.height ≤ 1048576)
 read-spelled text ppm bytes read = by (form_of text) refl read
   where
-    in_form : (form : Form) → form_of text ≡ Some form → (fault : Option PpmFault) → fault_of form text ≡ fault → unless_fault fault (made_of form text) ≡ Ok ppm → SpellsPpm text ppm × (ppm.width * ppm.height ≤ 1048576)
+    in_form : (form : PpmForm) → form_of text ≡ Some form → (fault : Option PpmFault) → fault_of form text ≡ fault → unless_ppm_fault fault (made_of form text) ≡ Ok ppm → SpellsPpm text ppm × (ppm.width * ppm.height ≤ 1048576)
     in_form form formed None none made =
         let same : made_of form text ≡ ppm = cc in
         subst (λ (p : PpmView). SpellsPpm text p × (p.width * p.height ≤ 1048576)) same (none-spells form text bytes formed none)
     in_form form formed (Some fault) some made = absurd (cc)
 
-    by : (form : Option Form) → form_of text ≡ form → ppm_in form text ≡ Ok ppm → SpellsPpm text ppm × (ppm.width * ppm.height ≤ 1048576)
+    by : (form : Option PpmForm) → form_of text ≡ form → ppm_in form text ≡ Ok ppm → SpellsPpm text ppm × (ppm.width * ppm.height ≤ 1048576)
     by None formed made = absurd (cc)
     by (Some form) formed made = in_form form formed (fault_of form text) refl made
 
@@ -227,7 +227,7 @@ read-spelled text ppm bytes read = by (form_of text) refl read
 pub read-picture : (text : List ℕ) (ppm : PpmView) → ppm_of text ≡ Ok ppm → IsPpm ppm × (ppm.width * ppm.height ≤ 1048576)
 read-picture text ppm read = by (form_of text) refl read
   where
-    made : (form : Form) → NoFault form text → IsPpm (made_of form text)
+    made : (form : PpmForm) → NoFault form text → IsPpm (made_of form text)
     made Raw is =
         let wanted = (head_of text).width * (head_of text).height * 3 * sample_size (head_of text).maxval in
         let raw = none-raw (length text) (head_of text).maxval wanted (drop 1 (head_of text).rest) is.samples in
@@ -240,13 +240,13 @@ read-picture text ppm read = by (form_of text) refl read
         let pixels = none-pixels (length text) (head_of text).maxval ((head_of text).width * (head_of text).height * 3) 0 ((head_of text).width * (head_of text).height) (head_of text).rest is.maxval.1 before is.samples in
         made_picture Plain text is (made_of Plain text).pixels pixels.as_many pixels.within
 
-    in_form : (form : Form) → (fault : Option PpmFault) → fault_of form text ≡ fault → unless_fault fault (made_of form text) ≡ Ok ppm → IsPpm ppm × (ppm.width * ppm.height ≤ 1048576)
+    in_form : (form : PpmForm) → (fault : Option PpmFault) → fault_of form text ≡ fault → unless_ppm_fault fault (made_of form text) ≡ Ok ppm → IsPpm ppm × (ppm.width * ppm.height ≤ 1048576)
     in_form form None none same =
         let is = no_fault form text none in
         let one : made_of form text ≡ ppm = cc in
         subst (λ (p : PpmView). IsPpm p × (p.width * p.height ≤ 1048576)) one (made form is, is.size)
     in_form form (Some fault) some same = absurd (cc)
 
-    by : (form : Option Form) → form_of text ≡ form → ppm_in form text ≡ Ok ppm → IsPpm ppm × (ppm.width * ppm.height ≤ 1048576)
+    by : (form : Option PpmForm) → form_of text ≡ form → ppm_in form text ≡ Ok ppm → IsPpm ppm × (ppm.width * ppm.height ≤ 1048576)
     by None formed same = absurd (cc)
     by (Some form) formed same = in_form form (fault_of form text) refl same

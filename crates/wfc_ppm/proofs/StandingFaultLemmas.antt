@@ -5,10 +5,10 @@ use Rattle.std.specs.Option.{option_or}
 use Rattle.std.proofs.lemmas.List.{length-drop, drop_at}
 use Rattle.wfc_text.specs.Number.{is_other}
 use Rattle.wfc_ppm.specs.Fault.{end_fault, field_fault, gap_fault, header_fault, side_fault}
-use Rattle.wfc_ppm.specs.Field.{Stop, behind_field, comment_behind, digits_of, field_value, is_space, place_of, start_of, stop_of}
+use Rattle.wfc_ppm.specs.Field.{SpaceEnd, behind_field, comment_behind, digits_of, field_value, is_space, place_of, start_of, stop_of}
 use Rattle.wfc_ppm.specs.Spelling.{IsField}
-use Rattle.wfc_ppm.specs.declared.reading.Form.{Form}
-use Rattle.wfc_ppm.specs.declared.reading.Form.TheVariants.{Raw, Plain}
+use Rattle.wfc_ppm.specs.declared.reading.PpmForm.{PpmForm}
+use Rattle.wfc_ppm.specs.declared.reading.PpmForm.TheVariants.{Raw, Plain}
 use Rattle.wfc_ppm.specs.declared.reading.PpmFault.{PpmFault}
 use Rattle.wfc_ppm.specs.declared.reading.PpmFault.TheVariants.{Header}
 use Rattle.wfc_ppm.proofs.FaultPlaceLemmas.{Found, behind_stops, end_place, first_is, first_no_digit, found_first, found_later, header_place, high_place, longer_front, most_place, no_digit_first, rest_shorter, unmoved, unmoved_start}
@@ -18,7 +18,7 @@ use Rattle.wfc_ppm.proofs.GapLemmas.{parts-whole, stop-gaps, stop-other}
 -- ---- each part of the header
 
 -- the first fault behind the width
-abbrev later : Form → ℕ → List ℕ → Option PpmFault
+abbrev later : PpmForm → ℕ → List ℕ → Option PpmFault
 later form total t = option_or (side_fault total t) (option_or (field_fault total (behind_field t)) (end_fault form total (behind_field (behind_field t))))
 
 module _ (text : List ℕ) (at : ℕ) (z other : List ℕ) (total : ℕ) where
@@ -51,7 +51,7 @@ module _ (text : List ℕ) (at : ℕ) (z other : List ℕ) (total : ℕ) where
           let there : c ++ other ≡ concat whole.0 ++ byte ∷ (more.0 ++ other) = ap (λ t. t ++ other) more.1 ∙ append_assoc (concat whole.0) (byte ∷ more.0) other in
           let stop : stop_of false (c ++ other) ≡ record { rest = byte ∷ (more.0 ++ other); cut = false } =
           ap (stop_of false) there ∙ stop-gaps whole.0 (byte ∷ (more.0 ++ other)) whole.1 ∙ stop-other byte (more.0 ++ other) (first_is (c ++ z) byte start e) in
-          let started : start_of (c ++ other) ≡ byte ∷ (more.0 ++ other) = ap (λ (s : Stop). s.rest) stop in
+          let started : start_of (c ++ other) ≡ byte ∷ (more.0 ++ other) = ap (λ (s : SpaceEnd). s.rest) stop in
           let digit : is_other byte ≡ true = first_no_digit byte start (subst (λ t. length (digits_of t) ≡ 0) e none) in
           let no_digits : length (digits_of (start_of (c ++ other))) ≡ 0 = subst (λ t. length (digits_of t) ≡ 0) (sym started) (no_digit_first byte (more.0 ++ other) digit) in
           let long_there : length (c ++ other) ≡ length (concat whole.0) + suc (length (more.0 ++ other)) = ap length there ∙ length-append (concat whole.0) (byte ∷ (more.0 ++ other)) in
@@ -151,7 +151,7 @@ module _ (text : List ℕ) (at : ℕ) (z other : List ℕ) (total : ℕ) where
       by None e false f found = absurd (cc)
 
   -- what ends it
-  end_stays : (form : Form) (front c : List ℕ) → text ≡ front ++ (c ++ z) → reach < length front + length c → end_fault form (length text) (c ++ z) ≡ Some (Header at) → Found (end_fault form total (c ++ other))
+  end_stays : (form : PpmForm) (front c : List ℕ) → text ≡ front ++ (c ++ z) → reach < length front + length c → end_fault form (length text) (c ++ z) ≡ Some (Header at) → Found (end_fault form total (c ++ other))
   end_stays form front [] is long fault = absurd (omega (arith, long, end_place form (length text) z at fault, ap length is ∙ length-append front z))
   end_stays Raw front (byte ∷ c) is long fault = by (is_space byte) refl fault
     where
@@ -181,7 +181,7 @@ module _ (text : List ℕ) (at : ℕ) (z other : List ℕ) (total : ℕ) where
   long_on : (front c : List ℕ) → (p : IsPassed front c) → reach < length front + length c → reach < length (front ++ p.bytes) + length p.rest
   long_on front c p long = omega (arith, long, ap length p.is ∙ length-append p.bytes p.rest, length-append front p.bytes)
 
-  most_stays : (form : Form) (front c : List ℕ) → text ≡ front ++ (c ++ z) → reach < length front + length c
+  most_stays : (form : PpmForm) (front c : List ℕ) → text ≡ front ++ (c ++ z) → reach < length front + length c
       → option_or (field_fault (length text) (c ++ z)) (end_fault form (length text) (behind_field (c ++ z))) ≡ Some (Header at) → Found (option_or (field_fault total (c ++ other)) (end_fault form total (behind_field (c ++ other))))
   most_stays form front c is long fault = by (field_fault (length text) (c ++ z)) refl fault
     where
@@ -202,7 +202,7 @@ module _ (text : List ℕ) (at : ℕ) (z other : List ℕ) (total : ℕ) where
       by None e = e
       by (Some fault) e = let first : side_fault (length text) t ≡ Some fault = ap (λ o. option_or o (if field_value t == 0 then Some (Header (place_of (length text) (start_of t))) else None)) e in absurd (cc)
 
-  high_stays : (form : Form) (front c : List ℕ) → text ≡ front ++ (c ++ z) → reach < length front + length c
+  high_stays : (form : PpmForm) (front c : List ℕ) → text ≡ front ++ (c ++ z) → reach < length front + length c
       → option_or (side_fault (length text) (c ++ z)) (option_or (field_fault (length text) (behind_field (c ++ z))) (end_fault form (length text) (behind_field (behind_field (c ++ z))))) ≡ Some (Header at)
       → Found (option_or (side_fault total (c ++ other)) (option_or (field_fault total (behind_field (c ++ other))) (end_fault form total (behind_field (behind_field (c ++ other))))))
   high_stays form front c is long fault = by (side_fault (length text) (c ++ z)) refl fault
@@ -218,7 +218,7 @@ module _ (text : List ℕ) (at : ℕ) (z other : List ℕ) (total : ℕ) where
           (most_stays form (front ++ p.bytes) p.rest (front_on front c p is) (long_on front c p long)
           (sym (ap (λ t. option_or (field_fault (length text) t) (end_fault form (length text) (behind_field t))) p.behind) ∙ found)))
 
-  wide_stays : (form : Form) (front c : List ℕ) → text ≡ front ++ (c ++ z) → reach < length front + length c
+  wide_stays : (form : PpmForm) (front c : List ℕ) → text ≡ front ++ (c ++ z) → reach < length front + length c
       → header_fault form (length text) (c ++ z) ≡ Some (Header at) → Found (header_fault form total (c ++ other))
   wide_stays form front c is long fault = by (side_fault (length text) (c ++ z)) refl fault
     where
@@ -231,7 +231,7 @@ module _ (text : List ℕ) (at : ℕ) (z other : List ℕ) (total : ℕ) where
           (high_stays form (front ++ p.bytes) p.rest (front_on front c p is) (long_on front c p long) (sym (ap (later form (length text)) p.behind) ∙ found)))
 
 -- a fault of the header stands, whatever other bytes follow those up to it
-pub header_stays : (form : Form) (text : List ℕ) (at : ℕ) (c z other : List ℕ) (total : ℕ) → text ≡ c ++ z → at + length (digits_of (drop at text)) < length c
+pub header_stays : (form : PpmForm) (text : List ℕ) (at : ℕ) (c z other : List ℕ) (total : ℕ) → text ≡ c ++ z → at + length (digits_of (drop at text)) < length c
     → header_fault form (length text) (drop 2 text) ≡ Some (Header at) → Found (header_fault form total (drop 2 (c ++ other)))
 header_stays form text at [] z other total is long fault = absurd (omega arith)
 header_stays form text at (a ∷ []) z other total is long fault =

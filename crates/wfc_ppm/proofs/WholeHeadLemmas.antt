@@ -8,12 +8,12 @@ use Rattle.std.proofs.lemmas.List.{length-take, take-append-drop}
 use Rattle.wfc_lists.proofs.Options.{or_none}
 use Rattle.wfc_picture.specs.declared.symbol.Colour.{Colour}
 use Rattle.wfc_ppm.specs.Fault.{end_fault, ends_token, field_fault, form_of, gap_fault, header_fault, side_fault, space_fault}
-use Rattle.wfc_ppm.specs.Field.{Stop, behind_field, field_value, place_of, start_of, stop_of}
+use Rattle.wfc_ppm.specs.Field.{SpaceEnd, behind_field, field_value, place_of, start_of, stop_of}
 use Rattle.wfc_ppm.specs.Front.{IsHeadEnd, IsWholeHead, StartsHead, digits_end, form_magic}
 use Rattle.wfc_ppm.specs.Ppm.{PpmView, IsPpm, samples_of, raw_bytes}
 use Rattle.wfc_ppm.specs.Spelling.{AreFields, IsField, IsHead, IsTail, SpellsPpm}
-use Rattle.wfc_ppm.specs.declared.reading.Form.{Form}
-use Rattle.wfc_ppm.specs.declared.reading.Form.TheVariants.{Raw, Plain}
+use Rattle.wfc_ppm.specs.declared.reading.PpmForm.{PpmForm}
+use Rattle.wfc_ppm.specs.declared.reading.PpmForm.TheVariants.{Raw, Plain}
 use Rattle.wfc_ppm.specs.declared.reading.PpmFault.{PpmFault}
 use Rattle.wfc_ppm.specs.declared.reading.PpmFault.TheVariants.{Header}
 use Rattle.wfc_ppm.proofs.FaultPlaceLemmas.{Found, header_place}
@@ -35,7 +35,7 @@ whole_side total bytes rest n field stops some =
     nonzero : (n : ℕ) → 0 < n → (n == 0) ≡ false
     nonzero n some = grind (arith, nat_tests)
 
-whole_end : (form : Form) (total : ℕ) (behind : List ℕ) → IsHeadEnd form behind → (end_fault form total behind ≡ None) × (ends_token behind ≡ true)
+whole_end : (form : PpmForm) (total : ℕ) (behind : List ℕ) → IsHeadEnd form behind → (end_fault form total behind ≡ None) × (ends_token behind ≡ true)
 whole_end Raw total behind (byte, space, is) =
     let test = space-test byte space in
     (ap (space_fault total) is ∙ (rw test refl), ap ends_token is ∙ (rw test refl))
@@ -43,20 +43,20 @@ whole_end Plain total behind apart =
     let none : behind ≡ concat apart.gaps ++ [] = apart.is ∙ sym (append-nil (concat apart.gaps)) in
     let stop : stop_of false behind ≡ record { rest = []; cut = false } = ap (stop_of false) none ∙ stop-gaps apart.gaps [] apart.each in
     let long : 0 < length behind = omega (arith, longer_gaps apart.gaps apart.each apart.some, ap length apart.is) in
-    let start : length (start_of behind) ≡ 0 = ap (λ (s : Stop). length s.rest) stop in
+    let start : length (start_of behind) ≡ 0 = ap (λ (s : SpaceEnd). length s.rest) stop in
     let test : (length (start_of behind) == length behind) ≡ false = unlike (length (start_of behind)) (length behind) (omega (arith, start, long)) in
-    let shut : (stop_of false behind).cut ≡ false = ap (λ (s : Stop). s.cut) stop in
+    let shut : (stop_of false behind).cut ≡ false = ap (λ (s : SpaceEnd). s.cut) stop in
     (rw (test, shut) refl, ap ends_token none ∙ gaps-end apart.gaps [] apart.each apart.some)
   where
     unlike : (a b : ℕ) → a < b → (a == b) ≡ false
     unlike a b less = grind (arith, nat_tests)
 
-behind_magic : (form : Form) (rest : List ℕ) → drop 2 (form_magic form ++ rest) ≡ rest
+behind_magic : (form : PpmForm) (rest : List ℕ) → drop 2 (form_magic form ++ rest) ≡ rest
 behind_magic Raw rest = refl
 behind_magic Plain rest = refl
 
 -- three fields, sides of at least 1, and what has no fault behind them
-pub fields_no_fault : (form : Form) (total : ℕ) (wide high most rest : List ℕ) (width height maxval : ℕ) → IsField wide width → 0 < width → IsField high height → 0 < height → IsField most maxval
+pub fields_no_fault : (form : PpmForm) (total : ℕ) (wide high most rest : List ℕ) (width height maxval : ℕ) → IsField wide width → 0 < width → IsField high height → 0 < height → IsField most maxval
     → ends_token rest ≡ true → end_fault form total rest ≡ None → header_fault form total (wide ++ (high ++ (most ++ rest))) ≡ None
 fields_no_fault form total wide high most rest width height maxval wide_is some_width high_is some_height most_is token none =
     let text : List ℕ = wide ++ (high ++ (most ++ rest)) in
@@ -74,7 +74,7 @@ fields_no_fault form total wide high most rest width height maxval wide_is some_
     (ap (field_fault total) three ∙ field-no_fault total most rest maxval most_is stops)
     (ap (end_fault form total) four ∙ none)))
 
-pub whole_no_fault : (form : Form) (total : ℕ) (bytes : List ℕ) → IsWholeHead form bytes → header_fault form total (drop 2 bytes) ≡ None
+pub whole_no_fault : (form : PpmForm) (total : ℕ) (bytes : List ℕ) → IsWholeHead form bytes → header_fault form total (drop 2 bytes) ≡ None
 whole_no_fault form total bytes h =
     let ends = whole_end form total h.behind h.behind_is in
     ap (header_fault form total) (ap (drop 2) h.is ∙ behind_magic form (h.wide ++ (h.high ++ (h.most ++ h.behind))))
@@ -82,7 +82,7 @@ whole_no_fault form total bytes h =
 
 -- ---- nor has that of a picture, of any size
 
-head_no_fault : (form : Form) (total : ℕ) (text head rest : List ℕ) (ppm : PpmView) → IsPpm ppm → IsHead (form_magic form) head ppm → text ≡ head ++ rest → ends_token rest ≡ true → end_fault form total rest ≡ None → header_fault form total (drop 2 text) ≡ None
+head_no_fault : (form : PpmForm) (total : ℕ) (text head rest : List ℕ) (ppm : PpmView) → IsPpm ppm → IsHead (form_magic form) head ppm → text ≡ head ++ rest → ends_token rest ≡ true → end_fault form total rest ≡ None → header_fault form total (drop 2 text) ≡ None
 head_no_fault form total text head rest ppm picture heads is token none =
     let fields : drop 2 text ≡ heads.wide ++ (heads.high ++ (heads.most ++ rest)) =
     ap (drop 2) (is ∙ ap (λ h. h ++ rest) heads.is ∙ append_assoc (form_magic form) (heads.wide ++ (heads.high ++ heads.most)) rest)
@@ -108,7 +108,7 @@ some_sample : (pixels : List Colour) → 0 < length pixels → 0 < length (sampl
 some_sample [] some = some
 some_sample (pixel ∷ pixels) some = omega arith
 
-spelled_no_fault : (text : List ℕ) (ppm : PpmView) → SpellsPpm text ppm → (form : Form) × ((total : ℕ) → header_fault form total (drop 2 text) ≡ None) × (form_of text ≡ Some form)
+spelled_no_fault : (text : List ℕ) (ppm : PpmView) → SpellsPpm text ppm → (form : PpmForm) × ((total : ℕ) → header_fault form total (drop 2 text) ≡ None) × (form_of text ≡ Some form)
 spelled_no_fault text ppm (inl raw) =
     let token : ends_token (raw.space ∷ raw_bytes ppm.maxval ppm.pixels) ≡ true = (let test = space-test raw.space raw.spaces in rw test refl) in (
       Raw,
@@ -124,7 +124,7 @@ spelled_no_fault text ppm (inr plain) =
     )
 
 -- the bytes up to a fault of the header, with the digits there and the byte behind them, can't be continued to a header
-pub no_header_behind : (form : Form) (text : List ℕ) (at : ℕ) → digits_end text at < length text → header_fault form (length text) (drop 2 text) ≡ Some (Header at) → StartsHead form (take (digits_end text at + 1) text) → ⊥
+pub no_header_behind : (form : PpmForm) (text : List ℕ) (at : ℕ) → digits_end text at < length text → header_fault form (length text) (drop 2 text) ≡ Some (Header at) → StartsHead form (take (digits_end text at + 1) text) → ⊥
 no_header_behind form text at inside fault (rest, whole) = by (digits_end text at + 1) refl whole
   where
     none_found : (o : Option PpmFault) → Found o → o ≡ None → ⊥
@@ -145,20 +145,20 @@ same_form (a ∷ b ∷ text) rest zero some least = absurd (omega arith)
 same_form (a ∷ b ∷ text) rest (suc zero) some least = absurd (omega arith)
 same_form (a ∷ b ∷ text) rest (suc (suc n)) some least = refl
 
-pub no_picture_behind : (form : Form) (text : List ℕ) (at : ℕ) (rest : List ℕ) (ppm : PpmView) → form_of text ≡ Some form → digits_end text at < length text → header_fault form (length text) (drop 2 text) ≡ Some (Header at) → SpellsPpm (take (digits_end text at + 1) text ++ rest) ppm → ⊥
+pub no_picture_behind : (form : PpmForm) (text : List ℕ) (at : ℕ) (rest : List ℕ) (ppm : PpmView) → form_of text ≡ Some form → digits_end text at < length text → header_fault form (length text) (drop 2 text) ≡ Some (Header at) → SpellsPpm (take (digits_end text at + 1) text ++ rest) ppm → ⊥
 no_picture_behind form text at rest ppm formed inside fault spells = by (digits_end text at + 1) refl spells
   where
     magics : length text ≡ 2 + length (drop 2 text)
     magics = ap length (magic-stands form text formed) ∙ long form
       where
-        long : (form : Form) → length (magic_of form ++ drop 2 text) ≡ 2 + length (drop 2 text)
+        long : (form : PpmForm) → length (magic_of form ++ drop 2 text) ≡ 2 + length (drop 2 text)
         long Raw = omega arith
         long Plain = omega arith
 
     none_found : (o : Option PpmFault) → Found o → o ≡ None → ⊥
     none_found o (fault, is) none = cc
 
-    same : (a b : Form) → Some a ≡ Some b → a ≡ b
+    same : (a b : PpmForm) → Some a ≡ Some b → a ≡ b
     same a b e = cc
 
     by : (n : ℕ) → digits_end text at + 1 ≡ n → SpellsPpm (take n text ++ rest) ppm → ⊥

@@ -5,13 +5,13 @@ use Rattle.std.specs.Option.{option_or}
 use Rattle.std.specs.Str.{bytes_eq}
 use Rattle.wfc_picture.specs.declared.palette.TheConstants.{MAX_PIXELS}
 use Rattle.wfc_ppm.specs.Field.{is_space, start_of, stop_of, digits_of, field_value, behind_field, place_of}
-use Rattle.wfc_ppm.specs.declared.reading.Form.{Form}
-use Rattle.wfc_ppm.specs.declared.reading.Form.TheVariants.{Raw, Plain}
+use Rattle.wfc_ppm.specs.declared.reading.PpmForm.{PpmForm}
+use Rattle.wfc_ppm.specs.declared.reading.PpmForm.TheVariants.{Raw, Plain}
 use Rattle.wfc_ppm.specs.declared.reading.PpmFault.{PpmFault}
 use Rattle.wfc_ppm.specs.declared.reading.PpmFault.TheVariants.{Header, Maxval, TooLarge, Truncated, SampleAboveMaxval, BadSample, Trailing}
 
 -- the form that the first two bytes name
-abbrev pub form_of : List ℕ → Option Form
+abbrev pub form_of : List ℕ → Option PpmForm
 form_of text =
     if bytes_eq (take 2 text) (codes "P6") then Some Raw
     else if bytes_eq (take 2 text) (codes "P3") then Some Plain else None
@@ -57,12 +57,12 @@ gap_fault total text =
     else if (stop_of false text).cut then Some (Header total) else None
 
 -- what should stand between maxval and the samples
-abbrev pub end_fault : Form → ℕ → List ℕ → Option PpmFault
+abbrev pub end_fault : PpmForm → ℕ → List ℕ → Option PpmFault
 end_fault Raw total text = space_fault total text
 end_fault Plain total text = gap_fault total text
 
 -- the first fault of the header
-abbrev pub header_fault : Form → ℕ → List ℕ → Option PpmFault
+abbrev pub header_fault : PpmForm → ℕ → List ℕ → Option PpmFault
 header_fault form total text =
     option_or (side_fault total text)
     (option_or (side_fault total (behind_field text))
@@ -70,7 +70,7 @@ header_fault form total text =
     (end_fault form total (behind_field (behind_field (behind_field text))))))
 
 -- the first fault of the header of a whole text
-abbrev pub text_header_fault : Form → List ℕ → Option PpmFault
+abbrev pub text_header_fault : PpmForm → List ℕ → Option PpmFault
 text_header_fault form text = header_fault form (length text) (drop 2 text)
 
 -- maxval is 1 to 65,535
@@ -78,8 +78,8 @@ abbrev pub maxval_fault : ℕ → Option PpmFault
 maxval_fault maxval = if (maxval == 0) || nat_lt 65535 maxval then Some (Maxval maxval) else None
 
 -- there are not too many pixels
-abbrev pub size_fault : ℕ → ℕ → Option PpmFault
-size_fault width height = if nat_lt MAX_PIXELS (width * height) then Some TooLarge else None
+abbrev pub pixel_count_fault : ℕ → ℕ → Option PpmFault
+pixel_count_fault width height = if nat_lt MAX_PIXELS (width * height) then Some TooLarge else None
 
 -- how many bytes a raw sample has
 abbrev pub sample_size : ℕ → ℕ
@@ -143,7 +143,7 @@ plain_fault total maxval wanted found (suc pixels) text =
     (plain_fault total maxval wanted (found + 3) pixels (behind_pixel text))
 
 -- the fault of the samples
-abbrev pub samples_fault : Form → ℕ → Head → Option PpmFault
+abbrev pub samples_fault : PpmForm → ℕ → Head → Option PpmFault
 samples_fault Raw total head =
     raw_fault total head.maxval
     (head.width * head.height * 3 * sample_size head.maxval) (drop 1 head.rest)
@@ -152,9 +152,9 @@ samples_fault Plain total head =
     (head.width * head.height) head.rest
 
 -- the first fault of a text in this form
-abbrev pub fault_of : Form → List ℕ → Option PpmFault
+abbrev pub fault_of : PpmForm → List ℕ → Option PpmFault
 fault_of form text =
     option_or (header_fault form (length text) (drop 2 text))
     (option_or (maxval_fault (head_of text).maxval)
-    (option_or (size_fault (head_of text).width (head_of text).height)
+    (option_or (pixel_count_fault (head_of text).width (head_of text).height)
     (samples_fault form (length text) (head_of text))))

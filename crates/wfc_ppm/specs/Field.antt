@@ -20,17 +20,17 @@ comment_behind true byte = Some (not (ends_comment byte))
 comment_behind false byte = if is_space byte then Some false else if byte == 35 then Some true else None
 
 -- where whitespace and comments end: what stands there, and whether the text's end cuts a comment
-pub record Stop : Type 0 where
+pub record SpaceEnd : Type 0 where
   pub rest : List ℕ
   pub cut : Bool
 
 -- to end here, or to go on behind a byte of whitespace or of a comment
-abbrev pub stop_at : Option Bool → List ℕ → (Bool → Stop) → Stop
+abbrev pub stop_at : Option Bool → List ℕ → (Bool → SpaceEnd) → SpaceEnd
 stop_at None here next = record { rest = here; cut = false }
 stop_at (Some opened) here next = next opened
 
 -- where the whitespace and the comments at a text's front end, by whether a comment is open there
-abbrev pub stop_of : Bool → List ℕ → Stop
+abbrev pub stop_of : Bool → List ℕ → SpaceEnd
 stop_of opened [] = record { rest = []; cut = opened }
 stop_of opened (byte ∷ text) = stop_at (comment_behind opened byte) (byte ∷ text) (λ next. stop_of next text)
 

@@ -2,21 +2,21 @@
 use Rattle.std.specs.Prelude.{◌≡◌, ℕ, ◌+◌, ◌<◌, List, [], ◌∷◌, ◌++◌, codes, drop, length, take}
 use Rattle.wfc_ppm.specs.Field.{digits_of}
 use Rattle.wfc_ppm.specs.Spelling.{IsField, IsSeparator, IsSpace}
-use Rattle.wfc_ppm.specs.declared.reading.Form.{Form}
-use Rattle.wfc_ppm.specs.declared.reading.Form.TheVariants.{Raw, Plain}
+use Rattle.wfc_ppm.specs.declared.reading.PpmForm.{PpmForm}
+use Rattle.wfc_ppm.specs.declared.reading.PpmForm.TheVariants.{Raw, Plain}
 
 -- the two bytes of a form
-abbrev pub form_magic : Form → List ℕ
+abbrev pub form_magic : PpmForm → List ℕ
 form_magic Raw = codes "P6"
 form_magic Plain = codes "P3"
 
 -- what parts maxval from the samples: a byte of whitespace from raw ones, whitespace or comments from those in decimal
-abbrev pub IsHeadEnd : Form → List ℕ → Type 0
+abbrev pub IsHeadEnd : PpmForm → List ℕ → Type 0
 IsHeadEnd Raw bytes = (byte : ℕ) × IsSpace byte × (bytes ≡ byte ∷ [])
 IsHeadEnd Plain bytes = IsSeparator bytes
 
 -- all that stands before the samples: the magic, two sides of at least 1, any maxval, and what parts it from the samples
-pub record IsWholeHead (form : Form) (bytes : List ℕ) : Type 0 where
+pub record IsWholeHead (form : PpmForm) (bytes : List ℕ) : Type 0 where
   pub wide : List ℕ
   pub high : List ℕ
   pub most : List ℕ
@@ -33,11 +33,11 @@ pub record IsWholeHead (form : Form) (bytes : List ℕ) : Type 0 where
   pub behind_is : IsHeadEnd form behind
 
 -- the text begins with all that stands before samples
-abbrev pub HasWholeHead : Form → List ℕ → Type 0
+abbrev pub HasWholeHead : PpmForm → List ℕ → Type 0
 HasWholeHead form text = (front : List ℕ) × (rest : List ℕ) × (text ≡ front ++ rest) × IsWholeHead form front
 
 -- the bytes can be continued to all that stands before samples
-abbrev pub StartsHead : Form → List ℕ → Type 0
+abbrev pub StartsHead : PpmForm → List ℕ → Type 0
 StartsHead form bytes = (rest : List ℕ) × IsWholeHead form (bytes ++ rest)
 
 -- the place behind the digits that stand at a place

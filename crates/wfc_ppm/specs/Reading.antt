@@ -4,8 +4,8 @@ use Rattle.wfc_picture.specs.declared.symbol.Colour.{Colour}
 use Rattle.wfc_ppm.specs.Fault.{Head, head_of, form_of, fault_of, raw_samples, sample_size, behind_pixel}
 use Rattle.wfc_ppm.specs.Field.{field_value, behind_field}
 use Rattle.wfc_ppm.specs.Ppm.{PpmView}
-use Rattle.wfc_ppm.specs.declared.reading.Form.{Form}
-use Rattle.wfc_ppm.specs.declared.reading.Form.TheVariants.{Raw, Plain}
+use Rattle.wfc_ppm.specs.declared.reading.PpmForm.{PpmForm}
+use Rattle.wfc_ppm.specs.declared.reading.PpmForm.TheVariants.{Raw, Plain}
 use Rattle.wfc_ppm.specs.declared.reading.PpmFault.{PpmFault}
 use Rattle.wfc_ppm.specs.declared.reading.PpmFault.TheVariants.{Magic}
 
@@ -24,12 +24,12 @@ plain_pixels zero text = []
 plain_pixels (suc pixels) text = plain_pixel text ∷ plain_pixels pixels (behind_pixel text)
 
 -- the pixels behind the header
-abbrev pub pixels_of : Form → Head → List Colour
+abbrev pub pixels_of : PpmForm → Head → List Colour
 pixels_of Raw head = colours_of (raw_samples head.maxval (take (head.width * head.height * 3 * sample_size head.maxval) (drop 1 head.rest)))
 pixels_of Plain head = plain_pixels (head.width * head.height) head.rest
 
 -- the picture that a text without a fault makes
-abbrev pub made_of : Form → List ℕ → PpmView
+abbrev pub made_of : PpmForm → List ℕ → PpmView
 made_of form text = record {
   width = (head_of text).width;
   height = (head_of text).height;
@@ -38,14 +38,14 @@ made_of form text = record {
 }
 
 -- the picture, or the fault if there is one
-abbrev pub unless_fault : Option PpmFault → PpmView → Result PpmView PpmFault
-unless_fault None ppm = Ok ppm
-unless_fault (Some fault) ppm = Err fault
+abbrev pub unless_ppm_fault : Option PpmFault → PpmView → Result PpmView PpmFault
+unless_ppm_fault None ppm = Ok ppm
+unless_ppm_fault (Some fault) ppm = Err fault
 
 -- the picture of a text in this form, or its first fault
-abbrev pub ppm_in : Option Form → List ℕ → Result PpmView PpmFault
+abbrev pub ppm_in : Option PpmForm → List ℕ → Result PpmView PpmFault
 ppm_in None text = Err Magic
-ppm_in (Some form) text = unless_fault (fault_of form text) (made_of form text)
+ppm_in (Some form) text = unless_ppm_fault (fault_of form text) (made_of form text)
 
 -- the picture that the text spells, or its first fault
 abbrev pub ppm_of : List ℕ → Result PpmView PpmFault

@@ -4,8 +4,8 @@ ghost use Rattle.std.specs.Prelude.{◌≡◌, ◌↔◌, ℕ, ◌*◌, ◌<◌,
 ghost use Rattle.wfc_picture.specs.declared.palette.TheConstants.{MAX_PIXELS};
 ghost use Rattle.wfc_ppm.specs.Fault.{form_of, pairs_of, text_header_fault};
 ghost use Rattle.wfc_ppm.specs.Front.{HasWholeHead, IsHeadEnd, IsWholeHead, StartsHead, digits_end, through_digits};
-ghost use Rattle.wfc_ppm.specs.declared.reading.Form.{Form};
-ghost use Rattle.wfc_ppm.specs.declared.reading.Form.TheVariants.{Raw, Plain};
+ghost use Rattle.wfc_ppm.specs.declared.reading.PpmForm.{PpmForm};
+ghost use Rattle.wfc_ppm.specs.declared.reading.PpmForm.TheVariants.{Raw, Plain};
 ghost use Rattle.wfc_ppm.specs.Ppm.{PpmView, p6_text, p3_text, raw_bytes};
 ghost use Rattle.wfc_ppm.specs.Reading.{ppm_of};
 ghost use Rattle.wfc_ppm.specs.Spelling.{SpellsPpm};
@@ -69,19 +69,19 @@ pub fn headers_by_example()
 /// A fault of the header stands where the text can no longer become a header: the bytes before it can be continued to one,
 /// with sides of at least 1 and any maxval. A text whose header has no fault begins with a whole one.
 pub fn heads_go_on_before_a_fault()
-    ensures before { (form : Form) (text : List ℕ) (at : ℕ) → form_of text ≡ Some form
+    ensures before { (form : PpmForm) (text : List ℕ) (at : ℕ) → form_of text ≡ Some form
         → text_header_fault form text ≡ Some (Header at) → StartsHead form (take at text) }
-    ensures whole { (form : Form) (text : List ℕ) → form_of text ≡ Some form
+    ensures whole { (form : PpmForm) (text : List ℕ) → form_of text ≡ Some form
         → text_header_fault form text ≡ None → HasWholeHead form text }
 {}
 
 /// Behind a fault of the header no header goes on: the bytes up to it can't be continued to one, nor to a picture. Where digits
 /// stand there, as those of a side of 0, this is said of all of them and the byte behind them, since more digits could follow.
 pub fn no_head_goes_on_behind_a_fault()
-    ensures heads { (form : Form) (text : List ℕ) (at : ℕ) → digits_end text at < length text
+    ensures heads { (form : PpmForm) (text : List ℕ) (at : ℕ) → digits_end text at < length text
         → text_header_fault form text ≡ Some (Header at)
         → StartsHead form (through_digits text at) → ⊥ }
-    ensures pictures { (form : Form) (text : List ℕ) (at : ℕ) → form_of text ≡ Some form
+    ensures pictures { (form : PpmForm) (text : List ℕ) (at : ℕ) → form_of text ≡ Some form
         → digits_end text at < length text → text_header_fault form text ≡ Some (Header at)
         → (rest : List ℕ) (ppm : PpmView) → SpellsPpm (through_digits text at ++ rest) ppm → ⊥ }
     ensures here { digits_end (codes "P6 1 1x 0 ") 6 ≡ 6 }

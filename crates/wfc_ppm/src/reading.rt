@@ -3,7 +3,7 @@
 ghost use Rattle.std.specs.Prelude.{◌≡◌, ◌≢◌, ◌⊎◌, ◌*◌, ◌≤◌, None, Some, drop, length, IfOk, IfErr, IfSome};
 ghost use Rattle.wfc_outside.specs.Gives.{Gives};
 ghost use Rattle.wfc_ppm.specs.Fault.{end_fault, form_of, gap_fault, head_of, header_fault, maxval_fault};
-ghost use Rattle.wfc_ppm.specs.Fault.{samples_fault, size_fault, space_fault};
+ghost use Rattle.wfc_ppm.specs.Fault.{samples_fault, pixel_count_fault, space_fault};
 ghost use Rattle.wfc_ppm.specs.Ppm.{PpmView};
 ghost use Rattle.wfc_ppm.specs.Reading.{pixels_of, ppm_in, ppm_of};
 ghost use Rattle.wfc_ppm.specs.Spelling.{SpellsPpm};
@@ -67,7 +67,7 @@ impl<T: Drop> From<AllocFailed<T>> for PpmFault {
 
 /// How the samples are written: as bytes, or in decimal.
 #[derive(Clone, Copy, Debug, PartialEq, Eq)]
-pub enum Form {
+pub enum PpmForm {
     Raw,
     Plain,
 }
@@ -95,19 +95,19 @@ pub fn read(alloc: Global, bytes: &[u8]) -> Result<Ppm, PpmFault>
 }
 
 /// The form that the first two bytes name.
-fn named_form(bytes: &[u8]) -> Option<Form>
+fn named_form(bytes: &[u8]) -> Option<PpmForm>
     ensures form { result ≡ form_of bytes.now }
     ensures front { IfSome result (λ _. 2 ≤ length bytes.now) }
 {
     match bytes {
-        [b'P', b'6', ..] => Some(Form::Raw),
-        [b'P', b'3', ..] => Some(Form::Plain),
+        [b'P', b'6', ..] => Some(PpmForm::Raw),
+        [b'P', b'3', ..] => Some(PpmForm::Plain),
         _ => None,
     }
 }
 
 /// The picture of a text whose first two bytes name this form.
-fn read_as(alloc: Global, form: Form, bytes: &[u8]) -> Result<Ppm, PpmFault>
+fn read_as(alloc: Global, form: PpmForm, bytes: &[u8]) -> Result<Ppm, PpmFault>
     requires limited { length bytes.now ≤ MAX_FILE_BYTES }
     requires front { 2 ≤ length bytes.now }
     requires form { form_of bytes.now ≡ Some form }
@@ -137,7 +137,7 @@ pub struct Header<'a> {
 
 /// The header behind the first two bytes.
 #[tactic(auto, using(crate::proofs::FaultLemmas::right_header, crate::proofs::FaultLemmas::width_fault, crate::proofs::FaultLemmas::height_fault, crate::proofs::FaultLemmas::maxval_field_fault, crate::proofs::FaultLemmas::end_fault_last))]
-fn read_header(form: Form, total: u32, bytes: &[u8]) -> Result<Header<'_>, PpmFault>
+fn read_header(form: PpmForm, total: u32, bytes: &[u8]) -> Result<Header<'_>, PpmFault>
     requires front { 2 ≤ length bytes.now }
     requires part { length bytes.now ≤ total }
     ensures right { IfOk result (λ _. header_fault form total (drop 2 bytes.now) ≡ None) }
@@ -159,14 +159,14 @@ fn read_header(form: Form, total: u32, bytes: &[u8]) -> Result<Header<'_>, PpmFa
 }
 
 /// What should stand between maxval and the samples stands there.
-fn check_end(form: Form, total: u32, text: &[u8]) -> Result<(), PpmFault>
+fn check_end(form: PpmForm, total: u32, text: &[u8]) -> Result<(), PpmFault>
     requires part { length text.now ≤ total }
     ensures right { IfOk result (λ _. end_fault form total text.now ≡ None) }
     ensures fault { IfErr result (λ fault. end_fault form total text.now ≡ Some fault) }
 {
     match form {
-        Form::Raw => check_space(total, text),
-        Form::Plain => check_gap(total, text),
+        PpmForm::Raw => check_space(total, text),
+        PpmForm::Plain => check_gap(total, text),
     }
 }
 
@@ -220,8 +220,8 @@ fn check_maxval(maxval: u32) -> Result<(), PpmFault>
 /// There are not too many pixels.
 #[tactic(auto, using(crate::proofs::FaultLemmas::right_size, crate::proofs::FaultLemmas::too_large))]
 fn check_size(width: u32, height: u32) -> Result<(), PpmFault>
-    ensures right { IfOk result (λ _. size_fault width height ≡ None) }
-    ensures fault { IfErr result (λ fault. size_fault width height ≡ Some fault) }
+    ensures right { IfOk result (λ _. pixel_count_fault width height ≡ None) }
+    ensures fault { IfErr result (λ fault. pixel_count_fault width height ≡ Some fault) }
     ensures small { IfOk result (λ _. width * height ≤ 1048576) }
 {
     if u64::from(width) * u64::from(height) > MAX_PIXELS as u64 {
@@ -233,7 +233,7 @@ fn check_size(width: u32, height: u32) -> Result<(), PpmFault>
 /// The pixels behind the header.
 fn pixels(
     alloc: Global,
-    form: Form,
+    form: PpmForm,
     total: u32,
     header: &Header<'_>,
 ) -> Result<Vec<Colour>, PpmFault>
@@ -248,10 +248,10 @@ fn pixels(
 {
     let count = header.width * header.height;
     match form {
-        Form::Raw => {
+        PpmForm::Raw => {
             let wanted = count * 3 * sample_size(header.maxval);
             raw_pixels(alloc, total, header.maxval, wanted, &header.rest[1..])
         }
-        Form::Plain => plain_pixels(alloc, total, header.maxval, count, header.rest),
+        PpmForm::Plain => plain_pixels(alloc, total, header.maxval, count, header.rest),
     }
 }

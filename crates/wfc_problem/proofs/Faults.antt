@@ -8,7 +8,7 @@ use Rattle.wfc_problem.specs.declared.Part.TheVariants.{Cells, Neighbours, Weigh
 use Rattle.wfc_problem.specs.declared.ProblemFault.TheVariants.{TooLarge, NotSymmetric, BadIndex, NotBack, Lengths, BadWeight}
 use Rattle.wfc_problem.specs.declared.TheConstants.{MAX_PAIRS, MAX_VALUES, MAX_WEIGHT, NO_CELL}
 use Rattle.wfc_problem.specs.Network.{Network, values, value_weight, neighbour, supports_of, ok, HasTables, IsIndexed, IsWeighed, IsProblem}
-use Rattle.wfc_problem.specs.Fault.{first_failing, lengths_fault, size_fault, neighbours_fault, supports_fault, weight_fault, back_fault, symmetry_fault, problem_fault_of, is_entry, is_weight, rises, leads_back, returns, names_cell, is_mutual}
+use Rattle.wfc_problem.specs.Fault.{first_failing, lengths_fault, pair_count_fault, neighbours_fault, supports_fault, weight_fault, back_fault, symmetry_fault, problem_fault_of, is_entry, is_weight, rises, leads_back, returns, names_cell, is_mutual}
 use Rattle.wfc_problem.specs.Symmetry.{IsEarliest}
 use Rattle.std.proofs.lemmas.Bool.{cases_lt, cases_eq, and_parts, and_from, or_cases, or_left, or_right, eqb-true, eq-eqb, ltb-true, lt-ltb, leb-true, le-leb, not-false, not_from_true}
 use Rattle.std.proofs.lemmas.List.{get_or_default, get_or_past}
@@ -38,7 +38,7 @@ symmetry_is P o earliest = ap (option_map (λ p. NotSymmetric p.0 p.1)) (earlies
 -- ---- what each check shows
 
 -- the counts and lengths, and the number of pairs
-pub sized : (P : Network) → lengths_fault P ≡ None → size_fault P ≡ None → HasTables P
+pub sized : (P : Network) → lengths_fault P ≡ None → pair_count_fault P ≡ None → HasTables P
 sized P lengths size =
     let a = both_none _ _ lengths in
     let b = both_none _ _ a.1 in

@@ -35,8 +35,8 @@ lengths_fault P =
     (unless (length P.base == P.cells * values P) (Lengths Base)))))
 
 -- there are at most so many pairs of a cell and a value
-abbrev pub size_fault : Network → Option ProblemFault
-size_fault P = unless (nat_le (P.cells * values P) MAX_PAIRS) (TooLarge (P.cells * values P))
+abbrev pub pair_count_fault : Network → Option ProblemFault
+pair_count_fault P = unless (nat_le (P.cells * values P) MAX_PAIRS) (TooLarge (P.cells * values P))
 
 -- an entry of the neighbour table is none or one of n cells
 abbrev pub is_entry : ℕ → ℕ → Bool
@@ -95,7 +95,7 @@ symmetry_fault P =
 unfoldable pub problem_fault_of : Network → Option ProblemFault
 problem_fault_of P =
     option_or (lengths_fault P)
-    (option_or (size_fault P)
+    (option_or (pair_count_fault P)
     (option_or (neighbours_fault P)
     (option_or (supports_fault P)
     (option_or (weight_fault P)

@@ -5,7 +5,7 @@ ghost use Rattle.std.specs.Prelude.{◌≡◌, ℕ, ◌+◌, ◌*◌, ◌<◌, �
 ghost use Rattle.std.specs.List.Sorted.{IsStrictlyIncreasing};
 ghost use Rattle.std.specs.Result.{result_err};
 ghost use Rattle.wfc_model.specs.Direction.{opposite};
-ghost use Rattle.wfc_problem.specs.Fault.{problem_fault_of, lengths_fault, size_fault, neighbours_fault};
+ghost use Rattle.wfc_problem.specs.Fault.{problem_fault_of, lengths_fault, pair_count_fault, neighbours_fault};
 ghost use Rattle.wfc_problem.specs.Fault.{supports_fault, weight_fault, back_fault, symmetry_fault, rises, leads_back};
 ghost use Rattle.wfc_problem.specs.Fault.{first_failing, is_entry, is_weight};
 ghost use Rattle.wfc_problem.specs.Network.{HasTables, IsIndexed, values};
@@ -51,7 +51,7 @@ fn check_lengths(parts: &Parts) -> Result<(), ProblemFault>
 
 fn check_size(parts: &Parts) -> Result<(), ProblemFault>
     requires few_values { values parts.now ≤ MAX_VALUES }
-    ensures value { result_err result ≡ size_fault parts.now }
+    ensures value { result_err result ≡ pair_count_fault parts.now }
 {
     let product = parts.cells as u64 * parts.weights.len() as u64;
     if product > MAX_PAIRS {

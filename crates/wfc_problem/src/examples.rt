@@ -6,7 +6,7 @@ ghost use Rattle.std.specs.List.{range_with_len};
 ghost use Rattle.wfc_problem.specs.Assignment.{IsLegalAssignment, LiesIn};
 ghost use Rattle.wfc_problem.specs.Corner.{corner, corner_with_neighbour, corner_with_supports};
 ghost use Rattle.wfc_problem.specs.Domains.{IsSupported, IsArcConsistent, IsDead, IsLiteralIn, HasOnly, base_with, leaves, support_count};
-ghost use Rattle.wfc_problem.specs.Fault.{problem_fault_of, size_fault};
+ghost use Rattle.wfc_problem.specs.Fault.{problem_fault_of, pair_count_fault};
 ghost use Rattle.wfc_problem.specs.Network.{IsProblem, values, value_weight, neighbour, beside, supports_of, ok, in_base};
 ghost use Rattle.wfc_problem.specs.Rounds.{depth_of, greatest};
 ghost use Rattle.wfc_problem.specs.Sizes.{first_values, is_dead, sizes_of, values_at};
@@ -58,8 +58,9 @@ pub fn faults_are_named()
     ensures supports { problem_fault_of (record corner { supports = [] })
         ≡ Some (Lengths Supports) }
     ensures base { problem_fault_of (record corner { base = [] }) ≡ Some (Lengths Base) }
-    ensures fits { size_fault (record corner { cells = 2048; weights = replicate 4096 1 }) ≡ None }
-    ensures size { size_fault (record corner { cells = 2049; weights = replicate 4096 1 })
+    ensures fits { pair_count_fault (record corner { cells = 2048; weights = replicate 4096 1 }) ≡
+        None }
+    ensures size { pair_count_fault (record corner { cells = 2049; weights = replicate 4096 1 })
         ≡ Some (TooLarge 8392704) }
     ensures entry { problem_fault_of (corner_with_neighbour 3 4) ≡ Some (BadIndex Neighbours 3) }
     ensures falling { problem_fault_of (corner_with_supports 2 (2 ∷ 1 ∷ []))

@@ -5,12 +5,12 @@ use Rattle.wfc_problem.proofs.CallerLemmas.{base_inside, cut_within, few_cells, 
 use Rattle.wfc_problem.specs.Domains.{Test, Within, cut}
 use Rattle.wfc_problem.specs.Network.{Network, IsProblem, in_base}
 use Rattle.wfc_problem.specs.declared.Literal.TheVariants.{Is, Not}
-use Rattle.wfc_proof.specs.Lines.{has_nodes, spelled, Spells}
+use Rattle.wfc_proof.specs.Lines.{has_nodes, nodes_of_lines, SpellsNodes}
 use Rattle.wfc_proof.specs.Proof.{Proof, Closes, FollowsFrom, Node, nodes}
 use Rattle.wfc_proof.specs.Proof.Proof.{empty, remove, split, left_off}
 use Rattle.wfc_proof.specs.Proof.Node.{empties, removes, splits}
 use Rattle.wfc_proof.specs.ProofText.{AreOfFormat}
-use Rattle.wfc_proof.specs.Spans.{counted, in_spans}
+use Rattle.wfc_proof.specs.Spans.{counted_lines, in_spans}
 use Rattle.wfc_proof.specs.declared.Line.{Line}
 use Rattle.wfc_proof.specs.declared.Line.TheVariants.{Remove, Span, Try, Empty, End, Found, Out}
 use Rattle.wfc_proof.specs.declared.heads.Format.TheVariants.{One, Two}
@@ -79,7 +79,7 @@ is_single Found = true
 is_single Out = true
 
 -- they count as themselves
-single_counted : (lines : List Line) → list_all is_single lines ≡ true → counted lines ≡ lines
+single_counted : (lines : List Line) → list_all is_single lines ≡ true → counted_lines lines ≡ lines
 single_counted [] single = refl
 single_counted (Remove c v d ∷ lines) single = ap (λ ls. Remove c v d ∷ ls) (single_counted lines single)
 single_counted (Span c first last d ∷ lines) single = cc
@@ -90,7 +90,7 @@ single_counted (Found ∷ lines) single = ap (λ ls. Found ∷ ls) (single_count
 single_counted (Out ∷ lines) single = ap (λ ls. Out ∷ ls) (single_counted lines single)
 
 -- where their nodes fit they are lines of format 1
-single_formed : (lines : List Line) → list_all is_single lines ≡ true → list_all has_nodes lines ≡ true → AllFit (spelled lines) → AreOfFormat One lines
+single_formed : (lines : List Line) → list_all is_single lines ≡ true → list_all has_nodes lines ≡ true → AllFit (nodes_of_lines lines) → AreOfFormat One lines
 single_formed [] single has fit = record {}
 single_formed (Remove c v d ∷ lines) single has fit = (fit.0, single_formed lines single has fit.1)
 single_formed (Span c first last d ∷ lines) single has fit = cc
@@ -104,17 +104,17 @@ single_formed (Out ∷ lines) single has fit = cc
 pub record AreFormed (lines : List Line) (proof : Proof) : Type 0 where
   pub plain : AreOfFormat One lines
   pub joined : AreOfFormat Two (in_spans lines)
-  pub spells : Spells (in_spans lines) (nodes proof)
+  pub spells : SpellsNodes (in_spans lines) (nodes proof)
 
 -- lines that spell a proof which follows from the base domains are lines of format 1, and joined into spans they are lines of format 2 that spell it
-pub proof_formed : (P : Network) → IsProblem P → (proof : Proof) (lines : List Line) → FollowsFrom P (in_base P) proof → list_all is_single lines ≡ true → Spells lines (nodes proof) → AreFormed lines proof
+pub proof_formed : (P : Network) → IsProblem P → (proof : Proof) (lines : List Line) → FollowsFrom P (in_base P) proof → list_all is_single lines ≡ true → SpellsNodes lines (nodes proof) → AreFormed lines proof
 proof_formed P p proof lines follows single spells =
     let fit = follows_fit P p (in_base P) (λ c v t. t) proof follows in
     let formed = single_formed lines single spells.0 (subst AllFit (sym spells.1) fit) in
     let spans = spans_spell One lines formed spells.0 in
-    let same : in_spans (counted lines) ≡ in_spans lines = ap in_spans (single_counted lines single) in
+    let same : in_spans (counted_lines lines) ≡ in_spans lines = ap in_spans (single_counted lines single) in
     record {
       plain = formed;
       joined = subst (AreOfFormat Two) same spans.0;
-      spells = subst (λ (ls : List Line). Spells ls (nodes proof)) same (spans.1, spans.2 ∙ spells.1);
+      spells = subst (λ (ls : List Line). SpellsNodes ls (nodes proof)) same (spans.1, spans.2 ∙ spells.1);
     }

@@ -8,12 +8,12 @@ use Rattle.std.proofs.lemmas.Slice.Eq.{bytes_eq-Decides}
 use Rattle.wfc_lists.proofs.Positions.{position_fails}
 use Rattle.wfc_proof.specs.declared.heads.Format.{Format}
 use Rattle.wfc_proof.specs.declared.heads.Format.TheVariants.{One, Two}
-use Rattle.wfc_proof.specs.declared.heads.Numbers.{Numbers}
+use Rattle.wfc_proof.specs.declared.heads.HeadNumbers.{HeadNumbers}
 use Rattle.wfc_proof.specs.declared.heads.Shape.{Shape}
 use Rattle.wfc_proof.specs.declared.text.LineFault.{LineFault}
 use Rattle.wfc_proof.specs.declared.text.LineFault.TheVariants.{BadLine}
-use Rattle.wfc_proof.specs.Words.{is_space, spaced_words, with_spaces, decimal_within}
-use Rattle.wfc_proof.specs.Heads.{format_text, format_of, numbers_words, numbers_text, AreNumbers, head_word, numbers_with, numbers_of_words, numbers_of, bit, bit_word, shape_words, shape_text, IsShape, shape_with, shape_of_words, shape_of}
+use Rattle.wfc_proof.specs.Words.{is_blank_byte, spaced_words, with_spaces, decimal_within}
+use Rattle.wfc_proof.specs.Heads.{format_text, format_of, numbers_words, numbers_text, AreHeadNumbers, head_word, numbers_with, numbers_of_words, head_numbers, bit, bit_word, shape_words, shape_text, IsShape, shape_with, shape_of_words, shape_of}
 use Rattle.wfc_proof.specs.Text.{line_of, line_of_words, line_2_of, line_2_of_words}
 use Rattle.wfc_proof.proofs.WordLemmas.{AreSpaceless, spaced_back, decimal_spaceless, decimal_within-decimal, decimal_within-some}
 use Rattle.wfc_proof.proofs.LineLemmas.{with_spaces-back}
@@ -48,19 +48,19 @@ head_read word n is = let read = decimal_within-some (2 ^ 32 - 1) word n is in (
 head_back : (n : ℕ) → n < 2 ^ 32 → head_word (decimal n) ≡ Some n
 head_back n below = decimal_within-decimal (2 ^ 32 - 1) n (omega arith) (omega arith)
 
-words_are : (numbers : Numbers) (words : List (List ℕ)) → numbers_of_words words ≡ Some numbers → (words ≡ numbers_words numbers.cells numbers.values) × AreNumbers numbers
+words_are : (numbers : HeadNumbers) (words : List (List ℕ)) → numbers_of_words words ≡ Some numbers → (words ≡ numbers_words numbers.cells numbers.values) × AreHeadNumbers numbers
 words_are numbers (cells ∷ c ∷ values ∷ v ∷ []) is = by (bytes_eq cells (codes "cells")) (bytes_eq values (codes "values")) (head_word c) (head_word v) refl refl refl refl is
   where
     by : (a b : Bool) (x y : Option ℕ) → bytes_eq cells (codes "cells") ≡ a → bytes_eq values (codes "values") ≡ b → head_word c ≡ x → head_word v ≡ y
-        → cond a (cond b (numbers_with x y) None) None ≡ Some numbers → ((cells ∷ c ∷ values ∷ v ∷ []) ≡ numbers_words numbers.cells numbers.values) × AreNumbers numbers
+        → cond a (cond b (numbers_with x y) None) None ≡ Some numbers → ((cells ∷ c ∷ values ∷ v ∷ []) ≡ numbers_words numbers.cells numbers.values) × AreHeadNumbers numbers
     by true true (Some x) (Some y) ea eb ex ey is =
-        let made : Numbers = record { cells = x; values = y } in
+        let made : HeadNumbers = record { cells = x; values = y } in
         let same : made ≡ numbers = cc in
         let first = same_text cells (codes "cells") ea in
         let second = same_text values (codes "values") eb in
         let low = head_read c x ex in
         let high = head_read v y ey in
-        subst (λ (n : Numbers). ((cells ∷ c ∷ values ∷ v ∷ []) ≡ numbers_words n.cells n.values) × AreNumbers n) same ((λ i. first i ∷ low.0 i ∷ second i ∷ high.0 i ∷ []), (low.1, high.1))
+        subst (λ (n : HeadNumbers). ((cells ∷ c ∷ values ∷ v ∷ []) ≡ numbers_words n.cells n.values) × AreHeadNumbers n) same ((λ i. first i ∷ low.0 i ∷ second i ∷ high.0 i ∷ []), (low.1, high.1))
     by true true None y ea eb ex ey is = cc
     by true true (Some x) None ea eb ex ey is = cc
     by true false x y ea eb ex ey is = cc
@@ -75,23 +75,23 @@ found : {X : Type 0} (o : Option X) (x : X) → ok_or o BadLine ≡ Ok x → o �
 found None x is = cc
 found {X} (Some made) x is = let same : made ≡ x = cc in ap (λ (y : X). Some y) same
 
-pub numbers_of-is : (bytes : List ℕ) (numbers : Numbers) → numbers_of bytes ≡ Ok numbers → (bytes ≡ numbers_text numbers.cells numbers.values) × AreNumbers numbers
+pub numbers_of-is : (bytes : List ℕ) (numbers : HeadNumbers) → head_numbers bytes ≡ Ok numbers → (bytes ≡ numbers_text numbers.cells numbers.values) × AreHeadNumbers numbers
 numbers_of-is bytes numbers is =
     let are = words_are numbers (spaced_words bytes) (found (numbers_of_words (spaced_words bytes)) numbers is) in
     (sym (with_spaces-back bytes) ∙ ap with_spaces are.0, are.1)
 
-plain : (n : ℕ) → n < 2 ^ 32 → All (λ x. is_space x ≡ false) (decimal n)
+plain : (n : ℕ) → n < 2 ^ 32 → All (λ x. is_blank_byte x ≡ false) (decimal n)
 plain n below = decimal_spaceless n (omega arith)
 
 -- a word in which no blank is found
-searched : (word : List ℕ) → position is_space word ≡ None → All (λ x. is_space x ≡ false) word
-searched word none k d inside = position_fails is_space word none k d inside
+searched : (word : List ℕ) → position is_blank_byte word ≡ None → All (λ x. is_blank_byte x ≡ false) word
+searched word none k d inside = position_fails is_blank_byte word none k d inside
 
-pub is-numbers_of : (bytes : List ℕ) (numbers : Numbers) → bytes ≡ numbers_text numbers.cells numbers.values → AreNumbers numbers → numbers_of bytes ≡ Ok numbers
+pub is-numbers_of : (bytes : List ℕ) (numbers : HeadNumbers) → bytes ≡ numbers_text numbers.cells numbers.values → AreHeadNumbers numbers → head_numbers bytes ≡ Ok numbers
 is-numbers_of bytes numbers text keeps =
     let spaceless : AreSpaceless (numbers_words numbers.cells numbers.values) =
     (searched (codes "cells") refl, (plain numbers.cells keeps.0, (searched (codes "values") refl, (plain numbers.values keeps.1, record {})))) in
-    ap numbers_of text
+    ap head_numbers text
     ∙ ap (λ words. ok_or (numbers_of_words words) BadLine) (spaced_back (codes "cells") (decimal numbers.cells ∷ codes "values" ∷ decimal numbers.values ∷ []) spaceless)
     ∙ (λ i. ok_or (numbers_with (head_back numbers.cells keeps.0 i) (head_back numbers.values keeps.1 i)) BadLine)
 
@@ -171,7 +171,7 @@ shape_of-is bytes shape is =
     let are = shape_words_are shape (spaced_words bytes) (found (shape_of_words (spaced_words bytes)) shape is) in
     (sym (with_spaces-back bytes) ∙ ap with_spaces are.are, are.keeps)
 
-bit_plain : (is : Bool) → All (λ x. is_space x ≡ false) (decimal (bit is))
+bit_plain : (is : Bool) → All (λ x. is_blank_byte x ≡ false) (decimal (bit is))
 bit_plain true = plain 1 (omega arith)
 bit_plain false = plain 0 (omega arith)
 

@@ -3,9 +3,9 @@ use Rattle.std.proofs.Common.{◌≡◌, ℕ, ◌+◌, ◌-◌, ◌<◌, Bool, t
 use Rattle.std.specs.Prelude.{◌==◌, ◌&&◌, ⊤}
 use Rattle.std.specs.List.{AllByRecursion, range_with_len}
 use Rattle.wfc_proof.specs.Journal.{IsWhole, counted_as}
-use Rattle.wfc_proof.specs.Lines.{nodes_of, spelled}
+use Rattle.wfc_proof.specs.Lines.{nodes_of, nodes_of_lines}
 use Rattle.wfc_proof.specs.Proof.Node.{removes}
-use Rattle.wfc_proof.specs.Spans.{as_span, one_span, join_with, growing, settled, lines_of, Joined, nothing_joined, apart, grown_or_apart, join_line, join_on, all_joined, in_spans, is_kept, AreWithOneMore}
+use Rattle.wfc_proof.specs.Spans.{as_span, one_span, join_with, growing, settled, line_if_any, Joined, nothing_joined, apart, grown_or_apart, join_line, join_on, all_joined, in_spans, is_kept, AreWithOneMore}
 use Rattle.wfc_proof.specs.declared.Line.{Line}
 use Rattle.wfc_proof.specs.declared.Line.TheVariants.{Remove, Span, Try, Empty, End, Found, Out}
 use Rattle.wfc_proof.proofs.SpanLemmas.{join_on-append, settled_growing, grown_counts, growing_kept}
@@ -14,8 +14,8 @@ use Rattle.wfc_proof.proofs.UpgradeLemmas.{counted_spells, spelled-append}
 -- a line that isn't joined stands behind all
 pub apart_all : (joined : Joined) (line : Line) → all_joined (apart joined line) ≡ all_joined joined ++ line ∷ []
 apart_all joined line =
-    ap (λ ls. ls ++ lines_of (growing line)) (sym (append_assoc joined.done (lines_of joined.kept) (settled line)))
-    ∙ append_assoc (all_joined joined) (settled line) (lines_of (growing line))
+    ap (λ ls. ls ++ line_if_any (growing line)) (sym (append_assoc joined.done (line_if_any joined.kept) (settled line)))
+    ∙ append_assoc (all_joined joined) (settled line) (line_if_any (growing line))
     ∙ ap (λ ls. all_joined joined ++ ls) (settled_growing line)
 
 -- a line as a span is as its span is
@@ -51,17 +51,17 @@ span_nodes Out = refl
 -- what counts as two lines has the nodes of both
 both_nodes : (span kept line : Line) → counted_as span ≡ counted_as kept ++ counted_as line → nodes_of span ≡ nodes_of kept ++ nodes_of line
 both_nodes span kept line counts =
-    sym (counted_spells span).1 ∙ ap spelled counts ∙ spelled-append (counted_as kept) (counted_as line)
+    sym (counted_spells span).1 ∙ ap nodes_of_lines counts ∙ spelled-append (counted_as kept) (counted_as line)
     ∙ (λ i. (counted_spells kept).1 i ++ (counted_spells line).1 i)
 
 -- one line spells its nodes
-one_spelled : (line : Line) → spelled (line ∷ []) ≡ nodes_of line
+one_spelled : (line : Line) → nodes_of_lines (line ∷ []) ≡ nodes_of line
 one_spelled line = append-nil (nodes_of line)
 
 -- one more line
 pub record IsSpelledOn (joined after : Joined) (line : Line) : Type 0 where
   pub kept : is_kept after.kept ≡ true
-  pub spells : spelled (all_joined after) ≡ spelled (all_joined joined) ++ nodes_of line
+  pub spells : nodes_of_lines (all_joined after) ≡ nodes_of_lines (all_joined joined) ++ nodes_of line
 
 spelled_on : (joined : Joined) (line : Line) → is_kept joined.kept ≡ true → IsWhole line → IsSpelledOn joined (join_line joined line) line
 spelled_on joined line spans whole = by (join_with joined.kept (as_span line)) refl
@@ -73,31 +73,31 @@ spelled_on joined line spans whole = by (join_with joined.kept (as_span line)) r
         record {
           kept = counts.1;
           spells = spelled-append joined.done (span ∷ [])
-              ∙ ap (λ ns. spelled joined.done ++ ns) (one_spelled span ∙ both_nodes span kept (as_span line) counts.0 ∙ ap (λ ns. nodes_of kept ++ ns) (span_nodes line))
-              ∙ sym (append_assoc (spelled joined.done) (nodes_of kept) (nodes_of line))
-              ∙ ap (λ ns. (spelled joined.done ++ ns) ++ nodes_of line) (sym (one_spelled kept))
+              ∙ ap (λ ns. nodes_of_lines joined.done ++ ns) (one_spelled span ∙ both_nodes span kept (as_span line) counts.0 ∙ ap (λ ns. nodes_of kept ++ ns) (span_nodes line))
+              ∙ sym (append_assoc (nodes_of_lines joined.done) (nodes_of kept) (nodes_of line))
+              ∙ ap (λ ns. (nodes_of_lines joined.done ++ ns) ++ nodes_of line) (sym (one_spelled kept))
               ∙ ap (λ ns. ns ++ nodes_of line) (sym (spelled-append joined.done (kept ∷ [])))
-              ∙ ap (λ o. spelled (joined.done ++ lines_of o) ++ nodes_of line) (sym k);
+              ∙ ap (λ o. nodes_of_lines (joined.done ++ line_if_any o) ++ nodes_of line) (sym k);
         }
 
     by : (o : Option Line) → join_with joined.kept (as_span line) ≡ o → IsSpelledOn joined (grown_or_apart joined (as_span line) o) line
     by None e = record {
       kept = growing_kept (as_span line) (span_whole line whole);
-      spells = ap spelled (apart_all joined (as_span line))
+      spells = ap nodes_of_lines (apart_all joined (as_span line))
           ∙ spelled-append (all_joined joined) (as_span line ∷ [])
-          ∙ ap (λ ns. spelled (all_joined joined) ++ ns) (one_spelled (as_span line) ∙ span_nodes line);
+          ∙ ap (λ ns. nodes_of_lines (all_joined joined) ++ ns) (one_spelled (as_span line) ∙ span_nodes line);
     }
     by (Some span) e = grown joined.kept span refl e
 
-spelled_all : (joined : Joined) (lines : List Line) → is_kept joined.kept ≡ true → AllByRecursion IsWhole lines → spelled (all_joined (join_on joined lines)) ≡ spelled (all_joined joined) ++ spelled lines
-spelled_all joined [] spans whole = sym (append-nil (spelled (all_joined joined)))
+spelled_all : (joined : Joined) (lines : List Line) → is_kept joined.kept ≡ true → AllByRecursion IsWhole lines → nodes_of_lines (all_joined (join_on joined lines)) ≡ nodes_of_lines (all_joined joined) ++ nodes_of_lines lines
+spelled_all joined [] spans whole = sym (append-nil (nodes_of_lines (all_joined joined)))
 spelled_all joined (line ∷ lines) spans whole =
     let here = spelled_on joined line spans whole.0 in
     spelled_all (join_line joined line) lines here.kept whole.1
-    ∙ ap (λ ns. ns ++ spelled lines) here.spells
-    ∙ append_assoc (spelled (all_joined joined)) (nodes_of line) (spelled lines)
+    ∙ ap (λ ns. ns ++ nodes_of_lines lines) here.spells
+    ∙ append_assoc (nodes_of_lines (all_joined joined)) (nodes_of line) (nodes_of_lines lines)
 
-pub spans_spelled : (lines : List Line) → AllByRecursion IsWhole lines → spelled (in_spans lines) ≡ spelled lines
+pub spans_spelled : (lines : List Line) → AllByRecursion IsWhole lines → nodes_of_lines (in_spans lines) ≡ nodes_of_lines lines
 spans_spelled lines whole = spelled_all nothing_joined lines refl whole
 
 -- ---- no two could still be joined
@@ -180,7 +180,7 @@ pub record EndsApart (joined : Joined) : Type 0 where
 apart_on : (joined : Joined) (line : Line) → EndsApart joined → EndsApart (join_line joined line)
 apart_on joined line a = by (join_with joined.kept (as_span line)) refl
   where
-    grown : (kept : Option Line) (span : Line) → AreApart (joined.done ++ lines_of kept) → join_with kept (as_span line) ≡ Some span → EndsApart (record { done = joined.done; kept = Some span })
+    grown : (kept : Option Line) (span : Line) → AreApart (joined.done ++ line_if_any kept) → join_with kept (as_span line) ≡ Some span → EndsApart (record { done = joined.done; kept = Some span })
     grown None span all e = cc
     grown (Some kept) span all e =
         let is = grown_is kept (as_span line) span e in
@@ -231,7 +231,7 @@ one_more joined line (Some span) e = inr (by joined.kept refl e)
     by : (kept : Option Line) → joined.kept ≡ kept → join_with kept line ≡ Some span
         → (front : List Line) × (last : Line) × (s : Line) × (all_joined joined ≡ front ++ last ∷ []) × (one_span last line ≡ Some s) × (joined.done ++ span ∷ [] ≡ front ++ s ∷ [])
     by None k e = cc
-    by (Some kept) k e = (joined.done, kept, span, ap (λ o. joined.done ++ lines_of o) k, e, refl)
+    by (Some kept) k e = (joined.done, kept, span, ap (λ o. joined.done ++ line_if_any o) k, e, refl)
 
 pub spans_more : (lines : List Line) (line : Line) → AreWithOneMore (in_spans lines) (as_span line) (in_spans (lines ++ line ∷ []))
 spans_more lines line =
@@ -279,7 +279,7 @@ spans_on joined line a = by (join_with joined.kept (as_span line)) refl
     grown None span e = cc
     grown (Some kept) span e =
         let is = grown_is kept (as_span line) span e in
-        map_push joined.done (span ∷ []) (map_front joined.done (lines_of joined.kept) a) (ap (λ l. l ∷ []) is.span_span)
+        map_push joined.done (span ∷ []) (map_front joined.done (line_if_any joined.kept) a) (ap (λ l. l ∷ []) is.span_span)
 
     by : (o : Option Line) → join_with joined.kept (as_span line) ≡ o → map as_span (all_joined (grown_or_apart joined (as_span line) o)) ≡ all_joined (grown_or_apart joined (as_span line) o)
     by None e =

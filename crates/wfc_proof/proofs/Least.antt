@@ -12,7 +12,7 @@ use Rattle.wfc_lists.proofs.Lists.{Contains_cases, has_Contains, Contains_has}
 use Rattle.wfc_lists.proofs.Positions.{find_passes}
 use Rattle.wfc_lists.proofs.Ranges.{range_Contains, Contains_range}
 use Rattle.wfc_proof.proofs.Nodes.{not_true}
-use Rattle.wfc_proof.specs.Checker.{unless, beside_fault, node_fault}
+use Rattle.wfc_proof.specs.Checker.{reject_unless, beside_fault, node_fault}
 use Rattle.wfc_proof.specs.Proof.Node.{empties, removes}
 use Rattle.wfc_proof.specs.declared.Reject.{Reject}
 use Rattle.wfc_proof.specs.declared.Reject.TheVariants.{NotStanding, HasSupport, NotEmpty, IndexRange}
@@ -40,7 +40,7 @@ range_rises n i j d l h =
     omega (arith, l, length-range_with_len 0 n, get_or-range_with_len 0 n i d (omega (arith, l, h, length-range_with_len 0 n)), get_or-range_with_len 0 n j d (omega (arith, h, length-range_with_len 0 n)))
 
 -- a refusal of a later check
-past : (b : Bool) (r q : Reject) (o : Option Reject) → (r ≡ q → ⊥) → option_or (unless b r) o ≡ Some q → o ≡ Some q
+past : (b : Bool) (r q : Reject) (o : Option Reject) → (r ≡ q → ⊥) → option_or (reject_unless b r) o ≡ Some q → o ≡ Some q
 past true r q o ne e = e
 past false r q o ne e = let same : r ≡ q = cc in absurd (ne same)
 

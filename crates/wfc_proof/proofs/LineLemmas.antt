@@ -10,7 +10,7 @@ use Rattle.std.proofs.lemmas.Slice.Eq.{bytes_eq-Decides}
 use Rattle.wfc_proof.specs.declared.Line.{Line}
 use Rattle.wfc_proof.specs.declared.Line.TheVariants.{Remove, Span, Try, Empty, End, Found, Out}
 use Rattle.wfc_proof.specs.declared.text.LineFault.TheVariants.{BadLine}
-use Rattle.wfc_proof.specs.Words.{is_space, spaced_words, with_spaces}
+use Rattle.wfc_proof.specs.Words.{is_blank_byte, spaced_words, with_spaces}
 use Rattle.wfc_proof.specs.Text.{line_words, line_text, IsOfBoth, IsOfFormat1, IsOfFormat2, cell_word, value_word, dir_word, removal, span, trial, line_of_mark, removal_of, span_of, trial_of, empty_of, mark_of, either_of, line_of_words, line_2_of_words, line_of, line_2_of}
 use Rattle.wfc_proof.proofs.WordLemmas.{AreSpaceless, spaced_back, decimal_spaceless, decimal_within-decimal, decimal_within-some}
 
@@ -195,8 +195,8 @@ dir_back : (n : ℕ) → n < 2 ^ 8 → dir_word (decimal n) ≡ Some n
 dir_back n below = decimal_within-decimal (2 ^ 8 - 1) n (omega arith) (omega arith)
 
 -- a letter alone has no blank
-lone : (b : ℕ) → is_space b ≡ false → All (λ x. is_space x ≡ false) (b ∷ [])
-lone b is = All-cons (λ x. is_space x ≡ false) b [] is (λ k d inside. absurd (omega arith))
+lone : (b : ℕ) → is_blank_byte b ≡ false → All (λ x. is_blank_byte x ≡ false) (b ∷ [])
+lone b is = All-cons (λ x. is_blank_byte x ≡ false) b [] is (λ k d inside. absurd (omega arith))
 
 -- a line of its text is read as it was
 spelled_back : (line : Line) → AreSpaceless (line_words line) → spaced_words (line_text line) ≡ line_words line
@@ -208,16 +208,16 @@ spelled_back End spaceless = spaced_back _ _ spaceless
 spelled_back Found spaceless = spaced_back _ _ spaceless
 spelled_back Out spaceless = spaced_back _ _ spaceless
 
-r : All (λ x. is_space x ≡ false) (codes "r")
+r : All (λ x. is_blank_byte x ≡ false) (codes "r")
 r = lone 114 refl
 
-t : All (λ x. is_space x ≡ false) (codes "t")
+t : All (λ x. is_blank_byte x ≡ false) (codes "t")
 t = lone 116 refl
 
-x : All (λ x. is_space x ≡ false) (codes "x")
+x : All (λ x. is_blank_byte x ≡ false) (codes "x")
 x = lone 120 refl
 
-plain : (n : ℕ) → n < 2 ^ 32 → All (λ x. is_space x ≡ false) (decimal n)
+plain : (n : ℕ) → n < 2 ^ 32 → All (λ x. is_blank_byte x ≡ false) (decimal n)
 plain n below = decimal_spaceless n (omega arith)
 
 spaceless_1 : (line : Line) → IsOfFormat1 line → AreSpaceless (line_words line)

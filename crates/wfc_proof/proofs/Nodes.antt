@@ -10,7 +10,7 @@ use Rattle.wfc_lists.proofs.Lists.{one_fails, all_pass, Contains_first, Contains
 use Rattle.wfc_lists.proofs.Positions.{find_fails}
 use Rattle.wfc_lists.proofs.Ranges.{range_Contains}
 use Rattle.wfc_problem.proofs.CallerLemmas.{neighbour_dir, base_inside}
-use Rattle.wfc_proof.specs.Checker.{unless, beside_fault, node_fault}
+use Rattle.wfc_proof.specs.Checker.{reject_unless, beside_fault, node_fault}
 use Rattle.wfc_proof.specs.Proof.{IsRemoval, IsSplit}
 use Rattle.wfc_proof.specs.Proof.Node.{empties, removes, splits}
 use Rattle.wfc_proof.specs.declared.Reject.{Reject}
@@ -19,12 +19,12 @@ use Rattle.wfc_proof.specs.declared.Reject.TheVariants.{NotStanding, IndexRange,
 -- ---- checks in their order
 
 -- a check that gives no refusal is passed
-unless_none : (b : Bool) (r : Reject) → unless b r ≡ None → b ≡ true
+unless_none : (b : Bool) (r : Reject) → reject_unless b r ≡ None → b ≡ true
 unless_none true r e = refl
 unless_none false r e = cc
 
 -- and the other way
-none_unless : (b : Bool) (r : Reject) → b ≡ true → unless b r ≡ None
+none_unless : (b : Bool) (r : Reject) → b ≡ true → reject_unless b r ≡ None
 none_unless true r e = refl
 none_unless false r e = cc
 

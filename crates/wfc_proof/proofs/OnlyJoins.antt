@@ -4,7 +4,7 @@ use Rattle.std.specs.List.{AllByRecursion}
 use Rattle.std.proofs.lemmas.Grind.{flat_map-append}
 use Rattle.wfc_proof.specs.Joins.{AreSpansOf}
 use Rattle.wfc_proof.specs.Journal.{IsWhole, counted_as}
-use Rattle.wfc_proof.specs.Spans.{as_span, counted, one_span, join_with, growing, lines_of, Joined, nothing_joined, apart, grown_or_apart, join_line, join_on, all_joined, in_spans, is_kept}
+use Rattle.wfc_proof.specs.Spans.{as_span, counted_lines, one_span, join_with, growing, line_if_any, Joined, nothing_joined, apart, grown_or_apart, join_line, join_on, all_joined, in_spans, is_kept}
 use Rattle.wfc_proof.specs.declared.Line.{Line}
 use Rattle.wfc_proof.specs.declared.Line.TheVariants.{Remove, Span, Try, Empty, End, Found, Out}
 use Rattle.wfc_proof.proofs.Joins.{AreApart, apart_all, spans_apart, spans_as_spans}
@@ -21,11 +21,11 @@ line_counted joined End whole = refl
 line_counted joined Found whole = refl
 line_counted joined Out whole = refl
 
-lines_counted : (joined : Joined) (lines : List Line) → AllByRecursion IsWhole lines → join_on joined (counted lines) ≡ join_on joined lines
+lines_counted : (joined : Joined) (lines : List Line) → AllByRecursion IsWhole lines → join_on joined (counted_lines lines) ≡ join_on joined lines
 lines_counted joined [] whole = refl
 lines_counted joined (line ∷ lines) whole =
-    join_on-append joined (counted_as line) (counted lines)
-    ∙ ap (λ j. join_on j (counted lines)) (line_counted joined line whole.0)
+    join_on-append joined (counted_as line) (counted_lines lines)
+    ∙ ap (λ j. join_on j (counted_lines lines)) (line_counted joined line whole.0)
     ∙ lines_counted (join_line joined line) lines whole.1
 
 -- ---- spans that are apart stay as they are
@@ -75,7 +75,7 @@ only_spans lines spans whole are =
 
 -- ---- the joined lines are such
 
-one_counted : (line : Line) → counted (line ∷ []) ≡ counted_as line
+one_counted : (line : Line) → counted_lines (line ∷ []) ≡ counted_as line
 one_counted line = append-nil (counted_as line)
 
 as_span_whole : (line : Line) → IsWhole line → IsWhole (as_span line)
@@ -90,7 +90,7 @@ as_span_whole Out whole = whole
 -- one more line
 record IsCountedOn (joined after : Joined) (line : Line) : Type 0 where
   kept : is_kept after.kept ≡ true
-  counts : counted (all_joined after) ≡ counted (all_joined joined) ++ counted_as line
+  counts : counted_lines (all_joined after) ≡ counted_lines (all_joined joined) ++ counted_as line
 
 counted_on : (joined : Joined) (line : Line) → is_kept joined.kept ≡ true → IsWhole line → IsCountedOn joined (join_line joined line) line
 counted_on joined line spans whole = by (join_with joined.kept (as_span line)) refl
@@ -102,29 +102,29 @@ counted_on joined line spans whole = by (join_with joined.kept (as_span line)) r
         record {
           kept = counts.1;
           counts = flat_map-append counted_as joined.done (span ∷ [])
-              ∙ ap (λ ls. counted joined.done ++ ls) (one_counted span ∙ counts.0 ∙ ap (λ ls. counted_as kept ++ ls) (span_counts line))
-              ∙ sym (append_assoc (counted joined.done) (counted_as kept) (counted_as line))
-              ∙ ap (λ ls. (counted joined.done ++ ls) ++ counted_as line) (sym (one_counted kept))
+              ∙ ap (λ ls. counted_lines joined.done ++ ls) (one_counted span ∙ counts.0 ∙ ap (λ ls. counted_as kept ++ ls) (span_counts line))
+              ∙ sym (append_assoc (counted_lines joined.done) (counted_as kept) (counted_as line))
+              ∙ ap (λ ls. (counted_lines joined.done ++ ls) ++ counted_as line) (sym (one_counted kept))
               ∙ ap (λ ls. ls ++ counted_as line) (sym (flat_map-append counted_as joined.done (kept ∷ [])))
-              ∙ ap (λ o. counted (joined.done ++ lines_of o) ++ counted_as line) (sym k);
+              ∙ ap (λ o. counted_lines (joined.done ++ line_if_any o) ++ counted_as line) (sym k);
         }
 
     by : (o : Option Line) → join_with joined.kept (as_span line) ≡ o → IsCountedOn joined (grown_or_apart joined (as_span line) o) line
     by None e = record {
       kept = growing_kept (as_span line) (as_span_whole line whole);
-      counts = ap counted (apart_all joined (as_span line))
+      counts = ap counted_lines (apart_all joined (as_span line))
           ∙ flat_map-append counted_as (all_joined joined) (as_span line ∷ [])
-          ∙ ap (λ ls. counted (all_joined joined) ++ ls) (one_counted (as_span line) ∙ span_counts line);
+          ∙ ap (λ ls. counted_lines (all_joined joined) ++ ls) (one_counted (as_span line) ∙ span_counts line);
     }
     by (Some span) e = grown joined.kept span refl e
 
-counted_all : (joined : Joined) (lines : List Line) → is_kept joined.kept ≡ true → AllByRecursion IsWhole lines → counted (all_joined (join_on joined lines)) ≡ counted (all_joined joined) ++ counted lines
-counted_all joined [] spans whole = sym (append-nil (counted (all_joined joined)))
+counted_all : (joined : Joined) (lines : List Line) → is_kept joined.kept ≡ true → AllByRecursion IsWhole lines → counted_lines (all_joined (join_on joined lines)) ≡ counted_lines (all_joined joined) ++ counted_lines lines
+counted_all joined [] spans whole = sym (append-nil (counted_lines (all_joined joined)))
 counted_all joined (line ∷ lines) spans whole =
     let here = counted_on joined line spans whole.0 in
     counted_all (join_line joined line) lines here.kept whole.1
-    ∙ ap (λ ls. ls ++ counted lines) here.counts
-    ∙ append_assoc (counted (all_joined joined)) (counted_as line) (counted lines)
+    ∙ ap (λ ls. ls ++ counted_lines lines) here.counts
+    ∙ append_assoc (counted_lines (all_joined joined)) (counted_as line) (counted_lines lines)
 
 -- all of them are whole
 whole_push : (lines : List Line) (line : Line) → AllByRecursion IsWhole lines → IsWhole line → AllByRecursion IsWhole (lines ++ line ∷ [])
@@ -142,7 +142,7 @@ whole_on joined line spans whole all = by (join_with joined.kept (as_span line))
     grown None span k e = cc
     grown (Some kept) span k e =
         let counts = grown_counts kept (as_span line) span (sym (ap is_kept k) ∙ spans) (as_span_whole line whole) e in
-        whole_last joined.done kept span (subst (λ o. AllByRecursion IsWhole (joined.done ++ lines_of o)) k all) (span_whole span counts.1)
+        whole_last joined.done kept span (subst (λ o. AllByRecursion IsWhole (joined.done ++ line_if_any o)) k all) (span_whole span counts.1)
 
     by : (o : Option Line) → join_with joined.kept (as_span line) ≡ o → AllByRecursion IsWhole (all_joined (grown_or_apart joined (as_span line) o))
     by None e = subst (AllByRecursion IsWhole) (sym (apart_all joined (as_span line))) (whole_push (all_joined joined) (as_span line) all (as_span_whole line whole))

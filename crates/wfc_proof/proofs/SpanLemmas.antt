@@ -9,11 +9,11 @@ use Rattle.std.proofs.lemmas.Bool.Decides.{nat_tests}
 use Rattle.std.proofs.lemmas.Grind.{flat_map-append}
 use Rattle.wfc_outside.specs.Sink.{Taken, SinkView, after_bytes}
 use Rattle.wfc_outside.proofs.CallerLemmas.{after_bytes-append, puts_none}
-use Rattle.wfc_proof.specs.Heads.{ended}
+use Rattle.wfc_proof.specs.Heads.{with_line_end}
 use Rattle.wfc_proof.specs.Journal.{JournalView, Target, IsWhole, counted_as, after_line, IsRefused}
-use Rattle.wfc_proof.specs.Spans.{counted, as_span, span_behind, one_span, join_with, growing, settled, lines_of, Joined, nothing_joined, apart, grown_or_apart, join_line, join_on, spans_of, ending, AreJoined, is_span, is_kept, IsSpanning, IsCutApart, PutsApart}
+use Rattle.wfc_proof.specs.Spans.{counted_lines, as_span, span_behind, one_span, join_with, growing, settled, line_if_any, Joined, nothing_joined, apart, grown_or_apart, join_line, join_on, spans_of, ending, AreJoined, is_span, is_kept, IsSpanning, IsCutApart, PutsApart}
 use Rattle.wfc_proof.specs.ProofText.{IsOfFormat}
-use Rattle.wfc_proof.specs.Telling.{lines_at_end, text_of, IsAt, IsBare, begun, IsCut}
+use Rattle.wfc_proof.specs.Telling.{lines_at_end, text_of, IsAt, IsBare, new_journal, IsCutShort}
 use Rattle.wfc_proof.specs.Text.{line_text}
 use Rattle.wfc_proof.specs.declared.Line.{Line}
 use Rattle.wfc_proof.specs.declared.Line.TheVariants.{Remove, Span, Try, Empty, End, Found, Out}
@@ -62,8 +62,8 @@ span_at_once joined c first last d low =
     -- with a first value that isn't joined
     alone : (o : Option Line) → join_on (apart (with_kept joined o) (Span c first first d)) (removals c d (first + 1) (last - first)) ≡ apart (with_kept joined o) (Span c first last d)
     alone o =
-        grows (joined.done ++ (lines_of o ++ [])) c first first d (first + 1) (last - first) refl
-        ∙ ap (λ k. let j : Joined = record { done = joined.done ++ (lines_of o ++ []); kept = Some (Span c first k d) } in j) (omega arith)
+        grows (joined.done ++ (line_if_any o ++ [])) c first first d (first + 1) (last - first) refl
+        ∙ ap (λ k. let j : Joined = record { done = joined.done ++ (line_if_any o ++ []); kept = Some (Span c first k d) } in j) (omega arith)
 
     -- with one that is or isn't
     test : (b : Bool) (x a e z : ℕ) → (c == x && (d == z && first == e + 1)) ≡ b
@@ -101,7 +101,7 @@ line_at_once joined Found whole is = refl
 line_at_once joined Out whole is = refl
 
 -- a line is what can't grow of it and what may
-pub settled_growing : (line : Line) → settled line ++ lines_of (growing line) ≡ line ∷ []
+pub settled_growing : (line : Line) → settled line ++ line_if_any (growing line) ≡ line ∷ []
 settled_growing (Remove c v d) = refl
 settled_growing (Span c first last d) = refl
 settled_growing (Try c v) = refl
@@ -122,26 +122,26 @@ span_counts Out = refl
 
 -- a line that was joined to what was kept: all is joined so with it
 joined_apart : (lines : List Line) (kept : Option Line) (line : Line) → IsWhole line → as_span line ≡ line → join_with kept line ≡ None
-    → join_on nothing_joined (counted (lines ++ lines_of kept)) ≡ record { done = lines; kept = kept }
-    → join_on nothing_joined (counted ((lines ++ lines_of kept) ++ line ∷ [])) ≡ apart (record { done = lines; kept = kept }) line
+    → join_on nothing_joined (counted_lines (lines ++ line_if_any kept)) ≡ record { done = lines; kept = kept }
+    → join_on nothing_joined (counted_lines ((lines ++ line_if_any kept) ++ line ∷ [])) ≡ apart (record { done = lines; kept = kept }) line
 joined_apart lines kept line whole is none before =
     let here : Joined = record { done = lines; kept = kept } in
-    ap (join_on nothing_joined) (flat_map-append counted_as (lines ++ lines_of kept) (line ∷ []))
-    ∙ join_on-append nothing_joined (counted (lines ++ lines_of kept)) (counted (line ∷ []))
-    ∙ ap (λ j. join_on j (counted (line ∷ []))) before
+    ap (join_on nothing_joined) (flat_map-append counted_as (lines ++ line_if_any kept) (line ∷ []))
+    ∙ join_on-append nothing_joined (counted_lines (lines ++ line_if_any kept)) (counted_lines (line ∷ []))
+    ∙ ap (λ j. join_on j (counted_lines (line ∷ []))) before
     ∙ ap (join_on here) (append-nil (counted_as line))
     ∙ line_at_once here line whole is
     ∙ ap (λ l. grown_or_apart here l (join_with kept l)) is
     ∙ ap (grown_or_apart here line) none
 
 joined_grown : (lines : List Line) (kept : Option Line) (line span : Line) → IsWhole line → as_span line ≡ line → join_with kept line ≡ Some span
-    → join_on nothing_joined (counted (lines ++ lines_of kept)) ≡ record { done = lines; kept = kept }
-    → join_on nothing_joined (counted ((lines ++ lines_of kept) ++ line ∷ [])) ≡ record { done = lines; kept = Some span }
+    → join_on nothing_joined (counted_lines (lines ++ line_if_any kept)) ≡ record { done = lines; kept = kept }
+    → join_on nothing_joined (counted_lines ((lines ++ line_if_any kept) ++ line ∷ [])) ≡ record { done = lines; kept = Some span }
 joined_grown lines kept line span whole is some before =
     let here : Joined = record { done = lines; kept = kept } in
-    ap (join_on nothing_joined) (flat_map-append counted_as (lines ++ lines_of kept) (line ∷ []))
-    ∙ join_on-append nothing_joined (counted (lines ++ lines_of kept)) (counted (line ∷ []))
-    ∙ ap (λ j. join_on j (counted (line ∷ []))) before
+    ap (join_on nothing_joined) (flat_map-append counted_as (lines ++ line_if_any kept) (line ∷ []))
+    ∙ join_on-append nothing_joined (counted_lines (lines ++ line_if_any kept)) (counted_lines (line ∷ []))
+    ∙ ap (λ j. join_on j (counted_lines (line ∷ []))) before
     ∙ ap (join_on here) (append-nil (counted_as line))
     ∙ line_at_once here line whole is
     ∙ ap (λ l. grown_or_apart here l (join_with kept l)) is
@@ -216,80 +216,80 @@ growing_kept Out whole = refl
 
 -- ---- what is told
 
-counted_more : (xs ys : List Line) → counted (xs ++ ys) ≡ counted xs ++ counted ys
+counted_more : (xs ys : List Line) → counted_lines (xs ++ ys) ≡ counted_lines xs ++ counted_lines ys
 counted_more xs ys = flat_map-append counted_as xs ys
 
 -- a line that was joined to the kept one is told
 pub joined_told : (told : Option (List Line)) (kept : Option Line) (line span : Line) → IsWhole line → as_span line ≡ line → is_kept kept ≡ true → join_with kept line ≡ Some span
     → AreJoined told kept None
     → AreJoined told (Some span) None × (is_span span ≡ true)
-    × (option_map (λ (lines : List Line). counted (lines ++ (span ∷ [] ++ []))) told
-    ≡ option_map (λ (xs : List Line). xs ++ counted_as line) (option_map (λ (lines : List Line). counted (lines ++ (lines_of kept ++ []))) told))
+    × (option_map (λ (lines : List Line). counted_lines (lines ++ (span ∷ [] ++ []))) told
+    ≡ option_map (λ (xs : List Line). xs ++ counted_as line) (option_map (λ (lines : List Line). counted_lines (lines ++ (line_if_any kept ++ []))) told))
 joined_told told None line span whole is spans join joined = cc
 joined_told told (Some kept) line span whole is spans join joined =
     let counts = grown_counts kept line span spans whole join in (by told joined counts.0, counts.1, lines told counts.0)
   where
     -- the span counts as both
-    both : (xs : List Line) → counted_as span ≡ counted_as kept ++ counted_as line → counted (xs ++ span ∷ []) ≡ counted ((xs ++ kept ∷ []) ++ line ∷ [])
+    both : (xs : List Line) → counted_as span ≡ counted_as kept ++ counted_as line → counted_lines (xs ++ span ∷ []) ≡ counted_lines ((xs ++ kept ∷ []) ++ line ∷ [])
     both xs e =
-        counted_more xs (span ∷ []) ∙ ap (λ ls. counted xs ++ (ls ++ [])) e
-        ∙ ap (λ ls. counted xs ++ ls) (append_assoc (counted_as kept) (counted_as line) [])
-        ∙ sym (append_assoc (counted xs) (counted_as kept) (counted_as line ++ []))
-        ∙ ap (λ ls. (counted xs ++ ls) ++ (counted_as line ++ [])) (sym (append-nil (counted_as kept)))
+        counted_more xs (span ∷ []) ∙ ap (λ ls. counted_lines xs ++ (ls ++ [])) e
+        ∙ ap (λ ls. counted_lines xs ++ ls) (append_assoc (counted_as kept) (counted_as line) [])
+        ∙ sym (append_assoc (counted_lines xs) (counted_as kept) (counted_as line ++ []))
+        ∙ ap (λ ls. (counted_lines xs ++ ls) ++ (counted_as line ++ [])) (sym (append-nil (counted_as kept)))
         ∙ ap (λ ls. ls ++ (counted_as line ++ [])) (sym (counted_more xs (kept ∷ [])))
         ∙ sym (counted_more (xs ++ kept ∷ []) (line ∷ []))
 
     by : (o : Option (List Line)) → AreJoined o (Some kept) None → counted_as span ≡ counted_as kept ++ counted_as line → AreJoined o (Some span) None
     by None all e = refl
     by (Some xs) all e =
-        let before : join_on nothing_joined (counted (xs ++ kept ∷ [])) ≡ record { done = xs; kept = Some kept } = cc all in
+        let before : join_on nothing_joined (counted_lines (xs ++ kept ∷ [])) ≡ record { done = xs; kept = Some kept } = cc all in
         ap Some (ap (join_on nothing_joined) (both xs e) ∙ joined_grown xs (Some kept) line span whole is join before)
 
     lines : (o : Option (List Line)) → counted_as span ≡ counted_as kept ++ counted_as line
-        → option_map (λ (ls : List Line). counted (ls ++ (span ∷ [] ++ []))) o ≡ option_map (λ (xs : List Line). xs ++ counted_as line) (option_map (λ (ls : List Line). counted (ls ++ (kept ∷ [] ++ []))) o)
+        → option_map (λ (ls : List Line). counted_lines (ls ++ (span ∷ [] ++ []))) o ≡ option_map (λ (xs : List Line). xs ++ counted_as line) (option_map (λ (ls : List Line). counted_lines (ls ++ (kept ∷ [] ++ []))) o)
     lines None e = refl
-    lines (Some xs) e = ap Some (both xs e ∙ counted_more (xs ++ kept ∷ []) (line ∷ []) ∙ ap (λ ls. counted (xs ++ kept ∷ []) ++ ls) (append-nil (counted_as line)))
+    lines (Some xs) e = ap Some (both xs e ∙ counted_more (xs ++ kept ∷ []) (line ∷ []) ∙ ap (λ ls. counted_lines (xs ++ kept ∷ []) ++ ls) (append-nil (counted_as line)))
 
 -- a line that wasn't is told, where what can't grow was put
 pub apart_told : (told : Option (List Line)) (kept : Option Line) (line : Line) → IsWhole line → as_span line ≡ line → join_with kept line ≡ None → AreJoined told kept None
-    → let new = option_map (λ (lines : List Line). lines ++ (lines_of kept ++ settled line)) told in
+    → let new = option_map (λ (lines : List Line). lines ++ (line_if_any kept ++ settled line)) told in
     AreJoined new (growing line) None
-    × (option_map (λ (lines : List Line). counted (lines ++ (lines_of (growing line) ++ []))) new
-    ≡ option_map (λ (xs : List Line). xs ++ counted_as line) (option_map (λ (lines : List Line). counted (lines ++ (lines_of kept ++ []))) told))
+    × (option_map (λ (lines : List Line). counted_lines (lines ++ (line_if_any (growing line) ++ []))) new
+    ≡ option_map (λ (xs : List Line). xs ++ counted_as line) (option_map (λ (lines : List Line). counted_lines (lines ++ (line_if_any kept ++ []))) told))
 apart_told None kept line whole is none joined = (refl, refl)
 apart_told (Some xs) kept line whole is none joined =
-    let before : join_on nothing_joined (counted (xs ++ (lines_of kept ++ []))) ≡ record { done = xs; kept = kept } = cc joined in
-    let plain : join_on nothing_joined (counted (xs ++ lines_of kept)) ≡ record { done = xs; kept = kept } =
-    ap (λ ls. join_on nothing_joined (counted (xs ++ ls))) (sym (append-nil (lines_of kept))) ∙ before in
-    let all : (xs ++ (lines_of kept ++ settled line)) ++ (lines_of (growing line) ++ []) ≡ (xs ++ lines_of kept) ++ line ∷ [] =
-    ap (λ ls. (xs ++ (lines_of kept ++ settled line)) ++ ls) (append-nil (lines_of (growing line)))
-    ∙ ap (λ ls. ls ++ lines_of (growing line)) (sym (append_assoc xs (lines_of kept) (settled line)))
-    ∙ append_assoc (xs ++ lines_of kept) (settled line) (lines_of (growing line))
-    ∙ ap (λ ls. (xs ++ lines_of kept) ++ ls) (settled_growing line) in (
-      ap Some (ap (λ ls. join_on nothing_joined (counted ls)) all ∙ joined_apart xs kept line whole is none plain),
-      ap Some (ap counted all ∙ counted_more (xs ++ lines_of kept) (line ∷ []) ∙ ap (λ ls. counted (xs ++ lines_of kept) ++ ls) (append-nil (counted_as line))
-          ∙ ap (λ ls. counted (xs ++ ls) ++ counted_as line) (sym (append-nil (lines_of kept)))),
+    let before : join_on nothing_joined (counted_lines (xs ++ (line_if_any kept ++ []))) ≡ record { done = xs; kept = kept } = cc joined in
+    let plain : join_on nothing_joined (counted_lines (xs ++ line_if_any kept)) ≡ record { done = xs; kept = kept } =
+    ap (λ ls. join_on nothing_joined (counted_lines (xs ++ ls))) (sym (append-nil (line_if_any kept))) ∙ before in
+    let all : (xs ++ (line_if_any kept ++ settled line)) ++ (line_if_any (growing line) ++ []) ≡ (xs ++ line_if_any kept) ++ line ∷ [] =
+    ap (λ ls. (xs ++ (line_if_any kept ++ settled line)) ++ ls) (append-nil (line_if_any (growing line)))
+    ∙ ap (λ ls. ls ++ line_if_any (growing line)) (sym (append_assoc xs (line_if_any kept) (settled line)))
+    ∙ append_assoc (xs ++ line_if_any kept) (settled line) (line_if_any (growing line))
+    ∙ ap (λ ls. (xs ++ line_if_any kept) ++ ls) (settled_growing line) in (
+      ap Some (ap (λ ls. join_on nothing_joined (counted_lines ls)) all ∙ joined_apart xs kept line whole is none plain),
+      ap Some (ap counted_lines all ∙ counted_more (xs ++ line_if_any kept) (line ∷ []) ∙ ap (λ ls. counted_lines (xs ++ line_if_any kept) ++ ls) (append-nil (counted_as line))
+          ∙ ap (λ ls. counted_lines (xs ++ ls) ++ counted_as line) (sym (append-nil (line_if_any kept)))),
     )
 
 -- and where it was cut off, it is told too
 pub cut_lines : (told : Option (List Line)) (kept left : Option Line) (line : Line) (done : List Line) → IsWhole line → as_span line ≡ line → join_with kept line ≡ None
-    → lines_of kept ≡ done ++ lines_of left → AreJoined told kept None
+    → line_if_any kept ≡ done ++ line_if_any left → AreJoined told kept None
     → let new = option_map (λ (lines : List Line). lines ++ done) told in
     AreJoined new left (Some line)
-    × (option_map (λ (lines : List Line). counted (lines ++ (lines_of left ++ line ∷ []))) new
-    ≡ option_map (λ (xs : List Line). xs ++ counted_as line) (option_map (λ (lines : List Line). counted (lines ++ (lines_of kept ++ []))) told))
+    × (option_map (λ (lines : List Line). counted_lines (lines ++ (line_if_any left ++ line ∷ []))) new
+    ≡ option_map (λ (xs : List Line). xs ++ counted_as line) (option_map (λ (lines : List Line). counted_lines (lines ++ (line_if_any kept ++ []))) told))
 cut_lines None kept left line done whole is none split joined = (refl, refl)
 cut_lines (Some xs) kept left line done whole is none split joined =
-    let before : join_on nothing_joined (counted (xs ++ (lines_of kept ++ []))) ≡ record { done = xs; kept = kept } = cc joined in
-    let plain : join_on nothing_joined (counted (xs ++ lines_of kept)) ≡ record { done = xs; kept = kept } =
-    ap (λ ls. join_on nothing_joined (counted (xs ++ ls))) (sym (append-nil (lines_of kept))) ∙ before in
-    let behind : (ls : List Line) → (xs ++ done) ++ (lines_of left ++ ls) ≡ (xs ++ lines_of kept) ++ ls =
-    λ ls. sym (append_assoc (xs ++ done) (lines_of left) ls) ∙ ap (λ k. k ++ ls) (append_assoc xs done (lines_of left) ∙ ap (λ k. xs ++ k) (sym split)) in
-    let all : (xs ++ done) ++ (lines_of left ++ line ∷ []) ≡ (xs ++ lines_of kept) ++ line ∷ [] = behind (line ∷ []) in (
-      ap Some (ap (λ ls. join_on nothing_joined (counted ls)) all ∙ joined_apart xs kept line whole is none plain
-          ∙ ap (λ ls. let j : Joined = record { done = ls; kept = growing line } in j) (sym (append_assoc xs (lines_of kept) (settled line)) ∙ sym (behind (settled line)))),
-      ap Some (ap counted all ∙ counted_more (xs ++ lines_of kept) (line ∷ []) ∙ ap (λ ls. counted (xs ++ lines_of kept) ++ ls) (append-nil (counted_as line))
-          ∙ ap (λ ls. counted (xs ++ ls) ++ counted_as line) (sym (append-nil (lines_of kept)))),
+    let before : join_on nothing_joined (counted_lines (xs ++ (line_if_any kept ++ []))) ≡ record { done = xs; kept = kept } = cc joined in
+    let plain : join_on nothing_joined (counted_lines (xs ++ line_if_any kept)) ≡ record { done = xs; kept = kept } =
+    ap (λ ls. join_on nothing_joined (counted_lines (xs ++ ls))) (sym (append-nil (line_if_any kept))) ∙ before in
+    let behind : (ls : List Line) → (xs ++ done) ++ (line_if_any left ++ ls) ≡ (xs ++ line_if_any kept) ++ ls =
+    λ ls. sym (append_assoc (xs ++ done) (line_if_any left) ls) ∙ ap (λ k. k ++ ls) (append_assoc xs done (line_if_any left) ∙ ap (λ k. xs ++ k) (sym split)) in
+    let all : (xs ++ done) ++ (line_if_any left ++ line ∷ []) ≡ (xs ++ line_if_any kept) ++ line ∷ [] = behind (line ∷ []) in (
+      ap Some (ap (λ ls. join_on nothing_joined (counted_lines ls)) all ∙ joined_apart xs kept line whole is none plain
+          ∙ ap (λ ls. let j : Joined = record { done = ls; kept = growing line } in j) (sym (append_assoc xs (line_if_any kept) (settled line)) ∙ sym (behind (settled line)))),
+      ap Some (ap counted_lines all ∙ counted_more (xs ++ line_if_any kept) (line ∷ []) ∙ ap (λ ls. counted_lines (xs ++ line_if_any kept) ++ ls) (append-nil (counted_as line))
+          ∙ ap (λ ls. counted_lines (xs ++ ls) ++ counted_as line) (sym (append-nil (line_if_any kept)))),
     )
 
 -- the lines at the end, where more came
@@ -323,10 +323,10 @@ span_apart name old new kept None after line told whole is same was going none p
   where
     made : IsSpanning new (growing line) None × (spans_of name new (growing line) None ≡ after_line (spans_of name old kept None) told)
     made =
-        let grown = subst (λ (s : SinkView). Grown Two old.told s.told (lines_of kept ++ settled line) []) (sym puts.put) (put_told Two old.told (lines_of kept ++ settled line) was.at puts.formed) in
-        let lines = ending_grown old.told new.told (lines_of kept ++ settled line) [] grown in
+        let grown = subst (λ (s : SinkView). Grown Two old.told s.told (line_if_any kept ++ settled line) []) (sym puts.put) (put_told Two old.told (line_if_any kept ++ settled line) was.at puts.formed) in
+        let lines = ending_grown old.told new.told (line_if_any kept ++ settled line) [] grown in
         let all = apart_told (ending old.told) kept line whole is none was.joined in
-        let shown = ap (option_map (λ (ls : List Line). counted (ls ++ (lines_of (growing line) ++ [])))) lines ∙ all.1
+        let shown = ap (option_map (λ (ls : List Line). counted_lines (ls ++ (line_if_any (growing line) ++ [])))) lines ∙ all.1
         ∙ ap (λ ls. option_map (λ (xs : List Line). xs ++ ls) (spans_of name old kept None).lines) same in
         let faults : new.faults ≡ old.faults = ap (λ (s : SinkView). s.faults) puts.put in (
           record { at = grown.at; joined = subst (λ (o : Option (List Line)). AreJoined o (growing line) None) (sym lines) all.0; spans = growing_kept line whole },
@@ -350,7 +350,7 @@ span_cut name old new kept None left line told whole is same was going none cut 
         spans = cut.spans;
       },
       record {
-        handed = ap (option_map (λ (ls : List Line). counted (ls ++ (lines_of left ++ line ∷ [])))) lines ∙ all.1
+        handed = ap (option_map (λ (ls : List Line). counted_lines (ls ++ (line_if_any left ++ line ∷ [])))) lines ∙ all.1
             ∙ ap (λ ls. option_map (λ (xs : List Line). xs ++ ls) (spans_of name old kept None).lines) same;
         failed = refl;
         counted = cut.cut.counted;
@@ -362,8 +362,8 @@ span_cut name old new kept None left line told whole is same was going none cut 
 abbrev nothing_told : Option Taken → Option (List Line)
 nothing_told o = option_map (λ (taken : Taken). let none : List Line = [] in none) o
 
--- a journal over a bare sink has begun
-pub bare_spans : (name : GName) (sink : SinkView) → IsBare Two sink.told → IsSpanning sink None None × (spans_of name sink None None ≡ begun name sink)
+-- a journal over a bare sink has new_journal
+pub bare_spans : (name : GName) (sink : SinkView) → IsBare Two sink.told → IsSpanning sink None None × (spans_of name sink None None ≡ new_journal name sink)
 bare_spans name sink bare =
     let before = bare_before Two sink.told bare in
     let lines = none sink.told bare.0 in (
@@ -372,10 +372,10 @@ bare_spans name sink bare =
           let j : JournalView = record { lines = lines i; failed = false; faults = sink.faults; target = Some target } in j,
     )
   where
-    none : (o : Option Taken) → option_map (lines_at_end Two) o ≡ nothing_told o → option_map (λ (ls : List Line). counted (ls ++ [])) (ending o) ≡ nothing_told o
-    none o is = ap (option_map (λ (ls : List Line). counted (ls ++ []))) is ∙ nothing o
+    none : (o : Option Taken) → option_map (lines_at_end Two) o ≡ nothing_told o → option_map (λ (ls : List Line). counted_lines (ls ++ [])) (ending o) ≡ nothing_told o
+    none o is = ap (option_map (λ (ls : List Line). counted_lines (ls ++ []))) is ∙ nothing o
       where
-        nothing : (o : Option Taken) → option_map (λ (ls : List Line). counted (ls ++ [])) (nothing_told o) ≡ nothing_told o
+        nothing : (o : Option Taken) → option_map (λ (ls : List Line). counted_lines (ls ++ [])) (nothing_told o) ≡ nothing_told o
         nothing None = refl
         nothing (Some taken) = refl
 
@@ -389,7 +389,7 @@ bare_spans name sink bare =
 -- ---- what was put of a kept span and a line
 
 -- with nothing kept
-pub settled_cut : (old new : SinkView) (line : Line) → as_span line ≡ line → ((c first last d : ℕ) → line ≡ Span c first last d → ⊥) → IsOfFormat Two line → IsCut old new (ended (line_text line)) → IsCutApart old new None line None
+pub settled_cut : (old new : SinkView) (line : Line) → as_span line ≡ line → ((c first last d : ℕ) → line ≡ Span c first last d → ⊥) → IsOfFormat Two line → IsCutShort old new (with_line_end (line_text line)) → IsCutApart old new None line None
 settled_cut old new line is other format cut = record {
   done = [];
   first = line;
@@ -401,7 +401,7 @@ settled_cut old new line is other format cut = record {
   spans = refl;
   formed = record {};
   format = format;
-  cut = subst (λ (s : SinkView). IsCut s new (ended (line_text line))) (puts_none old) cut;
+  cut = subst (λ (s : SinkView). IsCutShort s new (with_line_end (line_text line))) (puts_none old) cut;
 }
   where
     firm : (l : Line) → as_span l ≡ l → ((c first last d : ℕ) → l ≡ Span c first last d → ⊥) → settled l ≡ l ∷ []
@@ -414,7 +414,7 @@ settled_cut old new line is other format cut = record {
     firm Out is other = refl
 
 -- with a kept span that was cut off
-pub kept_cut : (old new : SinkView) (kept line : Line) → is_span kept ≡ true → IsOfFormat Two kept → IsCut old new (ended (line_text kept)) → IsCutApart old new (Some kept) line (Some kept)
+pub kept_cut : (old new : SinkView) (kept line : Line) → is_span kept ≡ true → IsOfFormat Two kept → IsCutShort old new (with_line_end (line_text kept)) → IsCutApart old new (Some kept) line (Some kept)
 kept_cut old new kept line spans format cut = record {
   done = [];
   first = kept;
@@ -426,46 +426,46 @@ kept_cut old new kept line spans format cut = record {
   spans = spans;
   formed = record {};
   format = format;
-  cut = subst (λ (s : SinkView). IsCut s new (ended (line_text kept))) (puts_none old) cut;
+  cut = subst (λ (s : SinkView). IsCutShort s new (with_line_end (line_text kept))) (puts_none old) cut;
 }
 
 -- with one that was put before
-pub kept_put : (old mid new : SinkView) (kept line : Line) (after : Option Line) → IsOfFormat Two kept → mid ≡ after_bytes old (ended (line_text kept))
+pub kept_put : (old mid new : SinkView) (kept line : Line) (after : Option Line) → IsOfFormat Two kept → mid ≡ after_bytes old (with_line_end (line_text kept))
     → PutsApart mid new None line after → PutsApart old new (Some kept) line after
 kept_put old mid new kept line after format put puts = record {
   kept = puts.kept;
   formed = (format, puts.formed);
-  put = puts.put ∙ ap (λ (s : SinkView). after_bytes s (text_of (settled line))) put ∙ after_bytes-append old (ended (line_text kept)) (text_of (settled line));
+  put = puts.put ∙ ap (λ (s : SinkView). after_bytes s (text_of (settled line))) put ∙ after_bytes-append old (with_line_end (line_text kept)) (text_of (settled line));
 }
 
-pub kept_put_cut : (old mid new : SinkView) (kept line : Line) (after : Option Line) → IsOfFormat Two kept → mid ≡ after_bytes old (ended (line_text kept))
+pub kept_put_cut : (old mid new : SinkView) (kept line : Line) (after : Option Line) → IsOfFormat Two kept → mid ≡ after_bytes old (with_line_end (line_text kept))
     → IsCutApart mid new None line after → IsCutApart old new (Some kept) line after
 kept_put_cut old mid new kept line after format put cut = by cut.done refl
   where
     by : (done : List Line) → cut.done ≡ done → IsCutApart old new (Some kept) line after
-    by (x ∷ xs) is = let e : [] ≡ (x ∷ xs) ++ lines_of after = cut.split ∙ ap (λ ls. ls ++ lines_of after) is in cc
+    by (x ∷ xs) is = let e : [] ≡ (x ∷ xs) ++ line_if_any after = cut.split ∙ ap (λ ls. ls ++ line_if_any after) is in cc
     by [] is = record {
       done = kept ∷ [];
       first = cut.first;
       rest = cut.rest;
-      split = ap (λ ls. kept ∷ ls) (cut.split ∙ ap (λ ls. ls ++ lines_of after) is);
+      split = ap (λ ls. kept ∷ ls) (cut.split ∙ ap (λ ls. ls ++ line_if_any after) is);
       left = cut.left;
       most = cut.most;
       firm = ap (λ ls. kept ∷ ls) (cut.firm ∙ ap (λ ls. ls ++ cut.first ∷ cut.most) is);
       spans = cut.spans;
       formed = (format, record {});
       format = cut.format;
-      cut = subst (λ (s : SinkView). IsCut s new (ended (line_text cut.first)))
-          (ap (λ ls. after_bytes mid (text_of ls)) is ∙ sym (puts_none mid) ∙ put ∙ ap (after_bytes old) (sym (append-nil (ended (line_text kept))))) cut.cut;
+      cut = subst (λ (s : SinkView). IsCutShort s new (with_line_end (line_text cut.first)))
+          (ap (λ ls. after_bytes mid (text_of ls)) is ∙ sym (puts_none mid) ∙ put ∙ ap (after_bytes old) (sym (append-nil (with_line_end (line_text kept))))) cut.cut;
     }
 
 -- so whatever was answered
-pub kept_put_ok : (old mid new : SinkView) (kept line : Line) (result : Result (Option Line) (Option Line)) → IsOfFormat Two kept → mid ≡ after_bytes old (ended (line_text kept))
+pub kept_put_ok : (old mid new : SinkView) (kept line : Line) (result : Result (Option Line) (Option Line)) → IsOfFormat Two kept → mid ≡ after_bytes old (with_line_end (line_text kept))
     → IfOk result (PutsApart mid new None line) → IfOk result (PutsApart old new (Some kept) line)
 kept_put_ok old mid new kept line (Ok after) format put puts = kept_put old mid new kept line after format put puts
 kept_put_ok old mid new kept line (Err left) format put puts = record {}
 
-pub kept_put_err : (old mid new : SinkView) (kept line : Line) (result : Result (Option Line) (Option Line)) → IsOfFormat Two kept → mid ≡ after_bytes old (ended (line_text kept))
+pub kept_put_err : (old mid new : SinkView) (kept line : Line) (result : Result (Option Line) (Option Line)) → IsOfFormat Two kept → mid ≡ after_bytes old (with_line_end (line_text kept))
     → IfErr result (IsCutApart mid new None line) → IfErr result (IsCutApart old new (Some kept) line)
 kept_put_err old mid new kept line (Ok after) format put cut = record {}
 kept_put_err old mid new kept line (Err left) format put cut = kept_put_cut old mid new kept line left format put cut

@@ -7,10 +7,10 @@ use Rattle.std.proofs.Math.Seq.{take-nil}
 use Rattle.std.proofs.lemmas.List.{take-append-le, length-take-le}
 use Rattle.std.proofs.lemmas.List.Elements.{All-head, All-tail, All-take}
 use Rattle.wfc_outside.specs.Sink.{Taken, SinkView, with_bytes, after_bytes}
-use Rattle.wfc_proof.specs.Heads.{ended, format_text, numbers_text, shape_text, head_text, head_2_text, IsShape}
+use Rattle.wfc_proof.specs.Heads.{with_line_end, format_text, numbers_text, shape_text, head_text, head_2_text, IsShape}
 use Rattle.wfc_proof.specs.Journal.{JournalView, Target, counted_as, after_line, IsRefused}
 use Rattle.wfc_proof.specs.ProofText.{IsOfFormat, AreOfFormat}
-use Rattle.wfc_proof.specs.Telling.{text_of, Reading, line_in, and_line, read_byte, read_on, read_text, lines_at_end, before_lines, part_at_end, refused_lines, journal_of, IsAt, IsBare, begun, IsCutAt}
+use Rattle.wfc_proof.specs.Telling.{text_of, Reading, line_in, and_line, read_byte, read_on, read_text, lines_at_end, before_lines, part_at_end, refused_lines, journal_of, IsAt, IsBare, new_journal, IsCutAt}
 use Rattle.wfc_proof.specs.Text.{line_text}
 use Rattle.wfc_proof.specs.declared.Line.{Line}
 use Rattle.wfc_proof.specs.declared.heads.Format.{Format}
@@ -37,11 +37,11 @@ line_in-is Two text line is = line_2_of-is text line is
 -- the text of lines behind others
 pub text_of-append : (xs ys : List Line) → text_of (xs ++ ys) ≡ text_of xs ++ text_of ys
 text_of-append [] ys = refl
-text_of-append (x ∷ xs) ys = ap (λ t. ended (line_text x) ++ t) (text_of-append xs ys) ∙ sym (append_assoc (ended (line_text x)) (text_of xs) (text_of ys))
+text_of-append (x ∷ xs) ys = ap (λ t. with_line_end (line_text x) ++ t) (text_of-append xs ys) ∙ sym (append_assoc (with_line_end (line_text x)) (text_of xs) (text_of ys))
 
 -- the text of a line alone
-pub text_of-one : (line : Line) → text_of (line ∷ []) ≡ ended (line_text line)
-text_of-one line = append-nil (ended (line_text line))
+pub text_of-one : (line : Line) → text_of (line ∷ []) ≡ with_line_end (line_text line)
+text_of-one line = append-nil (with_line_end (line_text line))
 
 -- lines of the format, before others and behind them
 pub of_format-append : (format : Format) (xs ys : List Line) → AreOfFormat format xs → AreOfFormat format ys → AreOfFormat format (xs ++ ys)
@@ -74,9 +74,9 @@ read_plain format before lines part (b ∷ text) plain =
     ∙ read_plain format before lines (part ++ b ∷ []) text (All-tail (λ x. nat_eq x 10 ≡ false) b text plain)
     ∙ ap (reading before lines) (append_assoc part (b ∷ []) text)
 
--- a text without a line feed and then one is a line that ended
+-- a text without a line feed and then one is a line that with_line_end
 pub read_ended : (format : Format) (before : List ℕ) (lines : List Line) (part text : List ℕ) → IsFeedless text
-    → read_on format (reading before lines part) (ended text) ≡ and_line (reading before lines (part ++ text)) (line_in format (part ++ text))
+    → read_on format (reading before lines part) (with_line_end text) ≡ and_line (reading before lines (part ++ text)) (line_in format (part ++ text))
 read_ended format before lines part text plain =
     read_more format (reading before lines part) text (10 ∷ []) ∙ ap (λ r. read_on format r (10 ∷ [])) (read_plain format before lines part text plain)
 
@@ -85,15 +85,15 @@ pub read_lines : (format : Format) (before : List ℕ) (told lines : List Line) 
     → read_on format (reading before told []) (text_of lines) ≡ reading before (told ++ lines) []
 read_lines format before told [] keep = ap (λ ls. reading before ls []) (sym (append-nil told))
 read_lines format before told (line ∷ lines) keep =
-    read_more format (reading before told []) (ended (line_text line)) (text_of lines)
+    read_more format (reading before told []) (with_line_end (line_text line)) (text_of lines)
     ∙ ap (λ r. read_on format r (text_of lines))
     (read_ended format before told [] (line_text line) (line_feedless format line keep.0) ∙ ap (and_line (reading before told (line_text line))) (is-line_in format line keep.0))
     ∙ read_lines format before (told ++ line ∷ []) lines keep.1
     ∙ ap (λ ls. reading before ls []) (append_assoc told (line ∷ []) lines)
 
 -- a front of the text of a line that isn't the whole ends no line
-read_front : (format : Format) (before : List ℕ) (told : List Line) (line : Line) (n : ℕ) → IsOfFormat format line → n < length (ended (line_text line))
-    → read_on format (reading before told []) (take n (ended (line_text line))) ≡ reading before told (take n (line_text line))
+read_front : (format : Format) (before : List ℕ) (told : List Line) (line : Line) (n : ℕ) → IsOfFormat format line → n < length (with_line_end (line_text line))
+    → read_on format (reading before told []) (take n (with_line_end (line_text line))) ≡ reading before told (take n (line_text line))
 read_front format before told line n keeps less =
     let text = line_text line in
     let within : n ≤ length text = omega (arith, less, length-append text (10 ∷ [])) in
@@ -112,7 +112,7 @@ all_line format read (Ok line) is =
     ∙ ap (λ t. text_of read.lines ++ (t ++ 10 ∷ [])) (sym (line_in-is format read.part line is).0) ∙ sym (append_assoc (text_of read.lines) read.part (10 ∷ [])))
     ∙ sym (append_assoc read.before (text_of read.lines ++ read.part) (10 ∷ []))
 all_line format read (Err fault) is =
-    append-nil (read.before ++ (text_of read.lines ++ ended read.part))
+    append-nil (read.before ++ (text_of read.lines ++ with_line_end read.part))
     ∙ ap (λ t. read.before ++ t) (sym (append_assoc (text_of read.lines) read.part (10 ∷ [])))
     ∙ sym (append_assoc read.before (text_of read.lines ++ read.part) (10 ∷ []))
 
@@ -208,23 +208,23 @@ put_told format (Some taken) lines at keep =
 
 -- one that took lines, and then a front of one more that isn't the whole
 pub cut_told : (format : Format) (old : Option Taken) (done : List Line) (first : Line) (rest : List Line) (n : ℕ) → IsAt format old [] → AreOfFormat format done
-    → IsOfFormat format first → n < length (ended (line_text first))
-    → Grown format old (option_map (λ (taken : Taken). with_bytes taken (take n (ended (line_text first)))) (option_map (λ (taken : Taken). with_bytes taken (text_of done)) old)) done (first ∷ rest)
+    → IsOfFormat format first → n < length (with_line_end (line_text first))
+    → Grown format old (option_map (λ (taken : Taken). with_bytes taken (take n (with_line_end (line_text first)))) (option_map (λ (taken : Taken). with_bytes taken (text_of done)) old)) done (first ∷ rest)
 cut_told format None done first rest n at keep keeps less = record { at = (refl, refl); lines = refl; before = refl }
 cut_told format (Some taken) done first rest n at keep keeps less =
     let before = (read_text format taken.bytes).before in
     let told = lines_at_end format taken in
     let middle = with_bytes taken (text_of done) in
     let text = line_text first in
-    let new = with_bytes middle (take n (ended text)) in
+    let new = with_bytes middle (take n (with_line_end text)) in
     let put = put_told format (Some taken) done at keep in
     let halfway : read_text format middle.bytes ≡ reading before (told ++ done) [] = read_behind format taken (text_of done) at ∙ read_lines format before told done keep in
     let read : read_text format new.bytes ≡ reading before (told ++ done) (take n text) =
-    read_behind format middle (take n (ended text)) put.at
-    ∙ ap (λ (r : Reading). read_on format (reading r.before r.lines []) (take n (ended text))) halfway
+    read_behind format middle (take n (with_line_end text)) put.at
+    ∙ ap (λ (r : Reading). read_on format (reading r.before r.lines []) (take n (with_line_end text))) halfway
     ∙ read_front format before (told ++ done) first n keeps less in
     let same : taken.finished ≡ false = (opened format taken at).1 in
-    let ends : new.finished ≡ false = unfinished middle (take n (ended text)) (unfinished taken (text_of done) same) in
+    let ends : new.finished ≡ false = unfinished middle (take n (with_line_end text)) (unfinished taken (text_of done) same) in
     record {
       at = (
         ap (λ (r : Reading). Some r.part) read ∙ ap Some (front text (text_of rest) n (omega (arith, less, length-append text (10 ∷ []))))
@@ -243,22 +243,22 @@ cut_told format (Some taken) done first rest n at keep keeps less =
 
 -- ---- heads
 
--- a line that ended leaves no part
+-- a line that with_line_end leaves no part
 line_part : (read : Reading) (o : Result Line LineFault) → (and_line read o).part ≡ []
 line_part read (Ok line) = refl
 line_part read (Err fault) = refl
 
 -- after a text whose last line is none of the format, no line is told, and no part of one
 none_behind : (format : Format) (read : Reading) (last : List ℕ) → IsFeedless last → line_in format last ≡ Err BadLine → read.part ≡ []
-    → ((read_on format read (ended last)).lines ≡ []) × ((read_on format read (ended last)).part ≡ [])
+    → ((read_on format read (with_line_end last)).lines ≡ []) × ((read_on format read (with_line_end last)).part ≡ [])
 none_behind format read last plain none part =
-    let e : read_on format read (ended last) ≡ and_line (reading read.before read.lines last) (Err BadLine) =
-    ap (λ p. read_on format (reading read.before read.lines p) (ended last)) part
+    let e : read_on format read (with_line_end last) ≡ and_line (reading read.before read.lines last) (Err BadLine) =
+    ap (λ p. read_on format (reading read.before read.lines p) (with_line_end last)) part
     ∙ read_ended format read.before read.lines [] last plain ∙ ap (and_line (reading read.before read.lines last)) none in
     (ap (λ (r : Reading). r.lines) e, ap (λ (r : Reading). r.part) e)
 
 -- after a first line there is no part
-no_part : (format : Format) (read : Reading) (text : List ℕ) → IsFeedless text → (read_on format read (ended text)).part ≡ []
+no_part : (format : Format) (read : Reading) (text : List ℕ) → IsFeedless text → (read_on format read (with_line_end text)).part ≡ []
 no_part format read text plain =
     ap (λ (r : Reading). r.part) (read_ended format read.before read.lines read.part text plain)
     ∙ line_part (reading read.before read.lines (read.part ++ text)) (line_in format (read.part ++ text))
@@ -266,17 +266,17 @@ no_part format read text plain =
 -- so after both heads
 pub bare_1 : (read : Reading) (c v : ℕ) → c < 2 ^ 32 → v < 2 ^ 32 → ((read_on One read (head_text c v)).lines ≡ []) × ((read_on One read (head_text c v)).part ≡ [])
 bare_1 read c v cells values =
-    let first : Reading = read_on One read (ended (format_text One)) in
-    let more = read_more One read (ended (format_text One)) (ended (numbers_text c v)) in
+    let first : Reading = read_on One read (with_line_end (format_text One)) in
+    let more = read_more One read (with_line_end (format_text One)) (with_line_end (numbers_text c v)) in
     let none = none_behind One first (numbers_text c v) (numbers_feedless c v cells values) (no_numbers c v cells values) (no_part One read (format_text One) (format_feedless One)) in
     (ap (λ (r : Reading). r.lines) more ∙ none.0, ap (λ (r : Reading). r.part) more ∙ none.1)
 
 pub bare_2 : (read : Reading) (shape : Shape) (c v : ℕ) → IsShape shape → c < 2 ^ 32 → v < 2 ^ 32
     → ((read_on Two read (head_2_text shape c v)).lines ≡ []) × ((read_on Two read (head_2_text shape c v)).part ≡ [])
 bare_2 read shape c v is cells values =
-    let first : Reading = read_on Two read (ended (format_text Two)) in
-    let second : Reading = read_on Two first (ended (numbers_text c v)) in
-    let more = read_more Two read (ended (format_text Two)) (ended (numbers_text c v) ++ ended (shape_text shape)) ∙ read_more Two first (ended (numbers_text c v)) (ended (shape_text shape)) in
+    let first : Reading = read_on Two read (with_line_end (format_text Two)) in
+    let second : Reading = read_on Two first (with_line_end (numbers_text c v)) in
+    let more = read_more Two read (with_line_end (format_text Two)) (with_line_end (numbers_text c v) ++ with_line_end (shape_text shape)) ∙ read_more Two first (with_line_end (numbers_text c v)) (with_line_end (shape_text shape)) in
     let none = none_behind Two second (shape_text shape) (shape_feedless shape is) (no_shape shape is) (no_part Two first (numbers_text c v) (numbers_feedless c v cells values)) in
     (ap (λ (r : Reading). r.lines) more ∙ none.0, ap (λ (r : Reading). r.part) more ∙ none.1)
 
@@ -339,8 +339,8 @@ told_all lines more old new same =
     both None = refl
     both (Some taken) = ap Some (append_assoc (lines_at_end One taken) lines more ∙ ap (λ xs. xs ++ (lines ++ more)) (sym (append-nil (lines_at_end One taken))))
 
--- a journal over a bare sink has begun
-pub bare_begun : (name : GName) (sink : SinkView) → IsBare One sink.told → journal_of name sink None ≡ begun name sink
+-- a journal over a bare sink has new_journal
+pub bare_begun : (name : GName) (sink : SinkView) → IsBare One sink.told → journal_of name sink None ≡ new_journal name sink
 bare_begun name sink bare =
     let lines : option_map (λ (taken : Taken). lines_at_end One taken ++ []) sink.told ≡ option_map (λ (taken : Taken). let none : List Line = [] in none) sink.told = no_more One sink.told ∙ bare.0 in
     let before : option_map (before_lines One) sink.told ≡ sink.told = bare_before One sink.told bare in

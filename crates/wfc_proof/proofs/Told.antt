@@ -6,9 +6,9 @@ use Rattle.std.proofs.lemmas.Bool.{and_parts, and_from}
 use Rattle.wfc_problem.specs.Domains.{Test, Within, cut}
 use Rattle.wfc_problem.specs.Network.{Network, IsProblem, in_base}
 use Rattle.wfc_problem.specs.declared.Literal.TheVariants.{Is, Not}
-use Rattle.wfc_proof.specs.Checker.{Point, after_close, unless, and_on, form_fault, nodes_unless, node_steps, line_step, line_steps}
+use Rattle.wfc_proof.specs.Checker.{Point, after_close, reject_unless, and_on, form_fault, nodes_unless, node_steps, line_step, line_steps}
 use Rattle.wfc_proof.specs.Checker.Point.{going, closed, ended}
-use Rattle.wfc_proof.specs.Lines.{nodes_of, has_nodes, spelled, Spells}
+use Rattle.wfc_proof.specs.Lines.{nodes_of, has_nodes, nodes_of_lines, SpellsNodes}
 use Rattle.wfc_proof.specs.Proof.{Proof, Closes, FollowsFrom, StopsThere, is_left_off, Node, nodes}
 use Rattle.wfc_proof.specs.Proof.Node.{empties, removes, splits}
 use Rattle.wfc_proof.specs.declared.Line.{Line}
@@ -22,7 +22,7 @@ formed : (line : Line) → form_fault line ≡ None → has_nodes line ≡ true
 formed (Remove c v d) e = refl
 formed (Span c first last d) e = from (nat_le first last) e
   where
-    from : (b : Bool) → unless b IndexRange ≡ None → b ≡ true
+    from : (b : Bool) → reject_unless b IndexRange ≡ None → b ≡ true
     from true e = refl
     from false e = cc
 formed (Try c v) e = refl
@@ -34,7 +34,7 @@ formed Out e = cc
 -- and the other way
 has_form : (line : Line) → has_nodes line ≡ true → form_fault line ≡ None
 has_form (Remove c v d) e = refl
-has_form (Span c first last d) e = ap (λ b. unless b IndexRange) e
+has_form (Span c first last d) e = ap (λ b. reject_unless b IndexRange) e
 has_form (Try c v) e = refl
 has_form (Empty c) e = refl
 has_form End e = cc
@@ -59,13 +59,13 @@ behind P m line ns q k here rest =
 
 -- accepted lines that don't end the proof have nodes, and these are accepted
 pub lines_nodes : (P : Network) (m : Point) (lines : List Line) (q : Point) → q ≢ ended → line_steps P m lines ≡ Ok q
-    → (list_all has_nodes lines ≡ true) × (node_steps P m (spelled lines) ≡ Ok q)
+    → (list_all has_nodes lines ≡ true) × (node_steps P m (nodes_of_lines lines) ≡ Ok q)
 lines_nodes P m [] q goes e = (refl, e)
 lines_nodes P (going D waiting) (line ∷ lines) q goes e =
     let on = and_ok (line_step P (going D waiting) line) (λ next. line_steps P next lines) q e in
     let here = unless_ok P (going D waiting) (nodes_of line) (form_fault line) on.0 on.1 in
     let rest = lines_nodes P on.0 lines q goes on.2 in
-    (and_from _ _ (formed line here.0) rest.0, behind P (going D waiting) line (spelled lines) q on.0 here.1 rest.1)
+    (and_from _ _ (formed line here.0) rest.0, behind P (going D waiting) line (nodes_of_lines lines) q on.0 here.1 rest.1)
 lines_nodes P closed (End ∷ lines) q goes e = absurd (goes (ended_stays P lines q e))
 lines_nodes P closed (Remove c v d ∷ lines) q goes e = cc
 lines_nodes P closed (Span c first last d ∷ lines) q goes e = cc
@@ -104,32 +104,32 @@ ended_none P line ns q has e =
     cc
 
 -- and the other way
-pub nodes_lines : (P : Network) (m : Point) (lines : List Line) (q : Point) → list_all has_nodes lines ≡ true → node_steps P m (spelled lines) ≡ Ok q
+pub nodes_lines : (P : Network) (m : Point) (lines : List Line) (q : Point) → list_all has_nodes lines ≡ true → node_steps P m (nodes_of_lines lines) ≡ Ok q
     → line_steps P m lines ≡ Ok q
 nodes_lines P m [] q all e = e
 nodes_lines P (going D waiting) (line ∷ lines) q all e =
     let parts = and_parts (has_nodes line) (list_all has_nodes lines) all in
-    let split : and_on (node_steps P (going D waiting) (nodes_of line)) (λ x. node_steps P x (spelled lines)) ≡ Ok q =
-    sym (steps_append P (going D waiting) (nodes_of line) (spelled lines)) ∙ e in
-    let on = and_ok (node_steps P (going D waiting) (nodes_of line)) (λ x. node_steps P x (spelled lines)) q split in
+    let split : and_on (node_steps P (going D waiting) (nodes_of line)) (λ x. node_steps P x (nodes_of_lines lines)) ≡ Ok q =
+    sym (steps_append P (going D waiting) (nodes_of line) (nodes_of_lines lines)) ∙ e in
+    let on = and_ok (node_steps P (going D waiting) (nodes_of line)) (λ x. node_steps P x (nodes_of_lines lines)) q split in
     ap (λ (o : Option Reject). and_on (nodes_unless P (going D waiting) (nodes_of line) o) (λ next. line_steps P next lines)) (has_form line parts.0)
     ∙ ap (λ (r : Result Point Reject). and_on r (λ next. line_steps P next lines)) on.1
     ∙ nodes_lines P on.0 lines q parts.1 on.2
 nodes_lines P closed (line ∷ lines) q all e =
-    absurd (closed_none P line (spelled lines) q (and_parts (has_nodes line) (list_all has_nodes lines) all).0 e)
+    absurd (closed_none P line (nodes_of_lines lines) q (and_parts (has_nodes line) (list_all has_nodes lines) all).0 e)
 nodes_lines P ended (line ∷ lines) q all e =
-    absurd (ended_none P line (spelled lines) q (and_parts (has_nodes line) (list_all has_nodes lines) all).0 e)
+    absurd (ended_none P line (nodes_of_lines lines) q (and_parts (has_nodes line) (list_all has_nodes lines) all).0 e)
 
 -- lines are all accepted and close the proof exactly where they spell one
 pub lines_close : (P : Network) → IsProblem P → (D : Test) → Within D (in_base P) → (lines : List Line)
-    → (line_steps P (going D []) lines ≡ Ok closed) ↔ ((proof : Proof) × Closes P D proof × Spells lines (nodes proof))
+    → (line_steps P (going D []) lines ≡ Ok closed) ↔ ((proof : Proof) × Closes P D proof × SpellsNodes lines (nodes proof))
 lines_close P p D within lines = (
   (λ e.
       let told = lines_nodes P (going D []) lines closed (λ f. cc) e in
-      let f = closed_proof P p D within (spelled lines) told.1 in
+      let f = closed_proof P p D within (nodes_of_lines lines) told.1 in
       (f.0, f.1, (told.0, f.2))),
   (λ h.
-      let same : spelled lines ≡ nodes h.0 ++ [] = h.2.1 ∙ sym (append-nil (nodes h.0)) in
+      let same : nodes_of_lines lines ≡ nodes h.0 ++ [] = h.2.1 ∙ sym (append-nil (nodes h.0)) in
       nodes_lines P (going D []) lines closed h.2.0
       (ap (λ (xs : List Node). node_steps P (going D []) xs) same ∙ proof_accepted P p D [] within h.0 h.1 [])),
 )
@@ -137,14 +137,14 @@ lines_close P p D within lines = (
 -- and they leave a branch open exactly where they spell one that follows, of which a branch was left off
 pub lines_go : (P : Network) → IsProblem P → (D : Test) → Within D (in_base P) → (lines : List Line)
     → ((E : Test) × (waiting : List Test) × (line_steps P (going D []) lines ≡ Ok (going E waiting)))
-    ↔ ((proof : Proof) × FollowsFrom P D proof × StopsThere proof × (is_left_off proof ≡ true) × Spells lines (nodes proof))
+    ↔ ((proof : Proof) × FollowsFrom P D proof × StopsThere proof × (is_left_off proof ≡ true) × SpellsNodes lines (nodes proof))
 lines_go P p D within lines = (
   (λ h.
       let told = lines_nodes P (going D []) lines (going h.0 h.1) (λ f. cc) h.2 in
-      let f = (going_iff P p D within (spelled lines)).0 (h.0, h.1, told.1) in
+      let f = (going_iff P p D within (nodes_of_lines lines)).0 (h.0, h.1, told.1) in
       (f.0, f.1, f.2, f.3, (told.0, f.4))),
   (λ h.
-      let r = (going_iff P p D within (spelled lines)).1 (h.0, h.1, h.2, h.3, h.4.1) in
+      let r = (going_iff P p D within (nodes_of_lines lines)).1 (h.0, h.1, h.2, h.3, h.4.1) in
       (r.0, r.1, nodes_lines P (going D []) lines (going r.0 r.1) h.4.0 r.2)),
 )
 
@@ -196,7 +196,7 @@ lines_append P m (x ∷ xs) ys q e =
 -- lines are all accepted and end the proof exactly where they spell one, with the end behind it
 pub lines_ended : (P : Network) → IsProblem P → (D : Test) → Within D (in_base P) → (lines : List Line)
     → (line_steps P (going D []) lines ≡ Ok ended)
-    ↔ ((before : List Line) × (lines ≡ before ++ End ∷ []) × (proof : Proof) × Closes P D proof × Spells before (nodes proof))
+    ↔ ((before : List Line) × (lines ≡ before ++ End ∷ []) × (proof : Proof) × Closes P D proof × SpellsNodes before (nodes proof))
 lines_ended P p D within lines = (
   (λ e.
       let r = lines_end P (going D []) lines (λ f. cc) e in

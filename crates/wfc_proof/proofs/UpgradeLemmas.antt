@@ -12,16 +12,16 @@ use Rattle.wfc_outside.specs.Sink.{SinkView, after_bytes, IsFaultAfterFront, Put
 use Rattle.wfc_outside.specs.declared.SinkFault.{SinkFault}
 use Rattle.wfc_problem.specs.Network.{Network}
 use Rattle.wfc_problem.specs.Network.{values as values_of}
-use Rattle.wfc_proof.specs.Heads.{ended, format_of, format_text, head_2_text, numbers_text, shape_text, IsShape}
+use Rattle.wfc_proof.specs.Heads.{with_line_end, format_of, format_text, head_2_text, numbers_text, shape_text, IsShape}
 use Rattle.wfc_proof.specs.Journal.{IsWhole, counted_as}
-use Rattle.wfc_proof.specs.Lines.{nodes_of, has_nodes, spelled}
+use Rattle.wfc_proof.specs.Lines.{nodes_of, has_nodes, nodes_of_lines}
 use Rattle.wfc_proof.specs.Proof.{Proof}
 use Rattle.wfc_proof.specs.Proof.Node.{removes}
 use Rattle.wfc_proof.specs.ProofText.{IsOfFormat, AreOfFormat, IsTextOf, head_in}
-use Rattle.wfc_proof.specs.Spans.{counted, as_span, one_span, join_with, growing, settled, lines_of, Joined, nothing_joined, grown_or_apart, join_line, join_on, all_joined, in_spans, is_span, is_kept, IsCutApart, PutsApart}
+use Rattle.wfc_proof.specs.Spans.{counted_lines, as_span, one_span, join_with, growing, settled, line_if_any, Joined, nothing_joined, grown_or_apart, join_line, join_on, all_joined, in_spans, is_span, is_kept, IsCutApart, PutsApart}
 use Rattle.wfc_proof.specs.Telling.{Reading, line_in, read_on, text_of, PutsOrCuts}
 use Rattle.wfc_proof.specs.Text.{line_text}
-use Rattle.wfc_proof.specs.Upgrade.{line_at, behind_line, named, format_at, behind_head, lines_in, upgraded_text, spans_left, TakesLine, TakesFront}
+use Rattle.wfc_proof.specs.Upgrade.{line_at, behind_line, named_format, format_at, behind_head, lines_in, upgraded_text, spans_left, TakesLine, TakesFront}
 use Rattle.wfc_proof.specs.declared.Line.{Line}
 use Rattle.wfc_proof.specs.declared.Line.TheVariants.{Remove, Span, Try, Empty, End, Found, Out}
 use Rattle.wfc_proof.specs.declared.heads.Format.{Format}
@@ -130,32 +130,32 @@ format_whole Two Out keeps = record {}
 -- lines that are done stay in front
 behind_done : (before : List Line) (joined : Joined) (lines : List Line)
     → all_joined (join_on (record { done = before ++ joined.done; kept = joined.kept }) lines) ≡ before ++ all_joined (join_on joined lines)
-behind_done before joined [] = append_assoc before joined.done (lines_of joined.kept)
+behind_done before joined [] = append_assoc before joined.done (line_if_any joined.kept)
 behind_done before joined (line ∷ lines) =
     ap (λ j. all_joined (join_on j lines)) (step (join_with joined.kept (as_span line))) ∙ behind_done before (join_line joined line) lines
   where
     step : (o : Option Line) → grown_or_apart (record { done = before ++ joined.done; kept = joined.kept }) (as_span line) o
         ≡ (let j : Joined = record { done = before ++ (grown_or_apart joined (as_span line) o).done; kept = (grown_or_apart joined (as_span line) o).kept } in j)
-    step None = ap (λ ls. let j : Joined = record { done = ls; kept = growing (as_span line) } in j) (append_assoc before joined.done (lines_of joined.kept ++ settled (as_span line)))
+    step None = ap (λ ls. let j : Joined = record { done = ls; kept = growing (as_span line) } in j) (append_assoc before joined.done (line_if_any joined.kept ++ settled (as_span line)))
     step (Some span) = refl
 
 -- a line is joined to what is kept or comes behind it
 first_taken : (kept : Option Line) (line told : Line) (more : List Line) → IsWhole told → as_span told ≡ told → counted_as told ≡ counted_as line
-    → spans_left kept (line ∷ more) ≡ all_joined (join_on (grown_or_apart (record { done = []; kept = kept }) told (join_with kept told)) (counted more))
+    → spans_left kept (line ∷ more) ≡ all_joined (join_on (grown_or_apart (record { done = []; kept = kept }) told (join_with kept told)) (counted_lines more))
 first_taken kept line told more whole is counts =
     let here : Joined = record { done = []; kept = kept } in
     ap all_joined
-    (join_on-append here (counted_as line) (counted more)
-    ∙ ap (λ j. join_on j (counted more)) (ap (join_on here) (sym counts) ∙ line_at_once here told whole is ∙ ap (λ l. grown_or_apart here l (join_with kept l)) is))
+    (join_on-append here (counted_as line) (counted_lines more)
+    ∙ ap (λ j. join_on j (counted_lines more)) (ap (join_on here) (sym counts) ∙ line_at_once here told whole is ∙ ap (λ l. grown_or_apart here l (join_with kept l)) is))
 
 apart_taken : (kept : Option Line) (line told : Line) (more : List Line) → IsWhole told → as_span told ≡ told → counted_as told ≡ counted_as line → join_with kept told ≡ None
-    → spans_left kept (line ∷ more) ≡ (lines_of kept ++ settled told) ++ spans_left (growing told) more
+    → spans_left kept (line ∷ more) ≡ (line_if_any kept ++ settled told) ++ spans_left (growing told) more
 apart_taken kept line told more whole is counts none =
-    let put = lines_of kept ++ settled told in
+    let put = line_if_any kept ++ settled told in
     first_taken kept line told more whole is counts
-    ∙ ap (λ o. all_joined (join_on (grown_or_apart (record { done = []; kept = kept }) told o) (counted more))) none
-    ∙ ap (λ ls. let j : Joined = record { done = ls; kept = growing told } in all_joined (join_on j (counted more))) (sym (append-nil put))
-    ∙ behind_done put (record { done = []; kept = growing told }) (counted more)
+    ∙ ap (λ o. all_joined (join_on (grown_or_apart (record { done = []; kept = kept }) told o) (counted_lines more))) none
+    ∙ ap (λ ls. let j : Joined = record { done = ls; kept = growing told } in all_joined (join_on j (counted_lines more))) (sym (append-nil put))
+    ∙ behind_done put (record { done = []; kept = growing told }) (counted_lines more)
 
 pub takes_grown : (sink : SinkView) (kept : Option Line) (line told span : Line) → IsWhole told → as_span told ≡ told → counted_as told ≡ counted_as line → is_kept kept ≡ true
     → join_with kept told ≡ Some span → TakesLine sink sink kept line (Some span)
@@ -164,29 +164,29 @@ takes_grown sink (Some kept) line told span whole is counts spans join = record 
   put = [];
   bytes = puts_none sink;
   on = λ more. first_taken (Some kept) line told more whole is counts
-      ∙ ap (λ o. all_joined (join_on (grown_or_apart (record { done = []; kept = Some kept }) told o) (counted more))) join;
+      ∙ ap (λ o. all_joined (join_on (grown_or_apart (record { done = []; kept = Some kept }) told o) (counted_lines more))) join;
   spans = (grown_counts kept told span spans whole join).1;
 }
 
 pub takes_apart : (old new : SinkView) (kept after : Option Line) (line told : Line) → IsWhole told → as_span told ≡ told → counted_as told ≡ counted_as line → join_with kept told ≡ None
     → PutsApart old new kept told after → TakesLine old new kept line after
 takes_apart old new kept after line told whole is counts none puts = record {
-  put = lines_of kept ++ settled told;
+  put = line_if_any kept ++ settled told;
   bytes = puts.put;
-  on = λ more. apart_taken kept line told more whole is counts none ∙ ap (λ o. (lines_of kept ++ settled told) ++ spans_left o more) (sym puts.kept);
+  on = λ more. apart_taken kept line told more whole is counts none ∙ ap (λ o. (line_if_any kept ++ settled told) ++ spans_left o more) (sym puts.kept);
   spans = subst (λ (o : Option Line). is_kept o ≡ true) (sym puts.kept) (growing_kept told whole);
 }
 
 pub takes_front : (old new : SinkView) (kept after : Option Line) (line told : Line) → IsWhole told → as_span told ≡ told → counted_as told ≡ counted_as line → join_with kept told ≡ None
     → IsCutApart old new kept told after → TakesFront old new kept line
 takes_front old new kept after line told whole is counts none cut =
-    let front : IsFaultAfterFront (after_bytes old (text_of cut.done)) new (ended (line_text cut.first)) = record { front = (cut.cut.n, cut.cut.front); counted = cut.cut.counted } in
-    let text : text_of cut.done ++ (ended (line_text cut.first) ++ text_of cut.most) ≡ text_of (lines_of kept ++ settled told) =
+    let front : IsFaultAfterFront (after_bytes old (text_of cut.done)) new (with_line_end (line_text cut.first)) = record { front = (cut.cut.n, cut.cut.front); counted = cut.cut.counted } in
+    let text : text_of cut.done ++ (with_line_end (line_text cut.first) ++ text_of cut.most) ≡ text_of (line_if_any kept ++ settled told) =
     sym (text_of-append cut.done (cut.first ∷ cut.most)) ∙ ap text_of (sym cut.firm) in
     record {
-      put = lines_of kept ++ settled told;
-      fault = subst (IsFaultAfterFront old new) text (fault_on old (after_bytes old (text_of cut.done)) new (text_of cut.done) (ended (line_text cut.first) ++ text_of cut.most) refl
-          (fault_out (after_bytes old (text_of cut.done)) new (ended (line_text cut.first)) (text_of cut.most) front));
+      put = line_if_any kept ++ settled told;
+      fault = subst (IsFaultAfterFront old new) text (fault_on old (after_bytes old (text_of cut.done)) new (text_of cut.done) (with_line_end (line_text cut.first) ++ text_of cut.most) refl
+          (fault_out (after_bytes old (text_of cut.done)) new (with_line_end (line_text cut.first)) (text_of cut.most) front));
       on = λ more. (spans_left (growing told) more, apart_taken kept line told more whole is counts none);
     }
 
@@ -210,7 +210,7 @@ puts_or_cuts old new bytes (Ok done) put = put
 puts_or_cuts old new bytes (Err fault) cut = record { front = (cut.n, cut.front); counted = cut.counted }
 
 -- where no byte is left, what is kept is left to be put
-pub none_left : (format : Format) (rest : List ℕ) (kept : Option Line) → length rest ≡ 0 → spans_left kept (lines_in format rest) ≡ lines_of kept
+pub none_left : (format : Format) (rest : List ℕ) (kept : Option Line) → length rest ≡ 0 → spans_left kept (lines_in format rest) ≡ line_if_any kept
 none_left format [] kept none = refl
 none_left format (b ∷ rest) kept none = absurd (omega arith)
 
@@ -231,14 +231,14 @@ pub record TextRead (format : Format) (bytes : List ℕ) (lines : List Line) : T
   pub read : lines_in format bytes ≡ lines
   pub behind : behind_head format bytes ≡ text_of lines
 
-format_named : (format : Format) (bytes rest : List ℕ) → bytes ≡ ended (format_text format) ++ rest → (format_at bytes ≡ format) × (behind_line bytes ≡ rest)
+format_named : (format : Format) (bytes rest : List ℕ) → bytes ≡ with_line_end (format_text format) ++ rest → (format_at bytes ≡ format) × (behind_line bytes ≡ rest)
 format_named format bytes rest text =
     let cut : bytes ≡ format_text format ++ 10 ∷ rest = text ∙ append_assoc (format_text format) (10 ∷ []) rest in (
-      ap (λ l. named (format_of l)) (ap line_at cut ∙ line_at-is (format_text format) rest (format_feedless format)) ∙ ap named (is-format_of (format_text format) format refl),
+      ap (λ l. named_format (format_of l)) (ap line_at cut ∙ line_at-is (format_text format) rest (format_feedless format)) ∙ ap named_format (is-format_of (format_text format) format refl),
       ap behind_line cut ∙ behind_line-is (format_text format) rest (format_feedless format),
     )
 
-line_passed : (line rest bytes : List ℕ) → IsFeedless line → bytes ≡ ended line ++ rest → behind_line bytes ≡ rest
+line_passed : (line rest bytes : List ℕ) → IsFeedless line → bytes ≡ with_line_end line ++ rest → behind_line bytes ≡ rest
 line_passed line rest bytes plain text = ap behind_line (text ∙ append_assoc line (10 ∷ []) rest) ∙ behind_line-is line rest plain
 
 -- lines are read behind a head
@@ -255,18 +255,18 @@ read_after format head lines formed none =
 pub text_read : (P : Network) (shape : Shape) (format : Format) (bytes : List ℕ) (lines : List Line) → IsShape shape → P.cells < 2 ^ 32 → values_of P < 2 ^ 32 → AreOfFormat format lines
     → bytes ≡ head_in format P shape ++ text_of lines → TextRead format bytes lines
 text_read P shape One bytes lines is cells values formed text =
-    let numbers = ended (numbers_text P.cells (values_of P)) in
-    let first = format_named One bytes (numbers ++ text_of lines) (text ∙ append_assoc (ended (format_text One)) numbers (text_of lines)) in
+    let numbers = with_line_end (numbers_text P.cells (values_of P)) in
+    let first = format_named One bytes (numbers ++ text_of lines) (text ∙ append_assoc (with_line_end (format_text One)) numbers (text_of lines)) in
     record {
       at = first.0;
       read = ap (lines_in One) text ∙ read_after One (head_in One P shape) lines formed (bare_1 (record { before = []; lines = []; part = [] }) P.cells (values_of P) cells values);
       behind = ap behind_line first.1 ∙ line_passed (numbers_text P.cells (values_of P)) (text_of lines) (numbers ++ text_of lines) (numbers_feedless P.cells (values_of P) cells values) refl;
     }
 text_read P shape Two bytes lines is cells values formed text =
-    let numbers = ended (numbers_text P.cells (values_of P)) in
-    let third = ended (shape_text shape) in
+    let numbers = with_line_end (numbers_text P.cells (values_of P)) in
+    let third = with_line_end (shape_text shape) in
     let first = format_named Two bytes (numbers ++ (third ++ text_of lines))
-    (text ∙ append_assoc (ended (format_text Two)) (numbers ++ third) (text_of lines) ∙ ap (λ t. ended (format_text Two) ++ t) (append_assoc numbers third (text_of lines))) in
+    (text ∙ append_assoc (with_line_end (format_text Two)) (numbers ++ third) (text_of lines) ∙ ap (λ t. with_line_end (format_text Two) ++ t) (append_assoc numbers third (text_of lines))) in
     record {
       at = first.0;
       read = ap (lines_in Two) text ∙ read_after Two (head_in Two P shape) lines formed (bare_2 (record { before = []; lines = []; part = [] }) shape P.cells (values_of P) is cells values);
@@ -342,15 +342,15 @@ read_whole format text line is = format_whole format line (line_in-is format tex
 -- ---- the proof is the same
 
 -- what a line counts as counts as itself, and stands for its nodes
-pub counted_spells : (line : Line) → (counted (counted_as line) ≡ counted_as line) × (spelled (counted_as line) ≡ nodes_of line)
+pub counted_spells : (line : Line) → (counted_lines (counted_as line) ≡ counted_as line) × (nodes_of_lines (counted_as line) ≡ nodes_of line)
 counted_spells (Remove c v d) = (refl, refl)
 counted_spells (Span c first last d) = (again (range_with_len first (last + 1 - first)), nodes_are (range_with_len first (last + 1 - first)))
   where
-    again : (vs : List ℕ) → counted (map (λ v. Remove c v d) vs) ≡ map (λ v. Remove c v d) vs
+    again : (vs : List ℕ) → counted_lines (map (λ v. Remove c v d) vs) ≡ map (λ v. Remove c v d) vs
     again [] = refl
     again (v ∷ vs) = ap (λ ls. Remove c v d ∷ ls) (again vs)
 
-    nodes_are : (vs : List ℕ) → spelled (map (λ v. Remove c v d) vs) ≡ map (λ v. removes c v d) vs
+    nodes_are : (vs : List ℕ) → nodes_of_lines (map (λ v. Remove c v d) vs) ≡ map (λ v. removes c v d) vs
     nodes_are [] = refl
     nodes_are (v ∷ vs) = ap (λ ns. removes c v d ∷ ns) (nodes_are vs)
 counted_spells (Try c v) = (refl, refl)
@@ -359,17 +359,17 @@ counted_spells End = (refl, refl)
 counted_spells Found = (refl, refl)
 counted_spells Out = (refl, refl)
 
-counted_again : (lines : List Line) → counted (counted lines) ≡ counted lines
+counted_again : (lines : List Line) → counted_lines (counted_lines lines) ≡ counted_lines lines
 counted_again [] = refl
-counted_again (line ∷ lines) = flat_map-append counted_as (counted_as line) (counted lines) ∙ (λ i. (counted_spells line).0 i ++ counted_again lines i)
+counted_again (line ∷ lines) = flat_map-append counted_as (counted_as line) (counted_lines lines) ∙ (λ i. (counted_spells line).0 i ++ counted_again lines i)
 
-pub spelled-append : (xs ys : List Line) → spelled (xs ++ ys) ≡ spelled xs ++ spelled ys
+pub spelled-append : (xs ys : List Line) → nodes_of_lines (xs ++ ys) ≡ nodes_of_lines xs ++ nodes_of_lines ys
 spelled-append [] ys = refl
-spelled-append (x ∷ xs) ys = ap (λ ns. nodes_of x ++ ns) (spelled-append xs ys) ∙ sym (append_assoc (nodes_of x) (spelled xs) (spelled ys))
+spelled-append (x ∷ xs) ys = ap (λ ns. nodes_of x ++ ns) (spelled-append xs ys) ∙ sym (append_assoc (nodes_of x) (nodes_of_lines xs) (nodes_of_lines ys))
 
-spelled_counted : (lines : List Line) → spelled (counted lines) ≡ spelled lines
+spelled_counted : (lines : List Line) → nodes_of_lines (counted_lines lines) ≡ nodes_of_lines lines
 spelled_counted [] = refl
-spelled_counted (line ∷ lines) = spelled-append (counted_as line) (counted lines) ∙ (λ i. (counted_spells line).1 i ++ spelled_counted lines i)
+spelled_counted (line ∷ lines) = spelled-append (counted_as line) (counted_lines lines) ∙ (λ i. (counted_spells line).1 i ++ spelled_counted lines i)
 
 -- a line that counts as itself: its span is of format 2, and stands for nodes
 pub record IsPlain (line : Line) : Type 0 where
@@ -419,18 +419,18 @@ plain_line format End keeps has = absurd (false≢true has)
 plain_line format Found keeps has = absurd (false≢true has)
 plain_line format Out keeps has = absurd (false≢true has)
 
-plain_lines : (format : Format) (lines : List Line) → AreOfFormat format lines → list_all has_nodes lines ≡ true → ArePlain (counted lines)
+plain_lines : (format : Format) (lines : List Line) → AreOfFormat format lines → list_all has_nodes lines ≡ true → ArePlain (counted_lines lines)
 plain_lines format [] keep has = record {}
 plain_lines format (line ∷ lines) keep has =
     let parts = and_parts (has_nodes line) (list_all has_nodes lines) has in
-    plain-append (counted_as line) (counted lines) (plain_line format line keep.0 parts.0) (plain_lines format lines keep.1 parts.1)
+    plain-append (counted_as line) (counted_lines lines) (plain_line format line keep.0 parts.0) (plain_lines format lines keep.1 parts.1)
 
 -- what holds of lines that are joined: they are of format 2 and stand for nodes, and the last may be a span
 record IsSpelled (joined : Joined) (told : List Line) : Type 0 where
-  pub formed : AreOfFormat Two joined.done × AreOfFormat Two (lines_of joined.kept)
-  pub has : (list_all has_nodes joined.done ≡ true) × (list_all has_nodes (lines_of joined.kept) ≡ true)
+  pub formed : AreOfFormat Two joined.done × AreOfFormat Two (line_if_any joined.kept)
+  pub has : (list_all has_nodes joined.done ≡ true) × (list_all has_nodes (line_if_any joined.kept) ≡ true)
   pub kept : is_kept joined.kept ≡ true
-  pub counts : counted (all_joined joined) ≡ told
+  pub counts : counted_lines (all_joined joined) ≡ told
 
 all_has : (xs ys : List Line) → list_all has_nodes xs ≡ true → list_all has_nodes ys ≡ true → list_all has_nodes (xs ++ ys) ≡ true
 all_has [] ys first rest = rest
@@ -438,7 +438,7 @@ all_has (x ∷ xs) ys first rest = let parts = and_parts (has_nodes x) (list_all
 
 -- a line is settled or grows
 parted : (line : Line) → IsOfFormat Two line → has_nodes line ≡ true
-    → (AreOfFormat Two (settled line) × AreOfFormat Two (lines_of (growing line))) × ((list_all has_nodes (settled line) ≡ true) × (list_all has_nodes (lines_of (growing line)) ≡ true))
+    → (AreOfFormat Two (settled line) × AreOfFormat Two (line_if_any (growing line))) × ((list_all has_nodes (settled line) ≡ true) × (list_all has_nodes (line_if_any (growing line)) ≡ true))
 parted (Remove c v d) keeps has = absurd keeps
 parted (Span c first last d) keeps has = ((record {}, (keeps, record {})), (refl, and_from _ _ has refl))
 parted (Try c v) keeps has = (((keeps, record {}), record {}), (refl, refl))
@@ -478,12 +478,12 @@ spelled_on joined told line is plain = by (join_with joined.kept (as_span line))
     by None e =
         let parts = parted (as_span line) plain.format plain.has in
         record {
-          formed = (of_format-append Two joined.done (lines_of joined.kept ++ settled (as_span line)) is.formed.0 (of_format-append Two (lines_of joined.kept) (settled (as_span line)) is.formed.1 parts.0.0), parts.0.1);
-          has = (all_has joined.done (lines_of joined.kept ++ settled (as_span line)) is.has.0 (all_has (lines_of joined.kept) (settled (as_span line)) is.has.1 parts.1.0), parts.1.1);
+          formed = (of_format-append Two joined.done (line_if_any joined.kept ++ settled (as_span line)) is.formed.0 (of_format-append Two (line_if_any joined.kept) (settled (as_span line)) is.formed.1 parts.0.0), parts.0.1);
+          has = (all_has joined.done (line_if_any joined.kept ++ settled (as_span line)) is.has.0 (all_has (line_if_any joined.kept) (settled (as_span line)) is.has.1 parts.1.0), parts.1.1);
           kept = growing_kept (as_span line) plain.whole;
-          counts = ap counted
-              (ap (λ ls. ls ++ lines_of (growing (as_span line))) (sym (append_assoc joined.done (lines_of joined.kept) (settled (as_span line))))
-              ∙ append_assoc (all_joined joined) (settled (as_span line)) (lines_of (growing (as_span line)))
+          counts = ap counted_lines
+              (ap (λ ls. ls ++ line_if_any (growing (as_span line))) (sym (append_assoc joined.done (line_if_any joined.kept) (settled (as_span line))))
+              ∙ append_assoc (all_joined joined) (settled (as_span line)) (line_if_any (growing (as_span line)))
               ∙ ap (λ ls. all_joined joined ++ ls) (settled_growing (as_span line)))
               ∙ flat_map-append counted_as (all_joined joined) (as_span line ∷ [])
               ∙ (λ i. is.counts i ++ (append-nil (counted_as (as_span line)) ∙ plain.counts ∙ plain.alone) i);
@@ -496,18 +496,18 @@ spelled_on joined told line is plain = by (join_with joined.kept (as_span line))
             let join : one_span kept (as_span line) ≡ Some span = sym (ap (λ o. join_with o (as_span line)) k) ∙ e in
             let spans : is_span kept ≡ true = sym (ap is_kept k) ∙ is.kept in
             let counts = grown_counts kept (as_span line) span spans plain.whole join in
-            let formed = subst (λ (o : Option Line). AreOfFormat Two (lines_of o)) k is.formed.1 in
+            let formed = subst (λ (o : Option Line). AreOfFormat Two (line_if_any o)) k is.formed.1 in
             let good = grown_formed kept (as_span line) span formed.0 plain.format counts.1 join in
-            let before : counted (joined.done ++ kept ∷ []) ≡ told = sym (ap (λ o. counted (joined.done ++ lines_of o)) k) ∙ is.counts in
+            let before : counted_lines (joined.done ++ kept ∷ []) ≡ told = sym (ap (λ o. counted_lines (joined.done ++ line_if_any o)) k) ∙ is.counts in
             record {
               formed = (is.formed.0, (good.0, record {}));
               has = (is.has.0, and_from _ _ good.1 refl);
               kept = counts.1;
               counts = flat_map-append counted_as joined.done (span ∷ [])
-                  ∙ ap (λ ls. counted joined.done ++ (ls ++ [])) counts.0
-                  ∙ ap (λ ls. counted joined.done ++ ls) (append_assoc (counted_as kept) (counted_as (as_span line)) [])
-                  ∙ sym (append_assoc (counted joined.done) (counted_as kept) (counted_as (as_span line) ++ []))
-                  ∙ ap (λ ls. (counted joined.done ++ ls) ++ (counted_as (as_span line) ++ [])) (sym (append-nil (counted_as kept)))
+                  ∙ ap (λ ls. counted_lines joined.done ++ (ls ++ [])) counts.0
+                  ∙ ap (λ ls. counted_lines joined.done ++ ls) (append_assoc (counted_as kept) (counted_as (as_span line)) [])
+                  ∙ sym (append_assoc (counted_lines joined.done) (counted_as kept) (counted_as (as_span line) ++ []))
+                  ∙ ap (λ ls. (counted_lines joined.done ++ ls) ++ (counted_as (as_span line) ++ [])) (sym (append-nil (counted_as kept)))
                   ∙ ap (λ ls. ls ++ (counted_as (as_span line) ++ [])) (sym (flat_map-append counted_as joined.done (kept ∷ [])) ∙ before)
                   ∙ ap (λ ls. told ++ ls) (append-nil (counted_as (as_span line)) ∙ plain.counts ∙ plain.alone);
             }
@@ -519,26 +519,26 @@ spelled_all joined told (line ∷ lines) is plain =
 
 -- joined lines are of format 2, and spell what they were made of
 pub spans_spell : (format : Format) (lines : List Line) → AreOfFormat format lines → list_all has_nodes lines ≡ true
-    → AreOfFormat Two (in_spans (counted lines)) × (list_all has_nodes (in_spans (counted lines)) ≡ true) × (spelled (in_spans (counted lines)) ≡ spelled lines)
+    → AreOfFormat Two (in_spans (counted_lines lines)) × (list_all has_nodes (in_spans (counted_lines lines)) ≡ true) × (nodes_of_lines (in_spans (counted_lines lines)) ≡ nodes_of_lines lines)
 spans_spell format lines formed has =
     let start : IsSpelled nothing_joined [] = record { formed = (record {}, record {}); has = (refl, refl); kept = refl; counts = refl } in
-    let joined = join_on nothing_joined (counted lines) in
-    let is = spelled_all nothing_joined [] (counted lines) start (plain_lines format lines formed has) in (
-      of_format-append Two joined.done (lines_of joined.kept) is.formed.0 is.formed.1,
-      all_has joined.done (lines_of joined.kept) is.has.0 is.has.1,
-      sym (spelled_counted (in_spans (counted lines))) ∙ ap spelled is.counts ∙ spelled_counted lines,
+    let joined = join_on nothing_joined (counted_lines lines) in
+    let is = spelled_all nothing_joined [] (counted_lines lines) start (plain_lines format lines formed has) in (
+      of_format-append Two joined.done (line_if_any joined.kept) is.formed.0 is.formed.1,
+      all_has joined.done (line_if_any joined.kept) is.has.0 is.has.1,
+      sym (spelled_counted (in_spans (counted_lines lines))) ∙ ap nodes_of_lines is.counts ∙ spelled_counted lines,
     )
 
 -- an end comes behind joined lines
-spans_ended : (lines : List Line) → in_spans (counted (lines ++ End ∷ [])) ≡ in_spans (counted lines) ++ End ∷ []
+spans_ended : (lines : List Line) → in_spans (counted_lines (lines ++ End ∷ [])) ≡ in_spans (counted_lines lines) ++ End ∷ []
 spans_ended lines =
-    let joined = join_on nothing_joined (counted lines) in
+    let joined = join_on nothing_joined (counted_lines lines) in
     ap in_spans (flat_map-append counted_as lines (End ∷ []))
-    ∙ ap all_joined (join_on-append nothing_joined (counted lines) (End ∷ []))
+    ∙ ap all_joined (join_on-append nothing_joined (counted_lines lines) (End ∷ []))
     ∙ by joined joined.kept refl
   where
     by : (j : Joined) (o : Option Line) → j.kept ≡ o → all_joined (join_line j End) ≡ all_joined j ++ End ∷ []
-    by j o k = ap (λ p. all_joined (grown_or_apart j End p)) (ap (λ p. join_with p End) k ∙ none o) ∙ append-nil (j.done ++ (lines_of j.kept ++ End ∷ [])) ∙ sym (append_assoc j.done (lines_of j.kept) (End ∷ []))
+    by j o k = ap (λ p. all_joined (grown_or_apart j End p)) (ap (λ p. join_with p End) k ∙ none o) ∙ append-nil (j.done ++ (line_if_any j.kept ++ End ∷ [])) ∙ sym (append_assoc j.done (line_if_any j.kept) (End ∷ []))
       where
         none : (p : Option Line) → join_with p End ≡ None
         none None = refl
@@ -561,32 +561,32 @@ proof_kept P shape format proof bytes is cells values text =
     let spells = spans_spell format text.lines text.formed text.spells.0 in
     record {
       closes = text.closes;
-      lines = in_spans (counted text.lines);
+      lines = in_spans (counted_lines text.lines);
       formed = spells.0;
       spells = (spells.1, spells.2 ∙ text.spells.1);
-      text = ap (λ ls. head_2_text shape P.cells (values_of P) ++ text_of ls) (ap (λ ls. in_spans (counted ls)) told ∙ spans_ended text.lines);
+      text = ap (λ ls. head_2_text shape P.cells (values_of P) ++ text_of ls) (ap (λ ls. in_spans (counted_lines ls)) told ∙ spans_ended text.lines);
     }
 
 -- the end of what is left
 pub taken_all : (format : Format) (rest : List ℕ) (kept : Option Line) (first old new : SinkView) (all : List Line) (result : Result (Unit {0}) SinkFault) → length rest ≡ 0
-    → PutsOrCuts old new (text_of (lines_of kept)) result
+    → PutsOrCuts old new (text_of (line_if_any kept)) result
     → ((new : SinkView) (result : Result (Unit {0}) SinkFault) → Puts old new (text_of (spans_left kept (lines_in format rest))) result → Puts first new (text_of (spans_left None all)) result)
     → Puts first new (text_of (spans_left None all)) result
 taken_all format rest kept first old new all result none put puts =
-    puts new result (subst (λ ls. Puts {T = Unit {0}} {E = SinkFault} old new (text_of ls) result) (sym (none_left format rest kept none)) (puts_or_cuts {T = Unit {0}} {E = SinkFault} old new (text_of (lines_of kept)) result put))
+    puts new result (subst (λ ls. Puts {T = Unit {0}} {E = SinkFault} old new (text_of ls) result) (sym (none_left format rest kept none)) (puts_or_cuts {T = Unit {0}} {E = SinkFault} old new (text_of (line_if_any kept)) result put))
 
 -- a kept span is put with its end
-pub kept_whole : (old new : SinkView) (kept : Line) (result : Result (Unit {0}) SinkFault) → PutsOrCuts old new (ended (line_text kept)) result → PutsOrCuts old new (text_of (kept ∷ [])) result
+pub kept_whole : (old new : SinkView) (kept : Line) (result : Result (Unit {0}) SinkFault) → PutsOrCuts old new (with_line_end (line_text kept)) result → PutsOrCuts old new (text_of (kept ∷ [])) result
 kept_whole old new kept result put = subst (λ t. PutsOrCuts {T = Unit {0}} {E = SinkFault} old new t result) (sym (text_of-one kept)) put
 
-pub kept_put_all : (old new : SinkView) (kept : Option Line) (span : Line) (result : Result (Unit {0}) SinkFault) → kept ≡ Some span → PutsOrCuts old new (ended (line_text span)) result
-    → PutsOrCuts old new (text_of (lines_of kept)) result
+pub kept_put_all : (old new : SinkView) (kept : Option Line) (span : Line) (result : Result (Unit {0}) SinkFault) → kept ≡ Some span → PutsOrCuts old new (with_line_end (line_text span)) result
+    → PutsOrCuts old new (text_of (line_if_any kept)) result
 kept_put_all old new kept span result is put =
-    subst (λ (o : Option Line). PutsOrCuts {T = Unit {0}} {E = SinkFault} old new (text_of (lines_of o)) result) (sym is) (kept_whole old new span result put)
+    subst (λ (o : Option Line). PutsOrCuts {T = Unit {0}} {E = SinkFault} old new (text_of (line_if_any o)) result) (sym is) (kept_whole old new span result put)
 
 -- the head, and then the lines of a text that is led by a head
 pub led_put : (old mid new : SinkView) (P : Network) (shape : Shape) (bytes : List ℕ) (result : Result (Unit {0}) SinkFault) → IsLed bytes → mid ≡ after_bytes old (head_2_text shape P.cells (values_of P))
-    → Puts mid new (text_of (in_spans (counted (lines_in (format_at bytes) (behind_head (format_at bytes) bytes))))) result → Puts old new (upgraded_text P shape bytes) result
+    → Puts mid new (text_of (in_spans (counted_lines (lines_in (format_at bytes) (behind_head (format_at bytes) bytes))))) result → Puts old new (upgraded_text P shape bytes) result
 led_put old mid new P shape bytes result led put rest =
-    puts_on old mid new (head_2_text shape P.cells (values_of P)) (text_of (in_spans (counted (lines_in (format_at bytes) bytes)))) result put
-    (subst (λ ls. Puts {T = Unit {0}} {E = SinkFault} mid new (text_of (in_spans (counted ls))) result) led.read rest)
+    puts_on old mid new (head_2_text shape P.cells (values_of P)) (text_of (in_spans (counted_lines (lines_in (format_at bytes) bytes)))) result put
+    (subst (λ ls. Puts {T = Unit {0}} {E = SinkFault} mid new (text_of (in_spans (counted_lines ls))) result) led.read rest)

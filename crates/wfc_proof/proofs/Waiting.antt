@@ -10,7 +10,7 @@ use Rattle.wfc_problem.specs.declared.Literal.TheVariants.{Is, Not}
 use Rattle.wfc_problem.proofs.CallerLemmas.{base_inside, cut_within, size_at_without, pairs_less}
 use Rattle.wfc_proof.specs.Checker.{after_close, node_steps, line_steps}
 use Rattle.wfc_proof.specs.Checker.Point.{going}
-use Rattle.wfc_proof.specs.Lines.{spelled}
+use Rattle.wfc_proof.specs.Lines.{nodes_of_lines}
 use Rattle.wfc_proof.specs.Proof.{IsSplit, Node}
 use Rattle.wfc_proof.specs.Proof.Node.{empties, removes, splits}
 use Rattle.wfc_proof.specs.declared.Line.{Line}
@@ -78,5 +78,5 @@ pub waiting_few : (P : Network) → IsProblem P → (lines : List Line) (E : Tes
     → Within E (in_base P) × (pairs P E + length waiting ≤ depth_of P)
 waiting_few P p lines E waiting e =
     let told = lines_nodes P (going (in_base P) []) lines (going E waiting) (λ f. cc) e in
-    let r = steps_fit P p (depth_of P) (in_base P ∷ []) ((λ c v t. t), tt) (omega arith, tt) (spelled lines) E waiting told.1 in
+    let r = steps_fit P p (depth_of P) (in_base P ∷ []) ((λ c v t. t), tt) (omega arith, tt) (nodes_of_lines lines) E waiting told.1 in
     (r.0.0, r.1.0)

@@ -20,41 +20,41 @@ use Rattle.wfc_text.specs.Number.{is_other, number_of, within, unless_at}
 use Rattle.wfc_text.specs.declared.numeral.NumberFault.{NumberFault}
 use Rattle.wfc_text.proofs.NumberLemmas.{number_of-decimal}
 use Rattle.wfc_text.proofs.PassLemmas.{all_pass}
-use Rattle.wfc_proof.specs.Words.{is_space, spaced_words, with_spaces, decimal_within, has_zero_first}
+use Rattle.wfc_proof.specs.Words.{is_blank_byte, spaced_words, with_spaces, decimal_within, has_zero_first}
 
 -- ---- words
 
 -- the first word ends at the first blank
-pub first_word : (line : List ℕ) (k : ℕ) → position is_space line ≡ Some k → spaced_words line ≡ take k line ∷ spaced_words (drop (k + 1) line)
+pub first_word : (line : List ℕ) (k : ℕ) → position is_blank_byte line ≡ Some k → spaced_words line ≡ take k line ∷ spaced_words (drop (k + 1) line)
 first_word line k found =
-    let at = position-Some is_space line k 0 found in
-    let place : position_or_len is_space line ≡ k = position_or_len_is is_space line k 0 (omega (arith, at.0)) at.2 (λ _. at.1) in
-    subst (λ n. slice_split is_space line ≡ take n line ∷ slice_split is_space (drop (n + 1) line)) place (slice_split_first is_space line 0 (omega (arith, at.0, place)))
+    let at = position-Some is_blank_byte line k 0 found in
+    let place : position_or_len is_blank_byte line ≡ k = position_or_len_is is_blank_byte line k 0 (omega (arith, at.0)) at.2 (λ _. at.1) in
+    subst (λ n. slice_split is_blank_byte line ≡ take n line ∷ slice_split is_blank_byte (drop (n + 1) line)) place (slice_split_first is_blank_byte line 0 (omega (arith, at.0, place)))
 
 -- where there is no blank, the line is one word
-pub only_word : (line : List ℕ) → position is_space line ≡ None → spaced_words line ≡ line ∷ []
-only_word line none = slice_split_none is_space line (λ k d inside. position_fails is_space line none k d inside)
+pub only_word : (line : List ℕ) → position is_blank_byte line ≡ None → spaced_words line ≡ line ∷ []
+only_word line none = slice_split_none is_blank_byte line (λ k d inside. position_fails is_blank_byte line none k d inside)
 
 -- words without blanks
 abbrev pub AreSpaceless : List (List ℕ) → Type 0
 AreSpaceless [] = Unit {0}
-AreSpaceless (word ∷ words) = All (λ b. is_space b ≡ false) word × AreSpaceless words
+AreSpaceless (word ∷ words) = All (λ b. is_blank_byte b ≡ false) word × AreSpaceless words
 
 -- words without blanks, joined by blanks, are the words of the line
 pub spaced_back : (word : List ℕ) (words : List (List ℕ)) → AreSpaceless (word ∷ words) → spaced_words (with_spaces (word ∷ words)) ≡ word ∷ words
-spaced_back word [] spaceless = slice_split_none is_space word spaceless.0
+spaced_back word [] spaceless = slice_split_none is_blank_byte word spaceless.0
 spaced_back word (next ∷ words) spaceless =
-    slice_split_at is_space word 32 (with_spaces (next ∷ words)) spaceless.0 refl
+    slice_split_at is_blank_byte word 32 (with_spaces (next ∷ words)) spaceless.0 refl
     ∙ ap (λ xs. word ∷ xs) (spaced_back next words spaceless.1)
 
 -- ---- numbers
 
 -- a digit is no blank
-no_space : (b : ℕ) → IsInRange 48 57 b → is_space b ≡ false
+no_space : (b : ℕ) → IsInRange 48 57 b → is_blank_byte b ≡ false
 no_space b range = ne_eqb b 32 (λ same. omega (arith, range.0, range.1, same))
 
 -- the decimal text of a number has no blank
-pub decimal_spaceless : (n : ℕ) → n < 2 ^ 64 → All (λ b. is_space b ≡ false) (decimal n)
+pub decimal_spaceless : (n : ℕ) → n < 2 ^ 64 → All (λ b. is_blank_byte b ≡ false) (decimal n)
 decimal_spaceless n fits k d inside =
     rw (get_or_default (decimal n) k d 0 inside) (no_space _ (digit_at (decimal n) k (decimal_is_IsNumeral n fits).0.1 inside))
 

@@ -10,10 +10,10 @@ use Rattle.std.proofs.lemmas.List.{take_all}
 use Rattle.std.proofs.lemmas.List.Folds.{list_any-append}
 use Rattle.wfc_outside.specs.Sink.{Taken, SinkView, with_bytes, after_bytes, IsFaultAfterFront}
 use Rattle.wfc_proof.specs.Journal.{JournalView, Target, after_lines, IsCutOff}
-use Rattle.wfc_proof.specs.Spans.{counted, growing, settled, lines_of, Joined, nothing_joined, apart, join_on, all_joined, in_spans, spans_of, ending, joined_as, AreJoined, IsSpanning}
-use Rattle.wfc_proof.specs.Heads.{ended}
+use Rattle.wfc_proof.specs.Spans.{counted_lines, growing, settled, line_if_any, Joined, nothing_joined, apart, join_on, all_joined, in_spans, spans_of, ending, joined_as, AreJoined, IsSpanning}
+use Rattle.wfc_proof.specs.Heads.{with_line_end}
 use Rattle.wfc_proof.specs.Text.{line_text}
-use Rattle.wfc_proof.specs.Telling.{IsCut, Reading, and_line, line_in, read_byte, read_on, read_text, lines_at_end, before_lines, part_at_end, text_of, journal_of, refused_lines, IsAt, begun}
+use Rattle.wfc_proof.specs.Telling.{IsCutShort, Reading, and_line, line_in, read_byte, read_on, read_text, lines_at_end, before_lines, part_at_end, text_of, journal_of, refused_lines, IsAt, new_journal}
 use Rattle.wfc_proof.specs.declared.Line.{Line}
 use Rattle.wfc_proof.specs.declared.heads.Format.{Format}
 use Rattle.wfc_proof.specs.declared.text.LineFault.{LineFault}
@@ -45,20 +45,20 @@ take_all_front xs ys n = sym (take-append-add xs ys n)
 -- ---- format 2
 
 -- the lines that are told are joined to these
-told_joined : (lines told : List Line) (kept refused : Option Line) → join_on nothing_joined (counted (lines ++ (lines_of kept ++ lines_of refused))) ≡ joined_as kept refused lines
-    → counted (lines ++ (lines_of kept ++ lines_of refused)) ≡ told → in_spans told ≡ lines ++ (lines_of kept ++ lines_of refused)
+told_joined : (lines told : List Line) (kept refused : Option Line) → join_on nothing_joined (counted_lines (lines ++ (line_if_any kept ++ line_if_any refused))) ≡ joined_as kept refused lines
+    → counted_lines (lines ++ (line_if_any kept ++ line_if_any refused)) ≡ told → in_spans told ≡ lines ++ (line_if_any kept ++ line_if_any refused)
 told_joined lines told kept None joined are =
-    ap in_spans (sym are) ∙ ap all_joined joined ∙ ap (λ ls. lines ++ ls) (sym (append-nil (lines_of kept)))
+    ap in_spans (sym are) ∙ ap all_joined joined ∙ ap (λ ls. lines ++ ls) (sym (append-nil (line_if_any kept)))
 told_joined lines told kept (Some refused) joined are =
     ap in_spans (sym are) ∙ ap all_joined joined
-    ∙ ap (λ ls. ls ++ lines_of (growing refused)) (sym (append_assoc lines (lines_of kept) (settled refused)))
-    ∙ append_assoc (lines ++ lines_of kept) (settled refused) (lines_of (growing refused))
-    ∙ ap (λ ls. (lines ++ lines_of kept) ++ ls) (settled_growing refused)
-    ∙ append_assoc lines (lines_of kept) (refused ∷ [])
+    ∙ ap (λ ls. ls ++ line_if_any (growing refused)) (sym (append_assoc lines (line_if_any kept) (settled refused)))
+    ∙ append_assoc (lines ++ line_if_any kept) (settled refused) (line_if_any (growing refused))
+    ∙ ap (λ ls. (lines ++ line_if_any kept) ++ ls) (settled_growing refused)
+    ∙ append_assoc lines (line_if_any kept) (refused ∷ [])
 
 -- after a line behind which nothing is kept, a sink took the text of all lines
 pub spans_written : (name : GName) (started sink : SinkView) (kept refused : Option Line) (lines : List Line) → IsSpanning sink kept refused
-    → (join_on nothing_joined lines).kept ≡ None → spans_of name sink kept refused ≡ after_lines (begun name started) lines → sink ≡ after_bytes started (text_of (in_spans lines))
+    → (join_on nothing_joined lines).kept ≡ None → spans_of name sink kept refused ≡ after_lines (new_journal name started) lines → sink ≡ after_bytes started (text_of (in_spans lines))
 spans_written name started sink kept (Some refused) lines is last seen = absurd (false≢true (sym (ap (λ (j : JournalView). j.failed) seen)))
 spans_written name started sink kept None lines is last seen =
     λ i. record { told = told started.told sink.told is.at is.joined before shown i; faults = ap (λ (j : JournalView). j.faults) seen i }
@@ -70,22 +70,22 @@ spans_written name started sink kept None lines is last seen =
     before : option_map (before_lines Two) sink.told ≡ started.told
     before = ap (λ (j : JournalView). before_of j.target) seen
 
-    shown : option_map (λ (ls : List Line). counted (ls ++ (lines_of kept ++ []))) (ending sink.told) ≡ option_map (λ (ls : List Line). ls ++ lines) (begun name started).lines
+    shown : option_map (λ (ls : List Line). counted_lines (ls ++ (line_if_any kept ++ []))) (ending sink.told) ≡ option_map (λ (ls : List Line). ls ++ lines) (new_journal name started).lines
     shown = ap (λ (j : JournalView). j.lines) seen
 
     told : (old new : Option Taken) → IsAt Two new [] → AreJoined (ending new) kept None → option_map (before_lines Two) new ≡ old
-        → option_map (λ (ls : List Line). counted (ls ++ (lines_of kept ++ []))) (ending new) ≡ option_map (λ (ls : List Line). ls ++ lines) (option_map (λ (taken : Taken). let none : List Line = [] in none) old)
+        → option_map (λ (ls : List Line). counted_lines (ls ++ (line_if_any kept ++ []))) (ending new) ≡ option_map (λ (ls : List Line). ls ++ lines) (option_map (λ (taken : Taken). let none : List Line = [] in none) old)
         → new ≡ option_map (λ (taken : Taken). with_bytes taken (text_of (in_spans lines))) old
     told None None at joined b s = refl
     told None (Some taken) at joined b s = cc
     told (Some first) None at joined b s = cc
     told (Some first) (Some taken) at joined b s =
         let begins : before_lines Two taken ≡ first = cc b in
-        let are : counted (lines_at_end Two taken ++ (lines_of kept ++ [])) ≡ lines = cc s in
-        let join : join_on nothing_joined (counted (lines_at_end Two taken ++ (lines_of kept ++ []))) ≡ record { done = lines_at_end Two taken; kept = kept } = cc joined in
+        let are : counted_lines (lines_at_end Two taken ++ (line_if_any kept ++ [])) ≡ lines = cc s in
+        let join : join_on nothing_joined (counted_lines (lines_at_end Two taken ++ (line_if_any kept ++ []))) ≡ record { done = lines_at_end Two taken; kept = kept } = cc joined in
         let none : kept ≡ None = sym (ap (λ (j : Joined). j.kept) join) ∙ ap (λ ls. (join_on nothing_joined ls).kept) are ∙ last in
         let all : in_spans lines ≡ lines_at_end Two taken =
-        told_joined (lines_at_end Two taken) lines kept None join are ∙ ap (λ o. lines_at_end Two taken ++ (lines_of o ++ [])) none ∙ append-nil (lines_at_end Two taken) in
+        told_joined (lines_at_end Two taken) lines kept None join are ∙ ap (λ o. lines_at_end Two taken ++ (line_if_any o ++ [])) none ∙ append-nil (lines_at_end Two taken) in
         ap Some
         (taken_parts Two taken first [] at begins
         ∙ ap (λ t. with_bytes first (text_of (lines_at_end Two taken) ++ t)) (take-nil (length (part_at_end Two taken)))
@@ -131,18 +131,18 @@ part_short format taken line lines front = elim (cases_lt (length (part_at_end f
 -- the text of lines isn't empty
 text_some : (lines : List Line) → 0 < length lines → 0 < length (text_of lines)
 text_some [] some = absurd (omega (arith, some))
-text_some (line ∷ lines) some = omega (arith, length-append (ended (line_text line)) (text_of lines), length-append (line_text line) (10 ∷ []))
+text_some (line ∷ lines) some = omega (arith, length-append (with_line_end (line_text line)) (text_of lines), length-append (line_text line) (10 ∷ []))
 
 -- a kept span and a refused line are some lines
-waits_short : (kept : Option Line) (refused : Line) (taken : Taken) → part_at_end Two taken ≡ take (length (part_at_end Two taken)) (text_of (lines_of kept ++ refused ∷ []))
-    → length (part_at_end Two taken) < length (text_of (lines_of kept ++ refused ∷ []))
+waits_short : (kept : Option Line) (refused : Line) (taken : Taken) → part_at_end Two taken ≡ take (length (part_at_end Two taken)) (text_of (line_if_any kept ++ refused ∷ []))
+    → length (part_at_end Two taken) < length (text_of (line_if_any kept ++ refused ∷ []))
 waits_short None refused taken front = part_short Two taken refused [] front
 waits_short (Some span) refused taken front = part_short Two taken span (refused ∷ []) front
 
 -- and where a line was refused, a front of the text of a front of them, which ends before the last of its lines does
 pub spans_cut_off : (name : GName) (started sink : SinkView) (kept refused : Option Line) (lines : List Line) → IsSpanning sink kept refused
-    → IsCutOff (begun name started) (spans_of name sink kept refused) lines
-    → (count : ℕ) × (count ≤ length lines) × IsCut started sink (text_of (in_spans (take count lines)))
+    → IsCutOff (new_journal name started) (spans_of name sink kept refused) lines
+    → (count : ℕ) × (count ≤ length lines) × IsCutShort started sink (text_of (in_spans (take count lines)))
 spans_cut_off name started sink kept None lines is cut = absurd (false≢true cut.failed)
 spans_cut_off name started sink kept (Some refused) lines is cut =
     let front = told started.told sink.told is.at is.joined before cut.handed in (
@@ -158,8 +158,8 @@ spans_cut_off name started sink kept (Some refused) lines is cut =
     before : option_map (before_lines Two) sink.told ≡ started.told
     before = ap before_of cut.target
 
-    told : (old new : Option Taken) → IsAt Two new (lines_of kept ++ refused ∷ []) → AreJoined (ending new) kept (Some refused) → option_map (before_lines Two) new ≡ old
-        → option_map (λ (ls : List Line). counted (ls ++ (lines_of kept ++ refused ∷ []))) (ending new)
+    told : (old new : Option Taken) → IsAt Two new (line_if_any kept ++ refused ∷ []) → AreJoined (ending new) kept (Some refused) → option_map (before_lines Two) new ≡ old
+        → option_map (λ (ls : List Line). counted_lines (ls ++ (line_if_any kept ++ refused ∷ []))) (ending new)
         ≡ option_map (λ (ls : List Line). ls ++ take cut.count lines) (option_map (λ (taken : Taken). let none : List Line = [] in none) old)
         → (n : ℕ) × (n < length (text_of (in_spans (take cut.count lines)))) × (new ≡ option_map (λ (taken : Taken). with_bytes taken (take n (text_of (in_spans (take cut.count lines))))) old)
     told None None at joined b s =
@@ -169,26 +169,26 @@ spans_cut_off name started sink kept (Some refused) lines is cut =
     told (Some first) None at joined b s = cc
     told (Some first) (Some taken) at joined b s =
         let begins : before_lines Two taken ≡ first = cc b in
-        let are : counted (lines_at_end Two taken ++ (lines_of kept ++ refused ∷ [])) ≡ take cut.count lines = cc s in
-        let join : join_on nothing_joined (counted (lines_at_end Two taken ++ (lines_of kept ++ refused ∷ []))) ≡ apart (record { done = lines_at_end Two taken; kept = kept }) refused = cc joined in
-        let all : in_spans (take cut.count lines) ≡ lines_at_end Two taken ++ (lines_of kept ++ refused ∷ []) = told_joined (lines_at_end Two taken) (take cut.count lines) kept (Some refused) join are in
+        let are : counted_lines (lines_at_end Two taken ++ (line_if_any kept ++ refused ∷ [])) ≡ take cut.count lines = cc s in
+        let join : join_on nothing_joined (counted_lines (lines_at_end Two taken ++ (line_if_any kept ++ refused ∷ []))) ≡ apart (record { done = lines_at_end Two taken; kept = kept }) refused = cc joined in
+        let all : in_spans (take cut.count lines) ≡ lines_at_end Two taken ++ (line_if_any kept ++ refused ∷ []) = told_joined (lines_at_end Two taken) (take cut.count lines) kept (Some refused) join are in
         let text = text_of (lines_at_end Two taken) in
         let part = length (part_at_end Two taken) in
-        let whole : text_of (in_spans (take cut.count lines)) ≡ text ++ text_of (lines_of kept ++ refused ∷ []) = ap text_of all ∙ text_of-append (lines_at_end Two taken) (lines_of kept ++ refused ∷ []) in
-        let short : part < length (text_of (lines_of kept ++ refused ∷ [])) = waits_short kept refused taken (cc (at.0)) in (
+        let whole : text_of (in_spans (take cut.count lines)) ≡ text ++ text_of (line_if_any kept ++ refused ∷ []) = ap text_of all ∙ text_of-append (lines_at_end Two taken) (line_if_any kept ++ refused ∷ []) in
+        let short : part < length (text_of (line_if_any kept ++ refused ∷ [])) = waits_short kept refused taken (cc (at.0)) in (
           length text + part,
-          omega (arith, short, ap length whole, length-append text (text_of (lines_of kept ++ refused ∷ []))),
+          omega (arith, short, ap length whole, length-append text (text_of (line_if_any kept ++ refused ∷ []))),
           ap Some
-              (taken_parts Two taken first (lines_of kept ++ refused ∷ []) at begins
-              ∙ ap (with_bytes first) (take_all_front text (text_of (lines_of kept ++ refused ∷ [])) part
-              ∙ ap (take (length text + part)) (sym (text_of-append (lines_at_end Two taken) (lines_of kept ++ refused ∷ [])) ∙ ap text_of (sym all)))),
+              (taken_parts Two taken first (line_if_any kept ++ refused ∷ []) at begins
+              ∙ ap (with_bytes first) (take_all_front text (text_of (line_if_any kept ++ refused ∷ [])) part
+              ∙ ap (take (length text + part)) (sym (text_of-append (lines_at_end Two taken) (line_if_any kept ++ refused ∷ [])) ∙ ap text_of (sym all)))),
         )
 
 -- ---- format 1
 
 -- a sink took the text of all lines
 pub lines_written : (name : GName) (started sink : SinkView) (refused : Option Line) (lines : List Line) → IsAt One sink.told (refused_lines refused)
-    → journal_of name sink refused ≡ after_lines (begun name started) lines → sink ≡ after_bytes started (text_of lines)
+    → journal_of name sink refused ≡ after_lines (new_journal name started) lines → sink ≡ after_bytes started (text_of lines)
 lines_written name started sink (Some refused) lines at seen = absurd (false≢true (sym (ap (λ (j : JournalView). j.failed) seen)))
 lines_written name started sink None lines at seen =
     λ i. record { told = told started.told sink.told at before shown i; faults = ap (λ (j : JournalView). j.faults) seen i }
@@ -200,7 +200,7 @@ lines_written name started sink None lines at seen =
     before : option_map (before_lines One) sink.told ≡ started.told
     before = ap (λ (j : JournalView). before_of j.target) seen
 
-    shown : option_map (λ (taken : Taken). lines_at_end One taken ++ []) sink.told ≡ option_map (λ (ls : List Line). ls ++ lines) (begun name started).lines
+    shown : option_map (λ (taken : Taken). lines_at_end One taken ++ []) sink.told ≡ option_map (λ (ls : List Line). ls ++ lines) (new_journal name started).lines
     shown = ap (λ (j : JournalView). j.lines) seen
 
     told : (old new : Option Taken) → IsAt One new [] → option_map (before_lines One) new ≡ old
@@ -219,7 +219,7 @@ lines_written name started sink None lines at seen =
 
 -- and where a line was refused, a front of the text of a front of them
 pub lines_cut_off : (name : GName) (started sink : SinkView) (refused : Option Line) (lines : List Line) → IsAt One sink.told (refused_lines refused)
-    → IsCutOff (begun name started) (journal_of name sink refused) lines
+    → IsCutOff (new_journal name started) (journal_of name sink refused) lines
     → (count : ℕ) × (count ≤ length lines) × IsFaultAfterFront started sink (text_of (take count lines))
 lines_cut_off name started sink None lines at cut = absurd (false≢true cut.failed)
 lines_cut_off name started sink (Some refused) lines at cut =

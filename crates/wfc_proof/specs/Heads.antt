@@ -6,14 +6,14 @@ use Rattle.std.specs.Str.{bytes_eq}
 use Rattle.wfc_proof.specs.Words.{spaced_words, with_spaces, decimal_within}
 use Rattle.wfc_proof.specs.declared.heads.Format.{Format}
 use Rattle.wfc_proof.specs.declared.heads.Format.TheVariants.{One, Two}
-use Rattle.wfc_proof.specs.declared.heads.Numbers.{Numbers}
+use Rattle.wfc_proof.specs.declared.heads.HeadNumbers.{HeadNumbers}
 use Rattle.wfc_proof.specs.declared.heads.Shape.{Shape}
 use Rattle.wfc_proof.specs.declared.text.LineFault.{LineFault}
 use Rattle.wfc_proof.specs.declared.text.LineFault.TheVariants.{BadLine}
 
 -- a line with its end
-abbrev pub ended : List ℕ → List ℕ
-ended text = text ++ 10 ∷ []
+abbrev pub with_line_end : List ℕ → List ℕ
+with_line_end text = text ++ 10 ∷ []
 
 -- the first line of a head
 abbrev pub format_text : Format → List ℕ
@@ -46,16 +46,16 @@ shape_text shape = with_spaces (shape_words shape)
 
 -- the head of format 1
 abbrev pub head_text : ℕ → ℕ → List ℕ
-head_text cells values = ended (format_text One) ++ ended (numbers_text cells values)
+head_text cells values = with_line_end (format_text One) ++ with_line_end (numbers_text cells values)
 
 -- the head of format 2
 abbrev pub head_2_text : Shape → ℕ → ℕ → List ℕ
 head_2_text shape cells values =
-    ended (format_text Two) ++ (ended (numbers_text cells values) ++ ended (shape_text shape))
+    with_line_end (format_text Two) ++ (with_line_end (numbers_text cells values) ++ with_line_end (shape_text shape))
 
 -- numbers of a head within their limit
-abbrev pub AreNumbers : Numbers → Type 0
-AreNumbers numbers = (numbers.cells < 2 ^ 32) × (numbers.values < 2 ^ 32)
+abbrev pub AreHeadNumbers : HeadNumbers → Type 0
+AreHeadNumbers numbers = (numbers.cells < 2 ^ 32) × (numbers.values < 2 ^ 32)
 
 -- a shape within its limits
 pub record IsShape (shape : Shape) : Type 0 where
@@ -76,12 +76,12 @@ abbrev pub head_word : List ℕ → Option ℕ
 head_word word = decimal_within (2 ^ 32 - 1) word
 
 -- the numbers with these parts, if they are both there
-abbrev pub numbers_with : Option ℕ → Option ℕ → Option Numbers
+abbrev pub numbers_with : Option ℕ → Option ℕ → Option HeadNumbers
 numbers_with (Some cells) (Some values) = Some (record { cells = cells; values = values })
 numbers_with _ _ = None
 
 -- the numbers that the words of a second line say
-abbrev pub numbers_of_words : List (List ℕ) → Option Numbers
+abbrev pub numbers_of_words : List (List ℕ) → Option HeadNumbers
 numbers_of_words (cells ∷ c ∷ values ∷ v ∷ []) =
     if bytes_eq cells (codes "cells")
     then (if bytes_eq values (codes "values") then numbers_with (head_word c) (head_word v) else None)
@@ -89,8 +89,8 @@ numbers_of_words (cells ∷ c ∷ values ∷ v ∷ []) =
 numbers_of_words _ = None
 
 -- the numbers that a second line says
-abbrev pub numbers_of : List ℕ → Result Numbers LineFault
-numbers_of bytes = ok_or (numbers_of_words (spaced_words bytes)) BadLine
+abbrev pub head_numbers : List ℕ → Result HeadNumbers LineFault
+head_numbers bytes = ok_or (numbers_of_words (spaced_words bytes)) BadLine
 
 -- the truth value that a word writes
 abbrev pub bit_word : List ℕ → Option Bool

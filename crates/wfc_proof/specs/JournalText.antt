@@ -1,7 +1,7 @@
 -- The text that a run leaves which doesn't close its proof, in each format.
 use Rattle.std.specs.Prelude.{◌≡◌, ℕ, List, [], ◌∷◌, ◌++◌}
 use Rattle.wfc_problem.specs.Network.{Network, in_base}
-use Rattle.wfc_proof.specs.Lines.{Spells}
+use Rattle.wfc_proof.specs.Lines.{SpellsNodes}
 use Rattle.wfc_proof.specs.Proof.{Proof, FollowsFrom, StopsThere, nodes}
 use Rattle.wfc_proof.specs.ProofText.{AreOfFormat, head_in}
 use Rattle.wfc_proof.specs.Telling.{text_of}
@@ -18,7 +18,7 @@ pub record IsOpenTextOf (P : Network) (shape : Shape) (format : Format) (proof :
   pub stops : StopsThere proof
   pub lines : List Line
   pub formed : AreOfFormat format lines
-  pub spells : Spells lines (nodes proof)
+  pub spells : SpellsNodes lines (nodes proof)
   pub text : bytes ≡ head_in format P shape ++ text_of (lines ++ last ∷ [])
 
 -- the bytes are the text of some such proof in either format

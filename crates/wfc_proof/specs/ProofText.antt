@@ -2,7 +2,7 @@
 use Rattle.std.specs.Prelude.{◌≡◌, ℕ, List, [], ◌∷◌, ◌++◌, ⊤}
 use Rattle.wfc_problem.specs.Network.{Network, values, in_base}
 use Rattle.wfc_proof.specs.Heads.{head_text, head_2_text}
-use Rattle.wfc_proof.specs.Lines.{Spells}
+use Rattle.wfc_proof.specs.Lines.{SpellsNodes}
 use Rattle.wfc_proof.specs.Proof.{Proof, Closes, nodes}
 use Rattle.wfc_proof.specs.Telling.{text_of}
 use Rattle.wfc_proof.specs.Text.{IsOfFormat1, IsOfFormat2}
@@ -33,7 +33,7 @@ pub record IsTextOf (P : Network) (shape : Shape) (format : Format) (proof : Pro
   pub closes : Closes P (in_base P) proof
   pub lines : List Line
   pub formed : AreOfFormat format lines
-  pub spells : Spells lines (nodes proof)
+  pub spells : SpellsNodes lines (nodes proof)
   pub text : bytes ≡ head_in format P shape ++ text_of (lines ++ End ∷ [])
 
 -- the bytes are the text of some proof in either format

@@ -5,18 +5,18 @@ use Rattle.std.specs.List.{flat_map}
 use Rattle.std.specs.Option.{option_map}
 use Rattle.std.specs.Borrow.{GName}
 use Rattle.wfc_outside.specs.Sink.{Taken, SinkView, after_bytes}
-use Rattle.wfc_proof.specs.Heads.{ended}
+use Rattle.wfc_proof.specs.Heads.{with_line_end}
 use Rattle.wfc_proof.specs.Journal.{JournalView, counted_as}
 use Rattle.wfc_proof.specs.ProofText.{IsOfFormat, AreOfFormat}
-use Rattle.wfc_proof.specs.Telling.{text_of, lines_at_end, target_of, IsAt, IsCut}
+use Rattle.wfc_proof.specs.Telling.{text_of, lines_at_end, target_of, IsAt, IsCutShort}
 use Rattle.wfc_proof.specs.Text.{line_text}
 use Rattle.wfc_proof.specs.declared.Line.{Line}
 use Rattle.wfc_proof.specs.declared.Line.TheVariants.{Remove, Span, Try, Empty, End, Found, Out}
 use Rattle.wfc_proof.specs.declared.heads.Format.TheVariants.{Two}
 
 -- the lines that lines count as
-abbrev pub counted : List Line → List Line
-counted lines = flat_map counted_as lines
+abbrev pub counted_lines : List Line → List Line
+counted_lines lines = flat_map counted_as lines
 
 -- a removal as a span of one value, and any other line as itself
 abbrev pub as_span : Line → Line
@@ -75,9 +75,9 @@ settled Found = Found ∷ []
 settled Out = Out ∷ []
 
 -- the line, if there is one
-abbrev pub lines_of : Option Line → List Line
-lines_of None = []
-lines_of (Some line) = line ∷ []
+abbrev pub line_if_any : Option Line → List Line
+line_if_any None = []
+line_if_any (Some line) = line ∷ []
 
 -- lines that were joined: those that can't grow, and the span behind them that may
 pub record Joined : Type 0 where
@@ -90,7 +90,7 @@ nothing_joined = record { done = []; kept = None }
 
 -- with a line behind them that is no part of the last span
 abbrev pub apart : Joined → Line → Joined
-apart joined line = record { done = joined.done ++ (lines_of joined.kept ++ settled line); kept = growing line }
+apart joined line = record { done = joined.done ++ (line_if_any joined.kept ++ settled line); kept = growing line }
 
 -- with a line behind them: the last span grew to this one, or, where there is none, the line is no part of it
 abbrev pub grown_or_apart : Joined → Line → Option Line → Joined
@@ -112,7 +112,7 @@ AreSettled lines = (join_on nothing_joined lines).kept ≡ None
 
 -- all of them
 abbrev pub all_joined : Joined → List Line
-all_joined joined = joined.done ++ lines_of joined.kept
+all_joined joined = joined.done ++ line_if_any joined.kept
 
 -- lines, their removals joined into spans as they are told: a removal goes into the span before it if it is of the same
 -- cell and direction and its value is the next one
@@ -123,7 +123,7 @@ in_spans lines = all_joined (join_on nothing_joined lines)
 -- their removals joined into spans
 abbrev pub IsCutInSpans : SinkView → SinkView → List Line → Type 0
 IsCutInSpans old new lines =
-    (count : ℕ) × (count ≤ length lines) × IsCut old new (text_of (in_spans (take count lines)))
+    (count : ℕ) × (count ≤ length lines) × IsCutShort old new (text_of (in_spans (take count lines)))
 
 -- lines with one more, which stands behind them, or is one span with the last of them
 abbrev pub AreWithOneMore : List Line → Line → List Line → Type 0
@@ -140,7 +140,7 @@ ending told = option_map (lines_at_end Two) told
 -- written yet, and then the refused line
 abbrev pub spans_of : GName → SinkView → Option Line → Option Line → JournalView
 spans_of name sink kept refused = record {
-  lines = option_map (λ (lines : List Line). counted (lines ++ (lines_of kept ++ lines_of refused))) (ending sink.told);
+  lines = option_map (λ (lines : List Line). counted_lines (lines ++ (line_if_any kept ++ line_if_any refused))) (ending sink.told);
   failed = is_some refused;
   faults = sink.faults;
   target = Some (target_of Two name sink);
@@ -149,7 +149,7 @@ spans_of name sink kept refused = record {
 -- what waits to be put: nothing before a line was refused, and then the span that isn't written and the refused line
 abbrev pub waiting : Option Line → Option Line → List Line
 waiting kept None = []
-waiting kept (Some refused) = lines_of kept ++ refused ∷ []
+waiting kept (Some refused) = line_if_any kept ++ refused ∷ []
 
 -- how the lines at the end of what was taken are joined, with those that aren't there
 abbrev pub joined_as : Option Line → Option Line → List Line → Joined
@@ -159,7 +159,7 @@ joined_as kept (Some refused) lines = apart (record { done = lines; kept = kept 
 -- all that was told is joined so
 abbrev pub AreJoined : Option (List Line) → Option Line → Option Line → Type 0
 AreJoined told kept refused =
-    option_map (λ (lines : List Line). join_on nothing_joined (counted (lines ++ (lines_of kept ++ lines_of refused)))) told
+    option_map (λ (lines : List Line). join_on nothing_joined (counted_lines (lines ++ (line_if_any kept ++ line_if_any refused)))) told
     ≡ option_map (joined_as kept refused) told
 
 -- whether a line is a span that doesn't end before it begins
@@ -192,17 +192,17 @@ pub record IsCutApart (old new : SinkView) (before : Option Line) (line : Line) 
   pub done : List Line
   pub first : Line
   pub rest : List Line
-  pub split : lines_of before ≡ done ++ lines_of after
-  pub left : lines_of after ++ line ∷ [] ≡ first ∷ rest
+  pub split : line_if_any before ≡ done ++ line_if_any after
+  pub left : line_if_any after ++ line ∷ [] ≡ first ∷ rest
   pub most : List Line
-  pub firm : lines_of before ++ settled line ≡ done ++ first ∷ most
+  pub firm : line_if_any before ++ settled line ≡ done ++ first ∷ most
   pub spans : is_kept after ≡ true
   pub formed : AreOfFormat Two done
   pub format : IsOfFormat Two first
-  pub cut : IsCut (after_bytes old (text_of done)) new (ended (line_text first))
+  pub cut : IsCutShort (after_bytes old (text_of done)) new (with_line_end (line_text first))
 
 -- the kept span and a line behind it that is no part of it were put, as far as they can't grow, and what may is kept
 pub record PutsApart (old new : SinkView) (before : Option Line) (line : Line) (after : Option Line) : Type 0 where
   pub kept : after ≡ growing line
-  pub formed : AreOfFormat Two (lines_of before ++ settled line)
-  pub put : new ≡ after_bytes old (text_of (lines_of before ++ settled line))
+  pub formed : AreOfFormat Two (line_if_any before ++ settled line)
+  pub put : new ≡ after_bytes old (text_of (line_if_any before ++ settled line))

@@ -6,7 +6,7 @@ use Rattle.std.specs.Option.{option_map}
 use Rattle.std.specs.Borrow.{GName}
 use Rattle.wfc_outside.specs.Count.{HasRisen}
 use Rattle.wfc_outside.specs.Sink.{Taken, SinkView, IsFaultAfterFront, after_bytes}
-use Rattle.wfc_proof.specs.Heads.{ended}
+use Rattle.wfc_proof.specs.Heads.{with_line_end}
 use Rattle.wfc_proof.specs.Journal.{JournalView, Target, counted_as}
 use Rattle.wfc_proof.specs.Text.{line_of, line_2_of, line_text}
 use Rattle.wfc_proof.specs.declared.Line.{Line}
@@ -16,9 +16,9 @@ use Rattle.wfc_proof.specs.declared.text.LineFault.{LineFault}
 
 -- the text of lines
 abbrev pub text_of : List Line → List ℕ
-text_of lines = flat_map (λ line. ended (line_text line)) lines
+text_of lines = flat_map (λ line. with_line_end (line_text line)) lines
 
--- what was read of a text: the bytes up to its last ended line that is none of the format, the
+-- what was read of a text: the bytes up to its last with_line_end line that is none of the format, the
 -- lines behind it, and the bytes
 -- of the line that didn't end
 pub record Reading : Type 0 where
@@ -31,10 +31,10 @@ abbrev pub line_in : Format → List ℕ → Result Line LineFault
 line_in One bytes = line_of bytes
 line_in Two bytes = line_2_of bytes
 
--- what was read after a line ended: one line more, or none where it is no line of the format
+-- what was read after a line with_line_end: one line more, or none where it is no line of the format
 abbrev pub and_line : Reading → Result Line LineFault → Reading
 and_line read (Ok line) = record { before = read.before; lines = read.lines ++ line ∷ []; part = [] }
-and_line read (Err fault) = record { before = read.before ++ (text_of read.lines ++ ended read.part); lines = []; part = [] }
+and_line read (Err fault) = record { before = read.before ++ (text_of read.lines ++ with_line_end read.part); lines = []; part = [] }
 
 -- what was read after one more byte
 abbrev pub read_byte : Format → Reading → ℕ → Reading
@@ -93,10 +93,10 @@ IsBare format told =
     (option_map (lines_at_end format) told ≡ option_map (λ (taken : Taken). let none : List Line = [] in none) told)
     × IsAt format told []
 
--- a journal of either format that was begun, over a sink that took all of this: it tells no line,
+-- a journal of either format that was new_journal, over a sink that took all of this: it tells no line,
 -- where its sink tells its bytes
-abbrev pub begun : GName → SinkView → JournalView
-begun name sink = record {
+abbrev pub new_journal : GName → SinkView → JournalView
+new_journal name sink = record {
   lines = option_map (λ (taken : Taken). let none : List Line = [] in none) sink.told;
   failed = false;
   faults = sink.faults;
@@ -104,7 +104,7 @@ begun name sink = record {
 }
 
 -- a fault was counted after the sink took a front of these bytes that isn't the whole
-pub record IsCut (old new : SinkView) (bytes : List ℕ) : Type 0 where
+pub record IsCutShort (old new : SinkView) (bytes : List ℕ) : Type 0 where
   pub n : ℕ
   pub less : n < length bytes
   pub front : new.told ≡ (after_bytes old (take n bytes)).told
@@ -117,7 +117,7 @@ IsFaultAfterLines old new lines =
 
 -- the bytes were put, or a front of them that isn't the whole and then a fault was counted
 abbrev pub PutsOrCuts : {T E : Type 0} → SinkView → SinkView → List ℕ → Result T E → Type 0
-PutsOrCuts old new bytes result = MatchResult result (λ _. new ≡ after_bytes old bytes) (λ _. IsCut old new bytes)
+PutsOrCuts old new bytes result = MatchResult result (λ _. new ≡ after_bytes old bytes) (λ _. IsCutShort old new bytes)
 
 -- the lines that a line counts as were put up to one, of which a front was put; it and those behind
 -- it are the refused line's
@@ -127,7 +127,7 @@ pub record IsCutAt (old new : SinkView) (line refused : Line) : Type 0 where
   pub rest : List Line
   pub split : counted_as line ≡ done ++ (first ∷ rest)
   pub left : counted_as refused ≡ first ∷ rest
-  pub cut : IsCut (after_bytes old (text_of done)) new (ended (line_text first))
+  pub cut : IsCutShort (after_bytes old (text_of done)) new (with_line_end (line_text first))
 
 -- the lines that a line counts as were put, or else it was cut off
 abbrev pub PutsCounted : {T : Type 0} → SinkView → SinkView → Line → Result T Line → Type 0

@@ -5,7 +5,7 @@ use Rattle.wfc_problem.specs.Network.{Network, values}
 use Rattle.wfc_proof.specs.Heads.{format_of, head_2_text}
 use Rattle.wfc_proof.specs.Proof.{Proof}
 use Rattle.wfc_proof.specs.ProofText.{IsTextOf}
-use Rattle.wfc_proof.specs.Spans.{all_joined, counted, in_spans, is_kept, join_on}
+use Rattle.wfc_proof.specs.Spans.{all_joined, counted_lines, in_spans, is_kept, join_on}
 use Rattle.wfc_proof.specs.Telling.{read_text, text_of}
 use Rattle.wfc_proof.specs.declared.Line.{Line}
 use Rattle.wfc_proof.specs.declared.heads.Format.{Format}
@@ -24,13 +24,13 @@ behind_line [] = []
 behind_line (byte ∷ bytes) = if byte == 10 then bytes else behind_line bytes
 
 -- the format that a first line names, and else the first
-abbrev pub named : Result Format LineFault → Format
-named (Ok format) = format
-named (Err fault) = One
+abbrev pub named_format : Result Format LineFault → Format
+named_format (Ok format) = format
+named_format (Err fault) = One
 
 -- the format of a text
 abbrev pub format_at : List ℕ → Format
-format_at bytes = named (format_of (line_at bytes))
+format_at bytes = named_format (format_of (line_at bytes))
 
 -- what stands behind the head of a text
 abbrev pub behind_head : Format → List ℕ → List ℕ
@@ -45,7 +45,7 @@ lines_in format bytes = (read_text format bytes).lines
 abbrev pub upgraded_text : Network → Shape → List ℕ → List ℕ
 upgraded_text P shape bytes =
     head_2_text shape P.cells (values P)
-    ++ text_of (in_spans (counted (lines_in (format_at bytes) bytes)))
+    ++ text_of (in_spans (counted_lines (lines_in (format_at bytes) bytes)))
 
 -- whatever proof the bytes are a text of, in either format, the text that is brought to format 2 is a text of it too
 abbrev pub HasUpgradedProofs : Network → Shape → List ℕ → Type 0
@@ -55,7 +55,7 @@ HasUpgradedProofs P shape bytes =
 
 -- what is still to be put of lines, behind a span that is kept
 abbrev pub spans_left : Option Line → List Line → List Line
-spans_left kept lines = all_joined (join_on (record { done = []; kept = kept }) (counted lines))
+spans_left kept lines = all_joined (join_on (record { done = []; kept = kept }) (counted_lines lines))
 
 -- a line was taken: of what is to be put, these lines were
 pub record TakesLine (old new : SinkView) (before : Option Line) (line : Line) (after : Option Line) : Type 0 where

@@ -5,12 +5,12 @@ use Rattle.std.specs.Str.{bytes_eq}
 use Rattle.std.specs.Str.Parse.{digits_value}
 
 -- whether a byte is the blank
-abbrev pub is_space : ℕ → Bool
-is_space byte = byte == 32
+abbrev pub is_blank_byte : ℕ → Bool
+is_blank_byte byte = byte == 32
 
 -- the words of a line: what stands between its blanks, which may be nothing
 abbrev pub spaced_words : List ℕ → List (List ℕ)
-spaced_words line = slice_split is_space line
+spaced_words line = slice_split is_blank_byte line
 
 -- words with one blank between each two
 abbrev pub with_spaces : List (List ℕ) → List ℕ

@@ -3,8 +3,8 @@
 ghost use Rattle.std.specs.Prelude.{◌≡◌, ◌-◌, ◌^◌, ◌≤◌, ◌+◌, ◌∷◌, ◌++◌, [], decimal, length};
 ghost use Rattle.wfc_outside.specs.Sink.{Puts};
 ghost use Rattle.wfc_proof.specs.Words.{decimal_within};
-ghost use Rattle.wfc_proof.specs.Heads.{ended, format_text, numbers_text, shape_text, head_text, head_2_text};
-ghost use Rattle.wfc_proof.specs.Heads.{format_of, numbers_of, numbers_of_words, shape_of, shape_of_words, shape_with};
+ghost use Rattle.wfc_proof.specs.Heads.{with_line_end, format_text, numbers_text, shape_text, head_text, head_2_text};
+ghost use Rattle.wfc_proof.specs.Heads.{format_of, head_numbers, numbers_of_words, shape_of, shape_of_words, shape_with};
 ghost use Rattle.wfc_proof.specs.Heads.{head_word, bit_word, bit};
 
 use crate::gathered::Gathered;
@@ -22,7 +22,7 @@ pub enum Format {
 
 /// The numbers of a head: how many cells and values the problem has.
 #[derive(Clone, Copy, Debug, PartialEq, Eq)]
-pub struct Numbers {
+pub struct HeadNumbers {
     pub cells: u32,
     pub values: u32,
 }
@@ -54,14 +54,14 @@ pub fn read_format(bytes: &[u8]) -> Result<Format, LineFault>
 }
 
 /// The numbers that a second line says, each at most 4,294,967,295.
-pub fn read_numbers(bytes: &[u8]) -> Result<Numbers, LineFault>
-    ensures exact { result ≡ numbers_of bytes.now }
+pub fn read_numbers(bytes: &[u8]) -> Result<HeadNumbers, LineFault>
+    ensures exact { result ≡ head_numbers bytes.now }
 {
     numbers_of_words(Words::new(bytes)).ok_or(LineFault::BadLine)
 }
 
 /// The numbers that the words of a second line say.
-fn numbers_of_words(mut words: Words<'_>) -> Option<Numbers>
+fn numbers_of_words(mut words: Words<'_>) -> Option<HeadNumbers>
     ensures exact { result ≡ numbers_of_words words.entry }
 {
     let before_cells = words.next()?;
@@ -76,7 +76,7 @@ fn numbers_of_words(mut words: Words<'_>) -> Option<Numbers>
     }
     let cells = decimal32(cells)?;
     let values = decimal32(values)?;
-    Some(Numbers { cells, values })
+    Some(HeadNumbers { cells, values })
 }
 
 /// The shape that the third line of a head of format 2 says: its `n` is at most 6, its sides are at most 4,294,967,295,
@@ -189,7 +189,7 @@ pub fn write_header_2<S: Sink>(
 /// Gathers the first line of a head.
 fn gather_format(text: &mut Gathered, format: Format)
     requires none { text.old ≡ [] }
-    ensures gathered { text.new ≡ ended (format_text format) }
+    ensures gathered { text.new ≡ with_line_end (format_text format) }
     ensures short { length text.new ≤ 17 }
 {
     match format {
@@ -202,7 +202,7 @@ fn gather_format(text: &mut Gathered, format: Format)
 /// Gathers the second line of a head.
 fn gather_numbers(text: &mut Gathered, cells: u32, values: u16)
     requires room { length text.old ≤ 17 }
-    ensures gathered { text.new ≡ text.old ++ ended (numbers_text cells values) }
+    ensures gathered { text.new ≡ text.old ++ with_line_end (numbers_text cells values) }
     ensures short { length text.new ≤ 64 }
 {
     text.push(b"cells");
@@ -216,7 +216,7 @@ fn gather_numbers(text: &mut Gathered, cells: u32, values: u16)
 /// Gathers the third line of a head of format 2.
 fn gather_shape(text: &mut Gathered, shape: &Shape)
     requires room { length text.old ≤ 64 }
-    ensures gathered { text.new ≡ text.old ++ ended (shape_text shape.now) }
+    ensures gathered { text.new ≡ text.old ++ with_line_end (shape_text shape.now) }
 {
     text.push(b"for");
     text.push_number(shape.n);

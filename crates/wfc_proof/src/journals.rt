@@ -6,7 +6,7 @@ ghost use Rattle.wfc_problem.specs.Network.{values};
 ghost use Rattle.wfc_proof.specs.Heads.{head_text, head_2_text};
 ghost use Rattle.wfc_proof.specs.Journal.{IsWhole, counted_as, after_line, IsRefused};
 ghost use Rattle.wfc_proof.specs.Spans.{AreJoined, as_span, ending, is_kept, join_with, waiting};
-ghost use Rattle.wfc_proof.specs.Telling.{IsAt, IsBare, begun, refused_lines};
+ghost use Rattle.wfc_proof.specs.Telling.{IsAt, IsBare, new_journal, refused_lines};
 ghost use Rattle.wfc_proof.specs.declared.heads.Format.TheVariants.{One, Two};
 
 use crate::heads::{write_header, write_header_2};
@@ -31,8 +31,9 @@ impl<'s, S: Sink> ProofJournal<'s, S> {
     /// Writes the head, and tells no line yet. After `Failed` the sink has taken a front of the head, and has counted a
     /// fault: no clause can say it, since the sink is lent to what is answered. `write_header` and `behind_head` say all.
     pub fn begin(sink: &'s mut S, problem: &Problem) -> Result<ProofJournal<'s, S>, JournalFault>
-        ensures begun { IfOk result (λ journal. told_by S.Sink journal ≡ begun sink.entry.ghost_name
-            (after_bytes (S.seen sink.old) (head_text problem.now.cells (values problem.now)))) }
+        ensures begun { IfOk result (λ journal. told_by S.Sink journal ≡ new_journal
+            sink.entry.ghost_name (after_bytes (S.seen sink.old) (head_text problem.now.cells
+            (values problem.now)))) }
     {
         match put_head(sink, problem.cells(), problem.values()) {
             Ok(()) => Ok(ProofJournal::behind_head(sink)),
@@ -43,7 +44,7 @@ impl<'s, S: Sink> ProofJournal<'s, S> {
     /// A journal over a sink that has taken a head. It writes nothing yet.
     pub fn behind_head(sink: &'s mut S) -> ProofJournal<'s, S>
         requires bare { IsBare One (S.seen sink.old).told }
-        ensures begun { told_by S.Sink result ≡ begun sink.entry.ghost_name (S.seen sink.old) }
+        ensures begun { told_by S.Sink result ≡ new_journal sink.entry.ghost_name (S.seen sink.old) }
     {
         ProofJournal {
             sink,
@@ -104,7 +105,7 @@ impl<'s, S: Sink> SpanJournal<'s, S> {
     ) -> Result<SpanJournal<'s, S>, JournalFault>
         requires limit { shape.now.n ≤ 6 }
         ensures begun { IfOk result (λ journal. spans_told_by S.Sink journal
-            ≡ begun sink.entry.ghost_name (after_bytes (S.seen sink.old)
+            ≡ new_journal sink.entry.ghost_name (after_bytes (S.seen sink.old)
             (head_2_text shape.now problem.now.cells (values problem.now)))) }
     {
         match put_head_2(sink, *shape, problem.cells(), problem.values()) {
@@ -117,7 +118,7 @@ impl<'s, S: Sink> SpanJournal<'s, S> {
     pub fn behind_head(sink: &'s mut S) -> SpanJournal<'s, S>
         requires bare { IsBare Two (S.seen sink.old).told }
         ensures begun { spans_told_by S.Sink result
-            ≡ begun sink.entry.ghost_name (S.seen sink.old) }
+            ≡ new_journal sink.entry.ghost_name (S.seen sink.old) }
     {
         SpanJournal {
             sink,

@@ -9,23 +9,23 @@ ghost use Rattle.wfc_problem.specs.declared.Literal.TheVariants.{Is, Not};
 ghost use Rattle.wfc_problem.specs.Rounds.{pairs, depth_of};
 ghost use Rattle.wfc_proof.specs.Checker.{HasOpenBranch, line_steps, node_fault};
 ghost use Rattle.wfc_proof.specs.Checker.Point.{going, closed, ended};
-ghost use Rattle.wfc_proof.specs.Lines.{AreClosing, AreEnding, AreLeftOpen, spelled};
+ghost use Rattle.wfc_proof.specs.Lines.{AreClosing, AreEnding, AreLeftOpen, nodes_of_lines};
 ghost use Rattle.wfc_proof.specs.Proof.{IsLeastStanding, IsLeastSupport, Proof, Closes, nodes, IsRemoval, IsSplit};
 ghost use Rattle.wfc_proof.specs.Proof.Node.{removes, splits, empties};
 ghost use Rattle.wfc_proof.specs.Proof.Proof.{empty, remove, split, left_off};
 ghost use Rattle.wfc_proof.specs.Small.{dead, dead_text, dead_text_apart, dead_text_joined, from_base, greatest_shape, journal_with};
 ghost use Rattle.wfc_proof.specs.Small.{wide_fault, wide_fault_after, wrapped_shape};
 ghost use Rattle.wfc_proof.specs.Spans.{IsCutInSpans, AreWithOneMore, AreSettled, IsSpanning, in_spans, spans_of};
-ghost use Rattle.wfc_proof.specs.Telling.{IsFaultAfterLines, IsAt, begun, journal_of, read_text, refused_lines, text_of};
+ghost use Rattle.wfc_proof.specs.Telling.{IsFaultAfterLines, IsAt, new_journal, journal_of, read_text, refused_lines, text_of};
 ghost use Rattle.std.specs.Borrow.{GName};
 ghost use Rattle.wfc_outside.specs.Sink.{SinkView, after_bytes};
 ghost use Rattle.wfc_proof.specs.Text.{line_text, line_of, line_2_of, IsOfFormat1, IsOfFormat2};
 ghost use Rattle.wfc_proof.specs.Upgrade.{upgraded_text};
-ghost use Rattle.wfc_proof.specs.Heads.{AreNumbers, IsShape, format_of, format_text, head_text, head_2_text, numbers_of};
+ghost use Rattle.wfc_proof.specs.Heads.{AreHeadNumbers, IsShape, format_of, format_text, head_text, head_2_text, head_numbers};
 ghost use Rattle.wfc_proof.specs.Heads.{numbers_text, shape_of, shape_text};
 ghost use Rattle.wfc_proof.specs.declared.heads.Format.{Format};
 ghost use Rattle.wfc_proof.specs.declared.heads.Format.TheVariants.{One, Two};
-ghost use Rattle.wfc_proof.specs.declared.heads.Numbers.{Numbers};
+ghost use Rattle.wfc_proof.specs.declared.heads.HeadNumbers.{HeadNumbers};
 ghost use Rattle.wfc_proof.specs.declared.heads.Shape.{Shape};
 ghost use Rattle.wfc_proof.specs.declared.text.LineFault.TheVariants.{BadLine};
 ghost use Rattle.wfc_proof.specs.declared.Reject.TheVariants.{NotStanding, HasSupport, NoNeighbour, NotEmpty, AfterEnd};
@@ -148,8 +148,8 @@ pub fn lines_are_their_texts()
 pub fn heads_are_their_texts()
     ensures format { (bytes : List ℕ) (format : Format)
         → (format_of bytes ≡ Ok format) ↔ (bytes ≡ format_text format) }
-    ensures numbers { (bytes : List ℕ) (numbers : Numbers) → (numbers_of bytes ≡ Ok numbers)
-        ↔ ((bytes ≡ numbers_text numbers.cells numbers.values) × AreNumbers numbers) }
+    ensures numbers { (bytes : List ℕ) (numbers : HeadNumbers) → (head_numbers bytes ≡ Ok numbers)
+        ↔ ((bytes ≡ numbers_text numbers.cells numbers.values) × AreHeadNumbers numbers) }
     ensures shape { (bytes : List ℕ) (shape : Shape) →
         (shape_of bytes ≡ Ok shape) ↔ ((bytes ≡ shape_text shape) × IsShape shape) }
 {}
@@ -196,7 +196,7 @@ pub fn proofs_by_example()
 pub fn nodes_by_example()
     ensures tree { nodes (split 0 1 (remove 0 1 2 (empty 0)) (remove 3 0 1 left_off))
         ≡ splits 0 1 ∷ removes 0 1 2 ∷ empties 0 ∷ removes 3 0 1 ∷ [] }
-    ensures spelled { spelled (Span 3 1 3 2 ∷ Try 4 5 ∷ Remove 1 2 3 ∷ [])
+    ensures spelled { nodes_of_lines (Span 3 1 3 2 ∷ Try 4 5 ∷ Remove 1 2 3 ∷ [])
         ≡ removes 3 1 2 ∷ removes 3 2 2 ∷ removes 3 3 2 ∷ splits 4 5 ∷ removes 1 2 3 ∷ [] }
 {}
 
@@ -237,10 +237,10 @@ pub fn readings_by_example()
 pub fn heads_by_example()
     ensures format { map format_of (codes "wfc-refutation 1" ∷ codes "wfc-refutation 2"
         ∷ codes "wfc-refutation 3" ∷ []) ≡ Ok One ∷ Ok Two ∷ Err BadLine ∷ [] }
-    ensures numbers { numbers_of (codes "cells 12 values 4294967295")
+    ensures numbers { head_numbers (codes "cells 12 values 4294967295")
         ≡ Ok (record { cells = 12; values = 4294967295 }) }
-    ensures zero_first { numbers_of (codes "cells 02 values 1") ≡ Err BadLine }
-    ensures exchanged { numbers_of (codes "values 2 cells 1") ≡ Err BadLine }
+    ensures zero_first { head_numbers (codes "cells 02 values 1") ≡ Err BadLine }
+    ensures exchanged { head_numbers (codes "values 2 cells 1") ≡ Err BadLine }
     ensures shape { shape_of (codes "for 2 3 4 1 8 1 0") ≡ Ok wrapped_shape }
     ensures too_large { map shape_of (codes "for 7 3 4 1 8 1 0" ∷ codes "for 2 3 4 1 256 1 0"
         ∷ codes "for 2 3 4 1 8 2 0" ∷ []) ≡ Err BadLine ∷ Err BadLine ∷ Err BadLine ∷ [] }
@@ -251,8 +251,11 @@ pub fn heads_by_example()
 
 /// What is read of a text, in each format: behind its last line that is none of the format.
 pub fn texts_are_read()
-    ensures told { read_text One (codes "r 1\nr 0 2 3\nx 7\nr 1") ≡ record { before = codes "r 1\n";
-        lines = Remove 0 2 3 ∷ Empty 7 ∷ []; part = codes "r 1" } }
+    ensures told { read_text One (codes "r 1\nr 0 2 3\nx 7\nr 1") ≡ record {
+      before = codes "r 1\n";
+      lines = Remove 0 2 3 ∷ Empty 7 ∷ [];
+      part = codes "r 1";
+    } }
     ensures other_format { read_text Two (codes "r 0 2 3\nr 0 2 4 3\n")
         ≡ record { before = codes "r 0 2 3\n"; lines = Span 0 2 4 3 ∷ []; part = [] } }
     ensures anew { read_text One (codes "t 4 5\ncells 12 values 3\n")
@@ -276,19 +279,19 @@ pub fn one_more_by_example()
 pub fn sinks_take_what_is_told()
     ensures lines { (name : GName) (started sink : SinkView) (refused : Option Line)
         (lines : List Line) → IsAt One sink.told (refused_lines refused)
-        → journal_of name sink refused ≡ after_lines (begun name started) lines
+        → journal_of name sink refused ≡ after_lines (new_journal name started) lines
         → sink ≡ after_bytes started (text_of lines) }
     ensures lines_cut_off { (name : GName) (started sink : SinkView) (refused : Option Line)
         (lines : List Line) → IsAt One sink.told (refused_lines refused)
-        → IsCutOff (begun name started) (journal_of name sink refused) lines
+        → IsCutOff (new_journal name started) (journal_of name sink refused) lines
         → IsFaultAfterLines started sink lines }
     ensures spans { (name : GName) (started sink : SinkView) (kept refused : Option Line)
         (lines : List Line) → IsSpanning sink kept refused → AreSettled lines
-        → spans_of name sink kept refused ≡ after_lines (begun name started) lines
+        → spans_of name sink kept refused ≡ after_lines (new_journal name started) lines
         → sink ≡ after_bytes started (text_of (in_spans lines)) }
     ensures spans_cut_off { (name : GName) (started sink : SinkView) (kept refused : Option Line)
         (lines : List Line) → IsSpanning sink kept refused
-        → IsCutOff (begun name started) (spans_of name sink kept refused) lines
+        → IsCutOff (new_journal name started) (spans_of name sink kept refused) lines
         → IsCutInSpans started sink lines }
 {}
 

@@ -20,7 +20,7 @@ mod words;
 mod writing;
 
 pub use heads::{
-    Format, Numbers, Shape, read_format, read_numbers, read_shape, write_header, write_header_2,
+    Format, HeadNumbers, Shape, read_format, read_numbers, read_shape, write_header, write_header_2,
 };
 pub use journals::{ProofJournal, SpanJournal};
 pub use text::{LineFault, read_line, read_line_2};

@@ -5,7 +5,7 @@ ghost use Rattle.std.specs.Prelude.{◌≡◌, List, [], ◌∷◌, ◌++◌, No
 ghost use Rattle.std.specs.List.{AllByRecursion};
 ghost use Rattle.wfc_proof.specs.Joins.{AreSpansOf};
 ghost use Rattle.wfc_proof.specs.Journal.{IsWhole};
-ghost use Rattle.wfc_proof.specs.Lines.{spelled};
+ghost use Rattle.wfc_proof.specs.Lines.{nodes_of_lines};
 ghost use Rattle.wfc_proof.specs.Spans.{AreWithOneMore, as_span, in_spans, one_span};
 ghost use Rattle.wfc_proof.specs.declared.Line.{Line};
 ghost use Rattle.wfc_proof.specs.declared.Line.TheVariants.{Remove, Span, Try, Empty, End, Found, Out};
@@ -14,7 +14,7 @@ ghost use Rattle.wfc_proof.specs.declared.Line.TheVariants.{Remove, Span, Try, E
 /// and no removal is left that is no span. One more line stands behind them, or goes into the last.
 pub fn joined_lines_spell()
     ensures spell { (lines : List Line) → AllByRecursion IsWhole lines
-        → spelled (in_spans lines) ≡ spelled lines }
+        → nodes_of_lines (in_spans lines) ≡ nodes_of_lines lines }
     ensures apart { (lines front back : List Line) (a b : Line)
         → in_spans lines ≡ front ++ a ∷ b ∷ back → one_span (as_span a) (as_span b) ≡ None }
     ensures spans { (lines : List Line) → map as_span (in_spans lines) ≡ in_spans lines }

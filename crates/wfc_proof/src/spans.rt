@@ -1,7 +1,7 @@
 //! Removals joined into spans, and what is put of them.
 
 ghost use Rattle.std.specs.Prelude.{◌≡◌, ◌++◌, ◌∷◌, [], IfOk, IfErr, None, Some, true};
-ghost use Rattle.wfc_proof.specs.Heads.{ended};
+ghost use Rattle.wfc_proof.specs.Heads.{with_line_end};
 ghost use Rattle.wfc_proof.specs.Journal.{IsWhole, counted_as};
 ghost use Rattle.wfc_proof.specs.ProofText.{IsOfFormat};
 ghost use Rattle.wfc_proof.specs.Spans.{as_span, join_with, is_kept, is_span, IsCutApart, PutsApart};
@@ -72,7 +72,8 @@ pub(crate) fn joined(kept: Option<Line>, line: Line) -> Option<Line>
 fn put_line<S: Sink>(sink: &mut S, line: Line) -> Result<(), SinkFault>
     requires whole { IsWhole line }
     requires spelled { as_span line ≡ line }
-    ensures put { PutsOrCuts (S.seen sink.old) (S.seen sink.new) (ended (line_text line)) result }
+    ensures put { PutsOrCuts (S.seen sink.old) (S.seen sink.new) (with_line_end (line_text line))
+        result }
     ensures format { IsOfFormat Two line }
 {
     match line {

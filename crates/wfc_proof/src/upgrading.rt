@@ -4,7 +4,7 @@ ghost use Rattle.std.specs.Prelude.{◌≡◌, ◌≤◌, ◌<◌, ℕ, List, le
 ghost use Rattle.wfc_outside.specs.Sink.{Puts};
 ghost use Rattle.wfc_proof.specs.Journal.{IsWhole};
 ghost use Rattle.wfc_proof.specs.ProofText.{IsProofText};
-ghost use Rattle.wfc_proof.specs.Spans.{counted, in_spans, is_kept, lines_of};
+ghost use Rattle.wfc_proof.specs.Spans.{counted_lines, in_spans, is_kept, line_if_any};
 ghost use Rattle.wfc_proof.specs.Telling.{PutsOrCuts, line_in, text_of};
 ghost use Rattle.wfc_proof.specs.Upgrade.{HasUpgradedProofs, TakesFront, TakesLine, behind_head, behind_line, format_at, line_at};
 ghost use Rattle.wfc_proof.specs.Upgrade.{lines_in, upgraded_text};
@@ -60,7 +60,7 @@ fn upgrade_proof<S: Sink>(bytes: &[u8], sink: &mut S) -> Result<(), SinkFault>
     requires lines { text_of
         (lines_in (format_at bytes.now) (behind_head (format_at bytes.now) bytes.now))
         ≡ behind_head (format_at bytes.now) bytes.now }
-    ensures put { Puts (S.seen sink.old) (S.seen sink.new) (text_of (in_spans (counted
+    ensures put { Puts (S.seen sink.old) (S.seen sink.new) (text_of (in_spans (counted_lines
         (lines_in (format_at bytes.now) (behind_head (format_at bytes.now) bytes.now))))) result }
 {
     let format = format_at(bytes);
@@ -97,7 +97,7 @@ fn behind_head(format: Format, bytes: &[u8]) -> &[u8]
 fn upgrade_lines<S: Sink>(bytes: &[u8], format: Format, sink: &mut S) -> Result<(), SinkFault>
     requires lines { text_of (lines_in format bytes.now) ≡ bytes.now }
     ensures put { Puts (S.seen sink.old) (S.seen sink.new)
-        (text_of (in_spans (counted (lines_in format bytes.now)))) result }
+        (text_of (in_spans (counted_lines (lines_in format bytes.now)))) result }
 {
     let mut rest = bytes;
     let mut kept = None;
@@ -160,7 +160,7 @@ fn take_line<S: Sink>(
 /// Puts the kept span, if there is one.
 fn put_kept<S: Sink>(sink: &mut S, kept: Option<Line>) -> Result<(), SinkFault>
     requires kept { is_kept kept ≡ true }
-    ensures put { PutsOrCuts (S.seen sink.old) (S.seen sink.new) (text_of (lines_of kept)) result }
+    ensures put { PutsOrCuts (S.seen sink.old) (S.seen sink.new) (text_of (line_if_any kept)) result }
 {
     match kept {
         Some(span) => write_line(sink, span),

@@ -3,7 +3,7 @@
 ghost use Rattle.std.specs.Prelude.{◌≡◌, ◌<◌, ◌^◌, ◌-◌, ◌∷◌, [], length, position};
 ghost use Rattle.std.specs.Iterator.{YieldsFirstBy, item_count};
 ghost use Rattle.std.specs.Str.{bytes_eq};
-ghost use Rattle.wfc_proof.specs.Words.{is_space, spaced_words, decimal_within, has_zero_first};
+ghost use Rattle.wfc_proof.specs.Words.{is_blank_byte, spaced_words, decimal_within, has_zero_first};
 
 use std::marker::Model;
 use wfc_text::number;
@@ -61,7 +61,7 @@ ghost use Rattle.wfc_proof.specs.WordsLeft.{words_left};
 
 /// The place of the first blank.
 fn first_space(text: &[u8]) -> Option<usize>
-    ensures first { result ≡ position is_space text.now }
+    ensures first { result ≡ position is_blank_byte text.now }
 {
     text.iter().position(|byte| *byte == b' ')
 }

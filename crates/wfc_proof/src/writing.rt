@@ -4,7 +4,7 @@ ghost use Rattle.std.specs.Prelude.{◌≡◌, ◌≤◌, ◌+◌, ◌∷◌, �
 ghost use Rattle.wfc_proof.specs.Journal.{IsWhole, counted_as};
 ghost use Rattle.wfc_proof.specs.ProofText.{AreOfFormat};
 ghost use Rattle.wfc_proof.specs.Text.{line_text};
-ghost use Rattle.wfc_proof.specs.Heads.{ended};
+ghost use Rattle.wfc_proof.specs.Heads.{with_line_end};
 ghost use Rattle.wfc_proof.specs.Telling.{PutsOrCuts, PutsCounted};
 ghost use Rattle.wfc_proof.specs.declared.Line.TheVariants.{Span};
 ghost use Rattle.wfc_proof.specs.declared.heads.Format.TheVariants.{One};
@@ -17,7 +17,8 @@ use wfc_outside::{Sink, SinkFault};
 /// taken a front of it that isn't the whole. It takes no memory.
 pub fn write_line<S: Sink>(sink: &mut S, line: Line) -> Result<(), SinkFault>
     requires whole { IsWhole line }
-    ensures put { PutsOrCuts (S.seen sink.old) (S.seen sink.new) (ended (line_text line)) result }
+    ensures put { PutsOrCuts (S.seen sink.old) (S.seen sink.new) (with_line_end (line_text line))
+        result }
 {
     let mut text = Gathered::new();
     gather_line(&mut text, line);

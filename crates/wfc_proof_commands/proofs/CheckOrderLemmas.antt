@@ -20,14 +20,14 @@ use Rattle.wfc_proof_commands.specs.ProofKind.{ProofKind}
 use Rattle.wfc_proof.specs.declared.heads.Shape.{Shape}
 use Rattle.wfc_proof_commands.specs.CheckOrder.{check_order}
 use Rattle.wfc_proof_commands.specs.CheckTask.{CheckTask, check, check_plan}
-use Rattle.wfc_proof_commands.specs.Checking.{judged, refutation_name, refutation_plan, verdict_in}
-use Rattle.wfc_proof_commands.specs.TextStages.{IsTextFault, IsTextOf, IsTextTooLong}
+use Rattle.wfc_proof_commands.specs.Checking.{refutation_answer, refutation_name, refutation_plan, verdict_in}
+use Rattle.wfc_proof_commands.specs.TextStages.{IsTextFault, IsTextStage, IsTextTooLong}
 use Rattle.wfc_words.specs.RequestView.{RequestView}
 
 -- ---- refutations
 
 -- only a text that is too long is refused
-faults_judged : (shape : Shape) (P : Network) (text : List ℕ) (files : List File) → Faults (step (judged shape P text)) files (IsTextTooLong shape P text)
+faults_judged : (shape : Shape) (P : Network) (text : List ℕ) (files : List File) → Faults (step (refutation_answer shape P text)) files (IsTextTooLong shape P text)
 faults_judged shape P text files fault = (to (checked P shape text) refl, from)
   where
     by_answer : (answer : Result (Unit {0}) CheckFault) → checked P shape text ≡ answer → outcome (step (verdict_in answer)) files ≡ Err fault → IsTextTooLong shape P text fault
@@ -42,14 +42,14 @@ faults_judged shape P text files fault = (to (checked P shape text) refl, from)
     by_answer (Err checks.NoMemory) was is = absurd (cc (is))
     by_answer (Err (checks.OptionsDiffer found)) was is = absurd (cc (is))
 
-    to : (answer : Result (Unit {0}) CheckFault) → checked P shape text ≡ answer → outcome (step (judged shape P text)) files ≡ Err fault → IsTextTooLong shape P text fault
+    to : (answer : Result (Unit {0}) CheckFault) → checked P shape text ≡ answer → outcome (step (refutation_answer shape P text)) files ≡ Err fault → IsTextTooLong shape P text fault
     to answer was is = by_answer answer was (subst (λ a. outcome (step (verdict_in a)) files ≡ Err fault) was is)
 
-    from : IsTextTooLong shape P text fault → outcome (step (judged shape P text)) files ≡ Err fault
+    from : IsTextTooLong shape P text fault → outcome (step (refutation_answer shape P text)) files ≡ Err fault
     from has = ap (λ a. outcome (step (verdict_in a)) files) has.long ∙ ap (λ f. let end : Result (Option CheckFault) Fault = Err f in end) (sym has.is)
 
 abbrev text_stages : Shape → RequestView → List File → Network → List TaskStage
-text_stages shape asked files P = IsMissingFault Refutation files (refutation_name asked) ∷ IsTextOf shape asked files P ∷ []
+text_stages shape asked files P = IsMissingFault Refutation files (refutation_name asked) ∷ IsTextStage shape asked files P ∷ []
 
 faults_refutation : (shape : Shape) (asked : RequestView) (files : List File) (P : Network) → Faults (refutation_plan shape asked P) files (IsFirstFault (text_stages shape asked files P))
 faults_refutation shape asked files P fault = by_file (file_of files (refutation_name asked)) refl
@@ -68,7 +68,7 @@ faults_refutation shape asked files P fault = by_file (file_of files (refutation
         from (inr (order, _)) = absurd (order (Unread Refutation reading.Missing) (record { lacking = was; is = refl }))
     by_file (Some text) was = (to, from)
       where
-        as_step : outcome (refutation_plan shape asked P) files ≡ outcome (step (judged shape P text)) files
+        as_step : outcome (refutation_plan shape asked P) files ≡ outcome (step (refutation_answer shape P text)) files
         as_step = rw was refl
 
         to : outcome (refutation_plan shape asked P) files ≡ Err fault → IsFirstFault (text_stages shape asked files P) fault
@@ -88,8 +88,8 @@ faults_check space is_kind asked files =
     (λ P was.
     let text : Faults (refutation_plan (space.shape_of asked) asked P) files (IsFirstFault later)
     = faults_as (refutation_plan (space.shape_of asked) asked P) files (IsFirstFault (text_stages (space.shape_of asked) asked files P)) (IsFirstFault later)
-    (same_first (IsMissingFault Refutation files (refutation_name asked)) (IsMissingFault Refutation files (refutation_name asked)) (IsTextOf (space.shape_of asked) asked files P ∷ []) (IsTextFault space asked files ∷ [])
+    (same_first (IsMissingFault Refutation files (refutation_name asked)) (IsMissingFault Refutation files (refutation_name asked)) (IsTextStage (space.shape_of asked) asked files P ∷ []) (IsTextFault space asked files ∷ [])
     (same_self (IsMissingFault Refutation files (refutation_name asked)))
-    (same_first (IsTextOf (space.shape_of asked) asked files P) (IsTextFault space asked files) [] [] (same_problem space is_kind asked files P (λ other. IsTextOf (space.shape_of asked) asked files other) was) (same_self (IsFirstFault []))))
+    (same_first (IsTextStage (space.shape_of asked) asked files P) (IsTextFault space asked files) [] [] (same_problem space is_kind asked files P (λ other. IsTextStage (space.shape_of asked) asked files other) was) (same_self (IsFirstFault []))))
     (faults_refutation (space.shape_of asked) asked files P) in
     faults_group (refutation_plan (space.shape_of asked) asked P) (λ found. let end : Plan CheckTask = done (check found) in end) files later [] text (λ found said. faults_none (check found) files))

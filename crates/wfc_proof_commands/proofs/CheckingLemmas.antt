@@ -17,7 +17,7 @@ use Rattle.wfc_proof_commands.proofs.ProofKindLemmas.{IsProofKind}
 use Rattle.wfc_proof_commands.specs.ProofKind.{ProofKind}
 use Rattle.wfc_proof_commands.specs.CheckGiven.{IsCheckTask}
 use Rattle.wfc_proof_commands.specs.CheckTask.{CheckTask, check, check_plan}
-use Rattle.wfc_proof_commands.specs.Checking.{found_in, judged, refutation_name, refutation_plan, verdict_in}
+use Rattle.wfc_proof_commands.specs.Checking.{found_in, refutation_answer, refutation_name, refutation_plan, verdict_in}
 use Rattle.wfc_words.specs.RequestView.{RequestView}
 
 -- the answer to the bytes of a file
@@ -25,8 +25,8 @@ of_file : (shape : Shape) (asked : RequestView) (P : Network) (old new : FolderV
     → Goes (refutation_plan shape asked P) old new (refused (verdict_in answer))
 of_file shape asked P old new answer of =
     subst (λ (f : FolderView). Goes (refutation_plan shape asked P) old f (refused (verdict_in answer))) (sym of.same)
-    (goes_read Refutation (refutation_name asked) None (λ text. step (judged shape P text)) old old of.bytes (refused (verdict_in answer)) (record { told = of.told; within = refl })
-    (goes_step (judged shape P of.bytes) (verdict_in answer) old (inl (ap verdict_in (sym of.is)))))
+    (goes_read Refutation (refutation_name asked) None (λ text. step (refutation_answer shape P text)) old old of.bytes (refused (verdict_in answer)) (record { told = of.told; within = refl })
+    (goes_step (refutation_answer shape P of.bytes) (verdict_in answer) old (inl (ap verdict_in (sym of.is)))))
 
 pub refutation_goes : (shape : Shape) (asked : RequestView) (P : Network) (old new : FolderView) (answer : Result (Unit {0}) CheckFault) → Answers P shape (refutation_name asked) old new answer
     → Goes (refutation_plan shape asked P) old new (found_in answer)
@@ -45,18 +45,18 @@ refutation_goes shape asked P old new (Err (faults.OptionsDiffer found)) of = of
 
 -- a reading that came to something
 refutation_there : (shape : Shape) (asked : RequestView) (P : Network) (files : List File) (found : Option CheckFault) → outcome (refutation_plan shape asked P) files ≡ Ok found
-    → (bytes : List ℕ) × (file_of files (refutation_name asked) ≡ Some bytes) × (judged shape P bytes ≡ Ok found)
+    → (bytes : List ℕ) × (file_of files (refutation_name asked) ≡ Some bytes) × (refutation_answer shape P bytes ≡ Ok found)
 refutation_there shape asked P files found is = by_file (file_of files (refutation_name asked)) refl is
   where
-    by_file : (file : Option (List ℕ)) → file_of files (refutation_name asked) ≡ file → after_reading Refutation (λ text. outcome (step (judged shape P text)) files) (reading_of None file) ≡ Ok found
-        → (bytes : List ℕ) × (file_of files (refutation_name asked) ≡ Some bytes) × (judged shape P bytes ≡ Ok found)
+    by_file : (file : Option (List ℕ)) → file_of files (refutation_name asked) ≡ file → after_reading Refutation (λ text. outcome (step (refutation_answer shape P text)) files) (reading_of None file) ≡ Ok found
+        → (bytes : List ℕ) × (file_of files (refutation_name asked) ≡ Some bytes) × (refutation_answer shape P bytes ≡ Ok found)
     by_file None there is = absurd (cc)
-    by_file (Some bytes) there is = (bytes, there, step_ok (judged shape P bytes) files found is)
+    by_file (Some bytes) there is = (bytes, there, step_ok (refutation_answer shape P bytes) files found is)
 
-there_refutation : (shape : Shape) (asked : RequestView) (P : Network) (files : List File) (bytes : List ℕ) (found : Option CheckFault) → file_of files (refutation_name asked) ≡ Some bytes → judged shape P bytes ≡ Ok found
+there_refutation : (shape : Shape) (asked : RequestView) (P : Network) (files : List File) (bytes : List ℕ) (found : Option CheckFault) → file_of files (refutation_name asked) ≡ Some bytes → refutation_answer shape P bytes ≡ Ok found
     → outcome (refutation_plan shape asked P) files ≡ Ok found
 there_refutation shape asked P files bytes found there is =
-    ap (λ file. after_reading Refutation (λ text. outcome (step (judged shape P text)) files) (reading_of None file)) there ∙ ok_step (judged shape P bytes) files found is
+    ap (λ file. after_reading Refutation (λ text. outcome (step (refutation_answer shape P text)) files) (reading_of None file)) there ∙ ok_step (refutation_answer shape P bytes) files found is
 
 -- the same of a call that was given this shape and this name
 pub refutation_found : (wanted : Shape) (asked : RequestView) (P : Network) (old new : FolderView) (shape : Shape) (name : List ℕ) (answer : Result (Unit {0}) CheckFault) (found : Result (Option CheckFault) Fault) → shape ≡ wanted

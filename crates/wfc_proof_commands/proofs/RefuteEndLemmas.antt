@@ -22,8 +22,8 @@ use Rattle.wfc_reply.specs.Putting.{PutsWriting, PutsOrStops}
 use Rattle.wfc_reply.specs.declared.putting.RunWriting.{RunWriting}
 use Rattle.wfc_reply.specs.declared.reply.Stop.{Stop}
 use Rattle.wfc_reply.specs.declared.reply.Stop.TheVariants.{Cut, Unanswered}
-use Rattle.wfc_reply.specs.declared.reply.Verdict.{Verdict}
-use Rattle.wfc_reply.specs.declared.reply.Verdict.TheVariants as verdict
+use Rattle.wfc_reply.specs.declared.reply.CommandVerdict.{CommandVerdict}
+use Rattle.wfc_reply.specs.declared.reply.CommandVerdict.TheVariants as verdict
 use Rattle.wfc_search.specs.declared.Outcome.{Outcome}
 use Rattle.wfc_words.specs.RequestView.{RequestView}
 
@@ -69,11 +69,11 @@ module _ (space : ProofKind) where
           subst (λ (n : SinkView). EndsAs (refutes space) rules asked before after old n (Err (Unanswered fault))) (sym short.1)
           (put_short (refute_plan space (kinds_of rules) asked) (RefuteAnswers space rules asked) before after old (tasks.refute P) fault (goes_by rules asked kinds before after (tasks.refute P) same goes) short.0)
 
-  pub refute_done : (rules : List Rule) (asked : RequestView) (kinds : List RuleKind) (before after : FolderView) (old mid new : SinkView) (P : Network) (rule : Rule) (kind : RuleKind) (o : Outcome) (ended : Verdict)
+  pub refute_done : (rules : List Rule) (asked : RequestView) (kinds : List RuleKind) (before after : FolderView) (old mid new : SinkView) (P : Network) (rule : Rule) (kind : RuleKind) (o : Outcome) (ended : CommandVerdict)
       → kinds ≡ kinds_of rules → Goes (refute_plan space kinds asked) before after (Ok (tasks.refute P)) → kind ≡ asked.rule → first_rule kind rules ≡ Some rule → PutsOrStops rule (writing_of space asked) P old mid (Ok o)
       → new ≡ after_finish mid → ended ≡ refute_verdict asked.budget o → EndsAs (refutes space) rules asked before after old new (Ok ended)
   refute_done rules asked kinds before after old mid new P rule kind o ended same goes of_kind found put finished ends =
-      subst (λ (v : Verdict). EndsAs (refutes space) rules asked before after old new (Ok v)) (sym ends)
+      subst (λ (v : CommandVerdict). EndsAs (refutes space) rules asked before after old new (Ok v)) (sym ends)
       (put_whole (refute_plan space (kinds_of rules) asked) (RefuteAnswers space rules asked) before after old new (tasks.refute P) (refute_verdict asked.budget o) (Some (refutation_text space asked P put.lines))
       (goes_by rules asked kinds before after (tasks.refute P) same goes) (whole_text rules asked P rule o old mid (ap (λ (k : RuleKind). first_rule k rules) (sym of_kind) ∙ found) put) (finished ∙ ap after_finish put.put))
 

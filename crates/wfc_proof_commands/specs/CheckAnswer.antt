@@ -2,7 +2,7 @@
 use Rattle.std.specs.Prelude.{List, None, Option, Some, codes, true, ℕ}
 use Rattle.wfc_check.specs.declared.fault.CheckFault.{CheckFault}
 use Rattle.wfc_reply.specs.Reply.{Answered, done_with}
-use Rattle.wfc_reply.specs.declared.reply.Verdict.TheVariants.{Unaccepted}
+use Rattle.wfc_reply.specs.declared.reply.CommandVerdict.TheVariants.{Unaccepted}
 
 -- what `check` writes of a refutation
 abbrev pub accepted_text : List ℕ

@@ -3,7 +3,7 @@ use Rattle.std.specs.Prelude.{List, Ok, Option, Some, ℕ, ◌≡◌}
 use Rattle.wfc_check.specs.declared.fault.CheckFault.{CheckFault}
 use Rattle.wfc_outside.specs.Folder.{File, file_of}
 use Rattle.wfc_problem.specs.Network.{Network}
-use Rattle.wfc_proof_commands.specs.Checking.{judged, refutation_name}
+use Rattle.wfc_proof_commands.specs.Checking.{refutation_answer, refutation_name}
 use Rattle.wfc_proof_commands.specs.ProofKind.{ProofKind}
 use Rattle.wfc_words.specs.RequestView.{RequestView}
 
@@ -18,4 +18,4 @@ pub record IsCheckWork (space : ProofKind) (asked : RequestView) (files : List F
 pub record IsCheckTask (space : ProofKind) (asked : RequestView) (files : List File)
     (found : Option CheckFault) : Type 0 where
   pub work : IsCheckWork space asked files
-  pub answer : judged (space.shape_of asked) work.P work.bytes ≡ Ok found
+  pub answer : refutation_answer (space.shape_of asked) work.P work.bytes ≡ Ok found

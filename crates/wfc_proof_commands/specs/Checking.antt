@@ -43,12 +43,12 @@ shape_by Tiles asked = record {
 }
 
 -- the shape that the head of a refutation has to tell for a request
-abbrev pub shape_of : RequestView → Shape
-shape_of asked = shape_by asked.source asked
+abbrev pub shape_asked : RequestView → Shape
+shape_asked asked = shape_by asked.source asked
 
 -- maps of windows and of tiles
 abbrev pub flat_proofs : ProofKind
-flat_proofs = record { maps = flat_maps; plan = posed_plan; order = posed_order; shape_of = shape_of }
+flat_proofs = record { maps = flat_maps; plan = posed_plan; order = posed_order; shape_of = shape_asked }
 
 -- what a fault of a check is of: of the text, which is an answer, of its length, of the file that isn't read, or want of memory
 pub data CheckCause : Type 0 where
@@ -80,8 +80,8 @@ verdict_in (Ok done) = Ok None
 verdict_in (Err fault) = verdict_by fault (check_cause fault)
 
 -- what the text of a refutation is answered, for a problem and a shape
-abbrev pub judged : Shape → Network → List ℕ → Result (Option CheckFault) Refusal
-judged shape P text = verdict_in (checked P shape text)
+abbrev pub refutation_answer : Shape → Network → List ℕ → Result (Option CheckFault) Refusal
+refutation_answer shape P text = verdict_in (checked P shape text)
 
 -- the name of the file of the refutation
 abbrev pub refutation_name : RequestView → List ℕ
@@ -89,7 +89,7 @@ refutation_name asked = unwrap_or asked.refutation []
 
 -- the refutation is read, which is held to the problem and the shape
 abbrev pub refutation_plan : Shape → RequestView → Network → Plan (Option CheckFault)
-refutation_plan shape asked P = read Refutation (refutation_name asked) None (λ text. step (judged shape P text))
+refutation_plan shape asked P = read Refutation (refutation_name asked) None (λ text. step (refutation_answer shape P text))
 
 -- a file that isn't read is a fault of the task, and so is want of memory
 abbrev pub found_by : CheckFault → CheckCause → Result (Option CheckFault) Fault

@@ -17,7 +17,7 @@ use Rattle.wfc_reply.specs.Reply.{HasAnswer}
 use Rattle.wfc_reply.specs.RunText.{IsBegunBy, IsRunText, IsToldBy}
 use Rattle.wfc_proof_commands.specs.Refuting.{refutation_text, writing_of}
 use Rattle.wfc_runs.specs.Words.{words_of_seed}
-use Rattle.wfc_search.specs.Proved.{HasCounts}
+use Rattle.wfc_search.specs.Proved.{CountsChoices}
 use Rattle.wfc_search.specs.Run.{start}
 use Rattle.wfc_search.specs.Volume.{volume_of}
 use Rattle.wfc_search.specs.declared.Outcome.{Outcome}
@@ -53,7 +53,7 @@ pub record WritesRun {space : ProofKind} {rules : List Rule} {files : List File}
   pub outcome : Outcome
   pub lines : List Line
   pub told : AreToldBy asked work outcome lines
-  pub counts : HasCounts work.P work.rule asked.budget (start (words_of_seed asked.seed)) outcome lines
+  pub counts : CountsChoices work.P work.rule asked.budget (start (words_of_seed asked.seed)) outcome lines
   pub text : IsRunText work.P (space.shape_of asked) outcome (refutation_text space asked work.P lines)
   pub same_status : call.status ≡ refute_status outcome
   pub written : call.after.out ≡ after_finish (after_bytes call.before.out (refutation_text space asked work.P lines))

@@ -23,12 +23,12 @@ pub record IsTextTooLong (shape : Shape) (P : Network) (text : List ℕ) (fault 
   pub is : fault ≡ Refused (refusals.TooLong Refutation)
 
 -- so it is with the file of the refutation
-abbrev pub IsTextOf : Shape → RequestView → List File → Network → TaskStage
-IsTextOf shape asked files P fault =
+abbrev pub IsTextStage : Shape → RequestView → List File → Network → TaskStage
+IsTextStage shape asked files P fault =
     (text : List ℕ) × (file_of files (refutation_name asked) ≡ Some text)
     × IsTextTooLong shape P text fault
 
 -- the refutation of the problem of the request is too long
 abbrev pub IsTextFault : ProofKind → RequestView → List File → TaskStage
 IsTextFault space asked files fault =
-    (P : Network) × space.maps.IsPosed asked files P × IsTextOf (space.shape_of asked) asked files P fault
+    (P : Network) × space.maps.IsPosed asked files P × IsTextStage (space.shape_of asked) asked files P fault

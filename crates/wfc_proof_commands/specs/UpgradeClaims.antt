@@ -8,7 +8,7 @@ use Rattle.wfc_proof.specs.Proof.{Proof}
 use Rattle.wfc_proof.specs.ProofText.{IsTextOf}
 use Rattle.wfc_proof.specs.declared.heads.Format.{Format}
 use Rattle.wfc_proof.specs.declared.heads.Format.TheVariants.{Two}
-use Rattle.wfc_proof_commands.specs.Checking.{shape_of}
+use Rattle.wfc_proof_commands.specs.Checking.{shape_asked}
 use Rattle.wfc_proof_commands.specs.Upgrading.{UpgradeWork, same_proof_text}
 use Rattle.wfc_reply.specs.Asking.{Promises}
 use Rattle.wfc_reply.specs.Call.{Call}
@@ -19,13 +19,13 @@ use Rattle.wfc_words.specs.declared.kinds.CommandKind.TheVariants as commands
 
 -- the file's bytes are a refutation of the problem and of the shape asked for
 abbrev pub IsUpgradable : {files : List File} (asked : RequestView) → UpgradeWork asked files → Type 0
-IsUpgradable asked work = IsRefutation work.P (shape_of asked) work.bytes
+IsUpgradable asked work = IsRefutation work.P (shape_asked asked) work.bytes
 
 -- the text in format 2 has each proof that the file's bytes are the text of
 abbrev pub KeepsProof : {files : List File} (asked : RequestView) → UpgradeWork asked files → Type 0
 KeepsProof asked work =
-    (format : Format) (proof : Proof) → IsTextOf work.P (shape_of asked) format proof work.bytes
-    → IsTextOf work.P (shape_of asked) Two proof (same_proof_text asked work.P work.bytes)
+    (format : Format) (proof : Proof) → IsTextOf work.P (shape_asked asked) format proof work.bytes
+    → IsTextOf work.P (shape_asked asked) Two proof (same_proof_text asked work.P work.bytes)
 
 -- the file is a refutation, so no map is legal, and its proof was written in format 2
 pub record WritesUpgraded {files : List File} (asked : RequestView)

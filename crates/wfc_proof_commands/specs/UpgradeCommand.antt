@@ -6,19 +6,19 @@ use Rattle.wfc_outside.specs.Folder.{File}
 use Rattle.wfc_proof_commands.specs.Checking.{refutation_name}
 use Rattle.wfc_proof_commands.specs.UpgradeOrder.{upgrade_order}
 use Rattle.wfc_proof_commands.specs.UpgradeTask.{UpgradeTask, upgrade, upgrade_plan}
-use Rattle.wfc_proof_commands.specs.Upgrading.{UpgradeWork, first_fault, upgrade_answer}
+use Rattle.wfc_proof_commands.specs.Upgrading.{UpgradeWork, refutation_fault, upgrade_answer}
 use Rattle.wfc_reply.specs.Command.{Command}
 use Rattle.wfc_reply.specs.Reply.{Answered}
 use Rattle.wfc_words.specs.RequestView.{RequestView}
 
 -- the answer of `upgrade`
 abbrev pub UpgradeAnswers : RequestView → UpgradeTask → Answered → Type 0
-UpgradeAnswers asked (upgrade P bytes) answered = upgrade_answer asked P bytes (first_fault asked P bytes) ≡ answered
+UpgradeAnswers asked (upgrade P bytes) answered = upgrade_answer asked P bytes (refutation_fault asked P bytes) ≡ answered
 
 -- why it is no: the first fault of the file as a refutation
 abbrev pub IsNotUpgraded : RequestView → List File → List ℕ → Type 0
 IsNotUpgraded asked files text =
-    (work : UpgradeWork asked files) × (fault : CheckFault) × (first_fault asked work.P work.bytes ≡ Some fault)
+    (work : UpgradeWork asked files) × (fault : CheckFault) × (refutation_fault asked work.P work.bytes ≡ Some fault)
     × (text ≡ text_of_check fault (refutation_name asked))
 
 -- the command that writes a refutation in format 2 once it is checked

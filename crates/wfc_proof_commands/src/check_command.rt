@@ -5,7 +5,7 @@ ghost use Rattle.wfc_proof_commands.specs.Checking.{flat_proofs};
 ghost use Rattle.wfc_proof_commands.specs.CheckAnswer.{check_answer};
 ghost use Rattle.wfc_proof_commands.specs.CheckCommand.{CheckAnswers};
 ghost use Rattle.wfc_proof_commands.specs.CheckTask.{check_plan};
-ghost use Rattle.wfc_reply.specs.Ends.{Ends};
+ghost use Rattle.wfc_reply.specs.Ends.{MayReply};
 ghost use Rattle.wfc_reply.specs.ReplyView.{answer_view, reply_view};
 ghost use Rattle.wfc_task.specs.Asked.{IsOutputAsked, IsSourceAsked};
 
@@ -14,14 +14,14 @@ use std::alloc::Global;
 use wfc_check::CheckFault;
 use wfc_outside::{Folder, NoMemory};
 use wfc_plan::Fault;
-use wfc_reply::{Answer, Verdict};
+use wfc_reply::{Answer, CommandVerdict};
 use wfc_words::Request;
 
 /// Reads the refutation against the problem that is asked for.
 pub fn check<F: Folder>(alloc: Global, request: &Request, folder: &mut F) -> Result<Answer, Fault>
     requires source { IsSourceAsked request.now }
     requires output { IsOutputAsked request.now }
-    ensures ends { Ends (check_plan flat_proofs request.now) CheckAnswers
+    ensures ends { MayReply (check_plan flat_proofs request.now) CheckAnswers
         (F.seen folder.old) (F.seen folder.new) (reply_view result) }
 {
     let found = check_task(alloc, request, folder)?;
@@ -35,11 +35,11 @@ pub fn check_answer(alloc: Global, found: Option<CheckFault>) -> Result<Answer, 
 {
     match found {
         None => Ok(Answer {
-            verdict: Verdict::Done,
+            verdict: CommandVerdict::Done,
             text: Some(Vec::from_slice(alloc, b"accepted\n")?),
         }),
         Some(fault) => Ok(Answer {
-            verdict: Verdict::Unaccepted { fault },
+            verdict: CommandVerdict::Unaccepted { fault },
             text: None,
         }),
     }

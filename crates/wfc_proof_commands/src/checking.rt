@@ -5,7 +5,7 @@ ghost use Rattle.wfc_plan.specs.Plan.{Goes};
 ghost use Rattle.wfc_plan.specs.declared.fault.Fault.TheVariants.{Unread};
 ghost use Rattle.wfc_plan.specs.declared.fault.Source.TheVariants.{Refutation};
 ghost use Rattle.wfc_proof_commands.specs.CheckTask.{check_made, check_plan};
-ghost use Rattle.wfc_proof_commands.specs.Checking.{flat_proofs, found_in, refutation_name, refutation_plan, shape_by, shape_of};
+ghost use Rattle.wfc_proof_commands.specs.Checking.{flat_proofs, found_in, refutation_name, refutation_plan, shape_by, shape_asked};
 ghost use Rattle.wfc_task.specs.Asked.{IsOutputAsked, IsSourceAsked};
 
 use std::alloc::Global;
@@ -62,7 +62,7 @@ pub(crate) fn refutation_name(request: &Request) -> &str
 /// The shape of a request. That of a tile set has no windows, images and edges of a sample, whatever
 /// the words say.
 pub fn shape(request: &Request) -> Shape
-    ensures value { result ≡ shape_of request.now }
+    ensures value { result ≡ shape_asked request.now }
 {
     shape_by(request.source, request)
 }

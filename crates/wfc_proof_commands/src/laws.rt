@@ -21,11 +21,11 @@ ghost use Rattle.wfc_reply.specs.Outcomes.{refute_status};
 ghost use Rattle.wfc_proof_commands.specs.RefuteGiven.{IsRefuteTask};
 ghost use Rattle.wfc_proof_commands.specs.RefuteTask.{refute, refute_made, refute_plan};
 ghost use Rattle.wfc_reply.specs.Outcomes.{refute_verdict};
-ghost use Rattle.wfc_reply.specs.RunText.{lines_in, written_format};
+ghost use Rattle.wfc_reply.specs.RunText.{format_lines, written_format};
 ghost use Rattle.wfc_proof_commands.specs.UpgradeGiven.{IsUpgradeTask};
 ghost use Rattle.wfc_proof_commands.specs.UpgradeTask.{upgrade, upgrade_plan};
 ghost use Rattle.wfc_reply.specs.Reply.{verdict_status};
-ghost use Rattle.wfc_reply.specs.declared.reply.Verdict.TheVariants as verdicts;
+ghost use Rattle.wfc_reply.specs.declared.reply.CommandVerdict.TheVariants as verdicts;
 ghost use Rattle.wfc_search.specs.declared.Outcome.TheVariants as outcomes;
 ghost use Rattle.wfc_words.specs.RequestView.{RequestView};
 
@@ -55,9 +55,9 @@ pub fn check_tasks_are_given()
 pub fn refutations_by_example()
     ensures one { written_format 1 ≡ One }
     ensures two { written_format 2 ≡ Two }
-    ensures plain { lines_in One (Remove 0 0 2 ∷ Remove 0 1 2 ∷ Empty 0 ∷ [])
+    ensures plain { format_lines One (Remove 0 0 2 ∷ Remove 0 1 2 ∷ Empty 0 ∷ [])
         ≡ Remove 0 0 2 ∷ Remove 0 1 2 ∷ Empty 0 ∷ [] }
-    ensures joined { lines_in Two (Try 1 3 ∷ Remove 0 0 2 ∷ Remove 0 1 2 ∷ Remove 0 2 1
+    ensures joined { format_lines Two (Try 1 3 ∷ Remove 0 0 2 ∷ Remove 0 1 2 ∷ Remove 0 2 1
         ∷ Remove 4 3 1 ∷ Remove 4 5 1 ∷ Empty 0 ∷ End ∷ [])
         ≡ Try 1 3 ∷ Span 0 0 1 2 ∷ Span 0 2 2 1 ∷ Span 4 3 3 1 ∷ Span 4 5 5 1 ∷ Empty 0 ∷ End ∷ [] }
     ensures map { verdict_status (refute_verdict 7 outcomes.Map) ≡ 1 }

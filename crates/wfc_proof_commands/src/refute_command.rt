@@ -15,7 +15,7 @@ use std::marker::Brand;
 use std::sync::ledger::Blank;
 use wfc_choose::Chooser;
 use wfc_outside::{Folder, Sink};
-use wfc_reply::{RunWriting, Stop, Verdict, first_of, kinds, put_run};
+use wfc_reply::{CommandVerdict, RunWriting, Stop, first_chooser, kinds, put_run};
 use wfc_search::Outcome;
 use wfc_words::Request;
 
@@ -26,7 +26,7 @@ pub fn refute<F: Folder, O: Sink>(
     choosers: Vec<Box<dyn Chooser>>,
     folder: &mut F,
     out: &mut O,
-) -> Result<Verdict, Stop>
+) -> Result<CommandVerdict, Stop>
     requires source { IsSourceAsked request.now }
     requires output { IsOutputAsked request.now }
     ensures ends { EndsAs refute_command (map (λ chooser. (told chooser).rule) choosers.items)
@@ -35,7 +35,7 @@ pub fn refute<F: Folder, O: Sink>(
 {
     let kinds = kinds(alloc, &choosers)?;
     let problem = refute_task(alloc, request, &kinds, folder)?;
-    let chooser = first_of(alloc, choosers, request.rule)?;
+    let chooser = first_chooser(alloc, choosers, request.rule)?;
     let writing = writing(request);
     let outcome = put_run::<O, Brand>(alloc, writing, &problem, chooser, out, Blank::new(1))?;
     out.finish()?;
@@ -57,12 +57,12 @@ fn writing(request: &Request) -> RunWriting
 }
 
 /// How the command ends whose run ends so.
-pub fn refute_verdict(budget: u32, outcome: Outcome) -> Verdict
+pub fn refute_verdict(budget: u32, outcome: Outcome) -> CommandVerdict
     ensures value { result ≡ refute_verdict budget outcome }
 {
     match outcome {
-        Outcome::Map => Verdict::MapExists,
-        Outcome::NoMap => Verdict::Done,
-        Outcome::Spent => Verdict::Spent { budget },
+        Outcome::Map => CommandVerdict::MapExists,
+        Outcome::NoMap => CommandVerdict::Done,
+        Outcome::Spent => CommandVerdict::Spent { budget },
     }
 }

@@ -10,7 +10,7 @@ ghost use Rattle.wfc_proof_commands.specs.Upgrading.{Answering, Upgrades, fault_
 ghost use Rattle.wfc_reply.specs.Ending.{EndsPut};
 ghost use Rattle.wfc_reply.specs.Reply.{done_with};
 ghost use Rattle.wfc_task.specs.Asked.{IsOutputAsked, IsSourceAsked};
-ghost use Rattle.wfc_task.specs.Sources.{side_of};
+ghost use Rattle.wfc_task.specs.Sources.{window_side_of};
 
 use crate::checking::shape;
 use crate::upgrading::{Upgrading, upgrade_task};
@@ -19,7 +19,7 @@ use wfc_check::{CheckFault, check_bytes};
 use wfc_outside::{Folder, MAX_FILE_BYTES, NoMemory, Sink};
 use wfc_problem::Problem;
 use wfc_proof::{Shape, upgrade as put_upgraded};
-use wfc_reply::{Stop, Verdict};
+use wfc_reply::{CommandVerdict, Stop};
 use wfc_words::Request;
 
 /// Reads the files, and puts the proof of the refutation.
@@ -28,7 +28,7 @@ pub fn upgrade<F: Folder, O: Sink>(
     request: &Request,
     folder: &mut F,
     out: &mut O,
-) -> Result<Verdict, Stop>
+) -> Result<CommandVerdict, Stop>
     requires source { IsSourceAsked request.now }
     requires output { IsOutputAsked request.now }
     ensures ends { EndsPut (upgrade_plan request.now) (UpgradeAnswers request.now)
@@ -44,21 +44,21 @@ fn upgraded<O: Sink>(
     request: &Request,
     upgrading: &Upgrading,
     out: &mut O,
-) -> Result<Verdict, Stop>
-    requires side { side_of request.now.source ≤ 6 }
+) -> Result<CommandVerdict, Stop>
+    requires side { window_side_of request.now.source ≤ 6 }
     requires short { length upgrading.now.refutation.items ≤ MAX_FILE_BYTES }
     ensures upgrades { Upgrades request.now upgrading.now.problem upgrading.now.refutation.items
         (O.seen out.old) (O.seen out.new) result }
 {
     let shape = shape(request);
-    match first_fault(alloc, &upgrading.problem, shape, &upgrading.refutation)? {
+    match refutation_fault(alloc, &upgrading.problem, shape, &upgrading.refutation)? {
         None => put_proof(&upgrading.refutation, &upgrading.problem, shape, out),
-        Some(fault) => Ok(Verdict::Unaccepted { fault }),
+        Some(fault) => Ok(CommandVerdict::Unaccepted { fault }),
     }
 }
 
 /// The first fault of a text as a refutation, if it has one.
-fn first_fault(
+fn refutation_fault(
     alloc: Global,
     problem: &Problem,
     shape: Shape,
@@ -81,7 +81,7 @@ fn put_proof<O: Sink>(
     problem: &Problem,
     shape: Shape,
     out: &mut O,
-) -> Result<Verdict, Stop>
+) -> Result<CommandVerdict, Stop>
     requires proof { IsProofText problem.now shape bytes.now }
     requires limit { shape.n ≤ 6 }
     ensures put { Answering (done_with (upgraded_text problem.now shape bytes.now))
@@ -89,5 +89,5 @@ fn put_proof<O: Sink>(
 {
     put_upgraded(bytes, problem, &shape, out)?;
     out.finish()?;
-    Ok(Verdict::Done)
+    Ok(CommandVerdict::Done)
 }

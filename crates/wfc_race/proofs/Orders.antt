@@ -1,11 +1,11 @@
--- In which order the last turns of runners stand in rounds.
+-- In which order the last turns of runners stand in left_rounds.
 use Rattle.std.proofs.Common.{◌≡◌, ◌⊎◌, ℕ, zero, suc, ◌+◌, ◌-◌, ◌/◌, ◌<◌, ◌≤◌, min, List, [], ◌∷◌, ◌++◌, refl, sym, ◌∙◌, ap, subst, arith, inl, inr}
 use Rattle.std.specs.Prelude.{sum, replicate, slice_index}
 use Rattle.std.proofs.Math.Nat.{div-eq_of_lt, div-eq-sub-div}
 use Rattle.std.proofs.lemmas.Bool.{cases_lt}
 use Rattle.std.proofs.lemmas.List.Sums.{sum_by-cons}
 use Rattle.wfc_race.specs.Racers.{occurrences}
-use Rattle.wfc_race.specs.Rounds.{lap, rounds}
+use Rattle.wfc_race.specs.Rounds.{lap, left_rounds}
 use Rattle.wfc_race.specs.Winner.{IsNoLater}
 use Rattle.wfc_race.proofs.Afters.{both_lists, same_number}
 use Rattle.wfc_race.proofs.Laps.{mins, rests, same_repeated, other_repeated, below_lap}
@@ -48,25 +48,25 @@ count_lap (suc i) k first (n ∷ turns) at =
     let behind = count_lap i k (first + 1) turns (omega (arith, at)) in
     omega (arith, both, here, behind)
 
--- in the first lap of rounds
+-- in the first lap of left_rounds
 count_first : (quantum : ℕ) (left : List ℕ) (k : ℕ) → occurrences k (lap 0 (mins quantum left)) ≡ min quantum (slice_index left k)
 count_first quantum left k = count_lap k k 0 (mins quantum left) (omega arith) ∙ mins_at quantum left k
 
--- in rounds no more often than it has turns left
-count_few : (n quantum : ℕ) (left : List ℕ) (k : ℕ) → occurrences k (rounds n quantum left) ≤ slice_index left k
+-- in left_rounds no more often than it has turns left
+count_few : (n quantum : ℕ) (left : List ℕ) (k : ℕ) → occurrences k (left_rounds n quantum left) ≤ slice_index left k
 count_few zero quantum left k = omega arith
 count_few (suc n) quantum left k =
-    let both = both_lists k (lap 0 (mins quantum left)) (rounds n quantum (rests quantum left)) in
+    let both = both_lists k (lap 0 (mins quantum left)) (left_rounds n quantum (rests quantum left)) in
     let first = count_first quantum left k in
     let later = count_few n quantum (rests quantum left) k in
     let rest = rests_at quantum left k in
     omega (arith, both, first, later, rest)
 
--- and as often, if these rounds are enough
-pub count_all : (n quantum : ℕ) (left : List ℕ) (k : ℕ) → 1 ≤ quantum → slice_index left k ≤ n → occurrences k (rounds n quantum left) ≡ slice_index left k
+-- and as often, if these left_rounds are enough
+pub count_all : (n quantum : ℕ) (left : List ℕ) (k : ℕ) → 1 ≤ quantum → slice_index left k ≤ n → occurrences k (left_rounds n quantum left) ≡ slice_index left k
 count_all zero quantum left k some enough = (let none : slice_index left k ≡ 0 = omega (arith, enough) in sym none)
 count_all (suc n) quantum left k some enough =
-    let both = both_lists k (lap 0 (mins quantum left)) (rounds n quantum (rests quantum left)) in
+    let both = both_lists k (lap 0 (mins quantum left)) (left_rounds n quantum (rests quantum left)) in
     let first = count_first quantum left k in
     let rest = rests_at quantum left k in
     let later = count_all n quantum (rests quantum left) k some (omega (arith, rest, some, enough)) in
@@ -136,7 +136,7 @@ lap_rises (n ∷ turns) first before w later i is more = elim (split (replicate 
   | inr s ↦ lap_rises turns (first + 1) s.front w later i s.there more
 ]
 
--- ---- rounds
+-- ---- left_rounds
 
 -- the round of a number's last turn
 abbrev round_at : ℕ → List ℕ → ℕ → ℕ
@@ -146,7 +146,7 @@ round_at quantum left k = (slice_index left k - 1) / quantum
 first_round : (quantum : ℕ) (left : List ℕ) (k : ℕ) → 1 ≤ quantum → slice_index left k ≤ quantum → round_at quantum left k ≡ 0
 first_round quantum left k some few = div-eq_of_lt (omega (arith, some, few))
 
--- and else one more than in the rounds behind it
+-- and else one more than in the left_rounds behind it
 next_round : (quantum : ℕ) (left : List ℕ) (k : ℕ) → 1 ≤ quantum → quantum < slice_index left k → round_at quantum left k ≡ round_at quantum (rests quantum left) k + 1
 next_round quantum left k some more =
     let one = div-eq-sub-div {m = quantum} {n = slice_index left k - 1} (omega (arith, some)) (omega (arith, more)) in
@@ -164,12 +164,12 @@ no_later_next round w other i r o a b (inl less) = inl (omega (arith, a, b, less
 no_later_next round w other i r o a b (inr same) = inr (let e = same.0 in omega (arith, a, b, e), same.1)
 
 -- where it stands in the first round
-in_first : (n quantum : ℕ) (left before : List ℕ) (w : ℕ) (later : List ℕ) (i : ℕ) → 1 ≤ quantum → occurrences w (rounds (suc n) quantum left) ≡ slice_index left w
-    → IsInFirst (lap 0 (mins quantum left)) (rounds n quantum (rests quantum left)) before w later → occurrences w later ≡ 0 → 1 ≤ occurrences i later
+in_first : (n quantum : ℕ) (left before : List ℕ) (w : ℕ) (later : List ℕ) (i : ℕ) → 1 ≤ quantum → occurrences w (left_rounds (suc n) quantum left) ≡ slice_index left w
+    → IsInFirst (lap 0 (mins quantum left)) (left_rounds n quantum (rests quantum left)) before w later → occurrences w later ≡ 0 → 1 ≤ occurrences i later
     → IsNoLater (round_at quantum left w) w (round_at quantum left i) i
 in_first n quantum left before w later i some all f last more =
     let A : List ℕ = lap 0 (mins quantum left) in
-    let B : List ℕ = rounds n quantum (rests quantum left) in
+    let B : List ℕ = left_rounds n quantum (rests quantum left) in
     let both = both_lists w A B in
     let one = count_first quantum left w in
     let none = ap (λ (t : List ℕ). occurrences w t) f.behind ∙ both_lists w f.mid B in
@@ -185,15 +185,15 @@ in_first n quantum left before w later i some all f last more =
           inl (omega (arith, first, next))
     ]
 
--- in rounds that hold all turns of one number, its last turn comes before the last of each number that occurs behind it
-pub last_turns : (n quantum : ℕ) (left before : List ℕ) (w : ℕ) (later : List ℕ) (i : ℕ) → 1 ≤ quantum → occurrences w (rounds n quantum left) ≡ slice_index left w
-    → rounds n quantum left ≡ before ++ w ∷ later → occurrences w later ≡ 0 → 1 ≤ occurrences i later → IsNoLater (round_at quantum left w) w (round_at quantum left i) i
+-- in left_rounds that hold all turns of one number, its last turn comes before the last of each number that occurs behind it
+pub last_turns : (n quantum : ℕ) (left before : List ℕ) (w : ℕ) (later : List ℕ) (i : ℕ) → 1 ≤ quantum → occurrences w (left_rounds n quantum left) ≡ slice_index left w
+    → left_rounds n quantum left ≡ before ++ w ∷ later → occurrences w later ≡ 0 → 1 ≤ occurrences i later → IsNoLater (round_at quantum left w) w (round_at quantum left i) i
 last_turns zero quantum left before w later i some all is last more = never_empty (IsNoLater (round_at quantum left w) w (round_at quantum left i) i) before later w is
 last_turns (suc n) quantum left before w later i some all is last more =
-    elim (split (lap 0 (mins quantum left)) (rounds n quantum (rests quantum left)) before w later is) [
+    elim (split (lap 0 (mins quantum left)) (left_rounds n quantum (rests quantum left)) before w later is) [
       | inl f ↦ in_first n quantum left before w later i some all f last more
       | inr s ↦
-          let B : List ℕ = rounds n quantum (rests quantum left) in
+          let B : List ℕ = left_rounds n quantum (rests quantum left) in
           let both = both_lists w (lap 0 (mins quantum left)) B in
           let one = count_first quantum left w in
           let rest = rests_at quantum left w in

@@ -13,7 +13,7 @@ use Rattle.wfc_search.specs.declared.Outcome.TheVariants as outcome
 use Rattle.wfc_race.specs.declared.RaceEnd.{RaceEnd}
 use Rattle.wfc_race.specs.declared.RaceEnd.TheVariants.{Map, NoMap, AllSpent}
 use Rattle.wfc_race.specs.Handed.{IsHandedIn}
-use Rattle.wfc_race.specs.Race.{IsRaceEnd, IsOfRun, IsRacing, IsUndecided, all_spent, end_by, end_with, outcome_in, race_of}
+use Rattle.wfc_race.specs.Race.{IsRaceEnd, IsOfRun, IsRacing, IsUndecided, all_spent, race_end_by, end_with, outcome_in, race_of}
 use Rattle.wfc_race.specs.Racers.{Racer, moved_on, occurrences, after}
 use Rattle.wfc_race.specs.Rounds.{turns_left, rounds_of, round_end_of}
 use Rattle.wfc_race.specs.Winner.{EndsAlone, IsDecisive, IsNoLater, IsWinner, IsWonBy, last_round}
@@ -86,7 +86,7 @@ going_none P racers front end is = elim (none_or_some (race_of P racers is.befor
       let whole : is.before ≡ w.is.before ++ w.is.last ∷ w.later =
       w.whole ∙ ap (λ (t : List ℕ). t ++ w.later) w.is.whole ∙ append_assoc w.is.before (w.is.last ∷ []) w.later in
       let none = is.going w.is.before w.later w.is.last whole in
-      let ends = subst (λ (t : List ℕ). end_by w.is.last (after P t racers) ≡ Some some.0.0) w.is.whole w.is.ends in
+      let ends = subst (λ (t : List ℕ). race_end_by w.is.last (after P t racers) ≡ Some some.0.0) w.is.whole w.is.ends in
       absurd (let e = sym none ∙ ends in cc)
 ]
 

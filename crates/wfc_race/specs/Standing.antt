@@ -8,7 +8,7 @@ use Rattle.wfc_race.specs.declared.RaceEnd.{RaceEnd}
 use Rattle.wfc_race.specs.declared.race.Race.{Race}
 use Rattle.wfc_race.specs.declared.runner.Runner.{Runner}
 use Rattle.wfc_race.specs.Race.{IsTrueRaceEnd}
-use Rattle.wfc_race.specs.Racers.{moved}
+use Rattle.wfc_race.specs.Racers.{next_racer}
 use Rattle.wfc_race.specs.Seen.{Comes, EndsInRounds, IsSearchIn, MakesTurn, lap_in, problem_of}
 use Rattle.wfc_race.specs.Seen.{racer_of, racers_of, search_seen, seen, seens, stint_in}
 
@@ -18,7 +18,7 @@ abbrev pub MovesOn
     → Runner S R D V → Runner S R D V → Type 0
 MovesOn view stream told old new =
     racer_of (seen view stream told new)
-    ≡ moved old.search.problem.now (racer_of (seen view stream told old))
+    ≡ next_racer old.search.problem.now (racer_of (seen view stream told old))
 
 -- this runner of the race made one turn of its run, and the state of each other run is as it was
 abbrev pub TakesTurn

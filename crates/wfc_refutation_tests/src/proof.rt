@@ -7,7 +7,7 @@ use std::test::Fail;
 use wfc_outside::{MemorySink, SinkFault};
 use wfc_problem::{NO_CELL, Parts, Problem};
 use wfc_proof::{
-    Format, Journal, JournalFault, Line, LineFault, Numbers, ProofJournal, Quiet, Shape,
+    Format, HeadNumbers, Journal, JournalFault, Line, LineFault, ProofJournal, Quiet, Shape,
     SpanJournal, read_format, read_line, read_line_2, read_numbers, read_shape, write_header,
     write_header_2, write_line,
 };
@@ -128,7 +128,7 @@ fn reads_formats(rt: HostRuntime) {
 #[test]
 fn reads_numbers_of_heads(rt: HostRuntime) {
     let none = Err(LineFault::BadLine);
-    let numbers = Numbers {
+    let numbers = HeadNumbers {
         cells: 2,
         values: 4_294_967_295,
     };

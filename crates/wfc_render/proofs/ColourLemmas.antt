@@ -11,9 +11,9 @@ use Rattle.wfc_picture.specs.declared.symbol.Symbol.{Symbol}
 use Rattle.wfc_picture.specs.declared.symbol.Symbol.TheVariants.{Char, Rgb}
 use Rattle.wfc_ppm.specs.Ppm.{PpmView, channels, head_lines, is_within, p6_text, pixel_bytes, pixel_line, raw_bytes, sample_bytes, samples_of}
 use Rattle.wfc_model.specs.Raster.{Raster, height_of}
-use Rattle.wfc_render.specs.Colours.{head_in, pixel_in, pixels_in, ppm_text}
+use Rattle.wfc_render.specs.Colours.{picture_head, drawn_pixel, pixels_in, ppm_text}
 use Rattle.wfc_render.specs.Layout.{layout_of}
-use Rattle.wfc_render.specs.Map.{IsWritten, colour_of, coloured_map, colours_of, is_of_kind, maxval_of, symbol_at, text_in}
+use Rattle.wfc_render.specs.Map.{IsWritten, colour_of, coloured_map, symbol_colours, is_of_kind, maxval_of, symbol_at, raster_text}
 use Rattle.wfc_render.specs.declared.form.Form.{Form}
 use Rattle.wfc_render.specs.declared.form.Form.TheVariants.{P6, P3, Grid, Cells}
 use Rattle.wfc_render.specs.declared.form.Layout.{Layout}
@@ -30,7 +30,7 @@ raw_parts ppm =
     ∙ sym (append_assoc (codes "P6\n") (head_lines ppm.width ppm.height ppm.maxval) (flat_map (pixel_bytes ppm.maxval) ppm.pixels))
 
 -- a text is its head and its pixels
-pub ppm_parts : (form : Form) (ppm : PpmView) → ppm_text form ppm ≡ head_in form ppm.width ppm.height ppm.maxval ++ flat_map (pixel_in form ppm.maxval) ppm.pixels
+pub ppm_parts : (form : Form) (ppm : PpmView) → ppm_text form ppm ≡ picture_head form ppm.width ppm.height ppm.maxval ++ flat_map (drawn_pixel form ppm.maxval) ppm.pixels
 ppm_parts P3 ppm = sym (append_assoc (codes "P3\n") (head_lines ppm.width ppm.height ppm.maxval) (flat_map pixel_line ppm.pixels))
 ppm_parts P6 ppm = raw_parts ppm
 ppm_parts Grid ppm = raw_parts ppm
@@ -39,15 +39,15 @@ ppm_parts Cells ppm = raw_parts ppm
 -- some pixels and then more
 pixels_append : (form : Form) (maxval : ℕ) (palette : List Symbol) (xs ys : List ℕ) → pixels_in form maxval palette (xs ++ ys) ≡ pixels_in form maxval palette xs ++ pixels_in form maxval palette ys
 pixels_append form maxval palette xs ys =
-    ap (flat_map (pixel_in form maxval)) (map-append (λ number. colour_of (symbol_at palette number)) xs ys)
-    ∙ flat_map-append (pixel_in form maxval) (colours_of palette xs) (colours_of palette ys)
+    ap (flat_map (drawn_pixel form maxval)) (map-append (λ number. colour_of (symbol_at palette number)) xs ys)
+    ∙ flat_map-append (drawn_pixel form maxval) (symbol_colours palette xs) (symbol_colours palette ys)
 
 -- one pixel more
 pub pixels_next : (form : Form) (maxval : ℕ) (palette : List Symbol) (row : List ℕ) (x : ℕ) (before text new : List ℕ) → x < length row
-    → text ≡ before ++ pixels_in form maxval palette (take x row) → new ≡ text ++ pixel_in form maxval (colour_of (symbol_at palette (get_or row x 0)))
+    → text ≡ before ++ pixels_in form maxval palette (take x row) → new ≡ text ++ drawn_pixel form maxval (colour_of (symbol_at palette (get_or row x 0)))
     → new ≡ before ++ pixels_in form maxval palette (take (x + 1) row)
 pixels_next form maxval palette row x before text new inside so_far pixel =
-    let one = pixel_in form maxval (colour_of (symbol_at palette (get_or row x 0))) in
+    let one = drawn_pixel form maxval (colour_of (symbol_at palette (get_or row x 0))) in
     let more : pixels_in form maxval palette (take (x + 1) row) ≡ pixels_in form maxval palette (take x row) ++ one
     = ap (pixels_in form maxval palette) (take_more row x 0 inside) ∙ pixels_append form maxval palette (take x row) (get_or row x 0 ∷ []) ∙ ap (λ t. pixels_in form maxval palette (take x row) ++ t) (append-nil one) in
     pixel ∙ ap (λ t. t ++ one) so_far ∙ append_assoc before (pixels_in form maxval palette (take x row)) one ∙ sym (ap (λ t. before ++ t) more)
@@ -72,10 +72,10 @@ pixel_rows_next form maxval palette rows y head text new inside so_far row =
 
 -- behind all rows the text is written
 pub pixel_rows_all : (form : Form) (maxval : ℕ) (palette : List Symbol) (m : Raster) (y : ℕ) (text : List ℕ) → height_of m ≤ y
-    → text ≡ head_in form m.width (height_of m) maxval ++ pixels_in form maxval palette (concat (take y m.rows)) → text ≡ ppm_text form (coloured_map maxval palette m)
+    → text ≡ picture_head form m.width (height_of m) maxval ++ pixels_in form maxval palette (concat (take y m.rows)) → text ≡ ppm_text form (coloured_map maxval palette m)
 pixel_rows_all form maxval palette m y text past so_far =
     so_far
-    ∙ ap (λ rows. head_in form m.width (height_of m) maxval ++ pixels_in form maxval palette (concat rows)) (take_all y m.rows past)
+    ∙ ap (λ rows. picture_head form m.width (height_of m) maxval ++ pixels_in form maxval palette (concat rows)) (take_all y m.rows past)
     ∙ sym (ppm_parts form (coloured_map maxval palette m))
 
 -- a colour of a palette has samples within maxval
@@ -103,7 +103,7 @@ coloured_palette layout palette m written no_grid no_cells =
     subst (λ kind. AllPass (is_of_kind kind) palette) (coloured_kind layout.kind layout.form layout.width layout.height layout.side layout written.answered no_grid no_cells) written.kind
 
 -- what is written in another form is a picture of colours
-pub coloured_text : (kind : Kind) (form : Form) (palette : List Symbol) (m : Raster) → (form ≡ Grid → ⊥) → (form ≡ Cells → ⊥) → ppm_text form (coloured_map (maxval_of kind) palette m) ≡ text_in kind form palette m
+pub coloured_text : (kind : Kind) (form : Form) (palette : List Symbol) (m : Raster) → (form ≡ Grid → ⊥) → (form ≡ Cells → ⊥) → ppm_text form (coloured_map (maxval_of kind) palette m) ≡ raster_text kind form palette m
 coloured_text kind P6 palette m no_grid no_cells = refl
 coloured_text kind P3 palette m no_grid no_cells = refl
 coloured_text kind Grid palette m no_grid no_cells = absurd (no_grid refl)

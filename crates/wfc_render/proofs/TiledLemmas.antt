@@ -17,10 +17,10 @@ use Rattle.wfc_ppm.specs.Ppm.{is_within}
 use Rattle.wfc_tileset.specs.declared.TheConstants.{HOLE}
 use Rattle.wfc_tileset.specs.Pictures.{kind_of, pixel_at, side_of}
 use Rattle.wfc_tileset.specs.Tiles.{TileSetView, variant_total}
-use Rattle.wfc_render.specs.Colours.{head_in, pixel_in}
+use Rattle.wfc_render.specs.Colours.{picture_head, drawn_pixel}
 use Rattle.wfc_render.specs.Drawn.{drawn_text, symbol_in}
 use Rattle.wfc_render.specs.Map.{byte_of, colour_of, is_of_kind, maxval_of}
-use Rattle.wfc_render.specs.Tiled.{IsVariantOrHole, all_rows, cell_word, pixel_row, pixel_rows, shown_at, shown_row, spaced_cells, tiled_picture, tiles_in}
+use Rattle.wfc_render.specs.Tiled.{IsVariantOrHole, all_rows, variant_word, pixel_row, pixel_rows, shown_at, shown_row, spaced_cells, tiled_picture, tiles_in}
 use Rattle.wfc_render.specs.declared.form.Form.{Form}
 use Rattle.wfc_render.specs.declared.form.Form.TheVariants.{P6, P3, Grid, Cells}
 use Rattle.wfc_render.proofs.ColourLemmas.{ppm_parts}
@@ -90,14 +90,14 @@ module _ (set : TileSetView) (m : Raster) where
   maxval = maxval_of (kind_of set.pictures)
 
   abbrev head_of : Form → List ℕ
-  head_of form = head_in form (m.width * side_of set.pictures) (height_of m * side_of set.pictures) maxval
+  head_of form = picture_head form (m.width * side_of set.pictures) (height_of m * side_of set.pictures) maxval
 
   -- rows of pixels without ends are the pixels of the picture
   joined : (form : Form) (rows : List (List Symbol))
-      → flat_map (λ row. flat_map (λ symbol. pixel_in form maxval (colour_of symbol)) row ++ []) rows ≡ flat_map (pixel_in form maxval) (flat_map (map colour_of) rows)
+      → flat_map (λ row. flat_map (λ symbol. drawn_pixel form maxval (colour_of symbol)) row ++ []) rows ≡ flat_map (drawn_pixel form maxval) (flat_map (map colour_of) rows)
   joined form rows =
-      flat_map-same _ _ (λ row. append-nil (flat_map (λ symbol. pixel_in form maxval (colour_of symbol)) row) ∙ sym (flat_map-map (pixel_in form maxval) colour_of row)) rows
-      ∙ sym (flat_map-flat_map (pixel_in form maxval) (map colour_of) rows)
+      flat_map-same _ _ (λ row. append-nil (flat_map (λ symbol. drawn_pixel form maxval (colour_of symbol)) row) ∙ sym (flat_map-map (drawn_pixel form maxval) colour_of row)) rows
+      ∙ sym (flat_map-flat_map (drawn_pixel form maxval) (map colour_of) rows)
 
   -- the text that is written pixel by pixel is the map's
   pub drawn_is : (form : Form) → (form ≡ Cells → ⊥) → drawn_text form set m ≡ tiles_in form set m
@@ -134,15 +134,15 @@ shown_variant set j number i inside few = sym (cond-false (number == HOLE) (Char
 
 -- ---- numbers
 
-spaced_cells-push : (numbers : List ℕ) (n : ℕ) → 0 < length numbers → spaced_cells (numbers ++ n ∷ []) ≡ spaced_cells numbers ++ 0x20 ∷ cell_word n
+spaced_cells-push : (numbers : List ℕ) (n : ℕ) → 0 < length numbers → spaced_cells (numbers ++ n ∷ []) ≡ spaced_cells numbers ++ 0x20 ∷ variant_word n
 spaced_cells-push [] n some = absurd (omega arith)
 spaced_cells-push (m ∷ numbers) n some =
-    ap (λ t. cell_word m ++ t)
-    (flat_map-append (λ k. 0x20 ∷ cell_word k) numbers (n ∷ []) ∙ ap (λ t. flat_map (λ k. 0x20 ∷ cell_word k) numbers ++ t) (append-nil (0x20 ∷ cell_word n)))
-    ∙ sym (append_assoc (cell_word m) (flat_map (λ k. 0x20 ∷ cell_word k) numbers) (0x20 ∷ cell_word n))
+    ap (λ t. variant_word m ++ t)
+    (flat_map-append (λ k. 0x20 ∷ variant_word k) numbers (n ∷ []) ∙ ap (λ t. flat_map (λ k. 0x20 ∷ variant_word k) numbers ++ t) (append-nil (0x20 ∷ variant_word n)))
+    ∙ sym (append_assoc (variant_word m) (flat_map (λ k. 0x20 ∷ variant_word k) numbers) (0x20 ∷ variant_word n))
 
 -- one number more of a row
-pub spaced_cells-next : (xs : List ℕ) (i : ℕ) → 0 < i → i < length xs → spaced_cells (take (i + 1) xs) ≡ spaced_cells (take i xs) ++ 0x20 ∷ cell_word (get_or xs i 0)
+pub spaced_cells-next : (xs : List ℕ) (i : ℕ) → 0 < i → i < length xs → spaced_cells (take (i + 1) xs) ≡ spaced_cells (take i xs) ++ 0x20 ∷ variant_word (get_or xs i 0)
 spaced_cells-next xs i some inside =
     ap spaced_cells (take_more xs i 0 inside)
     ∙ spaced_cells-push (take i xs) (get_or xs i 0) (omega (arith, length-take i xs))

@@ -31,8 +31,8 @@ form_for kind None = slice_get (forms_of kind) 0
 form_for kind (Some form) = if list_any (same_form form) (forms_of kind) then Some form else None
 
 -- how many pixels a map of so many tiles has, whose side is so long
-abbrev pub pixels_of : ℕ → ℕ → ℕ → ℕ
-pixels_of width height side = (width * height) * (side * side)
+abbrev pub pixel_count : ℕ → ℕ → ℕ → ℕ
+pixel_count width height side = (width * height) * (side * side)
 
 -- the layout, unless it has too many pixels
 abbrev pub unless_large : Layout → ℕ → Result Layout RenderFault
@@ -43,7 +43,7 @@ abbrev pub layout_in : Kind → Option Form → ℕ → ℕ → ℕ → Result L
 layout_in kind None width height side = Err FormDiffers
 layout_in kind (Some form) width height side =
     unless_large (record { kind = kind; form = form; width = width; height = height; side = side })
-    (pixels_of width height side)
+    (pixel_count width height side)
 
 -- the layout of a map of so many pixels or tiles in the form that is asked for, or why it has none
 abbrev pub layout_of : Kind → Option Form → ℕ → ℕ → ℕ → Result Layout RenderFault

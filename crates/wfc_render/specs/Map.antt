@@ -26,8 +26,8 @@ byte_of (Char byte) = byte
 byte_of (Rgb colour) = 0x20
 
 -- the bytes of the symbols with these numbers
-abbrev pub bytes_of : List Symbol → List ℕ → List ℕ
-bytes_of palette numbers = map (λ number. byte_of (symbol_at palette number)) numbers
+abbrev pub symbol_bytes : List Symbol → List ℕ → List ℕ
+symbol_bytes palette numbers = map (λ number. byte_of (symbol_at palette number)) numbers
 
 -- the colour of a symbol, and black for a character
 abbrev pub colour_of : Symbol → Colour
@@ -35,8 +35,8 @@ colour_of (Char byte) = record { r = 0; g = 0; b = 0 }
 colour_of (Rgb colour) = colour
 
 -- the colours of the symbols with these numbers
-abbrev pub colours_of : List Symbol → List ℕ → List Colour
-colours_of palette numbers = map (λ number. colour_of (symbol_at palette number)) numbers
+abbrev pub symbol_colours : List Symbol → List ℕ → List Colour
+symbol_colours palette numbers = map (λ number. colour_of (symbol_at palette number)) numbers
 
 -- the greatest sample of a kind; 0 for the kinds that have no colours
 abbrev pub maxval_of : Kind → ℕ
@@ -50,20 +50,20 @@ coloured_map maxval palette m = record {
   width = m.width;
   height = height_of m;
   maxval = maxval;
-  pixels = colours_of palette (numbers_of m);
+  pixels = symbol_colours palette (numbers_of m);
 }
 
 -- the text of a map in a form: a picture of colours, row by row the bytes of its symbols, or its
 -- numbers with one blank between each two
-abbrev pub text_in : Kind → Form → List Symbol → Raster → List ℕ
-text_in kind P6 palette m = p6_text (coloured_map (maxval_of kind) palette m)
-text_in kind P3 palette m = p3_text (coloured_map (maxval_of kind) palette m)
-text_in kind Grid palette m = grid_text (map (bytes_of palette) m.rows)
-text_in kind Cells palette m = grid_text (map spaced_numbers m.rows)
+abbrev pub raster_text : Kind → Form → List Symbol → Raster → List ℕ
+raster_text kind P6 palette m = p6_text (coloured_map (maxval_of kind) palette m)
+raster_text kind P3 palette m = p3_text (coloured_map (maxval_of kind) palette m)
+raster_text kind Grid palette m = grid_text (map (symbol_bytes palette) m.rows)
+raster_text kind Cells palette m = grid_text (map spaced_numbers m.rows)
 
 -- the text of a map of palette numbers
 abbrev pub map_text : Layout → List Symbol → Raster → List ℕ
-map_text layout palette m = text_in layout.kind layout.form palette m
+map_text layout palette m = raster_text layout.kind layout.form palette m
 
 -- a map of pixels, whose numbers are of a palette of symbols of its layout's kind
 pub record IsWritten (layout : Layout) (palette : List Symbol) (m : Raster) : Type 0 where

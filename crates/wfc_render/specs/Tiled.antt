@@ -47,13 +47,13 @@ tiled_picture set m = record {
 }
 
 -- the number of a variant, and a hyphen for a hole
-abbrev pub cell_word : ℕ → List ℕ
-cell_word number = if number == HOLE then codes "-" else decimal number
+abbrev pub variant_word : ℕ → List ℕ
+variant_word number = if number == HOLE then codes "-" else decimal number
 
 -- these with one blank between each two
 abbrev pub spaced_cells : List ℕ → List ℕ
 spaced_cells [] = []
-spaced_cells (n ∷ numbers) = cell_word n ++ flat_map (λ n. 0x20 ∷ cell_word n) numbers
+spaced_cells (n ∷ numbers) = variant_word n ++ flat_map (λ n. 0x20 ∷ variant_word n) numbers
 
 -- the text of a map in a form: a picture of colours, row by row the bytes of its pixels, or its numbers
 abbrev pub tiles_in : Form → TileSetView → Raster → List ℕ

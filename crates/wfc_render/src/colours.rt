@@ -5,7 +5,7 @@ ghost use Rattle.std.specs.List.{AllPass};
 ghost use Rattle.wfc_model.specs.Raster.{height_of, numbers_of};
 ghost use Rattle.wfc_picture.specs.declared.symbol.Kind.TheVariants as kinds;
 ghost use Rattle.wfc_ppm.specs.Ppm.{is_within};
-ghost use Rattle.wfc_render.specs.Colours.{head_in, pixel_in, pixels_in, ppm_text};
+ghost use Rattle.wfc_render.specs.Colours.{picture_head, drawn_pixel, pixels_in, ppm_text};
 ghost use Rattle.wfc_render.specs.Map.{colour_of, coloured_map, is_of_kind, maxval_of, symbol_at};
 
 use crate::form::Form;
@@ -71,7 +71,7 @@ pub(crate) fn push_head(
     maxval: u16,
 ) -> Result<(), NoMemory>
     ensures head { OnOk result (text.new.items
-        ≡ text.old.items ++ head_in form width height maxval) }
+        ≡ text.old.items ++ picture_head form width height maxval) }
 {
     match form {
         Form::P3 => push_p3_head(text, width, height, maxval),
@@ -110,7 +110,7 @@ pub(crate) fn push_pixel(
     colour: Colour,
 ) -> Result<(), NoMemory>
     requires within { is_within maxval colour ≡ true }
-    ensures pixel { OnOk result (text.new.items ≡ text.old.items ++ pixel_in form maxval colour) }
+    ensures pixel { OnOk result (text.new.items ≡ text.old.items ++ drawn_pixel form maxval colour) }
 {
     match form {
         Form::P3 => push_p3_pixel(text, colour),

@@ -6,16 +6,16 @@ ghost use Rattle.wfc_picture.specs.declared.symbol.Kind.TheVariants as kinds;
 ghost use Rattle.wfc_picture.specs.Small.{rgb};
 ghost use Rattle.wfc_picture.specs.declared.symbol.Symbol.TheVariants.{Char};
 ghost use Rattle.wfc_render.specs.Block.{block_text, domain_text};
-ghost use Rattle.wfc_render.specs.Layout.{IsLayout, form_for, forms_of, layout_of, pixels_of};
+ghost use Rattle.wfc_render.specs.Layout.{IsLayout, form_for, forms_of, layout_of, pixel_count};
 ghost use Rattle.wfc_render.specs.Learned.{learned_text};
 ghost use Rattle.wfc_render.specs.LearnedTiles.{learned_tiles_text};
 ghost use Rattle.wfc_render.specs.Tiled.{tiles_in};
-ghost use Rattle.wfc_tileset.specs.Samples.{lines, one_taken};
+ghost use Rattle.wfc_tileset.specs.Samples.{straight_lines, one_taken};
 ghost use Rattle.wfc_render.specs.Small.{blank_and_colour, letters_and_blank, map_across, map_down, map_of_one};
 ghost use Rattle.wfc_render.specs.Small.{map_of_six, pair_of_patterns, two_colours};
 ghost use Rattle.wfc_render.specs.SmallTiles.{four_shown_tiles};
 ghost use Rattle.wfc_model.specs.Raster.{raster_of};
-ghost use Rattle.wfc_render.specs.Map.{is_of_kind, symbol_at, text_in};
+ghost use Rattle.wfc_render.specs.Map.{is_of_kind, symbol_at, raster_text};
 ghost use Rattle.wfc_render.specs.Numbers.{spaced_numbers};
 ghost use Rattle.wfc_render.specs.declared.form.Form.{Form};
 ghost use Rattle.wfc_render.specs.declared.form.Form.TheVariants.{P6, P3, Grid, Cells};
@@ -60,7 +60,7 @@ pub fn forms_by_example()
 pub fn layouts_by_example()
     ensures three_by_two { layout_of kinds.Grid None 3 2 1 ≡
         Ok (record { kind = kinds.Grid; form = Grid; width = 3; height = 2; side = 1 }) }
-    ensures pixels { pixels_of 3 2 5 ≡ 150 }
+    ensures pixels { pixel_count 3 2 5 ≡ 150 }
     ensures most { layout_of (kinds.Ppm 9) (Some P3) 512 128 16 ≡
         Ok (record { kind = kinds.Ppm 9; form = P3; width = 512; height = 128; side = 16 }) }
     ensures more { layout_of (kinds.Ppm 9) (Some Cells) 4096 17 17 ≡ Err (TooLarge 20123648) }
@@ -81,19 +81,20 @@ pub fn kinds_by_example()
 
 /// A map of three by two in both forms: row by row the bytes of the symbols, or the numbers with one blank between each two.
 pub fn maps_by_example()
-    ensures grid { text_in kinds.Grid Grid letters_and_blank map_of_six ≡ codes "ba \naab\n" }
-    ensures cells { text_in kinds.Grid Cells letters_and_blank map_of_six ≡ codes "0 1 2\n1 1 0\n" }
+    ensures grid { raster_text kinds.Grid Grid letters_and_blank map_of_six ≡ codes "ba \naab\n" }
+    ensures cells { raster_text kinds.Grid Cells letters_and_blank map_of_six ≡ codes
+        "0 1 2\n1 1 0\n" }
     ensures numbers { spaced_numbers (10 ∷ 0 ∷ 4095 ∷ []) ≡ codes "10 0 4095" }
     ensures one { spaced_numbers (7 ∷ []) ≡ codes "7" }
 {}
 
 /// A map of two by one of colours, raw and in decimal; samples of two bytes have the most significant first.
 pub fn maps_of_colours_by_example()
-    ensures raw { text_in (kinds.Ppm 255) P6 two_colours map_across
+    ensures raw { raster_text (kinds.Ppm 255) P6 two_colours map_across
         ≡ codes "P6\n2 1\n255\n" ++ 70 ∷ 80 ∷ 90 ∷ 1 ∷ 2 ∷ 3 ∷ [] }
-    ensures wide { text_in (kinds.Ppm 256) P6 (rgb 1 2 256 ∷ []) map_of_one
+    ensures wide { raster_text (kinds.Ppm 256) P6 (rgb 1 2 256 ∷ []) map_of_one
         ≡ codes "P6\n1 1\n256\n" ++ 0 ∷ 1 ∷ 0 ∷ 2 ∷ 1 ∷ 0 ∷ [] }
-    ensures plain { text_in (kinds.Ppm 99) P3 two_colours map_down
+    ensures plain { raster_text (kinds.Ppm 99) P3 two_colours map_down
         ≡ codes "P3\n1 2\n99\n70 80 90\n1 2 3\n" }
 {}
 
@@ -124,6 +125,6 @@ pub fn tile_maps_by_example()
 
 /// The text of a straight line that may go on to the right.
 pub fn learned_tiles_by_example()
-    ensures lines { learned_tiles_text lines
+    ensures lines { learned_tiles_text straight_lines
         ≡ codes "tiles 1\nvariants 2\n0 1: /0\n1 1: /1\nacross 1\n0 0\ndown 1\n1 1\n" }
 {}

@@ -1,7 +1,7 @@
 //! The layout of a map.
 
 ghost use Rattle.std.specs.Prelude.{◌≡◌, ◌<◌, ◌≤◌};
-ghost use Rattle.wfc_render.specs.Layout.{form_for, layout_of, pixels_of};
+ghost use Rattle.wfc_render.specs.Layout.{form_for, layout_of, pixel_count};
 
 use crate::form::{Form, Layout, RenderFault};
 use wfc_picture::Kind;
@@ -34,7 +34,7 @@ pub fn layout(
     ensures exact { result ≡ layout_of kind form width height side }
 {
     let form = form_for(kind, form).ok_or(RenderFault::FormDiffers)?;
-    let pixels = pixels_of(width, height, side);
+    let pixels = pixel_count(width, height, side);
     if pixels > MAX_MAP_PIXELS {
         return Err(RenderFault::TooLarge { pixels });
     }
@@ -61,11 +61,11 @@ fn form_for(kind: Kind, form: Option<Form>) -> Option<Form>
 }
 
 /// How many pixels the map has.
-fn pixels_of(width: u32, height: u32, side: u32) -> u64
+fn pixel_count(width: u32, height: u32, side: u32) -> u64
     requires width_limit { width ≤ MAX_OUTPUT_SIDE }
     requires height_limit { height ≤ MAX_OUTPUT_SIDE }
     requires side_limit { side ≤ MAX_TILE_SIDE }
-    ensures pixels { result ≡ pixels_of width height side }
+    ensures pixels { result ≡ pixel_count width height side }
 {
     let places = width * height;
     let area = side * side;

@@ -3,7 +3,7 @@
 ghost use Rattle.std.specs.Prelude.{◌≡◌, ◌<◌, ◌∷◌, ◌++◌, [], All, length, map, slice_index_or, IfOk, OnOk};
 ghost use Rattle.wfc_grid.specs.Spelling.{grid_text};
 ghost use Rattle.wfc_model.specs.Raster.{height_of, number_at, numbers_of};
-ghost use Rattle.wfc_render.specs.Map.{IsWritten, byte_of, bytes_of, map_text, symbol_at};
+ghost use Rattle.wfc_render.specs.Map.{IsWritten, byte_of, symbol_bytes, map_text, symbol_at};
 ghost use Rattle.wfc_render.specs.Numbers.{spaced_numbers};
 
 use crate::colours::{colour_rows, maxval_of};
@@ -34,7 +34,7 @@ pub fn picture_bytes(
 fn symbol_rows(alloc: Global, palette: &Palette, picture: &Picture) -> Result<Vec<u8>, NoMemory>
     requires numbers { All (λ number. number < length palette.now) (numbers_of picture.now) }
     ensures text { IfOk result (λ text.
-        text.items ≡ grid_text (map (bytes_of palette.now) picture.now.rows)) }
+        text.items ≡ grid_text (map (symbol_bytes palette.now) picture.now.rows)) }
 {
     let height = picture.height();
     let size = (picture.width() as usize + 1) * height as usize;
@@ -55,7 +55,7 @@ fn push_symbols(
     requires row_in { y < height_of picture.now }
     requires numbers { All (λ number. number < length palette.now) (numbers_of picture.now) }
     ensures row { OnOk result (text.new.items ≡ text.old.items
-        ++ (bytes_of palette.now (slice_index_or picture.now.rows y []) ++ 10 ∷ [])) }
+        ++ (symbol_bytes palette.now (slice_index_or picture.now.rows y []) ++ 10 ∷ [])) }
 {
     let width = picture.width();
     for x in 0..width {

@@ -5,9 +5,9 @@ ghost use Rattle.wfc_grid.specs.Spelling.{grid_text};
 ghost use Rattle.wfc_model.specs.Raster.{height_of, numbers_of};
 ghost use Rattle.wfc_ppm.specs.Ppm.{is_within};
 ghost use Rattle.wfc_tileset.specs.Pictures.{IsPictured, kind_of, side_of};
-ghost use Rattle.wfc_render.specs.Drawn.{end_in, line_in, lines_in, place_in, start_in, symbol_in};
+ghost use Rattle.wfc_render.specs.Drawn.{row_end, drawn_line, drawn_lines, drawn_place, start_in, symbol_in};
 ghost use Rattle.wfc_render.specs.Map.{colour_of, maxval_of};
-ghost use Rattle.wfc_render.specs.Tiled.{IsVariantOrHole, IsTiled, cell_word, shown_at, spaced_cells, tile_text, tiles_in};
+ghost use Rattle.wfc_render.specs.Tiled.{IsVariantOrHole, IsTiled, variant_word, shown_at, spaced_cells, tile_text, tiles_in};
 
 use crate::colours::{colour_of, maxval_of, push_head, push_pixel, room};
 use crate::form::{Form, Layout};
@@ -67,7 +67,7 @@ fn push_cells(text: &mut Vec<u8>, picture: &Picture, y: u32) -> Result<(), NoMem
 
 /// Writes the number of a variant behind the text, or a hyphen for a hole.
 fn push_cell(text: &mut Vec<u8>, number: u32) -> Result<(), NoMemory>
-    ensures word { OnOk result (text.new.items ≡ text.old.items ++ cell_word number) }
+    ensures word { OnOk result (text.new.items ≡ text.old.items ++ variant_word number) }
 {
     if number == HOLE {
         text.push(b'-')?;
@@ -127,7 +127,7 @@ fn push_lines(
     requires row_in { y < height_of picture.now }
     requires numbers { All (IsVariantOrHole tiles.now) (numbers_of picture.now) }
     ensures lines { OnOk result (text.new.items ≡ text.old.items
-        ++ lines_in form tiles.now (slice_index_or picture.now.rows y [])) }
+        ++ drawn_lines form tiles.now (slice_index_or picture.now.rows y [])) }
 {
     let side = tiles.side();
     for j in 0..side {
@@ -150,7 +150,7 @@ fn push_line(
     requires j_in { j < side_of tiles.now.pictures }
     requires numbers { All (IsVariantOrHole tiles.now) (numbers_of picture.now) }
     ensures line { OnOk result (text.new.items ≡ text.old.items
-        ++ line_in form tiles.now (slice_index_or picture.now.rows y []) j) }
+        ++ drawn_line form tiles.now (slice_index_or picture.now.rows y []) j) }
 {
     let width = picture.width();
     for x in 0..width {
@@ -161,7 +161,7 @@ fn push_line(
 
 /// Writes the end of a row of pixels behind the text.
 fn push_end(text: &mut Vec<u8>, form: Form) -> Result<(), NoMemory>
-    ensures end { OnOk result (text.new.items ≡ text.old.items ++ end_in form) }
+    ensures end { OnOk result (text.new.items ≡ text.old.items ++ row_end form) }
 {
     if matches!(form, Form::Grid) {
         text.push(b'\n')?;
@@ -181,7 +181,7 @@ fn push_place(
     requires number { IsVariantOrHole tiles.now number }
     requires j_in { j < side_of tiles.now.pictures }
     ensures place { OnOk result (text.new.items
-        ≡ text.old.items ++ place_in form tiles.now j number) }
+        ≡ text.old.items ++ drawn_place form tiles.now j number) }
 {
     let maxval = maxval_of(tiles.kind());
     let side = tiles.side();

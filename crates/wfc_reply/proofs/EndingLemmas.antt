@@ -8,13 +8,13 @@ use Rattle.wfc_reply.specs.Asking.{IsCommand}
 use Rattle.wfc_reply.specs.Call.{Call}
 use Rattle.wfc_reply.specs.Command.{Command}
 use Rattle.wfc_reply.specs.Reply.{IsNoStatus, Answered, TakesWhole, verdict_status, verdict_text}
-use Rattle.wfc_reply.specs.declared.reply.Verdict.{Verdict}
-use Rattle.wfc_reply.specs.declared.reply.Verdict.TheVariants as verdict
+use Rattle.wfc_reply.specs.declared.reply.CommandVerdict.{CommandVerdict}
+use Rattle.wfc_reply.specs.declared.reply.CommandVerdict.TheVariants as verdict
 use Rattle.wfc_words.specs.RequestView.{RequestView}
 use Rattle.wfc_words.specs.declared.kinds.CommandKind.{CommandKind}
 
 -- a verdict of this command: it is done, its answer is no, or its budget is spent
-pub data IsEnding (command : Command) (rules : List Rule) (asked : RequestView) (files : List File) (said : Verdict) : Type 0 where
+pub data IsEnding (command : Command) (rules : List Rule) (asked : RequestView) (files : List File) (said : CommandVerdict) : Type 0 where
   as_asked : said ≡ verdict.Done → IsEnding command rules asked files said
   as_no : (text : List ℕ) → verdict_text asked said ≡ Some text → IsNoStatus (verdict_status said) → command.IsNo rules asked files text → IsEnding command rules asked files said
   as_spent : said ≡ verdict.Spent (command.budget asked) → IsEnding command rules asked files said

@@ -15,7 +15,7 @@ use Rattle.wfc_proof.specs.declared.heads.Format.{Format}
 use Rattle.wfc_proof.specs.declared.heads.Format.TheVariants.{One, Two}
 use Rattle.wfc_reply.proofs.RunTextLemmas.{end_single, opening_single, run_single, run_text, single_both, single_front, spans_ended, turns_single}
 use Rattle.wfc_reply.proofs.ToldRunLemmas.{run_is_proof}
-use Rattle.wfc_reply.specs.RunText.{IsBegunBy, IsFrontOfText, IsToldBy, lines_in, writing_head, writing_text, written_format}
+use Rattle.wfc_reply.specs.RunText.{IsBegunBy, IsFrontOfText, IsToldBy, format_lines, writing_head, writing_text, written_format}
 use Rattle.wfc_reply.specs.declared.putting.RunWriting.{RunWriting}
 use Rattle.wfc_search.proofs.CallerLemmas.{ended_same}
 use Rattle.wfc_search.proofs.Proved.{front_proved, tells_more}
@@ -31,10 +31,10 @@ use Rattle.wfc_search.specs.declared.Turn.TheVariants.{Chose, Ended, Retracted}
 ended_text : (writing : RunWriting) (P : Network) (lines : List Line) (o : Outcome) → writing_text writing P (lines ++ end_line o ∷ []) ≡ writing_text writing P lines ++ text_of (end_line o ∷ [])
 ended_text writing P lines o =
     ap (λ (ls : List Line). writing_head writing P ++ text_of ls) (by_format (written_format writing.format))
-    ∙ ap (λ (xs : List ℕ). writing_head writing P ++ xs) (text_of-append (lines_in (written_format writing.format) lines) (end_line o ∷ []))
-    ∙ sym (append_assoc (writing_head writing P) (text_of (lines_in (written_format writing.format) lines)) (text_of (end_line o ∷ [])))
+    ∙ ap (λ (xs : List ℕ). writing_head writing P ++ xs) (text_of-append (format_lines (written_format writing.format) lines) (end_line o ∷ []))
+    ∙ sym (append_assoc (writing_head writing P) (text_of (format_lines (written_format writing.format) lines)) (text_of (end_line o ∷ [])))
   where
-    by_format : (format : Format) → lines_in format (lines ++ end_line o ∷ []) ≡ lines_in format lines ++ end_line o ∷ []
+    by_format : (format : Format) → format_lines format (lines ++ end_line o ∷ []) ≡ format_lines format lines ++ end_line o ∷ []
     by_format One = refl
     by_format Two = spans_ended lines o
 

@@ -10,7 +10,7 @@ use Rattle.wfc_problem.specs.Network.{Network}
 use Rattle.wfc_proof.proofs.WrittenLemmas.{lines_cut_off, lines_written, spans_cut_off, spans_written}
 use Rattle.wfc_proof.specs.Journal.{IsCutOff, JournalView, Target, after_lines}
 use Rattle.wfc_proof.specs.Spans.{IsSpanning, Joined, as_span, grown_or_apart, in_spans, join_line, join_on, nothing_joined, spans_of}
-use Rattle.wfc_proof.specs.Telling.{IsAt, IsCut, begun, journal_of, refused_lines, text_of}
+use Rattle.wfc_proof.specs.Telling.{IsAt, IsCutShort, new_journal, journal_of, refused_lines, text_of}
 use Rattle.wfc_proof.specs.declared.JournalFault.{JournalFault}
 use Rattle.wfc_proof.specs.declared.Line.{Line}
 use Rattle.wfc_proof.specs.declared.heads.Format.TheVariants.{One, Two}
@@ -44,42 +44,42 @@ name_in other None = other
 name_in other (Some target) = target.name
 
 pub lines_put : (s : SearchView) (words : Stream) (o : Outcome) (name other : GName) (started sink : SinkView) (refused : Option Line) → IsReady s → IsAt One sink.told (refused_lines refused)
-    → IsRunTold s words o (begun name started) (journal_of other sink refused) → PutsFrom One s words o started sink
+    → IsRunTold s words o (new_journal name started) (journal_of other sink refused) → PutsFrom One s words o started sink
 lines_put s words o name other started sink refused ready at told =
     let same : other ≡ name = ap (λ (j : JournalView). name_in name j.target) told.2 in
     record {
       lines = told.0;
       told = record { first = s.store; opened = store_at s words ready; tells = told.1 };
-      put = lines_written name started sink refused told.0 at (subst (λ (n : GName). journal_of n sink refused ≡ after_lines (begun name started) told.0) same told.2);
+      put = lines_written name started sink refused told.0 at (subst (λ (n : GName). journal_of n sink refused ≡ after_lines (new_journal name started) told.0) same told.2);
     }
 
 pub spans_put : (s : SearchView) (words : Stream) (o : Outcome) (name other : GName) (started sink : SinkView) (kept refused : Option Line) → IsReady s → IsSpanning sink kept refused
-    → IsRunTold s words o (begun name started) (spans_of other sink kept refused) → PutsFrom Two s words o started sink
+    → IsRunTold s words o (new_journal name started) (spans_of other sink kept refused) → PutsFrom Two s words o started sink
 spans_put s words o name other started sink kept refused ready at told =
     let same : other ≡ name = ap (λ (j : JournalView). name_in name j.target) told.2 in
     record {
       lines = told.0;
       told = record { first = s.store; opened = store_at s words ready; tells = told.1 };
       put = spans_written name started sink kept refused told.0 at (run_kept s.problem s.chooser.rule s.course.budget (state_at s.store s.course 0 words) s.store o told.0 told.1)
-          (subst (λ (n : GName). spans_of n sink kept refused ≡ after_lines (begun name started) told.0) same told.2);
+          (subst (λ (n : GName). spans_of n sink kept refused ≡ after_lines (new_journal name started) told.0) same told.2);
     }
 
 -- a front that isn't the whole is a front of itself
-cut_front : (old new : SinkView) (text : List ℕ) → (parted : IsCut old new text) → IsFaultAfterFront old new (take parted.n text)
+cut_front : (old new : SinkView) (text : List ℕ) → (parted : IsCutShort old new text) → IsFaultAfterFront old new (take parted.n text)
 cut_front old new text parted =
     let again : take parted.n (take parted.n text) ≡ take parted.n text = take_all parted.n (take parted.n text) (omega (arith, length-take parted.n text)) in
     record { front = (parted.n, parted.front ∙ ap (λ (xs : List ℕ). (after_bytes old xs).told) (sym again)); counted = parted.counted }
 
 pub lines_cut : (s : SearchView) (words : Stream) (name other : GName) (started sink : SinkView) (refused : Option Line) → IsReady s → IsAt One sink.told (refused_lines refused)
-    → IsRunCutOff s.problem s.chooser.rule s.course.budget (state_at s.store s.course 0 words) s.store (begun name started) (journal_of other sink refused) → CutsFrom One s words started sink
+    → IsRunCutOff s.problem s.chooser.rule s.course.budget (state_at s.store s.course 0 words) s.store (new_journal name started) (journal_of other sink refused) → CutsFrom One s words started sink
 lines_cut s words name other started sink refused ready at run = by_cut run.cut_off
   where
-    named : (lines : List Line) → IsCutOff (begun name started) (journal_of other sink refused) lines → IsCutOff (begun name started) (journal_of name sink refused) lines
-    named lines parted = subst (λ (n : GName). IsCutOff (begun name started) (journal_of n sink refused) lines) (ap (name_in name) parted.target) parted
+    named : (lines : List Line) → IsCutOff (new_journal name started) (journal_of other sink refused) lines → IsCutOff (new_journal name started) (journal_of name sink refused) lines
+    named lines parted = subst (λ (n : GName). IsCutOff (new_journal name started) (journal_of n sink refused) lines) (ap (name_in name) parted.target) parted
 
-    by_cut : IsCutOff (begun name started) (journal_of other sink refused) (opening_lines s.store ++ run.before)
+    by_cut : IsCutOff (new_journal name started) (journal_of other sink refused) (opening_lines s.store ++ run.before)
         ⊎ (IsStoreAt s.problem (turn_of s.problem s.chooser.rule s.course.budget run.last).1 run.store
-        × IsCutOff (begun name started) (journal_of other sink refused) (opening_lines s.store ++ (run.before ++ turn_lines (turn_of s.problem s.chooser.rule s.course.budget run.last).0 run.store)))
+        × IsCutOff (new_journal name started) (journal_of other sink refused) (opening_lines s.store ++ (run.before ++ turn_lines (turn_of s.problem s.chooser.rule s.course.budget run.last).0 run.store)))
         → CutsFrom One s words started sink
     by_cut (inl parted) =
         let lines = opening_lines s.store ++ run.before in
@@ -107,15 +107,15 @@ lines_cut s words name other started sink refused ready at run = by_cut run.cut_
         }
 
 pub spans_cut : (s : SearchView) (words : Stream) (name other : GName) (started sink : SinkView) (kept refused : Option Line) → IsReady s → IsSpanning sink kept refused
-    → IsRunCutOff s.problem s.chooser.rule s.course.budget (state_at s.store s.course 0 words) s.store (begun name started) (spans_of other sink kept refused) → CutsFrom Two s words started sink
+    → IsRunCutOff s.problem s.chooser.rule s.course.budget (state_at s.store s.course 0 words) s.store (new_journal name started) (spans_of other sink kept refused) → CutsFrom Two s words started sink
 spans_cut s words name other started sink kept refused ready at run = by_cut run.cut_off
   where
-    named : (lines : List Line) → IsCutOff (begun name started) (spans_of other sink kept refused) lines → IsCutOff (begun name started) (spans_of name sink kept refused) lines
-    named lines parted = subst (λ (n : GName). IsCutOff (begun name started) (spans_of n sink kept refused) lines) (ap (name_in name) parted.target) parted
+    named : (lines : List Line) → IsCutOff (new_journal name started) (spans_of other sink kept refused) lines → IsCutOff (new_journal name started) (spans_of name sink kept refused) lines
+    named lines parted = subst (λ (n : GName). IsCutOff (new_journal name started) (spans_of n sink kept refused) lines) (ap (name_in name) parted.target) parted
 
-    by_cut : IsCutOff (begun name started) (spans_of other sink kept refused) (opening_lines s.store ++ run.before)
+    by_cut : IsCutOff (new_journal name started) (spans_of other sink kept refused) (opening_lines s.store ++ run.before)
         ⊎ (IsStoreAt s.problem (turn_of s.problem s.chooser.rule s.course.budget run.last).1 run.store
-        × IsCutOff (begun name started) (spans_of other sink kept refused) (opening_lines s.store ++ (run.before ++ turn_lines (turn_of s.problem s.chooser.rule s.course.budget run.last).0 run.store)))
+        × IsCutOff (new_journal name started) (spans_of other sink kept refused) (opening_lines s.store ++ (run.before ++ turn_lines (turn_of s.problem s.chooser.rule s.course.budget run.last).0 run.store)))
         → CutsFrom Two s words started sink
     by_cut (inl parted) =
         let lines = opening_lines s.store ++ run.before in
@@ -142,21 +142,21 @@ spans_cut s words name other started sink kept refused ready at run = by_cut run
           fault = cut_front started sink (text_of (in_spans (take front.0 lines))) front.2;
         }
 
--- a journal that was cut off writes into the sink that it was begun over
+-- a journal that was cut off writes into the sink that it was new_journal over
 pub cut_name : (s : SearchView) (words : Stream) (name : GName) (started : SinkView) (other : GName) (journal : JournalView) → name_in name journal.target ≡ other
-    → IsRunCutOff s.problem s.chooser.rule s.course.budget (state_at s.store s.course 0 words) s.store (begun name started) journal → other ≡ name
+    → IsRunCutOff s.problem s.chooser.rule s.course.budget (state_at s.store s.course 0 words) s.store (new_journal name started) journal → other ≡ name
 cut_name s words name started other journal is run = by_cut run.cut_off
   where
-    by_cut : IsCutOff (begun name started) journal (opening_lines s.store ++ run.before)
+    by_cut : IsCutOff (new_journal name started) journal (opening_lines s.store ++ run.before)
         ⊎ (IsStoreAt s.problem (turn_of s.problem s.chooser.rule s.course.budget run.last).1 run.store
-        × IsCutOff (begun name started) journal (opening_lines s.store ++ (run.before ++ turn_lines (turn_of s.problem s.chooser.rule s.course.budget run.last).0 run.store)))
+        × IsCutOff (new_journal name started) journal (opening_lines s.store ++ (run.before ++ turn_lines (turn_of s.problem s.chooser.rule s.course.budget run.last).0 run.store)))
         → other ≡ name
     by_cut (inl parted) = sym is ∙ ap (name_in name) parted.target
     by_cut (inr (left, parted)) = sym is ∙ ap (name_in name) parted.target
 
 -- what a run answered, where the journal's sink is at last what it wrote into
 pub lines_answered : (s : SearchView) (words : Stream) (name other : GName) (started sink last : SinkView) (refused : Option Line) (old : JournalView) (result : Result Outcome JournalFault) → IsReady s → IsAt One sink.told (refused_lines refused)
-    → (name ≡ other → last ≡ sink) → old ≡ begun name started → IfOk result (λ o. IsRunTold s words o old (journal_of other sink refused)) → IfOk result (λ o. PutsFrom One s words o started last)
+    → (name ≡ other → last ≡ sink) → old ≡ new_journal name started → IfOk result (λ o. IsRunTold s words o old (journal_of other sink refused)) → IfOk result (λ o. PutsFrom One s words o started last)
 lines_answered s words name other started sink last refused old (Ok o) ready at ends is told =
     let of = subst (λ (j : JournalView). IsRunTold s words o j (journal_of other sink refused)) is told in
     let same : other ≡ name = ap (λ (j : JournalView). name_in name j.target) of.2 in
@@ -164,7 +164,7 @@ lines_answered s words name other started sink last refused old (Ok o) ready at 
 lines_answered s words name other started sink last refused old (Err fault) ready at ends is told = tt
 
 pub spans_answered : (s : SearchView) (words : Stream) (name other : GName) (started sink last : SinkView) (kept refused : Option Line) (old : JournalView) (result : Result Outcome JournalFault) → IsReady s → IsSpanning sink kept refused
-    → (name ≡ other → last ≡ sink) → old ≡ begun name started → IfOk result (λ o. IsRunTold s words o old (spans_of other sink kept refused)) → IfOk result (λ o. PutsFrom Two s words o started last)
+    → (name ≡ other → last ≡ sink) → old ≡ new_journal name started → IfOk result (λ o. IsRunTold s words o old (spans_of other sink kept refused)) → IfOk result (λ o. PutsFrom Two s words o started last)
 spans_answered s words name other started sink last kept refused old (Ok o) ready at ends is told =
     let of = subst (λ (j : JournalView). IsRunTold s words o j (spans_of other sink kept refused)) is told in
     let same : other ≡ name = ap (λ (j : JournalView). name_in name j.target) of.2 in
@@ -172,7 +172,7 @@ spans_answered s words name other started sink last kept refused old (Ok o) read
 spans_answered s words name other started sink last kept refused old (Err fault) ready at ends is told = tt
 
 pub lines_failed : (s : SearchView) (words : Stream) (name other : GName) (started sink last : SinkView) (refused : Option Line) (old : JournalView) (result : Result Outcome JournalFault) → IsReady s → IsAt One sink.told (refused_lines refused)
-    → (name ≡ other → last ≡ sink) → old ≡ begun name started → RunFails result s words old (journal_of other sink refused) → OnErr result (CutsFrom One s words started last)
+    → (name ≡ other → last ≡ sink) → old ≡ new_journal name started → RunFails result s words old (journal_of other sink refused) → OnErr result (CutsFrom One s words started last)
 lines_failed s words name other started sink last refused old (Ok o) ready at ends is failed = tt
 lines_failed s words name other started sink last refused old (Err fault) ready at ends is failed =
     let run = subst (λ (j : JournalView). IsRunCutOff s.problem s.chooser.rule s.course.budget (state_at s.store s.course 0 words) s.store j (journal_of other sink refused)) is failed in
@@ -180,7 +180,7 @@ lines_failed s words name other started sink last refused old (Err fault) ready 
     subst (λ (n : SinkView). CutsFrom One s words started n) (sym (ends (sym same))) (lines_cut s words name other started sink refused ready at run)
 
 pub spans_failed : (s : SearchView) (words : Stream) (name other : GName) (started sink last : SinkView) (kept refused : Option Line) (old : JournalView) (result : Result Outcome JournalFault) → IsReady s → IsSpanning sink kept refused
-    → (name ≡ other → last ≡ sink) → old ≡ begun name started → RunFails result s words old (spans_of other sink kept refused) → OnErr result (CutsFrom Two s words started last)
+    → (name ≡ other → last ≡ sink) → old ≡ new_journal name started → RunFails result s words old (spans_of other sink kept refused) → OnErr result (CutsFrom Two s words started last)
 spans_failed s words name other started sink last kept refused old (Ok o) ready at ends is failed = tt
 spans_failed s words name other started sink last kept refused old (Err fault) ready at ends is failed =
     let run = subst (λ (j : JournalView). IsRunCutOff s.problem s.chooser.rule s.course.budget (state_at s.store s.course 0 words) s.store j (spans_of other sink kept refused)) is failed in

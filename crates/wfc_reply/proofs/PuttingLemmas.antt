@@ -13,7 +13,7 @@ use Rattle.wfc_proof.specs.declared.heads.Format.{Format}
 use Rattle.wfc_proof.specs.declared.heads.Format.TheVariants.{One, Two}
 use Rattle.wfc_reply.proofs.JournalLemmas.{store_at}
 use Rattle.wfc_reply.specs.Putting.{CutsFrom, CutsWriting, IsBrokenOff, PutsBehind, PutsFrom, PutsOrStops, PutsWriting}
-use Rattle.wfc_reply.specs.RunText.{IsBegunBy, IsToldBy, lines_in, writing_head, writing_text, written_format}
+use Rattle.wfc_reply.specs.RunText.{IsBegunBy, IsToldBy, format_lines, writing_head, writing_text, written_format}
 use Rattle.wfc_reply.specs.declared.putting.RunWriting.{RunWriting}
 use Rattle.wfc_reply.specs.declared.reply.Stop.{Stop}
 use Rattle.wfc_reply.specs.declared.reply.Stop.TheVariants.{Cut, Unanswered}
@@ -61,8 +61,8 @@ writing_put rule writing P s words o old mid new begins head puts =
     record {
       lines = puts.lines;
       told = at_start rule writing P s words (λ r b Q t. IsToldBy r b Q t o puts.lines) begins puts.told;
-      put = puts.put ∙ ap (λ (m : SinkView). after_bytes m (text_of (lines_in (written_format writing.format) puts.lines))) head
-          ∙ after_bytes-append old (writing_head writing P) (text_of (lines_in (written_format writing.format) puts.lines));
+      put = puts.put ∙ ap (λ (m : SinkView). after_bytes m (text_of (format_lines (written_format writing.format) puts.lines))) head
+          ∙ after_bytes-append old (writing_head writing P) (text_of (format_lines (written_format writing.format) puts.lines));
     }
 
 pub writing_cut : (rule : Rule) (writing : RunWriting) (P : Network) (s : SearchView) (words : Stream) (old mid new : SinkView) → IsBegunFor rule writing P s words
@@ -74,10 +74,10 @@ writing_cut rule writing P s words old mid new begins head cuts =
       count = cuts.count;
       within = cuts.within;
       bytes = length (writing_head writing P) + cuts.bytes;
-      broken = broken_behind (written_format writing.format) cuts.bytes (writing_head writing P) (text_of (lines_in (written_format writing.format) (take cuts.count cuts.lines))) cuts.broken;
+      broken = broken_behind (written_format writing.format) cuts.bytes (writing_head writing P) (text_of (format_lines (written_format writing.format) (take cuts.count cuts.lines))) cuts.broken;
       fault = subst (λ (xs : List ℕ). IsFaultAfterFront old new xs)
-          (sym (take-append-add (writing_head writing P) (text_of (lines_in (written_format writing.format) (take cuts.count cuts.lines))) cuts.bytes))
-          (fault_on old mid new (writing_head writing P) (take cuts.bytes (text_of (lines_in (written_format writing.format) (take cuts.count cuts.lines)))) head cuts.fault);
+          (sym (take-append-add (writing_head writing P) (text_of (format_lines (written_format writing.format) (take cuts.count cuts.lines))) cuts.bytes))
+          (fault_on old mid new (writing_head writing P) (take cuts.bytes (text_of (format_lines (written_format writing.format) (take cuts.count cuts.lines)))) head cuts.fault);
     }
 
 pub head_cut : (rule : Rule) (writing : RunWriting) (P : Network) (s : SearchView) (words : Stream) (old new : SinkView) → IsBegunFor rule writing P s words
@@ -93,7 +93,7 @@ head_cut rule writing P s words old new begins fault =
       within = omega arith;
       bytes = length (writing_head writing P);
       broken = broken_head (written_format writing.format) (length (writing_head writing P)) (length (writing_text writing P (take 0 lines)));
-      fault = subst (λ (xs : List ℕ). IsFaultAfterFront old new xs) (sym (take_at (writing_head writing P) (text_of (lines_in (written_format writing.format) (take 0 lines))) (length (writing_head writing P)) refl)) fault;
+      fault = subst (λ (xs : List ℕ). IsFaultAfterFront old new xs) (sym (take_at (writing_head writing P) (text_of (format_lines (written_format writing.format) (take 0 lines))) (length (writing_head writing P)) refl)) fault;
     }
 
 -- behind another text

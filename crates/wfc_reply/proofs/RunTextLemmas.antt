@@ -15,14 +15,14 @@ use Rattle.wfc_problem.specs.Network.{IsProblem, Network, in_base}
 use Rattle.wfc_proof.proofs.Formed.{AreFormed, closes_follows, is_single, proof_formed}
 use Rattle.wfc_proof.specs.JournalText.{IsOpenTextOf}
 use Rattle.wfc_proof.specs.ProofText.{IsTextOf, head_in}
-use Rattle.wfc_proof.specs.Spans.{Joined, all_joined, apart, as_span, growing, grown_or_apart, in_spans, join_line, join_on, join_with, lines_of, nothing_joined}
+use Rattle.wfc_proof.specs.Spans.{Joined, all_joined, apart, as_span, growing, grown_or_apart, in_spans, join_line, join_on, join_with, line_if_any, nothing_joined}
 use Rattle.wfc_proof.specs.Telling.{text_of}
 use Rattle.wfc_proof.specs.declared.Line.{Line}
 use Rattle.wfc_proof.specs.declared.Line.TheVariants.{Empty, End, Found, Out, Remove, Span, Try}
 use Rattle.wfc_proof.specs.declared.heads.Format.{Format}
 use Rattle.wfc_proof.specs.declared.heads.Format.TheVariants.{One, Two}
 use Rattle.wfc_proof.specs.declared.heads.Shape.{Shape}
-use Rattle.wfc_reply.specs.RunText.{IsRunText, lines_in, writing_text, written_format}
+use Rattle.wfc_reply.specs.RunText.{IsRunText, format_lines, writing_text, written_format}
 use Rattle.wfc_reply.specs.declared.putting.RunWriting.{RunWriting}
 use Rattle.wfc_search.specs.Proved.{AreProof, IsClosedBy, IsLeftOpen}
 use Rattle.wfc_search.specs.Run.{State, turn_of}
@@ -63,8 +63,8 @@ spans_ended told o =
     ∙ ap (λ (m : Option Line). all_joined (grown_or_apart joined (as_span (end_line o)) m)) (none_joined joined.kept o)
     ∙ by_end joined o
   where
-    behind : (joined : Joined) (last : Line) → (joined.done ++ (lines_of joined.kept ++ last ∷ [])) ++ [] ≡ all_joined joined ++ last ∷ []
-    behind joined last = append-nil (joined.done ++ (lines_of joined.kept ++ last ∷ [])) ∙ sym (append_assoc joined.done (lines_of joined.kept) (last ∷ []))
+    behind : (joined : Joined) (last : Line) → (joined.done ++ (line_if_any joined.kept ++ last ∷ [])) ++ [] ≡ all_joined joined ++ last ∷ []
+    behind joined last = append-nil (joined.done ++ (line_if_any joined.kept ++ last ∷ [])) ∙ sym (append_assoc joined.done (line_if_any joined.kept) (last ∷ []))
 
     by_end : (joined : Joined) (o : Outcome) → all_joined (apart joined (as_span (end_line o))) ≡ all_joined joined ++ end_line o ∷ []
     by_end joined outcome.Map = behind joined Found
@@ -127,7 +127,7 @@ run_single P rule budget s first o lines run =
 -- ---- the text
 
 pub closed_text : (P : Network) (shape : Shape) (lines : List Line) → IsProblem P → (closed : IsClosedBy P lines) → list_all is_single lines ≡ true → (format : Format)
-    → IsTextOf P shape format closed.proof (head_in format P shape ++ text_of (lines_in format lines))
+    → IsTextOf P shape format closed.proof (head_in format P shape ++ text_of (format_lines format lines))
 closed_text P shape lines p closed single = by_format
   where
     front : list_all is_single closed.told ≡ true
@@ -136,7 +136,7 @@ closed_text P shape lines p closed single = by_format
     formed : AreFormed closed.told closed.proof
     formed = proof_formed P p closed.proof closed.told (closes_follows P (in_base P) closed.proof closed.closes) front closed.spells
 
-    by_format : (format : Format) → IsTextOf P shape format closed.proof (head_in format P shape ++ text_of (lines_in format lines))
+    by_format : (format : Format) → IsTextOf P shape format closed.proof (head_in format P shape ++ text_of (format_lines format lines))
     by_format One = record {
       closes = closed.closes;
       lines = closed.told;
@@ -153,7 +153,7 @@ closed_text P shape lines p closed single = by_format
     }
 
 pub open_text : (P : Network) (shape : Shape) (lines : List Line) (o : Outcome) → IsProblem P → (left : IsLeftOpen P lines (end_line o)) → list_all is_single lines ≡ true → (format : Format)
-    → IsOpenTextOf P shape format left.proof (end_line o) (head_in format P shape ++ text_of (lines_in format lines))
+    → IsOpenTextOf P shape format left.proof (end_line o) (head_in format P shape ++ text_of (format_lines format lines))
 open_text P shape lines o p left single = by_format
   where
     front : list_all is_single left.told ≡ true
@@ -162,7 +162,7 @@ open_text P shape lines o p left single = by_format
     formed : AreFormed left.told left.proof
     formed = proof_formed P p left.proof left.told left.follows front left.spells
 
-    by_format : (format : Format) → IsOpenTextOf P shape format left.proof (end_line o) (head_in format P shape ++ text_of (lines_in format lines))
+    by_format : (format : Format) → IsOpenTextOf P shape format left.proof (end_line o) (head_in format P shape ++ text_of (format_lines format lines))
     by_format One = record {
       follows = left.follows;
       stops = left.stops;

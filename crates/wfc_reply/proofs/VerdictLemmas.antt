@@ -4,11 +4,11 @@ use Rattle.wfc_plan.proofs.CallerLemmas.{fault_between}
 use Rattle.wfc_plan.specs.Fault.{status_of}
 use Rattle.wfc_plan.specs.declared.fault.Fault.{Fault}
 use Rattle.wfc_reply.specs.Reply.{HasAnswer, verdict_status}
-use Rattle.wfc_reply.specs.declared.reply.Verdict.{Verdict}
-use Rattle.wfc_reply.specs.declared.reply.Verdict.TheVariants.{Dead, Done, MapExists, NoMap, Spent, Stuck, Unaccepted}
+use Rattle.wfc_reply.specs.declared.reply.CommandVerdict.{CommandVerdict}
+use Rattle.wfc_reply.specs.declared.reply.CommandVerdict.TheVariants.{Dead, Done, MapExists, NoMap, Spent, Stuck, Unaccepted}
 
 -- each verdict has the status of an answer
-pub verdict_answers : (verdict : Verdict) → HasAnswer (verdict_status verdict)
+pub verdict_answers : (verdict : CommandVerdict) → HasAnswer (verdict_status verdict)
 verdict_answers Done = inl (omega arith)
 verdict_answers NoMap = inl (omega arith)
 verdict_answers (Spent budget) = inl (omega arith)
@@ -23,7 +23,7 @@ answer_apart k (inl low) above below = omega (arith, low, above)
 answer_apart k (inr eight) above below = omega (arith, eight, below)
 
 -- so no verdict has one of these
-pub verdict_apart : (verdict : Verdict) (k : ℕ) → 3 ≤ k → k ≤ 7 → verdict_status verdict ≡ k → ⊥
+pub verdict_apart : (verdict : CommandVerdict) (k : ℕ) → 3 ≤ k → k ≤ 7 → verdict_status verdict ≡ k → ⊥
 verdict_apart verdict k above below is = answer_apart k (subst HasAnswer is (verdict_answers verdict)) above below
 
 -- so none is 5

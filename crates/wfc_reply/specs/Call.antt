@@ -49,5 +49,5 @@ abbrev pub with_err : Devices → SinkView → Devices
 with_err devices err = record devices { err = err }
 
 -- the same call with another error stream, before and after
-abbrev pub beside : Call → SinkView → SinkView → Call
-beside call old new = record call { before = with_err call.before old; after = with_err call.after new }
+abbrev pub with_error_stream : Call → SinkView → SinkView → Call
+with_error_stream call old new = record call { before = with_err call.before old; after = with_err call.after new }

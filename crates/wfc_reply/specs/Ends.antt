@@ -21,7 +21,7 @@ Replied Answers (Ok task) reply = Replies Answers task reply
 Replied Answers (Err fault) reply = reply ≡ Err fault
 
 -- what a command with this plan and these answers may reply over this folder
-pub record Ends {T : Type 0} (plan : Plan T) (Answers : T → Answered → Type 0) (before after : FolderView)
+pub record MayReply {T : Type 0} (plan : Plan T) (Answers : T → Answered → Type 0) (before after : FolderView)
     (reply : Reply) : Type 0 where
   pub ended : Result T Fault
   pub goes : Goes plan before after ended
@@ -30,4 +30,4 @@ pub record Ends {T : Type 0} (plan : Plan T) (Answers : T → Answered → Type 
 -- what this command may reply over this folder, for this request
 abbrev pub EndsBy : Command → List Rule → RequestView → FolderView → FolderView → Reply → Type 0
 EndsBy command rules asked before after reply =
-    Ends (command.plan (kinds_of rules) asked) (command.Answers rules asked) before after reply
+    MayReply (command.plan (kinds_of rules) asked) (command.Answers rules asked) before after reply

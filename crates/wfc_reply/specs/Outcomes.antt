@@ -1,12 +1,12 @@
 -- How a command ends whose run ends so.
 use Rattle.std.specs.Prelude.{ℕ}
-use Rattle.wfc_reply.specs.declared.reply.Verdict.{Verdict}
-use Rattle.wfc_reply.specs.declared.reply.Verdict.TheVariants.{Done, MapExists, NoMap, Spent}
+use Rattle.wfc_reply.specs.declared.reply.CommandVerdict.{CommandVerdict}
+use Rattle.wfc_reply.specs.declared.reply.CommandVerdict.TheVariants.{Done, MapExists, NoMap, Spent}
 use Rattle.wfc_search.specs.declared.Outcome.{Outcome}
 use Rattle.wfc_search.specs.declared.Outcome.TheVariants as outcome
 
 -- how a command ends whose run ends so
-abbrev pub verdict_of : ℕ → Outcome → Verdict
+abbrev pub verdict_of : ℕ → Outcome → CommandVerdict
 verdict_of budget outcome.Map = Done
 verdict_of budget outcome.NoMap = NoMap
 verdict_of budget outcome.Spent = Spent budget
@@ -18,7 +18,7 @@ outcome_status outcome.NoMap = 1
 outcome_status outcome.Spent = 2
 
 -- how `refute` ends whose run ends so
-abbrev pub refute_verdict : ℕ → Outcome → Verdict
+abbrev pub refute_verdict : ℕ → Outcome → CommandVerdict
 refute_verdict budget outcome.Map = MapExists
 refute_verdict budget outcome.NoMap = Done
 refute_verdict budget outcome.Spent = Spent budget

@@ -9,7 +9,7 @@ use Rattle.wfc_proof.specs.Telling.{text_of}
 use Rattle.wfc_proof.specs.declared.Line.{Line}
 use Rattle.wfc_proof.specs.declared.heads.Format.{Format}
 use Rattle.wfc_proof.specs.declared.heads.Format.TheVariants.{One, Two}
-use Rattle.wfc_reply.specs.RunText.{IsBegunBy, IsToldBy, lines_in, writing_head, writing_text, written_format}
+use Rattle.wfc_reply.specs.RunText.{IsBegunBy, IsToldBy, format_lines, writing_head, writing_text, written_format}
 use Rattle.wfc_reply.specs.declared.putting.RunWriting.{RunWriting}
 use Rattle.wfc_reply.specs.declared.reply.Stop.{Stop}
 use Rattle.wfc_reply.specs.declared.reply.Stop.TheVariants.{Cut, Unanswered}
@@ -24,7 +24,7 @@ pub record PutsRun (format : Format) (rule : Rule) (budget : ℕ) (P : Network) 
     (outcome : Outcome) (old new : SinkView) : Type 0 where
   pub lines : List Line
   pub told : IsToldBy rule budget P s outcome lines
-  pub put : new ≡ after_bytes old (text_of (lines_in format lines))
+  pub put : new ≡ after_bytes old (text_of (format_lines format lines))
 
 -- so many bytes of a text with a head of this length are a front that a fault may leave: in format 2 it ends within the
 -- head, or before the last line ends, since that line could still grow
@@ -40,8 +40,8 @@ pub record CutsRun (format : Format) (rule : Rule) (budget : ℕ) (P : Network) 
   pub count : ℕ
   pub within : count ≤ length lines
   pub bytes : ℕ
-  pub broken : IsBrokenOff format bytes 0 (length (text_of (lines_in format (take count lines))))
-  pub fault : IsFaultAfterFront old new (take bytes (text_of (lines_in format (take count lines))))
+  pub broken : IsBrokenOff format bytes 0 (length (text_of (format_lines format (take count lines))))
+  pub fault : IsFaultAfterFront old new (take bytes (text_of (format_lines format (take count lines))))
 
 -- so from the state that a search is at, with these words to come
 abbrev pub PutsFrom : Format → SearchView → Stream → Outcome → SinkView → SinkView → Type 0

@@ -7,15 +7,15 @@ use Rattle.wfc_outside.specs.Sink.{IsFaultAfterFront, SinkView, after_bytes, aft
 use Rattle.wfc_plan.specs.declared.fault.Fault.{Fault}
 use Rattle.wfc_plan.specs.declared.fault.Source.TheVariants as source
 use Rattle.wfc_reply.specs.FileNames.{name_of}
-use Rattle.wfc_reply.specs.declared.reply.Verdict.{Verdict}
-use Rattle.wfc_reply.specs.declared.reply.Verdict.TheVariants.{Dead, Done, MapExists, NoMap, Spent, Stuck, Unaccepted}
+use Rattle.wfc_reply.specs.declared.reply.CommandVerdict.{CommandVerdict}
+use Rattle.wfc_reply.specs.declared.reply.CommandVerdict.TheVariants.{Dead, Done, MapExists, NoMap, Spent, Stuck, Unaccepted}
 use Rattle.wfc_words.specs.RequestView.{RequestView}
 
 -- an answer: how the command ended, and the text that it writes, if it writes any; where it isn't
 -- the whole, the text is one
 -- of which a sink that failed took a front
 pub record Answered : Type 0 where
-  pub verdict : Verdict
+  pub verdict : CommandVerdict
   pub text : Option (List ℕ)
   pub whole : Bool
 
@@ -28,7 +28,7 @@ abbrev pub Reply : Type 0
 Reply = Result Answered Fault
 
 -- the exit status of a verdict
-abbrev pub verdict_status : Verdict → ℕ
+abbrev pub verdict_status : CommandVerdict → ℕ
 verdict_status Done = 0
 verdict_status NoMap = 1
 verdict_status (Spent budget) = 2
@@ -46,7 +46,7 @@ abbrev pub IsNoStatus : ℕ → Type 0
 IsNoStatus status = (status ≡ 1) ⊎ (status ≡ 8)
 
 -- what the error stream is told of a verdict
-abbrev pub verdict_text : RequestView → Verdict → Option (List ℕ)
+abbrev pub verdict_text : RequestView → CommandVerdict → Option (List ℕ)
 verdict_text asked Done = None
 verdict_text asked NoMap = Some no_map_text
 verdict_text asked (Spent budget) = Some (text_of_budget budget)

@@ -23,9 +23,9 @@ abbrev pub written_format : ℕ → Format
 written_format number = if number == 1 then One else Two
 
 -- lines as they stand in a format: in format 2 their removals are joined into spans
-abbrev pub lines_in : Format → List Line → List Line
-lines_in One lines = lines
-lines_in Two lines = in_spans lines
+abbrev pub format_lines : Format → List Line → List Line
+format_lines One lines = lines
+format_lines Two lines = in_spans lines
 
 -- the head in the format and with the shape that are wanted
 abbrev pub writing_head : RunWriting → Network → List ℕ
@@ -33,7 +33,7 @@ writing_head writing P = head_in (written_format writing.format) P writing.shape
 
 -- the text of these lines, behind that head
 abbrev pub writing_text : RunWriting → Network → List Line → List ℕ
-writing_text writing P lines = writing_head writing P ++ text_of (lines_in (written_format writing.format) lines)
+writing_text writing P lines = writing_head writing P ++ text_of (format_lines (written_format writing.format) lines)
 
 -- the run of the problem by the rule, the budget and the seed has this outcome, and tells these
 -- lines from the opening of a store on

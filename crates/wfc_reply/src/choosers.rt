@@ -28,7 +28,7 @@ pub fn kinds(alloc: Global, choosers: &[Box<dyn Chooser>]) -> Result<Vec<RuleKin
 }
 
 /// The first chooser of a kind. The others are dropped.
-pub fn first_of(
+pub fn first_chooser(
     alloc: Global,
     choosers: Vec<Box<dyn Chooser>>,
     kind: RuleKind,

@@ -6,11 +6,11 @@ ghost use Rattle.wfc_choose.specs.declared.RuleKind.TheVariants as rules;
 ghost use Rattle.wfc_outside.specs.Folder.{FolderView};
 ghost use Rattle.wfc_outside.specs.Sink.{SinkView};
 ghost use Rattle.wfc_plan.specs.Plan.{done};
-ghost use Rattle.wfc_reply.specs.Call.{Call, beside, devices, plain_call};
+ghost use Rattle.wfc_reply.specs.Call.{Call, with_error_stream, devices, plain_call};
 ghost use Rattle.wfc_reply.specs.Choosers.{first_rule, rule_with};
 ghost use Rattle.wfc_reply.specs.Outcomes.{outcome_status};
 ghost use Rattle.wfc_reply.specs.Reply.{HasAnswer, verdict_status};
-ghost use Rattle.wfc_reply.specs.declared.reply.Verdict.TheVariants as verdicts;
+ghost use Rattle.wfc_reply.specs.declared.reply.CommandVerdict.TheVariants as verdicts;
 ghost use Rattle.wfc_search.specs.declared.Outcome.TheVariants as outcomes;
 
 /// The status of each end of a run, and of each verdict.
@@ -48,8 +48,9 @@ pub fn calls_are_seen_before_and_after()
     ensures status { (rules : List Rule) (f g : FolderView) (a b c d : SinkView) →
         (plain_call rules f g a b c d 5).status ≡ 5 }
     ensures before_beside { (call : Call) (old new : SinkView) →
-        (beside call old new).before ≡ devices call.before.folder call.before.out old }
+        (with_error_stream call old new).before ≡ devices call.before.folder call.before.out old }
     ensures after_beside { (call : Call) (old new : SinkView) →
-        (beside call old new).after ≡ devices call.after.folder call.after.out new }
-    ensures same { (call : Call) (old new : SinkView) → (beside call old new).status ≡ call.status }
+        (with_error_stream call old new).after ≡ devices call.after.folder call.after.out new }
+    ensures same { (call : Call) (old new : SinkView) → (with_error_stream call old new).status ≡
+        call.status }
 {}

@@ -9,6 +9,6 @@ mod putting;
 mod reply;
 
 pub use behind::put_run_behind;
-pub use choosers::{first_many, first_of, kinds};
+pub use choosers::{first_chooser, first_many, kinds};
 pub use putting::{RunWriting, put_run};
-pub use reply::{Answer, Stop, Verdict};
+pub use reply::{Answer, CommandVerdict, Stop};

@@ -9,7 +9,7 @@ use wfc_plan::Fault;
 
 /// How a command ended that came to an answer.
 #[derive(Clone, Copy, Debug, PartialEq, Eq)]
-pub enum Verdict {
+pub enum CommandVerdict {
     /// All is as it was asked for.
     Done,
     /// No legal map exists.
@@ -29,7 +29,7 @@ pub enum Verdict {
 /// The answer of a command.
 #[derive(Debug, Drop)]
 pub struct Answer {
-    pub verdict: Verdict,
+    pub verdict: CommandVerdict,
     /// What is written, if anything is.
     pub text: Option<Vec<u8>>,
 }
@@ -80,16 +80,19 @@ impl From<NoMemory> for Stop {
     }
 }
 
-impl Verdict {
+impl CommandVerdict {
     /// The exit status.
     pub fn status(self) -> u8
         ensures value { result ≡ verdict_status self }
     {
         match self {
-            Verdict::Done => 0,
-            Verdict::NoMap | Verdict::Dead | Verdict::MapExists | Verdict::Unaccepted { .. } => 1,
-            Verdict::Spent { .. } => 2,
-            Verdict::Stuck { .. } => 8,
+            CommandVerdict::Done => 0,
+            CommandVerdict::NoMap
+            | CommandVerdict::Dead
+            | CommandVerdict::MapExists
+            | CommandVerdict::Unaccepted { .. } => 1,
+            CommandVerdict::Spent { .. } => 2,
+            CommandVerdict::Stuck { .. } => 8,
         }
     }
 }

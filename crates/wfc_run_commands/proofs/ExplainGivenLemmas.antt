@@ -8,7 +8,7 @@ use Rattle.wfc_explain.specs.Problems.{SamplePins, TilesPins, pinned_sample, pin
 use Rattle.wfc_model.specs.Legal.{Pin}
 use Rattle.wfc_outside.specs.Folder.{File}
 use Rattle.wfc_outside.specs.Gives.{Gives, result_map}
-use Rattle.wfc_overlap.specs.Bridge.{IsRoom, pairs}
+use Rattle.wfc_overlap.specs.Bridge.{IsRoom, window_pair_count}
 use Rattle.wfc_overlap.specs.Built as overlap
 use Rattle.wfc_overlap.specs.Sample.{Output}
 use Rattle.wfc_pattern.specs.Patterns.{PatternsView}
@@ -23,13 +23,13 @@ use Rattle.wfc_plan.specs.declared.fault.Refusal.{Refusal}
 use Rattle.wfc_plan.specs.declared.fault.Refusal.TheVariants.{Build}
 use Rattle.wfc_problem.specs.Network.{Network}
 use Rattle.wfc_problem.specs.declared.TheConstants.{MAX_PAIRS}
-use Rattle.wfc_run_commands.specs.ExplainGiven.{IsExplainTask, lines_by, pinned_by}
+use Rattle.wfc_run_commands.specs.ExplainGiven.{IsExplainTask, pin_lines_by, pinned_by}
 use Rattle.wfc_run_commands.specs.ExplainTask.{ExplainTask, explain, explain_plan, explain_plan_by, few_lines, line_numbers, lines_plan, pins_of_sample, pins_of_tiles}
 use Rattle.wfc_run_commands.specs.declared.explaining.TheConstants.{EXPLAIN_CHOOSERS, MAX_LINES}
 use Rattle.wfc_task.proofs.CallerLemmas.{sample_given, tiles_given}
 use Rattle.wfc_task.proofs.GivenLemmas.{pins_given}
 use Rattle.wfc_task.proofs.TileGivenLemmas.{mask_given}
-use Rattle.wfc_task.specs.Maps.{output_of}
+use Rattle.wfc_task.specs.Maps.{asked_output}
 use Rattle.wfc_task.specs.Posed.{PosedBy}
 use Rattle.wfc_task.specs.SamplePlans.{pins_plan, sample_plan}
 use Rattle.wfc_task.specs.TilePlans.{mask_plan, tiles_plan}
@@ -96,14 +96,14 @@ pub record IsFoundSample (patterns : PatternsView) (palette : List Symbol) (outp
 
 pub found_sample : (patterns : PatternsView) (palette : List Symbol) (output : Output) (lines : List PinView) (s : SamplePins) → sample_pins patterns palette output lines ≡ Ok s → IsFoundSample patterns palette output lines s
 found_sample patterns palette output lines s is =
-    by_case (nat_lt output.width patterns.n || nat_lt output.height patterns.n) (nat_lt MAX_PAIRS (pairs patterns output)) (overlap.pins_in (overlap.texts_of palette) output.width output.height lines) refl refl refl is
+    by_case (nat_lt output.width patterns.n || nat_lt output.height patterns.n) (nat_lt MAX_PAIRS (window_pair_count patterns output)) (overlap.pins_in (overlap.texts_of palette) output.width output.height lines) refl refl refl is
   where
     made : List Pin → SamplePins
     made pins = record { patterns = patterns; output = output; pins = pins }
 
-    by_case : (b c : Bool) (r : Result (List Pin) BuildFault) → (nat_lt output.width patterns.n || nat_lt output.height patterns.n) ≡ b → nat_lt MAX_PAIRS (pairs patterns output) ≡ c
+    by_case : (b c : Bool) (r : Result (List Pin) BuildFault) → (nat_lt output.width patterns.n || nat_lt output.height patterns.n) ≡ b → nat_lt MAX_PAIRS (window_pair_count patterns output) ≡ c
         → overlap.pins_in (overlap.texts_of palette) output.width output.height lines ≡ r
-        → result_map made (cond b (Err SizeBelowN) (cond c (Err (TooLarge (pairs patterns output))) r)) ≡ Ok s → IsFoundSample patterns palette output lines s
+        → result_map made (cond b (Err SizeBelowN) (cond c (Err (TooLarge (window_pair_count patterns output))) r)) ≡ Ok s → IsFoundSample patterns palette output lines s
     by_case true c r b_is c_is r_is e = cc
     by_case false true r b_is c_is r_is e = cc
     by_case false false (Err fault) b_is c_is r_is e = cc
@@ -111,7 +111,7 @@ found_sample patterns palette output lines s is =
         let same : s ≡ made pins = cc in
         let sides = or_parts (nat_lt output.width patterns.n) (nat_lt output.height patterns.n) b_is in
         record {
-          room = record { wide = ltb-false output.width patterns.n sides.0; high = ltb-false output.height patterns.n sides.1; few_pairs = ltb-false MAX_PAIRS (pairs patterns output) c_is };
+          room = record { wide = ltb-false output.width patterns.n sides.0; high = ltb-false output.height patterns.n sides.1; few_pairs = ltb-false MAX_PAIRS (window_pair_count patterns output) c_is };
           meant = r_is ∙ ap (λ (t : SamplePins). let end : Result (List Pin) BuildFault = Ok t.pins in end) (sym same);
           is = same ∙ ap (λ (t : SamplePins). made t.pins) (sym same);
         }
@@ -149,8 +149,8 @@ given_pins wanted value (inr short) = absurd (cc (short))
 pub sample_many : (asked : RequestView) (lesson : Taught) (lines : List PinView) (result : Result SamplePins Refusal) → GivesStep (pins_of_sample asked lesson lines) result → IfOk result (λ (s : SamplePins). length s.pins ≡ length lines)
 sample_many asked lesson lines (Err why) gives = tt
 sample_many asked lesson lines (Ok s) gives =
-    sample_as_many lesson.patterns lesson.palette (output_of asked) lines s
-    (unrefused Build (sample_pins lesson.patterns lesson.palette (output_of asked) lines) s (step_is (pins_of_sample asked lesson lines) s gives))
+    sample_as_many lesson.patterns lesson.palette (asked_output asked) lines s
+    (unrefused Build (sample_pins lesson.patterns lesson.palette (asked_output asked) lines) s (step_is (pins_of_sample asked lesson lines) s gives))
 
 pub tiles_many : (asked : RequestView) (set : TileSetView) (mask : MaskView) (lines : List PinView) (result : Result TilesPins Refusal) → GivesStep (pins_of_tiles asked set mask lines) result → IfOk result (λ (s : TilesPins). length s.pins ≡ length lines)
 tiles_many asked set mask lines (Err why) gives = tt
@@ -164,8 +164,8 @@ tiles_many asked set mask lines (Ok s) gives =
 record IsTaskBy (source : SourceModel) (asked : RequestView) (files : List File) (task : ExplainTask) : Type 0 where
   P : Network
   posed : PosedBy source asked files P
-  few : length (lines_by source asked files P posed) ≤ MAX_LINES
-  is : task ≡ explain (pinned_by source asked files P posed) (line_numbers (lines_by source asked files P posed))
+  few : length (pin_lines_by source asked files P posed) ≤ MAX_LINES
+  is : task ≡ explain (pinned_by source asked files P posed) (line_numbers (pin_lines_by source asked files P posed))
 
 task_by : (source : SourceModel) (asked : RequestView) (files : List File) (task : ExplainTask) → outcome (explain_plan_by source asked) files ≡ Ok task → IsTaskBy source asked files task
 task_by (Overlap n) asked files task is =
@@ -175,8 +175,8 @@ task_by (Overlap n) asked files task is =
     let lines = read.0 in
     let pinned = outcome_parts (step (pins_of_sample asked lesson lines)) (behind_sample_pins lines) files task read.2 in
     let s = pinned.0 in
-    let found = found_sample lesson.patterns lesson.palette (output_of asked) lines s
-    (unrefused Build (sample_pins lesson.patterns lesson.palette (output_of asked) lines) s (step_ok (pins_of_sample asked lesson lines) files s pinned.1)) in
+    let found = found_sample lesson.patterns lesson.palette (asked_output asked) lines s
+    (unrefused Build (sample_pins lesson.patterns lesson.palette (asked_output asked) lines) s (step_ok (pins_of_sample asked lesson lines) files s pinned.1)) in
     let are = are_read asked files lines read.1 in
     record {
       P = _;

@@ -15,16 +15,16 @@ use Rattle.wfc_overlap.specs.Built as overlap
 use Rattle.wfc_pattern.specs.Patterns.{PatternsView}
 use Rattle.wfc_problem.specs.Network.{Network}
 use Rattle.wfc_run_commands.specs.ExplainClaims.{IsKeptBy}
-use Rattle.wfc_run_commands.specs.ExplainGiven.{lines_by, pinned_by}
+use Rattle.wfc_run_commands.specs.ExplainGiven.{pin_lines_by, pinned_by}
 use Rattle.wfc_run_commands.specs.declared.explaining.TheConstants.{MAX_LINES}
 use Rattle.wfc_task.proofs.CallerLemmas.{pins_inside, set_is}
 use Rattle.wfc_task.proofs.GivenLemmas.{sample_lesson}
 use Rattle.wfc_task.proofs.LessonLemmas.{learned_is}
 use Rattle.wfc_task.proofs.TilingLemmas.{held_mask, pins_placed}
 use Rattle.wfc_task.specs.Asked.{AskedBy, IsOutputAsked}
-use Rattle.wfc_task.specs.Maps.{output_of, rules_of}
+use Rattle.wfc_task.specs.Maps.{asked_output, rules_of}
 use Rattle.wfc_task.specs.Posed.{PosedBy}
-use Rattle.wfc_task.specs.Sources.{side_of}
+use Rattle.wfc_task.specs.Sources.{window_side_of}
 use Rattle.wfc_tiled.proofs.CallerLemmas.{assignment_is_map, map_is_assignment, tiles_problem}
 use Rattle.wfc_tiled.specs.Built as tiled
 use Rattle.wfc_tiled.specs.Maps.{IsPlaced, numbers_of_places, tile_map}
@@ -39,17 +39,17 @@ pub record IsBridgedWith (source : SourceModel) (asked : RequestView) (files : L
   pub assigned : (keep : List Bool) (m : Raster) → IsKeptBy source asked files P posed keep m → HasMap ((pinned_by source asked files P posed).problem_of keep)
 
 pub bridged_with : (source : SourceModel) (asked : RequestView) (files : List File) (P : Network) (posed : PosedBy source asked files P) → AskedBy source asked → IsOutputAsked asked
-    → length (lines_by source asked files P posed) ≤ MAX_LINES → IsBridgedWith source asked files P posed
+    → length (pin_lines_by source asked files P posed) ≤ MAX_LINES → IsBridgedWith source asked files P posed
 bridged_with (Overlap n) asked files P of asks output few =
     let sample = of.sample in
     let problem = of.problem in
     let lesson = sample_lesson asked files of.kind of.patterns of.palette asks sample in
-    let learned = learned_is sample.picture (side_of asked.source) asked.symmetry asked.wrap_in of.patterns sample.learned in
-    let taught : IsTaughtBy sample.picture (rules_of asked) of.patterns (output_of asked) =
+    let learned = learned_is sample.picture (window_side_of asked.source) asked.symmetry asked.wrap_in of.patterns sample.learned in
+    let taught : IsTaughtBy sample.picture (rules_of asked) of.patterns (asked_output asked) =
     record { same_side = ap (λ (p : PatternsView). p.n) learned.2; same_wrap = refl; windows = ap (λ (p : PatternsView). p.windows) learned.2 } in
-    let inside : AreInside (output_of asked) problem.pins = pins_inside (overlap.texts_of of.palette) asked.width asked.height problem.lines problem.pins problem.meant in
+    let inside : AreInside (asked_output asked) problem.pins = pins_inside (overlap.texts_of of.palette) asked.width asked.height problem.lines problem.pins problem.meant in
     let many = as_many (overlap.pin_in (overlap.texts_of of.palette) asked.width asked.height) problem.lines problem.pins problem.meant in
-    let s : SamplePins = record { patterns = of.patterns; output = output_of asked; pins = problem.pins } in
+    let s : SamplePins = record { patterns = of.patterns; output = asked_output asked; pins = problem.pins } in
     record {
       pinned = sample_is_pinned s (record {
         patterns_are = lesson.patterns;
@@ -60,13 +60,13 @@ bridged_with (Overlap n) asked files P of asks output few =
         few_lines = omega (arith, many, few);
       });
       makes = λ keep found. (
-        picture_of of.patterns (output_of asked) found.0,
-        back sample.picture (rules_of asked) of.patterns (output_of asked) (kept_of keep problem.pins) found.0 lesson.patterns problem.room taught
+        picture_of of.patterns (asked_output asked) found.0,
+        back sample.picture (rules_of asked) of.patterns (asked_output asked) (kept_of keep problem.pins) found.0 lesson.patterns problem.room taught
             (All-kept (λ (pin : Pin). (pin.column < asked.width) × (pin.row < asked.height)) keep problem.pins inside) found.1,
       );
       assigned = λ keep m legal. (
-        numbers_of_windows of.patterns (output_of asked) m,
-        there sample.picture (rules_of asked) of.patterns (output_of asked) (kept_of keep problem.pins) m lesson.patterns taught legal,
+        numbers_of_windows of.patterns (asked_output asked) m,
+        there sample.picture (rules_of asked) of.patterns (asked_output asked) (kept_of keep problem.pins) m lesson.patterns taught legal,
       );
     }
 bridged_with Tiles asked files P of asks output few =

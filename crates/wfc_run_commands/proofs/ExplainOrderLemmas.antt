@@ -7,7 +7,7 @@ use Rattle.wfc_explain.specs.Problems.{SamplePins, TilesPins, pinned_sample}
 use Rattle.wfc_model.specs.Legal.{Pin}
 use Rattle.wfc_outside.specs.Folder.{File}
 use Rattle.wfc_outside.specs.Gives.{result_map}
-use Rattle.wfc_overlap.specs.Bridge.{pairs}
+use Rattle.wfc_overlap.specs.Bridge.{window_pair_count}
 use Rattle.wfc_overlap.specs.Built as overlap
 use Rattle.wfc_overlap.specs.Sample.{problem_of_sample}
 use Rattle.wfc_pins.specs.PinView.{PinView}
@@ -31,9 +31,9 @@ use Rattle.wfc_run_commands.specs.declared.explaining.TheConstants.{EXPLAIN_CHOO
 use Rattle.wfc_task.proofs.CallerLemmas.{faults_problem, faults_sample, faults_tiled, faults_tiles, problem_stages, sample_stages, tiles_stages}
 use Rattle.wfc_task.proofs.ProblemOrderLemmas.{faults_pins, pins_stages, same_lines}
 use Rattle.wfc_task.proofs.TileTaskLemmas.{behind_masked, behind_pins}
-use Rattle.wfc_task.specs.Maps.{output_of}
+use Rattle.wfc_task.specs.Maps.{asked_output}
 use Rattle.wfc_task.specs.SamplePlans.{pins_plan, problem_plan, sample_plan}
-use Rattle.wfc_task.specs.Steps.{posed}
+use Rattle.wfc_task.specs.Steps.{problem_of_lines}
 use Rattle.wfc_task.specs.TilePlans.{mask_plan, tiled_plan, tiles_plan}
 use Rattle.wfc_task.specs.TileStages.{IsMaskFault, IsMaskFormFault, IsTilePairsFault, IsTilePinFault}
 use Rattle.wfc_task.specs.TileSteps.{posed_tiles}
@@ -93,19 +93,19 @@ after_same {A} plan f g files fault same is = by_first (outcome plan files) refl
 
 -- the pins of a sample are found exactly where its problem is built, and have the same faults
 same_sample : (asked : RequestView) (lesson : Taught) (lines : List PinView) (files : List File) (fault : Fault)
-    → (outcome (step (pins_of_sample asked lesson lines)) files ≡ Err fault) ↔ (outcome (step (posed asked lesson.patterns lesson.palette lines)) files ≡ Err fault)
+    → (outcome (step (pins_of_sample asked lesson lines)) files ≡ Err fault) ↔ (outcome (step (problem_of_lines asked lesson.patterns lesson.palette lines)) files ≡ Err fault)
 same_sample asked lesson lines files fault =
-    by_case (nat_lt asked.width lesson.patterns.n || nat_lt asked.height lesson.patterns.n) (nat_lt MAX_PAIRS (pairs lesson.patterns (output_of asked)))
+    by_case (nat_lt asked.width lesson.patterns.n || nat_lt asked.height lesson.patterns.n) (nat_lt MAX_PAIRS (window_pair_count lesson.patterns (asked_output asked)))
     (overlap.pins_in (overlap.texts_of lesson.palette) asked.width asked.height lines)
   where
     made : List Pin → SamplePins
-    made pins = record { patterns = lesson.patterns; output = output_of asked; pins = pins }
+    made pins = record { patterns = lesson.patterns; output = asked_output asked; pins = pins }
 
     build : List Pin → Network
-    build pins = problem_of_sample lesson.patterns (output_of asked) pins
+    build pins = problem_of_sample lesson.patterns (asked_output asked) pins
 
     count : ℕ
-    count = pairs lesson.patterns (output_of asked)
+    count = window_pair_count lesson.patterns (asked_output asked)
 
     by_case : (b c : Bool) (r : Result (List Pin) BuildFault)
         → (outcome (step (or_refuse refusals.Build (result_map made (cond b (Err SizeBelowN) (cond c (Err (TooLarge count)) r))))) files ≡ Err fault)
@@ -125,8 +125,8 @@ faults_sample_pins asked files lesson lines was held fault = (
     order : AreInOrder (pins_stages files asked.pins)
     order = lines_in_order asked files lines held
 
-    reads : outcome (problem_plan asked lesson) files ≡ outcome (step (posed asked lesson.patterns lesson.palette lines)) files
-    reads = outcome_on (pins_plan asked.pins) (λ lines. step (posed asked lesson.patterns lesson.palette lines)) files lines held
+    reads : outcome (problem_plan asked lesson) files ≡ outcome (step (problem_of_lines asked lesson.patterns lesson.palette lines)) files
+    reads = outcome_on (pins_plan asked.pins) (λ lines. step (problem_of_lines asked lesson.patterns lesson.palette lines)) files lines held
 
     out : IsFirstFault (pins_stages files asked.pins ++ problem_stages asked files) fault → IsFirstFault (problem_stages asked files) fault
     out (inl has) = absurd (order.0 fault has)

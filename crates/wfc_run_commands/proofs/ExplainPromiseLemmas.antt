@@ -23,7 +23,7 @@ use Rattle.wfc_reply.specs.CutClaims.{CutsText}
 use Rattle.wfc_reply.specs.Reply.{Answered, Takes, TakesWhole, verdict_status}
 use Rattle.wfc_run_commands.proofs.ExplainGivenLemmas.{explain_given}
 use Rattle.wfc_run_commands.proofs.ExplainMapLemmas.{IsBridgedWith, bridged_with}
-use Rattle.wfc_run_commands.specs.ExplainAnswer.{answer_to, core_text, explain_answer, explain_status, explain_text, explain_verdict, explanation_by}
+use Rattle.wfc_run_commands.specs.ExplainAnswer.{answer_to, core_text, explain_answer, explain_status, explain_text, explain_verdict, asked_explanation}
 use Rattle.wfc_run_commands.specs.ExplainClaims.{AreToBlame, ExplainPromise, ExplainWork, HasMapOfAll, IsAsExplained, IsCoreText, IsKeptBy, WritesCore, work_numbers, work_pinned}
 use Rattle.wfc_run_commands.specs.ExplainCommand.{ExplainAnswers, explain_command}
 use Rattle.wfc_run_commands.specs.ExplainGiven.{pinned_by}
@@ -43,16 +43,16 @@ use Rattle.wfc_words.specs.declared.kinds.SourceModel.TheVariants.{Overlap, Tile
 pub record HasExplained (rules : List Rule) (asked : RequestView) (files : List File) (answered : Answered) : Type 0 where
   pub work : ExplainWork rules asked files
   pub said : Explained
-  pub ends : explanation_by (first_rule asked.rule rules) asked (work_pinned asked work) ≡ Some said
+  pub ends : asked_explanation (first_rule asked.rule rules) asked (work_pinned asked work) ≡ Some said
   pub is : answered ≡ answer_to asked (work_numbers asked work) said
 
 pub explain_answered : (rules : List Rule) (asked : RequestView) (files : List File) (answered : Answered) → HasAnswered explain_command rules asked files answered → HasExplained rules asked files answered
 explain_answered rules asked files answered has =
     let given = explain_given (kinds_of rules) asked files has.task has.is in
-    by_end (record { aim = has.task; task = given }) (explanation_by (first_rule asked.rule rules) asked (work_pinned asked (record { aim = has.task; task = given }))) refl
+    by_end (record { aim = has.task; task = given }) (asked_explanation (first_rule asked.rule rules) asked (work_pinned asked (record { aim = has.task; task = given }))) refl
     (subst (λ (task : ExplainTask). ExplainAnswers rules asked task answered) given.is has.answers)
   where
-    by_end : (work : ExplainWork rules asked files) (said : Option Explained) → explanation_by (first_rule asked.rule rules) asked (work_pinned asked work) ≡ said
+    by_end : (work : ExplainWork rules asked files) (said : Option Explained) → asked_explanation (first_rule asked.rule rules) asked (work_pinned asked work) ≡ said
         → explain_answer asked (work_numbers asked work) said ≡ Some answered → HasExplained rules asked files answered
     by_end work None ends answers = absurd (cc (answers))
     by_end work (Some said) ends answers = record { work = work; said = said; ends = ends; is = sym (cc (answers)) }
@@ -83,21 +83,21 @@ known call asked files is work =
     bridged_with asked.source asked files work.task.P work.task.posed (command_source asked commands.Explain range is.command_is refl) (command_output asked commands.Explain range is.command_is refl refl) work.task.few
 
 -- what is said by a rule is true
-says_true : (o : Option Rule) (asked : RequestView) (v : PinnedView) (said : Explained) → IsPinned v → explanation_by o asked v ≡ Some said → IsTrueExplained v said
+says_true : (o : Option Rule) (asked : RequestView) (v : PinnedView) (said : Explained) → IsPinned v → asked_explanation o asked v ≡ Some said → IsTrueExplained v said
 says_true None asked v said pinned is = absurd (cc (is))
 says_true (Some rule) asked v said pinned is =
     let same : explanation_of v rule asked.budget (words_of_seed asked.seed) ≡ said = cc (is) in
     subst (IsTrueExplained v) same (explained_true v pinned rule asked.budget (words_of_seed asked.seed))
 
 says : (call : Call) (asked : RequestView) (files : List File) → IsCommand commands.Explain call asked files → (work : ExplainWork call.rules asked files) (said : Explained)
-    → explanation_by (first_rule asked.rule call.rules) asked (work_pinned asked work) ≡ Some said → IsTrueExplained (work_pinned asked work) said
+    → asked_explanation (first_rule asked.rule call.rules) asked (work_pinned asked work) ≡ Some said → IsTrueExplained (work_pinned asked work) said
 says call asked files is work said ends = says_true (first_rule asked.rule call.rules) asked (work_pinned asked work) said (known call asked files is work).pinned ends
 
 pub writes_core : (call : Call) (asked : RequestView) (files : List File) → IsCommand commands.Explain call asked files → CameTo explain_command call asked files → WritesCore call asked files
 writes_core call asked files is came nought =
     let came_as = is_as_explained call asked files came (inl (omega (arith, nought))) in by_said came_as.0 came_as.1 came_as.2 came_as.3 came_as.4
   where
-    by_said : (work : ExplainWork call.rules asked files) (said : Explained) → explanation_by (first_rule asked.rule call.rules) asked (work_pinned asked work) ≡ Some said → call.status ≡ explain_status said
+    by_said : (work : ExplainWork call.rules asked files) (said : Explained) → asked_explanation (first_rule asked.rule call.rules) asked (work_pinned asked work) ≡ Some said → call.status ≡ explain_status said
         → Takes (explain_text (work_numbers asked work) said) call.before.out call.after.out
         → (work : ExplainWork call.rules asked files) × (core : List Kept) × AreToBlame asked work core × (call.after.out ≡ after_finish (after_bytes call.before.out (core_text (work_numbers asked work) core)))
     by_said work (explained.Core core) ends same takes =
@@ -131,7 +131,7 @@ pub has_map_of_all : (call : Call) (asked : RequestView) (files : List File) →
 has_map_of_all call asked files is came one =
     let came_as = is_as_explained call asked files came (inl (omega (arith, one))) in by_said came_as.0 came_as.1 came_as.2 came_as.3
   where
-    by_said : (work : ExplainWork call.rules asked files) (said : Explained) → explanation_by (first_rule asked.rule call.rules) asked (work_pinned asked work) ≡ Some said → call.status ≡ explain_status said
+    by_said : (work : ExplainWork call.rules asked files) (said : Explained) → asked_explanation (first_rule asked.rule call.rules) asked (work_pinned asked work) ≡ Some said → call.status ≡ explain_status said
         → (work : ExplainWork call.rules asked files) × (m : Raster) × IsLegal asked files work.task.P work.task.posed m
     by_said work explained.MapExists ends same =
         let found = (known call asked files is work).makes _ (says call asked files is work explained.MapExists ends) in

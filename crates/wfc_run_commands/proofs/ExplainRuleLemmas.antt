@@ -15,7 +15,7 @@ use Rattle.wfc_reply.proofs.CallerLemmas.{plain_kind}
 use Rattle.wfc_reply.specs.Choosers.{first_rule, kinds_of}
 use Rattle.wfc_reply.specs.ReplyView.{answer_view}
 use Rattle.wfc_reply.specs.declared.reply.Answer.{Answer}
-use Rattle.wfc_run_commands.specs.ExplainAnswer.{AreLines, answer_to, explain_answer, explanation_by}
+use Rattle.wfc_run_commands.specs.ExplainAnswer.{AreLines, answer_to, explain_answer, asked_explanation}
 use Rattle.wfc_run_commands.specs.ExplainGiven.{IsExplainAsked}
 use Rattle.wfc_runs.specs.Words.{words_of_seed}
 use Rattle.wfc_words.specs.InRange.{IsInRange}
@@ -36,10 +36,10 @@ lines_in v explained.Spent count same says = tt
 -- the answer to what is said by the first rule is that to what is asked for
 pub explained_answers : (rules : List Rule) (asked : RequestView) (v : PinnedView) (numbers : List ℕ) (first : Rule) (said : Explained) (result : Result Answer NoMemory) → first_rule asked.rule rules ≡ Some first
     → said ≡ explanation_of v first asked.budget (words_of_seed asked.seed) → IfOk result (λ answer. answer_view answer ≡ answer_to asked numbers said)
-    → IfOk result (λ answer. explain_answer asked numbers (explanation_by (first_rule asked.rule rules) asked v) ≡ Some (answer_view answer))
+    → IfOk result (λ answer. explain_answer asked numbers (asked_explanation (first_rule asked.rule rules) asked v) ≡ Some (answer_view answer))
 explained_answers rules asked v numbers first said (Err cause) is exact told = tt
 explained_answers rules asked v numbers first said (Ok answer) is exact told =
-    ap (λ (o : Option Rule). explain_answer asked numbers (explanation_by o asked v)) is
+    ap (λ (o : Option Rule). explain_answer asked numbers (asked_explanation o asked v)) is
     ∙ ap (λ (e : Explained). Some (answer_to asked numbers e)) (sym exact) ∙ ap Some (sym told)
 
 -- a request in its ranges asks for lines to be left out

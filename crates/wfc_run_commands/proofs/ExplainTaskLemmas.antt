@@ -5,7 +5,7 @@ use Rattle.wfc_choose.specs.declared.RuleKind.{RuleKind}
 use Rattle.wfc_explain.specs.Problems.{SamplePins, TilesPins, sample_pins, tiles_pins}
 use Rattle.wfc_model.specs.Legal.{Pin}
 use Rattle.wfc_outside.specs.Folder.{File}
-use Rattle.wfc_overlap.specs.Bridge.{IsRoom, pairs}
+use Rattle.wfc_overlap.specs.Bridge.{IsRoom, window_pair_count}
 use Rattle.wfc_overlap.specs.Built as overlap
 use Rattle.wfc_overlap.specs.Sample.{Output}
 use Rattle.wfc_pattern.specs.Patterns.{PatternsView}
@@ -19,14 +19,14 @@ use Rattle.wfc_plan.specs.declared.fault.Refusal.TheVariants.{Build}
 use Rattle.wfc_problem.specs.Network.{Network}
 use Rattle.wfc_problem.specs.declared.TheConstants.{MAX_PAIRS}
 use Rattle.wfc_run_commands.proofs.ExplainGivenLemmas.{behind_lesson, behind_lines, behind_mask_of, behind_read, behind_sample_pins, behind_set, behind_tile_lines, behind_tiles_pins}
-use Rattle.wfc_run_commands.specs.ExplainGiven.{IsExplainTask, lines_by, pinned_by}
+use Rattle.wfc_run_commands.specs.ExplainGiven.{IsExplainTask, pin_lines_by, pinned_by}
 use Rattle.wfc_run_commands.specs.ExplainTask.{ExplainTask, explain, explain_plan, explain_plan_by, few_lines, line_numbers, lines_plan, pins_of_sample, pins_of_tiles}
 use Rattle.wfc_run_commands.specs.declared.explaining.TheConstants.{EXPLAIN_CHOOSERS, MAX_LINES}
 use Rattle.wfc_task.proofs.CallerLemmas.{given_sample, given_tiles}
 use Rattle.wfc_task.proofs.GivenLemmas.{given_pins}
 use Rattle.wfc_task.proofs.TileGivenLemmas.{given_mask}
 use Rattle.wfc_task.specs.Given.{HoldsPins}
-use Rattle.wfc_task.specs.Maps.{output_of}
+use Rattle.wfc_task.specs.Maps.{asked_output}
 use Rattle.wfc_task.specs.Posed.{PosedBy}
 use Rattle.wfc_task.specs.SamplePlans.{pins_plan, sample_plan}
 use Rattle.wfc_task.specs.TilePlans.{mask_plan, tiles_plan}
@@ -51,7 +51,7 @@ given_sample_pins : (patterns : PatternsView) (palette : List Symbol) (output : 
 given_sample_pins patterns palette output lines pins room meant =
     let wide : nat_lt output.width patterns.n ≡ false = grind (arith, nat_tests, room.wide) in
     let high : nat_lt output.height patterns.n ≡ false = grind (arith, nat_tests, room.high) in
-    let few : nat_lt MAX_PAIRS (pairs patterns output) ≡ false = grind (arith, nat_tests, room.few_pairs) in
+    let few : nat_lt MAX_PAIRS (window_pair_count patterns output) ≡ false = grind (arith, nat_tests, room.few_pairs) in
     rw (wide, high, few, meant) refl
 
 -- and those of a tile set
@@ -63,17 +63,17 @@ given_tile_pins set mask wrap lines pins room meant =
     rw (few, meant) refl
 
 -- so of the task over the problem of a request
-given_by : (source : SourceModel) (asked : RequestView) (files : List File) (P : Network) (posed : PosedBy source asked files P) → length (lines_by source asked files P posed) ≤ MAX_LINES
-    → outcome (explain_plan_by source asked) files ≡ Ok (explain (pinned_by source asked files P posed) (line_numbers (lines_by source asked files P posed)))
+given_by : (source : SourceModel) (asked : RequestView) (files : List File) (P : Network) (posed : PosedBy source asked files P) → length (pin_lines_by source asked files P posed) ≤ MAX_LINES
+    → outcome (explain_plan_by source asked) files ≡ Ok (explain (pinned_by source asked files P posed) (line_numbers (pin_lines_by source asked files P posed)))
 given_by (Overlap n) asked files P of few =
     let lines = of.problem.lines in
     let lesson : Taught = record { kind = of.kind; palette = of.palette; patterns = of.patterns } in
-    let s : SamplePins = record { patterns = of.patterns; output = output_of asked; pins = of.problem.pins } in
+    let s : SamplePins = record { patterns = of.patterns; output = asked_output asked; pins = of.problem.pins } in
     outcome_on (sample_plan asked) (behind_lesson asked) files lesson (given_sample asked files of.kind of.patterns of.palette of.sample)
     ∙ outcome_on (lines_plan asked) (behind_lines asked lesson) files lines (given_lines asked files lines of.problem.held few)
     ∙ outcome_on (step (pins_of_sample asked lesson lines)) (behind_sample_pins lines) files s
     (ok_step (pins_of_sample asked lesson lines) files s
-    (ok_refused Build (sample_pins of.patterns of.palette (output_of asked) lines) s (given_sample_pins of.patterns of.palette (output_of asked) lines of.problem.pins of.problem.room of.problem.meant)))
+    (ok_refused Build (sample_pins of.patterns of.palette (asked_output asked) lines) s (given_sample_pins of.patterns of.palette (asked_output asked) lines of.problem.pins of.problem.room of.problem.meant)))
 given_by Tiles asked files P of few =
     let lines = of.problem.lines in
     let s : TilesPins = record { tiles = of.set; mask = of.mask; wrap = asked.wrap_out; pins = of.problem.pins } in

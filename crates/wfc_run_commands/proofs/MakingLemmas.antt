@@ -5,7 +5,7 @@ use Rattle.std.proofs.lemmas.List.{length-map, map-append, take_all}
 use Rattle.std.proofs.lemmas.List.Elements.{All-append, All-cons, All-nil}
 use Rattle.wfc_choose.specs.Pick.{Rule}
 use Rattle.wfc_problem.specs.Network.{Network}
-use Rattle.wfc_race.specs.Racers.{Racer, entered}
+use Rattle.wfc_race.specs.Racers.{Racer, new_racer}
 use Rattle.wfc_race.specs.Rounds.{round_end_of}
 use Rattle.wfc_race.specs.Seen.{IsRunner, Seen, racer_of, racers_of}
 use Rattle.wfc_race.specs.declared.RaceEnd.{RaceEnd}
@@ -14,7 +14,7 @@ use Rattle.wfc_runs.specs.Words.{words_of_seed}
 
 -- the next of the entrants, and the rules behind it
 pub record IsNext (rules : List Rule) (budget seed made : ℕ) (rule : Rule) (rest : List Rule) : Type 0 where
-  pub more : take (made + 1) (entrants rules budget seed) ≡ take made (entrants rules budget seed) ++ entered rule budget (words_of_seed (seed + made)) ∷ []
+  pub more : take (made + 1) (entrants rules budget seed) ≡ take made (entrants rules budget seed) ++ new_racer rule budget (words_of_seed (seed + made)) ∷ []
   pub behind : drop (made + 1) rules ≡ rest
 
 next_is : (rules : List Rule) (budget seed made : ℕ) (rule : Rule) (rest : List Rule) → drop made rules ≡ rule ∷ rest → IsNext rules budget seed made rule rest
@@ -25,7 +25,7 @@ next_is (r ∷ rules) budget seed zero rule rest left =
     let behind : rules ≡ rest = (let e = left in cc) in
     let at : seed ≡ seed + 0 = omega arith in
     record {
-      more = ap (λ (x : Rule). entered x budget (words_of_seed seed) ∷ []) same ∙ ap (λ n. entered rule budget (words_of_seed n) ∷ []) at;
+      more = ap (λ (x : Rule). new_racer x budget (words_of_seed seed) ∷ []) same ∙ ap (λ n. new_racer rule budget (words_of_seed n) ∷ []) at;
       behind = behind;
     }
 next_is (r ∷ rules) budget seed (suc made) rule rest left =
@@ -34,7 +34,7 @@ next_is (r ∷ rules) budget seed (suc made) rule rest left =
     let at : seed + 1 + made ≡ seed + suc made = omega arith in
     record {
       more = ap (λ i. take i (entrants (r ∷ rules) budget seed)) one
-          ∙ ap (λ (t : List Racer). entered r budget (words_of_seed seed) ∷ t) (n.more ∙ ap (λ k. take made (entrants rules budget (seed + 1)) ++ entered rule budget (words_of_seed k) ∷ []) at);
+          ∙ ap (λ (t : List Racer). new_racer r budget (words_of_seed seed) ∷ t) (n.more ∙ ap (λ k. take made (entrants rules budget (seed + 1)) ++ new_racer rule budget (words_of_seed k) ∷ []) at);
       behind = ap (λ i. drop i (r ∷ rules)) one ∙ n.behind;
     }
 
@@ -48,7 +48,7 @@ pub record IsMade {X Y : Type 0} (rule : X → Rule) (f : Y → Seen) (P : Netwo
 -- one more
 pub one_more : {X Y : Type 0} (rule : X → Rule) (f : Y → Seen) (P : Network) (budget seed : ℕ) (all xs rest : List X) (ys next : List Y) (made : ℕ) (x : X) (y : Y)
     → IsMade rule f P budget seed all xs ys made → next ≡ ys ++ y ∷ [] → 0 < length xs → x ≡ get_or xs 0 x → rest ≡ take 0 xs ++ drop 1 xs
-    → IsRunner P (f y) → racer_of (f y) ≡ entered (rule x) budget (words_of_seed (seed + made)) → IsMade rule f P budget seed all rest next (made + 1)
+    → IsRunner P (f y) → racer_of (f y) ≡ new_racer (rule x) budget (words_of_seed (seed + made)) → IsMade rule f P budget seed all rest next (made + 1)
 one_more rule f P budget seed all [] rest ys next made x y m grown some first rest_is runner is = absurd (omega (arith, some))
 one_more {X = X} {Y = Y} rule f P budget seed all (z ∷ xs) rest ys next made x y m grown some first rest_is runner is =
     let tail : rest ≡ xs = rest_is in
@@ -59,7 +59,7 @@ one_more {X = X} {Y = Y} rule f P budget seed all (z ∷ xs) rest ys next made x
       entered = ap racers_of (map-append f ys (y ∷ []))
           ∙ map-append racer_of (map f ys) (f y ∷ [])
           ∙ ap (λ (t : List Racer). t ++ racer_of (f y) ∷ []) m.entered
-          ∙ ap (λ (r : Racer). take made (entrants (map rule all) budget seed) ++ r ∷ []) (is ∙ ap (λ (w : X). entered (rule w) budget (words_of_seed (seed + made))) first)
+          ∙ ap (λ (r : Racer). take made (entrants (map rule all) budget seed) ++ r ∷ []) (is ∙ ap (λ (w : X). new_racer (rule w) budget (words_of_seed (seed + made))) first)
           ∙ sym n.more;
       left = ap (map rule) tail ∙ sym n.behind;
       many = omega (arith, m.many, ap (λ (t : List X). length t) tail);
@@ -94,7 +94,7 @@ many_made rule f budget seed all ys is =
 entrants_free : (rules : List Rule) (budget seed : ℕ) → All (λ (r : Racer). r.outcome ≡ None) (entrants rules budget seed)
 entrants_free [] budget seed = All-nil (λ (r : Racer). r.outcome ≡ None)
 entrants_free (rule ∷ rules) budget seed =
-    All-cons (λ (r : Racer). r.outcome ≡ None) (entered rule budget (words_of_seed seed)) (entrants rules budget (seed + 1)) refl (entrants_free rules budget (seed + 1))
+    All-cons (λ (r : Racer). r.outcome ≡ None) (new_racer rule budget (words_of_seed seed)) (entrants rules budget (seed + 1)) refl (entrants_free rules budget (seed + 1))
 
 pub none_out : {Y : Type 0} (f : Y → Seen) (rules : List Rule) (budget seed : ℕ) (ys : List Y) → racers_of (map f ys) ≡ entrants rules budget seed
     → All (λ (y : Y). (f y).search.course.outcome ≡ None) ys

@@ -9,14 +9,14 @@ use Rattle.wfc_problem.specs.Network.{Network}
 use Rattle.wfc_race.proofs.CallerLemmas.{entered_of_run, within}
 use Rattle.wfc_race.specs.Handed.{IsHandedIn}
 use Rattle.wfc_race.specs.Race.{race_of}
-use Rattle.wfc_race.specs.Racers.{Racer, after_from, entered}
+use Rattle.wfc_race.specs.Racers.{Racer, after_from, new_racer}
 use Rattle.wfc_race.specs.Rounds.{rounds_of}
 use Rattle.wfc_race.specs.declared.RaceEnd.{RaceEnd}
 use Rattle.wfc_race.specs.declared.RaceEnd.TheVariants as end
 use Rattle.wfc_reply.specs.Reply.{Answered}
 use Rattle.wfc_reply.specs.ReplyView.{answer_view}
 use Rattle.wfc_reply.specs.declared.reply.Answer.{Answer}
-use Rattle.wfc_reply.specs.declared.reply.Verdict.TheVariants.{Done, NoMap}
+use Rattle.wfc_reply.specs.declared.reply.CommandVerdict.TheVariants.{Done, NoMap}
 use Rattle.wfc_run_commands.proofs.MakingLemmas.{length-entrants}
 use Rattle.wfc_run_commands.specs.Races.{AnswersTo, IsRaced, entrants}
 use Rattle.wfc_run_commands.specs.Racing.{IsRaceAsked, IsSeedIn, race_answer, race_end, race_line, raced_answer, retractions_in, runners_of}
@@ -112,15 +112,15 @@ answers_said rules runners P asked it (Ok answer) same was said = raced_said rul
 pub handed : (P : Network) (rules : List Rule) (budget seed : ℕ) → All (IsHandedIn P) (entrants rules budget seed)
 handed P [] budget seed = All-nil (IsHandedIn P)
 handed P (rule ∷ rules) budget seed =
-    All-cons (IsHandedIn P) (entered rule budget (words_of_seed seed)) (entrants rules budget (seed + 1)) (record { free = refl; of_run = entered_of_run P rule budget (words_of_seed seed) }) (handed P rules budget (seed + 1))
+    All-cons (IsHandedIn P) (new_racer rule budget (words_of_seed seed)) (entrants rules budget (seed + 1)) (record { free = refl; of_run = entered_of_run P rule budget (words_of_seed seed) }) (handed P rules budget (seed + 1))
 
 -- each has its own seed
 pub entrant_at : (rules : List Rule) (budget seed who : ℕ) → who < length rules
-    → (rule : Rule) × ((slice_get rules who ≡ Some rule) × (slice_get (entrants rules budget seed) who ≡ Some (entered rule budget (words_of_seed (seed + who)))))
+    → (rule : Rule) × ((slice_get rules who ≡ Some rule) × (slice_get (entrants rules budget seed) who ≡ Some (new_racer rule budget (words_of_seed (seed + who)))))
 entrant_at [] budget seed who low = absurd (omega (arith, low))
 entrant_at (rule ∷ rules) budget seed zero low =
-    let at : seed ≡ seed + 0 = omega arith in (rule, (refl, ap (λ n. Some (entered rule budget (words_of_seed n))) at))
+    let at : seed ≡ seed + 0 = omega arith in (rule, (refl, ap (λ n. Some (new_racer rule budget (words_of_seed n))) at))
 entrant_at (rule ∷ rules) budget seed (suc who) low =
     let later = entrant_at rules budget (seed + 1) who (omega (arith, low)) in
     let at : seed + 1 + who ≡ seed + suc who = omega arith in
-    (later.0, (later.1.0, later.1.1 ∙ ap (λ n. Some (entered later.0 budget (words_of_seed n))) at))
+    (later.0, (later.1.0, later.1.1 ∙ ap (λ n. Some (new_racer later.0 budget (words_of_seed n))) at))

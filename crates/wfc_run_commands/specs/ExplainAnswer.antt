@@ -10,8 +10,8 @@ use Rattle.wfc_explain.specs.declared.explained.Kept.{Kept}
 use Rattle.wfc_explain.specs.declared.explained.Mark.{Mark}
 use Rattle.wfc_explain.specs.declared.explained.Mark.TheVariants.{Needed, Undecided}
 use Rattle.wfc_reply.specs.Reply.{Answered}
-use Rattle.wfc_reply.specs.declared.reply.Verdict.{Verdict}
-use Rattle.wfc_reply.specs.declared.reply.Verdict.TheVariants.{Done, MapExists, Spent}
+use Rattle.wfc_reply.specs.declared.reply.CommandVerdict.{CommandVerdict}
+use Rattle.wfc_reply.specs.declared.reply.CommandVerdict.TheVariants.{Done, MapExists, Spent}
 use Rattle.wfc_runs.specs.Words.{words_of_seed}
 use Rattle.wfc_words.specs.RequestView.{RequestView}
 
@@ -36,7 +36,7 @@ explain_text numbers explained.MapExists = None
 explain_text numbers explained.Spent = None
 
 -- how `explain` ends with it
-abbrev pub explain_verdict : ℕ → Explained → Verdict
+abbrev pub explain_verdict : ℕ → Explained → CommandVerdict
 explain_verdict budget (explained.Core core) = Done
 explain_verdict budget explained.MapExists = MapExists
 explain_verdict budget explained.Spent = Spent budget
@@ -54,9 +54,9 @@ AreLines count explained.MapExists = ⊤
 AreLines count explained.Spent = ⊤
 
 -- the explanation by a rule, if there is one, with the budget and the words of the seed asked for
-abbrev pub explanation_by : Option Rule → RequestView → PinnedView → Option Explained
-explanation_by None asked v = None
-explanation_by (Some rule) asked v = Some (explanation_of v rule asked.budget (words_of_seed asked.seed))
+abbrev pub asked_explanation : Option Rule → RequestView → PinnedView → Option Explained
+asked_explanation None asked v = None
+asked_explanation (Some rule) asked v = Some (explanation_of v rule asked.budget (words_of_seed asked.seed))
 
 -- the answer to an explanation
 abbrev pub answer_to : RequestView → List ℕ → Explained → Answered

@@ -20,8 +20,8 @@ use Rattle.wfc_reply.specs.Call.{Call}
 use Rattle.wfc_reply.specs.Choosers.{first_rule, kinds_of}
 use Rattle.wfc_reply.specs.CutClaims.{CutsText}
 use Rattle.wfc_reply.specs.Reply.{HasAnswer, Takes}
-use Rattle.wfc_run_commands.specs.ExplainAnswer.{core_text, explain_status, explain_text, explanation_by}
-use Rattle.wfc_run_commands.specs.ExplainGiven.{IsExplainTask, lines_by, pinned_by}
+use Rattle.wfc_run_commands.specs.ExplainAnswer.{core_text, explain_status, explain_text, asked_explanation}
+use Rattle.wfc_run_commands.specs.ExplainGiven.{IsExplainTask, pin_lines_by, pinned_by}
 use Rattle.wfc_run_commands.specs.ExplainTask.{ExplainTask, line_numbers}
 use Rattle.wfc_task.specs.Maps.{IsLegal, rules_of}
 use Rattle.wfc_task.specs.Posed.{PosedBy}
@@ -38,7 +38,7 @@ pub record ExplainWork (rules : List Rule) (asked : RequestView) (files : List F
 
 -- the lines of the pins file
 abbrev pub work_lines : {rules : List Rule} {files : List File} (asked : RequestView) → ExplainWork rules asked files → List PinView
-work_lines {files = files} asked work = lines_by asked.source asked files work.task.P work.task.posed
+work_lines {files = files} asked work = pin_lines_by asked.source asked files work.task.P work.task.posed
 
 -- their numbers in it
 abbrev pub work_numbers : {rules : List Rule} {files : List File} (asked : RequestView) → ExplainWork rules asked files → List ℕ
@@ -77,7 +77,7 @@ abbrev pub IsAsExplained : Call → RequestView → List File → Type 0
 IsAsExplained call asked files =
     HasAnswer call.status
     → (work : ExplainWork call.rules asked files) × (said : Explained)
-    × (explanation_by (first_rule asked.rule call.rules) asked (work_pinned asked work) ≡ Some said)
+    × (asked_explanation (first_rule asked.rule call.rules) asked (work_pinned asked work) ≡ Some said)
     × (call.status ≡ explain_status said) × Takes (explain_text (work_numbers asked work) said) call.before.out call.after.out
 
 -- status 0 of `explain`: the whole text of a core whose lines are to blame was written, and finished
@@ -97,7 +97,7 @@ HasMapOfAll call asked files =
 abbrev pub IsCoreText : List Rule → RequestView → List File → List ℕ → Type 0
 IsCoreText rules asked files text =
     (work : ExplainWork rules asked files) × (said : Explained)
-    × (explanation_by (first_rule asked.rule rules) asked (work_pinned asked work) ≡ Some said)
+    × (asked_explanation (first_rule asked.rule rules) asked (work_pinned asked work) ≡ Some said)
     × (explain_text (work_numbers asked work) said ≡ Some text)
 
 -- what a call promises of a request for `explain`

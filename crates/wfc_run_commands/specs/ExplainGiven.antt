@@ -11,23 +11,23 @@ use Rattle.wfc_run_commands.specs.ExplainTask.{ExplainTask, explain, line_number
 use Rattle.wfc_run_commands.specs.declared.explaining.TheConstants.{EXPLAIN_CHOOSERS, MAX_LINES}
 use Rattle.wfc_runs.specs.Alike.{IsPlain}
 use Rattle.wfc_search.specs.declared.TheConstants.{MAX_BUDGET}
-use Rattle.wfc_task.specs.Maps.{output_of}
+use Rattle.wfc_task.specs.Maps.{asked_output}
 use Rattle.wfc_task.specs.Posed.{Posed, PosedBy}
 use Rattle.wfc_words.specs.RequestView.{RequestView}
 use Rattle.wfc_words.specs.declared.kinds.SourceModel.{SourceModel}
 use Rattle.wfc_words.specs.declared.kinds.SourceModel.TheVariants.{Overlap, Tiles}
 
 -- the lines of the pins file
-abbrev pub lines_by : (source : SourceModel) (asked : RequestView) (files : List File) (P : Network)
+abbrev pub pin_lines_by : (source : SourceModel) (asked : RequestView) (files : List File) (P : Network)
     → PosedBy source asked files P → List PinView
-lines_by (Overlap n) asked files P of = of.problem.lines
-lines_by Tiles asked files P of = of.problem.lines
+pin_lines_by (Overlap n) asked files P of = of.problem.lines
+pin_lines_by Tiles asked files P of = of.problem.lines
 
 -- the problem of the request, whose lines can be left out
 abbrev pub pinned_by : (source : SourceModel) (asked : RequestView) (files : List File) (P : Network)
     → PosedBy source asked files P → PinnedView
 pinned_by (Overlap n) asked files P of =
-    pinned_sample (record { patterns = of.patterns; output = output_of asked; pins = of.problem.pins })
+    pinned_sample (record { patterns = of.patterns; output = asked_output asked; pins = of.problem.pins })
 pinned_by Tiles asked files P of =
     pinned_tiles (record { tiles = of.set; mask = of.mask; wrap = asked.wrap_out; pins = of.problem.pins })
 
@@ -42,6 +42,6 @@ pub record IsExplainTask (kinds : List RuleKind) (asked : RequestView) (files : 
   pub choosers : HasChoosers EXPLAIN_CHOOSERS kinds asked.rule
   pub P : Network
   pub posed : Posed asked files P
-  pub few : length (lines_by asked.source asked files P posed) ≤ MAX_LINES
+  pub few : length (pin_lines_by asked.source asked files P posed) ≤ MAX_LINES
   pub is : task ≡ explain (pinned_by asked.source asked files P posed)
-      (line_numbers (lines_by asked.source asked files P posed))
+      (line_numbers (pin_lines_by asked.source asked files P posed))

@@ -9,7 +9,7 @@ use Rattle.wfc_plan.specs.Plan.{Plan, and_then, done, or_refuse, step}
 use Rattle.wfc_plan.specs.declared.fault.Refusal.{Refusal}
 use Rattle.wfc_plan.specs.declared.fault.Refusal.TheVariants.{Build, TooManyPins}
 use Rattle.wfc_run_commands.specs.declared.explaining.TheConstants.{EXPLAIN_CHOOSERS, MAX_LINES}
-use Rattle.wfc_task.specs.Maps.{output_of}
+use Rattle.wfc_task.specs.Maps.{asked_output}
 use Rattle.wfc_task.specs.SamplePlans.{pins_plan, sample_plan}
 use Rattle.wfc_task.specs.TilePlans.{mask_plan, tiles_plan}
 use Rattle.wfc_task.specs.declared.lesson.Taught.{Taught}
@@ -37,7 +37,7 @@ lines_plan asked = and_then (pins_plan asked.pins) (λ lines. and_then (step (fe
 
 -- what a sample teaches with the pins of these lines, where the problem of all lines is built
 abbrev pub pins_of_sample : RequestView → Taught → List PinView → Result SamplePins Refusal
-pins_of_sample asked lesson lines = or_refuse Build (sample_pins lesson.patterns lesson.palette (output_of asked) lines)
+pins_of_sample asked lesson lines = or_refuse Build (sample_pins lesson.patterns lesson.palette (asked_output asked) lines)
 
 -- a tile set on a mask with the pins of these lines, where the problem of all lines is built
 abbrev pub pins_of_tiles : RequestView → TileSetView → MaskView → List PinView → Result TilesPins Refusal

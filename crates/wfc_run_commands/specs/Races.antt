@@ -3,7 +3,7 @@ use Rattle.std.specs.List.{slice_get}
 use Rattle.std.specs.Prelude.{List, Some, [], ℕ, ⊤, ◌+◌, ◌∷◌, ◌≡◌}
 use Rattle.wfc_choose.specs.Pick.{Rule}
 use Rattle.wfc_problem.specs.Network.{Network}
-use Rattle.wfc_race.specs.Racers.{Racer, entered}
+use Rattle.wfc_race.specs.Racers.{Racer, new_racer}
 use Rattle.wfc_race.specs.Rounds.{round_end_of}
 use Rattle.wfc_race.specs.declared.RaceEnd.{RaceEnd}
 use Rattle.wfc_race.specs.declared.RaceEnd.TheVariants as end
@@ -14,7 +14,7 @@ use Rattle.wfc_runs.specs.Words.{words_of_seed}
 -- one runner for each of these rules, with the words of a seed, of the next one, and so on
 abbrev pub entrants : List Rule → ℕ → ℕ → List Racer
 entrants [] budget seed = []
-entrants (rule ∷ rules) budget seed = entered rule budget (words_of_seed seed) ∷ entrants rules budget (seed + 1)
+entrants (rule ∷ rules) budget seed = new_racer rule budget (words_of_seed seed) ∷ entrants rules budget (seed + 1)
 
 -- the runner in this place of the runners at the end has made so many retractions
 abbrev pub IsRacerWith : List Racer → ℕ → ℕ → Type 0

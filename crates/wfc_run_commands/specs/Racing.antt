@@ -9,8 +9,8 @@ use Rattle.wfc_race.specs.declared.RaceEnd.{RaceEnd}
 use Rattle.wfc_race.specs.declared.RaceEnd.TheVariants as end
 use Rattle.wfc_reply.specs.Choosers.{first_rules}
 use Rattle.wfc_reply.specs.Reply.{Answered}
-use Rattle.wfc_reply.specs.declared.reply.Verdict.{Verdict}
-use Rattle.wfc_reply.specs.declared.reply.Verdict.TheVariants.{Done, NoMap, Spent}
+use Rattle.wfc_reply.specs.declared.reply.CommandVerdict.{CommandVerdict}
+use Rattle.wfc_reply.specs.declared.reply.CommandVerdict.TheVariants.{Done, NoMap, Spent}
 use Rattle.wfc_run_commands.specs.Races.{entrants}
 use Rattle.wfc_run_commands.specs.declared.races.Raced.{Raced}
 use Rattle.wfc_run_commands.specs.declared.races.Raced.TheVariants as raced
@@ -44,7 +44,7 @@ race_text asked (end.NoMap who, now) =
 race_text asked (end.AllSpent, now) = None
 
 -- how `race` ends whose race ends so
-abbrev pub race_verdict : ℕ → RaceEnd → Verdict
+abbrev pub race_verdict : ℕ → RaceEnd → CommandVerdict
 race_verdict budget (end.Map who) = Done
 race_verdict budget (end.NoMap who) = NoMap
 race_verdict budget end.AllSpent = Spent budget

@@ -8,10 +8,10 @@ ghost use Rattle.wfc_explain.specs.Trials.{explanation_of};
 ghost use Rattle.wfc_explain.specs.declared.explained.Kept.{Kept};
 ghost use Rattle.wfc_plan.specs.Kinds.{HasChoosers};
 ghost use Rattle.wfc_reply.specs.Choosers.{first_rule, kinds_of};
-ghost use Rattle.wfc_reply.specs.Ends.{Ends, EndsBy};
+ghost use Rattle.wfc_reply.specs.Ends.{MayReply, EndsBy};
 ghost use Rattle.wfc_reply.specs.ReplyView.{answer_view, reply_view};
 ghost use Rattle.wfc_run_commands.specs.ExplainAnswer.{AreLines, answer_to, core_text, explain_answer};
-ghost use Rattle.wfc_run_commands.specs.ExplainAnswer.{explanation_by, kept_line, mark_word};
+ghost use Rattle.wfc_run_commands.specs.ExplainAnswer.{asked_explanation, kept_line, mark_word};
 ghost use Rattle.wfc_run_commands.specs.ExplainCommand.{ExplainAnswers, explain_command};
 ghost use Rattle.wfc_run_commands.specs.ExplainGiven.{IsExplainAsked};
 ghost use Rattle.wfc_run_commands.specs.ExplainTask.{explain_plan_by, explain_sample_plan, explain_tiles_plan, line_numbers};
@@ -30,7 +30,7 @@ use wfc_explain::{Explained, Kept, Mark, PinnedProblem, explain as explanation};
 use wfc_outside::{Folder, NoMemory};
 use wfc_pins::PinLine;
 use wfc_plan::{Fault, enough};
-use wfc_reply::{Answer, Verdict, first_many, kinds};
+use wfc_reply::{Answer, CommandVerdict, first_many, kinds};
 use wfc_task::{mask, sample, tile_set};
 use wfc_text::push_number;
 use wfc_words::{Request, SourceModel};
@@ -66,7 +66,7 @@ fn explain_by<F: Folder>(
     requires asked { IsExplainAsked request.now }
     requires choosers { HasChoosers EXPLAIN_CHOOSERS
         (kinds_of (map (λ chooser. (told chooser).rule) choosers.items)) request.now.rule }
-    ensures ends { Ends (explain_plan_by source request.now)
+    ensures ends { MayReply (explain_plan_by source request.now)
         (ExplainAnswers (map (λ chooser. (told chooser).rule) choosers.items) request.now)
         (F.seen folder.old) (F.seen folder.new) (reply_view result) }
 {
@@ -88,7 +88,7 @@ fn explain_sample<F: Folder>(
     requires asked { IsExplainAsked request.now }
     requires choosers { HasChoosers EXPLAIN_CHOOSERS
         (kinds_of (map (λ chooser. (told chooser).rule) choosers.items)) request.now.rule }
-    ensures ends { Ends (explain_sample_plan request.now)
+    ensures ends { MayReply (explain_sample_plan request.now)
         (ExplainAnswers (map (λ chooser. (told chooser).rule) choosers.items) request.now)
         (F.seen folder.old) (F.seen folder.new) (reply_view result) }
 {
@@ -110,7 +110,7 @@ fn explain_tiles<F: Folder>(
     requires asked { IsExplainAsked request.now }
     requires choosers { HasChoosers EXPLAIN_CHOOSERS
         (kinds_of (map (λ chooser. (told chooser).rule) choosers.items)) request.now.rule }
-    ensures ends { Ends (explain_tiles_plan request.now)
+    ensures ends { MayReply (explain_tiles_plan request.now)
         (ExplainAnswers (map (λ chooser. (told chooser).rule) choosers.items) request.now)
         (F.seen folder.old) (F.seen folder.new) (reply_view result) }
 {
@@ -136,7 +136,7 @@ fn answer<M: PinnedProblem>(
     requires few { length lines.now + 1 ≤ EXPLAIN_CHOOSERS }
     requires each_line { (M.seen pinned.now).lines ≡ length lines.now }
     ensures answers { IfOk result (λ answer. explain_answer request.now (line_numbers lines.now)
-        (explanation_by (first_rule request.now.rule (map (λ chooser. (told chooser).rule)
+        (asked_explanation (first_rule request.now.rule (map (λ chooser. (told chooser).rule)
         choosers.items)) request.now (M.seen pinned.now)) ≡ Some (answer_view answer)) }
 {
     let many = pinned.lines() + 1;
@@ -188,15 +188,15 @@ fn told_in(
 {
     match said {
         Explained::Core(core) => Ok(Answer {
-            verdict: Verdict::Done,
+            verdict: CommandVerdict::Done,
             text: Some(core_text(alloc, lines, core.list())?),
         }),
         Explained::MapExists => Ok(Answer {
-            verdict: Verdict::MapExists,
+            verdict: CommandVerdict::MapExists,
             text: None,
         }),
         Explained::Spent => Ok(Answer {
-            verdict: Verdict::Spent {
+            verdict: CommandVerdict::Spent {
                 budget: request.budget,
             },
             text: None,

@@ -6,7 +6,7 @@ ghost use Rattle.wfc_outside.specs.Gives.{Gives, result_map};
 ghost use Rattle.wfc_plan.specs.Plan.{GivesStep, Goes};
 ghost use Rattle.wfc_run_commands.specs.ExplainTask.{few_lines, lines_plan, pins_of_sample, pins_of_tiles};
 ghost use Rattle.wfc_task.specs.Asked.{IsOutputAsked};
-ghost use Rattle.wfc_task.specs.Tiling.{HasSides, masked};
+ghost use Rattle.wfc_task.specs.Tiling.{HasSides, mask_or_whole};
 
 use std::alloc::Global;
 use wfc_explain::{OverlapPins, TilePins};
@@ -88,10 +88,10 @@ pub(crate) fn tile_pins<'a>(
     lines: &[PinLine],
 ) -> Result<TilePins<'a>, Refusal>
     requires output { IsOutputAsked request.now }
-    requires sides { HasSides request.now (masked request.now mask.now) }
+    requires sides { HasSides request.now (mask_or_whole request.now mask.now) }
     requires few { length lines.now ≤ MAX_LINES }
-    ensures exact { GivesStep
-        (pins_of_tiles request.now tiles.now (masked request.now mask.now) lines.now) result }
+    ensures exact { GivesStep (pins_of_tiles request.now tiles.now (mask_or_whole request.now
+        mask.now) lines.now) result }
     ensures each_line { IfOk result (λ pins. length pins.pins ≡ length lines.now) }
 {
     match masked_pins(alloc, request, tiles, mask, lines) {
@@ -109,10 +109,10 @@ fn masked_pins<'a>(
     lines: &[PinLine],
 ) -> Result<TilePins<'a>, BuildFault>
     requires output { IsOutputAsked request.now }
-    requires sides { HasSides request.now (masked request.now mask.now) }
+    requires sides { HasSides request.now (mask_or_whole request.now mask.now) }
     requires few { length lines.now ≤ MAX_LINES }
     ensures exact { Gives BuildFault.NoMemory (λ pins. pins) result
-        (tiles_pins tiles.now (masked request.now mask.now) request.now.wrap_out lines.now) }
+        (tiles_pins tiles.now (mask_or_whole request.now mask.now) request.now.wrap_out lines.now) }
 {
     let (width, height, wrap) = (request.width, request.height, request.wrap_out);
     match mask {

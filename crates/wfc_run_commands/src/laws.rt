@@ -11,7 +11,7 @@ ghost use Rattle.wfc_pins.specs.PinView.{PinView};
 ghost use Rattle.wfc_plan.specs.Plan.{outcome};
 ghost use Rattle.wfc_plan.specs.declared.fault.Refusal.TheVariants.{RaceTooLarge, TooManyPins};
 ghost use Rattle.wfc_problem.specs.Network.{Network, values};
-ghost use Rattle.wfc_race.specs.Racers.{entered};
+ghost use Rattle.wfc_race.specs.Racers.{new_racer};
 ghost use Rattle.wfc_render.specs.declared.form.Form.TheVariants.{P6};
 ghost use Rattle.wfc_run_commands.specs.ExplainAnswer.{core_text};
 ghost use Rattle.wfc_run_commands.specs.ExplainGiven.{IsExplainAsked, IsExplainTask};
@@ -63,7 +63,7 @@ pub fn lines_are_counted_by_example()
 /// The runners of a race, by example: in the order of their rules, with one seed after the other, and one budget.
 pub fn entrants_by_example()
     ensures two { (one other : Rule) → entrants (one ∷ other ∷ []) 50 9
-        ≡ entered one 50 (words_of_seed 9) ∷ entered other 50 (words_of_seed 10) ∷ [] }
+        ≡ new_racer one 50 (words_of_seed 9) ∷ new_racer other 50 (words_of_seed 10) ∷ [] }
     ensures none { entrants [] 50 9 ≡ [] }
 {}
 

@@ -22,7 +22,7 @@ use wfc_domains::Steps;
 use wfc_outside::{Folder, NoMemory};
 use wfc_plan::Fault;
 use wfc_problem::Problem;
-use wfc_reply::{Answer, Verdict, first_many, kinds};
+use wfc_reply::{Answer, CommandVerdict, first_many, kinds};
 use wfc_text::push_number;
 use wfc_words::Request;
 
@@ -104,18 +104,18 @@ fn told_in(alloc: Global, request: &Request, raced: Raced) -> Result<Answer, NoM
             runner,
             retractions,
         } => Ok(Answer {
-            verdict: Verdict::Done,
+            verdict: CommandVerdict::Done,
             text: Some(line(alloc, request.seed + runner as u64, retractions, b"map")?),
         }),
         Raced::NoMap {
             runner,
             retractions,
         } => Ok(Answer {
-            verdict: Verdict::NoMap,
+            verdict: CommandVerdict::NoMap,
             text: Some(line(alloc, request.seed + runner as u64, retractions, b"no map")?),
         }),
         Raced::AllSpent => Ok(Answer {
-            verdict: Verdict::Spent {
+            verdict: CommandVerdict::Spent {
                 budget: request.budget,
             },
             text: None,

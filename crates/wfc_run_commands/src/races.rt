@@ -1,12 +1,12 @@
 //! A race of seeds over a problem.
 
 ghost use Rattle.std.specs.Prelude.{All, IfOk, length, map, ◌+◌, ◌-◌, ◌<◌, ◌^◌, ◌≡◌, ◌≤◌};
-ghost use Rattle.wfc_race.specs.Racers.{entered};
+ghost use Rattle.wfc_race.specs.Racers.{new_racer};
 ghost use Rattle.wfc_race.specs.Seen.{IsRunner, racer_of, racers_of, seen, seens};
 ghost use Rattle.wfc_race.specs.Standing.{EndsTruly};
 ghost use Rattle.wfc_race.specs.declared.TheConstants.{MAX_RUNNERS};
 ghost use Rattle.wfc_run_commands.specs.Races.{AnswersTo, IsRaced, entrants};
-ghost use Rattle.wfc_runs.specs.Words.{words_of, words_of_seed};
+ghost use Rattle.wfc_runs.specs.Words.{generator_words, words_of_seed};
 
 use rand_pcg::Pcg64;
 use std::alloc::Global;
@@ -40,10 +40,10 @@ fn runner<'p>(
     seed: u64,
 ) -> Result<Runner<'p, Ac4<'p>, Pcg64>, NoMemory>
     ensures runner { IfOk result (λ made. IsRunner problem.now
-        (seen (λ store. store) words_of (λ v. (⟦<dyn Chooser as Chooser>⟧ v).told) made)) }
+        (seen (λ store. store) generator_words (λ v. (⟦<dyn Chooser as Chooser>⟧ v).told) made)) }
     ensures entered { IfOk result (λ made. racer_of
-        (seen (λ store. store) words_of (λ v. (⟦<dyn Chooser as Chooser>⟧ v).told) made)
-        ≡ entered (told chooser).rule budget (words_of_seed seed)) }
+        (seen (λ store. store) generator_words (λ v. (⟦<dyn Chooser as Chooser>⟧ v).told) made)
+        ≡ new_racer (told chooser).rule budget (words_of_seed seed)) }
 {
     let Ok(store) = Ac4::open(alloc, problem, problem.depth()) else {
         return Err(NoMemory);
@@ -64,11 +64,11 @@ fn runners<'p>(
     seed: u64,
 ) -> Result<Vec<Runner<'p, Ac4<'p>, Pcg64>>, NoMemory>
     requires fits { seed + length choosers.items ≤ 2 ^ 64 }
-    ensures runners { IfOk result (λ made. All (IsRunner problem.now) (map
-        (seen (λ store. store) words_of (λ v. (⟦<dyn Chooser as Chooser>⟧ v).told)) made.items)) }
-    ensures entered { IfOk result (λ made. racers_of
-        (map (seen (λ store. store) words_of (λ v. (⟦<dyn Chooser as Chooser>⟧ v).told)) made.items)
-        ≡ entrants (map (λ chooser. (told chooser).rule) choosers.items) budget seed) }
+    ensures runners { IfOk result (λ made. All (IsRunner problem.now) (map (seen (λ store. store)
+        generator_words (λ v. (⟦<dyn Chooser as Chooser>⟧ v).told)) made.items)) }
+    ensures entered { IfOk result (λ made. racers_of (map (seen (λ store. store) generator_words (λ
+        v. (⟦<dyn Chooser as Chooser>⟧ v).told)) made.items) ≡ entrants (map (λ chooser. (told
+        chooser).rule) choosers.items) budget seed) }
 {
     let mut choosers = choosers;
     let count = choosers.len() as u64;
@@ -82,9 +82,9 @@ fn runners<'p>(
 
 /// What is told of the end of a race.
 fn told_of(race: &Race<'_, Ac4<'_>, Pcg64>, end: RaceEnd) -> Raced
-    requires true_end { EndsTruly (λ store. store) words_of
+    requires true_end { EndsTruly (λ store. store) generator_words
         (λ v. (⟦<dyn Chooser as Chooser>⟧ v).told) race.now end }
-    ensures answers { AnswersTo end (racers_of (seens (λ store. store) words_of
+    ensures answers { AnswersTo end (racers_of (seens (λ store. store) generator_words
         (λ v. (⟦<dyn Chooser as Chooser>⟧ v).told) race.now)) result }
 {
     match end {

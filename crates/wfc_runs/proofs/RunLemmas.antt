@@ -15,16 +15,16 @@ use Rattle.wfc_search.specs.Run.{State, end_from, outcome_of}
 use Rattle.wfc_search.specs.declared.Outcome.{Outcome}
 use Rattle.wfc_search.specs.declared.Outcome.TheVariants as outcome
 use Rattle.wfc_search.proofs.CallerLemmas.{outcome_map}
-use Rattle.wfc_runs.specs.Runs.{IsEndOf, IsHeld, IsLegalEnd, IsRan}
-use Rattle.wfc_runs.specs.Words.{words_of, words_of_seed}
-use Rattle.wfc_runs.specs.declared.runs.End.{End}
-use Rattle.wfc_runs.specs.declared.runs.End.TheVariants as held
+use Rattle.wfc_runs.specs.Runs.{IsRunEnd, HoldsOutcome, IsLegalEnd, IsRan}
+use Rattle.wfc_runs.specs.Words.{generator_words, words_of_seed}
+use Rattle.wfc_runs.specs.declared.runs.RunEnd.{RunEnd}
+use Rattle.wfc_runs.specs.declared.runs.RunEnd.TheVariants as held
 use Rattle.wfc_runs.specs.declared.runs.Ran.{Ran}
 
 -- the words of a generator that is seeded by a number
-pub seeded_words : (g : Lcg) (seed : ℕ) → g ≡ pcg64_of_seed (pcg32_seed 32 seed) → words_of g ≡ words_of_seed seed
+pub seeded_words : (g : Lcg) (seed : ℕ) → g ≡ pcg64_of_seed (pcg32_seed 32 seed) → generator_words g ≡ words_of_seed seed
 unfolding words_of_seed
-seeded_words g seed is = ap words_of is
+seeded_words g seed is = ap generator_words is
 
 -- from these literals and retractions, the run with these words comes to this outcome
 abbrev Comes : Network → Rule → ℕ → List Literal → ℕ → Stream → Outcome → List Literal → ℕ → Stream → Type 0
@@ -50,7 +50,7 @@ begun_ends P Q rule r budget b seed s t outcome end problem same bound none unma
 
 -- and what is answered of it is the run's, if memory was enough
 pub answers_ran : (P Q : Network) (rule r : Rule) (budget b seed : ℕ) (s t : State) (outcome : Outcome) (result : Result Ran NoMemory) → end_from Q r b s ≡ Some (outcome, t) → Q ≡ P → r ≡ rule → b ≡ budget
-    → s.standing ≡ [] → s.retractions ≡ 0 → s.draws ≡ 0 → s.words ≡ words_of_seed seed → IfOk result (λ ran. IsHeld P t.standing outcome ran.end) → IfOk result (λ ran. ran.retractions ≡ t.retractions) → IfOk result (IsRan P rule budget seed)
+    → s.standing ≡ [] → s.retractions ≡ 0 → s.draws ≡ 0 → s.words ≡ words_of_seed seed → IfOk result (λ ran. HoldsOutcome P t.standing outcome ran.end) → IfOk result (λ ran. ran.retractions ≡ t.retractions) → IfOk result (IsRan P rule budget seed)
 answers_ran P Q rule r budget b seed s t outcome (Err cause) end problem same bound none unmade undrawn words is_held many = tt
 answers_ran P Q rule r budget b seed s t outcome (Ok ran) end problem same bound none unmade undrawn words is_held many = record {
   outcome = outcome;
@@ -61,10 +61,10 @@ answers_ran P Q rule r budget b seed s t outcome (Ok ran) end problem same bound
 }
 
 -- a run has the end that it came to
-pub ran_end : (P : Network) (rule : Rule) (budget seed : ℕ) (ran : Ran) → IsRan P rule budget seed ran → IsEndOf P rule budget seed ran.end
+pub ran_end : (P : Network) (rule : Rule) (budget seed : ℕ) (ran : Ran) → IsRan P rule budget seed ran → IsRunEnd P rule budget seed ran.end
 ran_end P rule budget seed ran is = by_end is.outcome ran.end is.held is.ends
   where
-    by_end : (o : Outcome) (end : End) → IsHeld P is.state.standing o end → outcome_of P rule budget (words_of_seed seed) ≡ Some (o, is.state) → IsEndOf P rule budget seed end
+    by_end : (o : Outcome) (end : RunEnd) → HoldsOutcome P is.state.standing o end → outcome_of P rule budget (words_of_seed seed) ≡ Some (o, is.state) → IsRunEnd P rule budget seed end
     by_end outcome.Map (held.Map assignment) same ends = (is.state, ends, same)
     by_end outcome.NoMap held.NoMap same ends = (is.state, ends)
     by_end outcome.Spent held.Spent same ends = (is.state, ends)
@@ -79,7 +79,7 @@ ran_end P rule budget seed ran is = by_end is.outcome ran.end is.held is.ends
 pub ran_legal : (P : Network) → IsProblem P → (rule : Rule) (budget seed : ℕ) (ran : Ran) → IsRan P rule budget seed ran → IsLegalEnd P ran.end
 ran_legal P p rule budget seed ran is = by_end is.outcome ran.end is.held is.ends
   where
-    by_end : (o : Outcome) (end : End) → IsHeld P is.state.standing o end → outcome_of P rule budget (words_of_seed seed) ≡ Some (o, is.state) → IsLegalEnd P end
+    by_end : (o : Outcome) (end : RunEnd) → HoldsOutcome P is.state.standing o end → outcome_of P rule budget (words_of_seed seed) ≡ Some (o, is.state) → IsLegalEnd P end
     by_end outcome.Map (held.Map assignment) same ends = subst (IsLegalAssignment P) (sym same) (outcome_map P p rule budget (words_of_seed seed) is.state ends).1
     by_end outcome.NoMap (held.Map assignment) same ends = absurd same
     by_end outcome.Spent (held.Map assignment) same ends = absurd same

@@ -10,19 +10,19 @@ use Rattle.wfc_search.specs.Search.{assignment_of}
 use Rattle.wfc_search.specs.declared.Outcome.{Outcome}
 use Rattle.wfc_search.specs.declared.Outcome.TheVariants as outcome
 use Rattle.wfc_runs.specs.Words.{words_of_seed}
-use Rattle.wfc_runs.specs.declared.runs.End.{End}
-use Rattle.wfc_runs.specs.declared.runs.End.TheVariants.{Map, NoMap, Spent}
+use Rattle.wfc_runs.specs.declared.runs.RunEnd.{RunEnd}
+use Rattle.wfc_runs.specs.declared.runs.RunEnd.TheVariants.{Map, NoMap, Spent}
 use Rattle.wfc_runs.specs.declared.runs.Ran.{Ran}
 
 -- the outcome as the code holds it, with the assignment that is found where these literals stand
-abbrev pub IsHeld : Network → List Literal → Outcome → End → Type 0
-IsHeld P standing outcome.Map (Map assignment) = assignment.items ≡ assignment_of P standing
-IsHeld P standing outcome.NoMap NoMap = ⊤
-IsHeld P standing outcome.Spent Spent = ⊤
-IsHeld P standing _ _ = ⊥
+abbrev pub HoldsOutcome : Network → List Literal → Outcome → RunEnd → Type 0
+HoldsOutcome P standing outcome.Map (Map assignment) = assignment.items ≡ assignment_of P standing
+HoldsOutcome P standing outcome.NoMap NoMap = ⊤
+HoldsOutcome P standing outcome.Spent Spent = ⊤
+HoldsOutcome P standing _ _ = ⊥
 
 -- the assignment that is held, if one is, is legal
-abbrev pub IsLegalEnd : Network → End → Type 0
+abbrev pub IsLegalEnd : Network → RunEnd → Type 0
 IsLegalEnd P (Map assignment) = IsLegalAssignment P assignment.items
 IsLegalEnd P NoMap = ⊤
 IsLegalEnd P Spent = ⊤
@@ -32,12 +32,12 @@ pub record IsRan (P : Network) (rule : Rule) (budget seed : ℕ) (ran : Ran) : T
   pub outcome : Outcome
   pub state : State
   pub ends : outcome_of P rule budget (words_of_seed seed) ≡ Some (outcome, state)
-  pub held : IsHeld P state.standing outcome ran.end
+  pub held : HoldsOutcome P state.standing outcome ran.end
   pub retractions : ran.retractions ≡ state.retractions
 
 -- the run of the problem by this rule, with this budget and the words of this seed, has this end
-abbrev pub IsEndOf : Network → Rule → ℕ → ℕ → End → Type 0
-IsEndOf P rule budget seed (Map assignment) =
+abbrev pub IsRunEnd : Network → Rule → ℕ → ℕ → RunEnd → Type 0
+IsRunEnd P rule budget seed (Map assignment) =
     EndsInMap P rule budget (words_of_seed seed) assignment.items
-IsEndOf P rule budget seed NoMap = EndsIn P rule budget (words_of_seed seed) outcome.NoMap
-IsEndOf P rule budget seed Spent = EndsIn P rule budget (words_of_seed seed) outcome.Spent
+IsRunEnd P rule budget seed NoMap = EndsIn P rule budget (words_of_seed seed) outcome.NoMap
+IsRunEnd P rule budget seed Spent = EndsIn P rule budget (words_of_seed seed) outcome.Spent

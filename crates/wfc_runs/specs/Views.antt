@@ -4,7 +4,7 @@ use Rattle.rand_core.specs.Stream.{Stream}
 use Rattle.wfc_choose.specs.Told.{Told}
 use Rattle.wfc_domains.specs.Store.{StoreView}
 use Rattle.wfc_search.specs.Search.{IsEnd, SearchView}
-use Rattle.wfc_search.specs.Shown.{shown}
+use Rattle.wfc_search.specs.Shown.{view_of_search}
 use Rattle.wfc_search.specs.declared.Outcome.{Outcome}
 use Rattle.wfc_search.specs.declared.search.Search.{Search}
 use Rattle.wfc_runs.specs.Words.{words_of_seed}
@@ -12,7 +12,7 @@ use Rattle.wfc_runs.specs.Words.{words_of_seed}
 -- such a search as contracts see it
 abbrev pub search_view : {D : Type 0} {V : D → Type 0} → ((v : D) → V v → Told)
     → Search StoreView D V → SearchView
-search_view told it = shown (λ store. store) it (told it.chooser.vtable it.chooser.value)
+search_view told it = view_of_search (λ store. store) it (told it.chooser.vtable it.chooser.value)
 
 -- from one search, with the words of a seed, the run has this end at the other
 abbrev pub IsSeededEnd : {D : Type 0} {V : D → Type 0} → ((v : D) → V v → Told)

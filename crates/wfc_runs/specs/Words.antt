@@ -7,9 +7,9 @@ use Rattle.rand_pcg.specs.Lcg.{Lcg}
 use Rattle.rand_pcg.specs.Pcg.{pcg64, pcg64_of_seed}
 
 -- the words that a generator Pcg64 gives
-abbrev pub words_of : Lcg → Stream
-words_of generator = stream_of (steps_u64_low pcg64) generator
+abbrev pub generator_words : Lcg → Stream
+generator_words generator = stream_of (steps_u64_low pcg64) generator
 
 -- the words of the generator Pcg64 that is seeded by a number
 unfoldable pub words_of_seed : ℕ → Stream
-words_of_seed seed = words_of (pcg64_of_seed (pcg32_seed 32 seed))
+words_of_seed seed = generator_words (pcg64_of_seed (pcg32_seed 32 seed))

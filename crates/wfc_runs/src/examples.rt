@@ -7,17 +7,17 @@ ghost use Rattle.wfc_problem.specs.declared.Literal.TheVariants.{Is};
 ghost use Rattle.wfc_search.specs.Small.{pair, scanline};
 ghost use Rattle.wfc_search.specs.declared.Outcome.TheVariants as outcome;
 ghost use Rattle.wfc_runs.specs.Alike.{HaveRule, IsPlain, PickAlike};
-ghost use Rattle.wfc_runs.specs.Runs.{IsHeld, IsLegalEnd};
-ghost use Rattle.wfc_runs.specs.Words.{words_of};
+ghost use Rattle.wfc_runs.specs.Runs.{HoldsOutcome, IsLegalEnd};
+ghost use Rattle.wfc_runs.specs.Words.{generator_words};
 
-use crate::End;
+use crate::RunEnd;
 
 /// The first words of a generator from a small state, as the published generator gives them.
 pub fn first_words()
-    ensures first { (words_of (record { state = 7; increment = 5 })).u64_after []
+    ensures first { (generator_words (record { state = 7; increment = 5 })).u64_after []
         ≡ 8681540523656324265 }
-    ensures second { (words_of (record { state = 7; increment = 5 })).u64_after (u64_call ∷ [])
-        ≡ 4369254870819524095 }
+    ensures second { (generator_words (record { state = 7; increment = 5 })).u64_after (u64_call ∷
+        []) ≡ 4369254870819524095 }
 {}
 
 /// Rules pick alike where ranks don't count, and not where they do, nor where the kinds differ.
@@ -34,10 +34,10 @@ pub fn rules_by_example()
 /// none, or nothing where the budget is spent.
 pub fn ends_by_example(values: &Vec<u16>)
     ensures map { values.now.items ≡ 1 ∷ 0 ∷ [] →
-        IsHeld pair (Is 1 0 ∷ []) outcome.Map (End.Map values.now) }
+        HoldsOutcome pair (Is 1 0 ∷ []) outcome.Map (End.Map values.now) }
     ensures other_map { values.now.items ≡ 0 ∷ 1 ∷ [] →
-        IsHeld pair (Is 1 0 ∷ []) outcome.Map (End.Map values.now) → ⊥ }
-    ensures no_map { IsHeld pair [] outcome.NoMap End.NoMap × IsLegalEnd pair End.NoMap }
-    ensures spent { IsHeld pair [] outcome.Spent End.NoMap → ⊥ }
+        HoldsOutcome pair (Is 1 0 ∷ []) outcome.Map (End.Map values.now) → ⊥ }
+    ensures no_map { HoldsOutcome pair [] outcome.NoMap End.NoMap × IsLegalEnd pair End.NoMap }
+    ensures spent { HoldsOutcome pair [] outcome.Spent End.NoMap → ⊥ }
     ensures short { values.now.items ≡ 1 ∷ [] → IsLegalEnd pair (End.Map values.now) → ⊥ }
 {}

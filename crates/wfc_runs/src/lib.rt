@@ -8,4 +8,4 @@ pub mod examples;
 pub mod laws;
 mod runs;
 
-pub use runs::{End, Ran, open_search, outcome_counted, run, run_counted, words_of_seed};
+pub use runs::{Ran, RunEnd, open_search, outcome_counted, run, run_counted, words_of_seed};

@@ -3,10 +3,10 @@
 ghost use Rattle.std.specs.Prelude.{◌≡◌, ◌<◌, [], IfOk, Some};
 ghost use Rattle.wfc_search.specs.Ends.{EndsIn};
 ghost use Rattle.wfc_search.specs.Search.{IsGoing, IsReady, assignment_of};
-ghost use Rattle.wfc_search.specs.Shown.{shown};
-ghost use Rattle.wfc_runs.specs.Runs.{IsHeld, IsLegalEnd, IsRan};
+ghost use Rattle.wfc_search.specs.Shown.{view_of_search};
+ghost use Rattle.wfc_runs.specs.Runs.{HoldsOutcome, IsLegalEnd, IsRan};
 ghost use Rattle.wfc_runs.specs.Views.{IsSeededEnd, search_view};
-ghost use Rattle.wfc_runs.specs.Words.{words_of, words_of_seed};
+ghost use Rattle.wfc_runs.specs.Words.{generator_words, words_of_seed};
 
 use rand_core::SeedableRng;
 use rand_pcg::Pcg64;
@@ -23,7 +23,7 @@ use wfc_search::{Outcome, Search};
 
 /// How a run ended.
 #[derive(Debug, Drop)]
-pub enum End {
+pub enum RunEnd {
     /// With one value for each cell.
     Map { assignment: Vec<u16> },
     /// No assignment is legal.
@@ -35,14 +35,14 @@ pub enum End {
 /// A run that was made.
 #[derive(Debug, Drop)]
 pub struct Ran {
-    pub end: End,
+    pub end: RunEnd,
     pub retractions: u32,
 }
 
 /// The source of the words that a seed gives: the generator Pcg64 that `seed_from_u64` of
 /// `rand_core` seeds.
 pub fn words_of_seed(seed: u64) -> Pcg64
-    ensures value { words_of result ≡ words_of_seed seed }
+    ensures value { generator_words result ≡ words_of_seed seed }
 {
     Pcg64::seed_from_u64(seed)
 }
@@ -124,7 +124,7 @@ pub fn open_search<'p>(
     budget: u32,
 ) -> Result<Search<'p, Ac4<'p>>, NoMemory>
     ensures ready { IfOk result
-        (λ made. IsReady (shown (λ store. store) made (told made.chooser))) }
+        (λ made. IsReady (view_of_search (λ store. store) made (told made.chooser))) }
     ensures going { IfOk result (λ made. IsGoing made.course) }
     ensures problem { IfOk result (λ made. made.problem.now ≡ problem.now) }
     ensures standing { IfOk result (λ made. made.store.standing ≡ []) }
@@ -176,7 +176,7 @@ fn ran_of(
     requires problem { search.now.problem.now ≡ problem.now }
     requires outcome { search.now.course.outcome ≡ Some outcome }
     ensures end { IfOk result
-        (λ ran. IsHeld problem.now search.now.store.standing outcome ran.end) }
+        (λ ran. HoldsOutcome problem.now search.now.store.standing outcome ran.end) }
     ensures retractions { IfOk result
         (λ ran. ran.retractions ≡ search.now.course.retractions) }
 {
@@ -193,19 +193,19 @@ fn end_of(
     problem: &Problem,
     search: &Search<'_, Ac4<'_>>,
     outcome: Outcome,
-) -> Result<End, NoMemory>
+) -> Result<RunEnd, NoMemory>
     requires ready { IsReady
         (search_view (λ v. (⟦<dyn Chooser as Chooser>⟧ v).told) search.now) }
     requires problem { search.now.problem.now ≡ problem.now }
     requires outcome { search.now.course.outcome ≡ Some outcome }
-    ensures end { IfOk result (IsHeld problem.now search.now.store.standing outcome) }
+    ensures end { IfOk result (HoldsOutcome problem.now search.now.store.standing outcome) }
 {
     match outcome {
-        Outcome::Map => Ok(End::Map {
+        Outcome::Map => Ok(RunEnd::Map {
             assignment: assignment(alloc, problem, search)?,
         }),
-        Outcome::NoMap => Ok(End::NoMap),
-        Outcome::Spent => Ok(End::Spent),
+        Outcome::NoMap => Ok(RunEnd::NoMap),
+        Outcome::Spent => Ok(RunEnd::Spent),
     }
 }
 

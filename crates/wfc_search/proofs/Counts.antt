@@ -14,7 +14,7 @@ use Rattle.wfc_problem.specs.Rounds.{greatest}
 use Rattle.wfc_problem.specs.Sizes.{is_dead}
 use Rattle.wfc_proof.specs.declared.Line.{Line}
 use Rattle.wfc_proof.specs.declared.Line.TheVariants.{Remove, Span, Try, Empty, End, Found, Out}
-use Rattle.wfc_search.specs.Proved.{tries_in, empties_in, choice_by, choices_of, one_if, deaths_of, HasCounts}
+use Rattle.wfc_search.specs.Proved.{tries_in, empties_in, choice_by, choices_of, one_if, deaths_of, CountsChoices}
 use Rattle.wfc_search.specs.Run.{State, LeadsTo, IsRunFrom, turn_of}
 use Rattle.wfc_search.specs.Telling.{lines_by, removal_lines, empty_lines, level_lines, opening_lines, end_line, turn_lines, IsStoreAt, TellsTo, TellsRun}
 use Rattle.wfc_search.specs.declared.Outcome.{Outcome}
@@ -103,7 +103,7 @@ end_counts Spent = (refl, refl)
 
 -- the whole run
 pub run_counts : (P : Network) (rule : Rule) (budget : ℕ) (s : State) (first : StoreView) (outcome : Outcome) (lines : List Line) → s.standing ≡ [] → IsStoreAt P s first
-    → TellsRun P rule budget s first outcome lines → HasCounts P rule budget s outcome lines
+    → TellsRun P rule budget s first outcome lines → CountsChoices P rule budget s outcome lines
 run_counts P rule budget s first outcome lines none at tells =
     let opening : opening_lines first ≡ level_lines first = ap (λ ls. cond (length ls == 0) (level_lines first) []) (at.standing ∙ none) in
     let level = level_counts P s first at in

@@ -7,7 +7,7 @@ use Rattle.wfc_problem.specs.Domains.{Test}
 use Rattle.wfc_problem.specs.Network.{Network}
 use Rattle.wfc_problem.specs.Rounds.{greatest}
 use Rattle.wfc_problem.specs.Sizes.{sizes_of, is_dead}
-use Rattle.wfc_search.specs.Run.{State, Choice, last_choice, retracted, dead_turn, alive_turn, draw_at, turn_of}
+use Rattle.wfc_search.specs.Run.{State, Choice, last_choice, after_retraction, dead_turn, alive_turn, draw_at, turn_of}
 use Rattle.wfc_search.specs.declared.Outcome.TheVariants.{Map, NoMap, Spent}
 use Rattle.wfc_search.specs.declared.Turn.{Turn}
 use Rattle.wfc_search.specs.declared.Turn.TheVariants.{Retracted, Ended}
@@ -36,14 +36,14 @@ pub made_spent : (P : Network) (rule : Rule) (budget : ℕ) (s : State) (last : 
     → turn_of P rule budget s ≡ (Ended Spent, s)
 made_spent P rule budget s last dead found full =
     from_dead P rule budget s dead ∙ ap (dead_turn budget s) found
-    ∙ ap (λ (b : Bool). cond {A = Turn × State} b (Ended Spent, s) (Retracted last.cell last.value, retracted s last)) (eq-eqb s.retractions budget full)
+    ∙ ap (λ (b : Bool). cond {A = Turn × State} b (Ended Spent, s) (Retracted last.cell last.value, after_retraction s last)) (eq-eqb s.retractions budget full)
 
 -- a choice stands, and a retraction is left
 pub made_retraction : (P : Network) (rule : Rule) (budget : ℕ) (s : State) (last : Choice) → is_dead P (greatest P s.standing) ≡ true → last_choice s.standing ≡ Some last → s.retractions ≢ budget
-    → turn_of P rule budget s ≡ (Retracted last.cell last.value, retracted s last)
+    → turn_of P rule budget s ≡ (Retracted last.cell last.value, after_retraction s last)
 made_retraction P rule budget s last dead found left =
     from_dead P rule budget s dead ∙ ap (dead_turn budget s) found
-    ∙ ap (λ (b : Bool). cond {A = Turn × State} b (Ended Spent, s) (Retracted last.cell last.value, retracted s last)) (ne_eqb s.retractions budget left)
+    ∙ ap (λ (b : Bool). cond {A = Turn × State} b (Ended Spent, s) (Retracted last.cell last.value, after_retraction s last)) (ne_eqb s.retractions budget left)
 
 -- no cell is picked
 pub made_map : (P : Network) (rule : Rule) (budget : ℕ) (s : State) → is_dead P (greatest P s.standing) ≡ false → picked rule (sizes_of P (greatest P s.standing)) ≡ None

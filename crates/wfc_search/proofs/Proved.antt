@@ -8,7 +8,7 @@ use Rattle.wfc_choose.specs.Draw.{drawn}
 use Rattle.wfc_choose.specs.Pick.{Rule, picked}
 use Rattle.wfc_domains.specs.Domains.{less}
 use Rattle.wfc_domains.specs.Removals.{without, IsUnsupported, IsCause, IsRemoved, AreRemoved}
-use Rattle.wfc_domains.specs.Store.{StoreView, IsSound, IsVerdict, left_of, before_of, added_of, mark_of, all_but_last}
+use Rattle.wfc_domains.specs.Store.{StoreView, IsSound, IsVerdict, left_of, before_of, added_of, level_mark, all_but_last}
 use Rattle.wfc_domains.specs.declared.Cause.{Cause}
 use Rattle.wfc_domains.specs.declared.Cause.TheVariants.{Assumed, Arc}
 use Rattle.wfc_domains.specs.declared.Removal.{Removal}
@@ -26,7 +26,7 @@ use Rattle.wfc_problem.specs.declared.Literal.{Literal}
 use Rattle.wfc_problem.specs.declared.Literal.TheVariants.{Is, Not}
 use Rattle.wfc_proof.specs.Checker.{Point, after_close, and_on, node_steps}
 use Rattle.wfc_proof.specs.Checker.Point.{going, closed, ended}
-use Rattle.wfc_proof.specs.Lines.{has_nodes, nodes_of, spelled, Spells}
+use Rattle.wfc_proof.specs.Lines.{has_nodes, nodes_of, nodes_of_lines, SpellsNodes}
 use Rattle.wfc_proof.specs.Proof.{Proof, IsRemoval, IsSplit, Node, is_left_off, nodes}
 use Rattle.wfc_proof.specs.Proof.Node.{empties, removes, splits}
 use Rattle.wfc_proof.specs.declared.Line.{Line}
@@ -36,7 +36,7 @@ use Rattle.wfc_proof.proofs.Forests.{step_on, steps_append, closed_proof, follow
 use Rattle.wfc_proof.proofs.Nodes.{removal_accepted, split_accepted, empty_accepted, neither}
 use Rattle.wfc_search.specs.Between.{Cuts}
 use Rattle.wfc_search.specs.Proved.{AreProof, IsClosedBy, IsLeftOpen}
-use Rattle.wfc_search.specs.Run.{State, Choice, last_choice, chosen, retracted, dead_turn, alive_turn, turn_of, LeadsTo}
+use Rattle.wfc_search.specs.Run.{State, Choice, last_choice, after_choice, after_retraction, dead_turn, alive_turn, turn_of, LeadsTo}
 use Rattle.wfc_search.specs.Telling.{lines_by, removal_lines, empty_lines, level_lines, opening_lines, end_line, turn_lines, IsStoreAt, TellsTo, TellsRun}
 use Rattle.wfc_search.specs.declared.Outcome.{Outcome}
 use Rattle.wfc_search.specs.declared.Outcome.TheVariants.{Map, NoMap, Spent}
@@ -165,42 +165,42 @@ unsupported P D c v d stands is = record {
 less_within : (D E : Test) (c v : ℕ) → Within D E → Within (less D c v) E
 less_within D E c v within x y stands = within x y (and_parts (D x y) (not (x == c && y == v)) stands).0
 
-spelled_append : (xs ys : List Line) → spelled (xs ++ ys) ≡ spelled xs ++ spelled ys
+spelled_append : (xs ys : List Line) → nodes_of_lines (xs ++ ys) ≡ nodes_of_lines xs ++ nodes_of_lines ys
 spelled_append [] ys = refl
-spelled_append (x ∷ xs) ys = ap (λ ns. nodes_of x ++ ns) (spelled_append xs ys) ∙ sym (append_assoc (nodes_of x) (spelled xs) (spelled ys))
+spelled_append (x ∷ xs) ys = ap (λ ns. nodes_of x ++ ns) (spelled_append xs ys) ∙ sym (append_assoc (nodes_of x) (nodes_of_lines xs) (nodes_of_lines ys))
 
 -- what is removed one after another leads on, from what the literals leave
-removed_lead : (P : Network) (ls : List Literal) (D : Test) (rs : List Removal) → AreRemoved P ls D rs → LeadTo P (left_by ls D) (spelled (removal_lines rs)) (left_by ls (without D rs))
+removed_lead : (P : Network) (ls : List Literal) (D : Test) (rs : List Removal) → AreRemoved P ls D rs → LeadTo P (left_by ls D) (nodes_of_lines (removal_lines rs)) (left_by ls (without D rs))
 removed_lead P ls D [] are = refl
 removed_lead P ls D (r ∷ rs) are = by r.cause are.0.cause (removed_lead P ls (less D r.cell r.value) rs are.1)
   where
-    by : (cause : Cause) → IsCause P ls D r.cell r.value cause → LeadTo P (left_by ls (less D r.cell r.value)) (spelled (removal_lines rs)) (left_by ls (without D (r ∷ rs)))
-        → LeadTo P (left_by ls D) (spelled (lines_by r.cell r.value cause ++ removal_lines rs)) (left_by ls (without D (r ∷ rs)))
-    by Assumed is rest = subst (λ E. LeadTo P E (spelled (removal_lines rs)) (left_by ls (without D (r ∷ rs)))) (cut_away ls D r.cell r.value is) rest
+    by : (cause : Cause) → IsCause P ls D r.cell r.value cause → LeadTo P (left_by ls (less D r.cell r.value)) (nodes_of_lines (removal_lines rs)) (left_by ls (without D (r ∷ rs)))
+        → LeadTo P (left_by ls D) (nodes_of_lines (lines_by r.cell r.value cause ++ removal_lines rs)) (left_by ls (without D (r ∷ rs)))
+    by Assumed is rest = subst (λ E. LeadTo P E (nodes_of_lines (removal_lines rs)) (left_by ls (without D (r ∷ rs)))) (cut_away ls D r.cell r.value is) rest
     by (Arc d) is rest =
         let all : left_by ls D ≡ D = all_left P ls D is.0 in
         let next : left_by ls (less D r.cell r.value) ≡ cut (left_by ls D) (Not r.value r.cell) =
         all_left P ls (less D r.cell r.value) (less_within D (base_with P ls) r.cell r.value is.0) ∙ ap (λ E. less E r.cell r.value) (sym all) in (
           subst (λ E. IsRemoval P E r.cell r.value d) (sym all) (unsupported P D r.cell r.value d are.0.stood is.1),
-          subst (λ E. LeadTo P E (spelled (removal_lines rs)) (left_by ls (without D (r ∷ rs)))) next rest,
+          subst (λ E. LeadTo P E (nodes_of_lines (removal_lines rs)) (left_by ls (without D (r ∷ rs)))) next rest,
         )
 
 -- the level of a store that is sound, from where it begins
 level_accepted : (P : Network) (D : Test) (waiting : List Test) (store : StoreView) → IsSound store → store.problem ≡ P → D ≡ left_by store.standing (before_of store) → Within D (in_base P)
-    → node_steps P (going D waiting) (spelled (level_lines store)) ≡ Ok (after_level P store.standing waiting (is_dead P (greatest P store.standing)))
+    → node_steps P (going D waiting) (nodes_of_lines (level_lines store)) ≡ Ok (after_level P store.standing waiting (is_dead P (greatest P store.standing)))
 level_accepted P D waiting store sound same begins within =
     let p : IsProblem P = subst IsProblem same sound.problem in
     let added : AreRemoved P store.standing (before_of store) (added_of store) = subst (λ X. AreRemoved X store.standing (before_of store) (added_of store)) same sound.added in
-    let lead : LeadTo P D (spelled (removal_lines (added_of store))) (left_by store.standing (left_of store)) =
-    subst (λ E. LeadTo P E (spelled (removal_lines (added_of store))) (left_by store.standing (left_of store))) (sym begins)
-    (subst (λ E. LeadTo P (left_by store.standing (before_of store)) (spelled (removal_lines (added_of store))) (left_by store.standing E)) (sym (left_added store))
+    let lead : LeadTo P D (nodes_of_lines (removal_lines (added_of store))) (left_by store.standing (left_of store)) =
+    subst (λ E. LeadTo P E (nodes_of_lines (removal_lines (added_of store))) (left_by store.standing (left_of store))) (sym begins)
+    (subst (λ E. LeadTo P (left_by store.standing (before_of store)) (nodes_of_lines (removal_lines (added_of store))) (left_by store.standing E)) (sym (left_added store))
     (removed_lead P store.standing (before_of store) (added_of store) added)) in
     ap (node_steps P (going D waiting)) (spelled_append (removal_lines (added_of store)) (empty_lines store.verdict))
-    ∙ removals_accepted P p D (left_by store.standing (left_of store)) waiting within (spelled (removal_lines (added_of store))) (spelled (empty_lines store.verdict)) lead
+    ∙ removals_accepted P p D (left_by store.standing (left_of store)) waiting within (nodes_of_lines (removal_lines (added_of store))) (nodes_of_lines (empty_lines store.verdict)) lead
     ∙ by store.verdict (subst (λ X. IsVerdict X store.standing (left_of store) store.verdict) same sound.verdict)
   where
     by : (verdict : Verdict) → IsVerdict P store.standing (left_of store) verdict
-        → node_steps P (going (left_by store.standing (left_of store)) waiting) (spelled (empty_lines verdict)) ≡ Ok (after_level P store.standing waiting (is_dead P (greatest P store.standing)))
+        → node_steps P (going (left_by store.standing (left_of store)) waiting) (nodes_of_lines (empty_lines verdict)) ≡ Ok (after_level P store.standing waiting (is_dead P (greatest P store.standing)))
     by Alive is =
         let p : IsProblem P = subst IsProblem same sound.problem in
         let same_domains : left_of store ≡ greatest P store.standing = greatest_same P store.standing (left_of store) (greatest P store.standing) is.0 (greatest_is P p store.standing) in
@@ -279,17 +279,17 @@ level_begins P before l store sound same standing =
 -- a choice that is told
 choice_told : (P : Network) → IsProblem P → (rule : Rule) (s : State) (store : StoreView) (cell : ℕ) → is_dead P (greatest P s.standing) ≡ false → picked rule (sizes_of P (greatest P s.standing)) ≡ Some cell
     → (value : ℕ) → value ≡ drawn P (values_at P (greatest P s.standing) cell) (next_u64 s.words).0
-    → IsStoreAt P (chosen s cell value (next_u64 s.words).1) store
-    → node_steps P (point_of P s.standing) (spelled (Try cell value ∷ level_lines store)) ≡ Ok (point_of P (s.standing ++ Is value cell ∷ []))
+    → IsStoreAt P (after_choice s cell value (next_u64 s.words).1) store
+    → node_steps P (point_of P s.standing) (nodes_of_lines (Try cell value ∷ level_lines store)) ≡ Ok (point_of P (s.standing ++ Is value cell ∷ []))
 choice_told P p rule s store cell alive picks value draws at =
     let D : Test = greatest P s.standing in
     let W : List Test = waits (greatest P) s.standing in
     let ls : List Literal = s.standing ++ Is value cell ∷ [] in
     let within : Within D (in_base P) = greatest_base P p s.standing in
-    let cuts : Cuts P D (Is value cell) = choice_cuts P p rule s (chosen s cell value (next_u64 s.words).1) s.standing
+    let cuts : Cuts P D (Is value cell) = choice_cuts P p rule s (after_choice s cell value (next_u64 s.words).1) s.standing
     (record { alive = alive; cell = cell; value = value; words = (next_u64 s.words).1; picks = picks; draws = draws; next = refl }) in
-    ap (λ (b : Bool). node_steps P (after_level P s.standing W b) (spelled (Try cell value ∷ level_lines store))) alive
-    ∙ step_on P D W (splits cell value) (spelled (level_lines store)) (split_accepted P p D within cell value (splits_two P p D within cell value cuts))
+    ap (λ (b : Bool). node_steps P (after_level P s.standing W b) (nodes_of_lines (Try cell value ∷ level_lines store))) alive
+    ∙ step_on P D W (splits cell value) (nodes_of_lines (level_lines store)) (split_accepted P p D within cell value (splits_two P p D within cell value cuts))
     ∙ level_accepted P (cut D (Is value cell)) (cut D (Not value cell) ∷ W) store at.sound at.problem (level_begins P s.standing (Is value cell) store at.sound at.problem at.standing)
     (cut_within D (in_base P) (Is value cell) within)
     ∙ ap (λ (later : List Literal). accepted (after_level P later (cut D (Not value cell) ∷ W) (is_dead P (greatest P later)))) at.standing
@@ -297,14 +297,14 @@ choice_told P p rule s store cell alive picks value draws at =
 
 -- a retraction that is told
 retraction_told : (P : Network) → IsProblem P → (s : State) (store : StoreView) (last : Choice) → is_dead P (greatest P s.standing) ≡ true → last_choice s.standing ≡ Some last
-    → IsStoreAt P (retracted s last) store
-    → node_steps P (point_of P s.standing) (spelled (level_lines store)) ≡ Ok (point_of P (last.before ++ Not last.value last.cell ∷ []))
+    → IsStoreAt P (after_retraction s last) store
+    → node_steps P (point_of P s.standing) (nodes_of_lines (level_lines store)) ≡ Ok (point_of P (last.before ++ Not last.value last.cell ∷ []))
 retraction_told P p s store last dead found at =
     let D : Test = cut (greatest P last.before) (Not last.value last.cell) in
     let ls : List Literal = last.before ++ Not last.value last.cell ∷ [] in
     let W : List Test = waits (greatest P) last.before in
-    ap (λ (b : Bool). node_steps P (after_level P s.standing (waits (greatest P) s.standing) b) (spelled (level_lines store))) dead
-    ∙ ap (λ (Ds : List Test). node_steps P (after_close Ds) (spelled (level_lines store))) (waits_last (greatest P) s.standing last found)
+    ap (λ (b : Bool). node_steps P (after_level P s.standing (waits (greatest P) s.standing) b) (nodes_of_lines (level_lines store))) dead
+    ∙ ap (λ (Ds : List Test). node_steps P (after_close Ds) (nodes_of_lines (level_lines store))) (waits_last (greatest P) s.standing last found)
     ∙ level_accepted P D W store at.sound at.problem (level_begins P last.before (Not last.value last.cell) store at.sound at.problem at.standing)
     (cut_within (greatest P last.before) (in_base P) (Not last.value last.cell) (greatest_base P p last.before))
     ∙ ap (λ (later : List Literal). accepted (after_level P later W (is_dead P (greatest P later)))) at.standing
@@ -312,8 +312,8 @@ retraction_told P p s store last dead found at =
 
 -- where the budget isn't spent
 back_told : (P : Network) → IsProblem P → (s t : State) (store : StoreView) (last : Choice) (b : Bool) → is_dead P (greatest P s.standing) ≡ true → last_choice s.standing ≡ Some last
-    → LeadsTo (cond b (Ended Spent, s) (Retracted last.cell last.value, retracted s last)) t → IsStoreAt P t store
-    → node_steps P (point_of P s.standing) (spelled (turn_lines (cond {A = Turn × State} b (Ended Spent, s) (Retracted last.cell last.value, retracted s last)).0 store)) ≡ Ok (point_of P t.standing)
+    → LeadsTo (cond b (Ended Spent, s) (Retracted last.cell last.value, after_retraction s last)) t → IsStoreAt P t store
+    → node_steps P (point_of P s.standing) (nodes_of_lines (turn_lines (cond {A = Turn × State} b (Ended Spent, s) (Retracted last.cell last.value, after_retraction s last)).0 store)) ≡ Ok (point_of P t.standing)
 back_told P p s t store last true dead found leads at = absurd leads
 back_told P p s t store last false dead found leads at =
     retraction_told P p s store last dead found (subst (λ (u : State). IsStoreAt P u store) (sym leads) at) ∙ ap (λ (u : State). accepted (point_of P u.standing)) leads
@@ -322,7 +322,7 @@ back_told P p s t store last false dead found leads at =
 lead_told : (P : Network) → IsProblem P → (rule : Rule) (budget : ℕ) (s t : State) (store : StoreView) (b : Bool) (m : Option Choice) (o : Option ℕ)
     → is_dead P (greatest P s.standing) ≡ b → last_choice s.standing ≡ m → picked rule (sizes_of P (greatest P s.standing)) ≡ o
     → LeadsTo (cond b (dead_turn budget s m) (alive_turn P s (greatest P s.standing) o)) t → IsStoreAt P t store
-    → node_steps P (point_of P s.standing) (spelled (turn_lines (cond {A = Turn × State} b (dead_turn budget s m) (alive_turn P s (greatest P s.standing) o)).0 store)) ≡ Ok (point_of P t.standing)
+    → node_steps P (point_of P s.standing) (nodes_of_lines (turn_lines (cond {A = Turn × State} b (dead_turn budget s m) (alive_turn P s (greatest P s.standing) o)).0 store)) ≡ Ok (point_of P t.standing)
 lead_told P p rule budget s t store true None o dead found picks leads at = absurd leads
 lead_told P p rule budget s t store true (Some last) o dead found picks leads at = back_told P p s t store last (s.retractions == budget) dead found leads at
 lead_told P p rule budget s t store false m None dead found picks leads at = absurd leads
@@ -331,7 +331,7 @@ lead_told P p rule budget s t store false m (Some cell) dead found picks leads a
     ∙ ap (λ (u : State). accepted (point_of P u.standing)) leads
 
 turn_told : (P : Network) → IsProblem P → (rule : Rule) (budget : ℕ) (s t : State) (store : StoreView) → LeadsTo (turn_of P rule budget s) t → IsStoreAt P t store
-    → node_steps P (point_of P s.standing) (spelled (turn_lines (turn_of P rule budget s).0 store)) ≡ Ok (point_of P t.standing)
+    → node_steps P (point_of P s.standing) (nodes_of_lines (turn_lines (turn_of P rule budget s).0 store)) ≡ Ok (point_of P t.standing)
 unfolding turn_of
 turn_told P p rule budget s t store leads at =
     lead_told P p rule budget s t store (is_dead P (greatest P s.standing)) (last_choice s.standing) (picked rule (sizes_of P (greatest P s.standing))) refl refl refl leads at
@@ -343,25 +343,25 @@ behind : (P : Network) (m k : Point) (ns more : List Node) → node_steps P m ns
 behind P m k ns more e = steps_append P m ns more ∙ ap (λ (r : Result Point Reject). and_on r (λ x. node_steps P x more)) e
 
 turns_told : (P : Network) → IsProblem P → (rule : Rule) (budget : ℕ) (s t : State) (stores : List StoreView) (lines : List Line) → TellsTo P rule budget s stores t lines
-    → node_steps P (point_of P s.standing) (spelled lines) ≡ Ok (point_of P t.standing)
+    → node_steps P (point_of P s.standing) (nodes_of_lines lines) ≡ Ok (point_of P t.standing)
 turns_told P p rule budget s t [] lines tells =
-    ap (λ ls. node_steps P (point_of P s.standing) (spelled ls)) tells.1 ∙ ap (λ (u : State). accepted (point_of P u.standing)) tells.0
+    ap (λ ls. node_steps P (point_of P s.standing) (nodes_of_lines ls)) tells.1 ∙ ap (λ (u : State). accepted (point_of P u.standing)) tells.0
 turns_told P p rule budget s t (store ∷ stores) lines tells =
     let next : State = tells.0 in
-    ap (λ ls. node_steps P (point_of P s.standing) (spelled ls)) tells.5
+    ap (λ ls. node_steps P (point_of P s.standing) (nodes_of_lines ls)) tells.5
     ∙ ap (node_steps P (point_of P s.standing)) (spelled_append (turn_lines (turn_of P rule budget s).0 store) tells.3)
-    ∙ behind P (point_of P s.standing) (point_of P next.standing) (spelled (turn_lines (turn_of P rule budget s).0 store)) (spelled tells.3) (turn_told P p rule budget s next store tells.1 tells.2)
+    ∙ behind P (point_of P s.standing) (point_of P next.standing) (nodes_of_lines (turn_lines (turn_of P rule budget s).0 store)) (nodes_of_lines tells.3) (turn_told P p rule budget s next store tells.1 tells.2)
     ∙ turns_told P p rule budget next t stores tells.3 tells.4
 
 -- the lines of the opening
-opening_told : (P : Network) (s : State) (first : StoreView) → s.standing ≡ [] → IsStoreAt P s first → node_steps P (going (in_base P) []) (spelled (opening_lines first)) ≡ Ok (point_of P s.standing)
+opening_told : (P : Network) (s : State) (first : StoreView) → s.standing ≡ [] → IsStoreAt P s first → node_steps P (going (in_base P) []) (nodes_of_lines (opening_lines first)) ≡ Ok (point_of P s.standing)
 opening_told P s first none at =
     let empty : first.standing ≡ [] = at.standing ∙ none in
     let marks : first.marks ≡ [] = nil first.marks (at.sound.marked ∙ ap length empty) in
-    let before : before_of first ≡ in_base P = ap (λ (m : List ℕ). without (in_base first.problem) (take (mark_of m) first.removals)) marks ∙ ap in_base at.problem in
+    let before : before_of first ≡ in_base P = ap (λ (m : List ℕ). without (in_base first.problem) (take (level_mark m) first.removals)) marks ∙ ap in_base at.problem in
     let begins : in_base P ≡ left_by first.standing (before_of first) =
     (λ i c v. sym (and_same (in_base P c v) true (λ t. refl)) i) ∙ ap (left_by []) (sym before) ∙ ap (λ ls. left_by ls (before_of first)) (sym empty) in
-    ap (λ ls. node_steps P (going (in_base P) []) (spelled (cond (length ls == 0) (level_lines first) []))) empty
+    ap (λ ls. node_steps P (going (in_base P) []) (nodes_of_lines (cond (length ls == 0) (level_lines first) []))) empty
     ∙ level_accepted P (in_base P) [] first at.sound at.problem begins (λ c v t. t)
     ∙ ap (λ ls. accepted (after_level P ls [] (is_dead P (greatest P ls)))) empty
     ∙ ap (λ ls. accepted (point_of P ls)) (sym none)
@@ -436,10 +436,10 @@ other_open P rule budget s outcome other is =
 
 -- all lines that are told from the opening to some turn lead a checker on
 told_reached : (P : Network) (rule : Rule) (budget : ℕ) (s last : State) (first : StoreView) (stores : List StoreView) (before : List Line) → s.standing ≡ [] → IsStoreAt P s first
-    → TellsTo P rule budget s stores last before → node_steps P (going (in_base P) []) (spelled (opening_lines first ++ before)) ≡ Ok (point_of P last.standing)
+    → TellsTo P rule budget s stores last before → node_steps P (going (in_base P) []) (nodes_of_lines (opening_lines first ++ before)) ≡ Ok (point_of P last.standing)
 told_reached P rule budget s last first stores before none at turns =
     ap (node_steps P (going (in_base P) [])) (spelled_append (opening_lines first) before)
-    ∙ behind P (going (in_base P) []) (point_of P s.standing) (spelled (opening_lines first)) (spelled before) (opening_told P s first none at)
+    ∙ behind P (going (in_base P) []) (point_of P s.standing) (nodes_of_lines (opening_lines first)) (nodes_of_lines before) (opening_told P s first none at)
     ∙ turns_told P (subst IsProblem at.problem at.sound.problem) rule budget s last stores before turns
 
 -- and stand for nodes
@@ -463,7 +463,7 @@ run_proved P rule budget s first outcome lines none at tells = by outcome tells.
     told : List Line
     told = opening_lines first ++ tells.before
 
-    reached : node_steps P (going (in_base P) []) (spelled (opening_lines first ++ tells.before)) ≡ Ok (point_of P tells.last.standing)
+    reached : node_steps P (going (in_base P) []) (nodes_of_lines (opening_lines first ++ tells.before)) ≡ Ok (point_of P tells.last.standing)
     reached = told_reached P rule budget s tells.last first tells.stores tells.before none at tells.turns
 
     stand : list_all has_nodes (opening_lines first ++ tells.before) ≡ true
@@ -475,14 +475,14 @@ run_proved P rule budget s first outcome lines none at tells = by outcome tells.
     open_run : (end : Outcome) → end ≢ NoMap → turn_of P rule budget tells.last ≡ (Ended end, tells.last) → (last : Line) → lines ≡ opening_lines first ++ (tells.before ++ last ∷ []) → IsLeftOpen P lines last
     open_run end other is last are =
         let o = other_open P rule budget tells.last end other is in
-        let f = (going_iff P p (in_base P) (λ c v t. t) (spelled (opening_lines first ++ tells.before))).0 (o.0, o.1, reached ∙ ap (λ (m : Point). accepted m) o.2) in
+        let f = (going_iff P p (in_base P) (λ c v t. t) (nodes_of_lines (opening_lines first ++ tells.before))).0 (o.0, o.1, reached ∙ ap (λ (m : Point). accepted m) o.2) in
         record { told = opening_lines first ++ tells.before; proof = f.0; follows = f.1; stops = f.2; left_off = f.3; spells = (stand, f.4); whole = whole last are }
 
     by : (end : Outcome) → turn_of P rule budget tells.last ≡ (Ended end, tells.last) → lines ≡ opening_lines first ++ (tells.before ++ end_line end ∷ []) → AreProof P end lines
     by Map is are = open_run Map (λ e. cc) is Found are
     by Spent is are = open_run Spent (λ e. cc) is Out are
     by NoMap is are =
-        let f = closed_proof P p (in_base P) (λ c v t. t) (spelled (opening_lines first ++ tells.before)) (reached ∙ ap (λ (m : Point). accepted m) (no_map_closed P rule budget tells.last is)) in
+        let f = closed_proof P p (in_base P) (λ c v t. t) (nodes_of_lines (opening_lines first ++ tells.before)) (reached ∙ ap (λ (m : Point). accepted m) (no_map_closed P rule budget tells.last is)) in
         record { told = opening_lines first ++ tells.before; proof = f.0; closes = f.1; spells = (stand, f.2); whole = whole End are }
 
 -- ---- a run that is cut off
@@ -496,10 +496,10 @@ front_accepted P m k xs ys e = by_front (node_steps P m xs) refl (sym (steps_app
     by_front (Err why) is e = absurd (cc e)
 
 -- lines that stand for nodes which a checker accepts spell a proof: a branch is left open, or all are closed
-accepted_proof : (P : Network) → IsProblem P → (lines : List Line) (q : Point) → list_all has_nodes lines ≡ true → node_steps P (going (in_base P) []) (spelled lines) ≡ Ok q
+accepted_proof : (P : Network) → IsProblem P → (lines : List Line) (q : Point) → list_all has_nodes lines ≡ true → node_steps P (going (in_base P) []) (nodes_of_lines lines) ≡ Ok q
     → AreProof P Map (lines ++ Found ∷ []) ⊎ AreProof P NoMap (lines ++ End ∷ [])
 accepted_proof P p lines q stand reached =
-    let f = follow_proof P p (in_base P) (λ c v t. t) (spelled lines) q reached in
+    let f = follow_proof P p (in_base P) (λ c v t. t) (nodes_of_lines lines) q reached in
     elim (cases_Bool (is_left_off f.0)) [
       | inl off ↦ inl (record { told = lines; proof = f.0; follows = f.1; stops = f.2; left_off = off; spells = (stand, f.3); whole = refl })
       | inr none ↦ inr (record { told = lines; proof = f.0; closes = follows_closes P (in_base P) f.0 f.1 none; spells = (stand, f.3); whole = refl })
@@ -512,8 +512,8 @@ pub front_proved : (P : Network) (rule : Rule) (budget : ℕ) (s last : State) (
 front_proved P rule budget s last first stores before lines rest none at turns whole =
     let p : IsProblem P = subst IsProblem at.problem at.sound.problem in
     let reached = told_reached P rule budget s last first stores before none at turns in
-    let joined : spelled lines ++ spelled rest ≡ spelled (opening_lines first ++ before) = sym (spelled_append lines rest) ∙ ap spelled (sym whole) in
-    let front = front_accepted P (going (in_base P) []) (point_of P last.standing) (spelled lines) (spelled rest) (ap (node_steps P (going (in_base P) [])) joined ∙ reached) in
+    let joined : nodes_of_lines lines ++ nodes_of_lines rest ≡ nodes_of_lines (opening_lines first ++ before) = sym (spelled_append lines rest) ∙ ap nodes_of_lines (sym whole) in
+    let front = front_accepted P (going (in_base P) []) (point_of P last.standing) (nodes_of_lines lines) (nodes_of_lines rest) (ap (node_steps P (going (in_base P) [])) joined ∙ reached) in
     let stand = (and_parts (list_all has_nodes lines) (list_all has_nodes rest)
     (sym (list_all-append has_nodes lines rest) ∙ ap (list_all has_nodes) (sym whole) ∙ told_stand P rule budget s last first stores before turns)).0 in
     accepted_proof P p lines front.0 stand front.1

@@ -8,7 +8,7 @@ use Rattle.wfc_problem.specs.Rounds.{greatest}
 use Rattle.wfc_problem.specs.declared.Literal.{Literal}
 use Rattle.wfc_problem.specs.declared.Literal.TheVariants.{Is, Not}
 use Rattle.wfc_problem.proofs.CallerLemmas.{is_dead_none, lies_either, base_with_more}
-use Rattle.wfc_search.specs.Between.{IsReasoned, HasNone}
+use Rattle.wfc_search.specs.Between.{IsReasoned, HasNoneWithin}
 use Rattle.wfc_search.specs.Run.{last_choice}
 use Rattle.wfc_problem.specs.Sizes.{is_dead}
 use Rattle.wfc_search.proofs.Literals.{push_split, longer, none_first}
@@ -26,13 +26,13 @@ reasoned_choice P ls c v reasoned before after x y e = elim (push_split ls (Is v
 ]
 
 -- what is ruled out with a reason
-reasoned_not : (P : Network) (ls : List Literal) (c v : ℕ) → IsReasoned P ls → HasNone P (ls ++ Is v c ∷ []) → IsReasoned P (ls ++ Not v c ∷ [])
+reasoned_not : (P : Network) (ls : List Literal) (c v : ℕ) → IsReasoned P ls → HasNoneWithin P (ls ++ Is v c ∷ []) → IsReasoned P (ls ++ Not v c ∷ [])
 reasoned_not P ls c v reasoned none before after x y e = elim (push_split ls (Not v c) before (Not y x) after e) [
   | inl h ↦
       let at_c : c ≡ x = (let f = h.1 in cc) in
       let at_v : v ≡ y = (let f = h.1 in cc) in
-      subst (λ (b : List Literal). HasNone P (b ++ Is y x ∷ [])) h.0
-      (subst (λ (w : ℕ). HasNone P (ls ++ Is w x ∷ [])) at_v (subst (λ (d : ℕ). HasNone P (ls ++ Is v d ∷ [])) at_c none))
+      subst (λ (b : List Literal). HasNoneWithin P (b ++ Is y x ∷ [])) h.0
+      (subst (λ (w : ℕ). HasNoneWithin P (ls ++ Is w x ∷ [])) at_v (subst (λ (d : ℕ). HasNoneWithin P (ls ++ Is v d ∷ [])) at_c none))
   | inr r ↦ reasoned before r.0 x y r.1
 ]
 
@@ -54,7 +54,7 @@ meets P a legal before (l ∷ after) none reasoned lies =
     ])
 
 -- dead domains have no legal assignment
-dead_has_none : (P : Network) → IsProblem P → (ls : List Literal) → is_dead P (greatest P ls) ≡ true → HasNone P ls
+dead_has_none : (P : Network) → IsProblem P → (ls : List Literal) → is_dead P (greatest P ls) ≡ true → HasNoneWithin P ls
 dead_has_none P p ls dead a legal lies = is_dead_none P p ls dead a legal lies
 
 -- where the domains are dead the last choice has no legal assignment

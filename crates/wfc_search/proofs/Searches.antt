@@ -19,7 +19,7 @@ use Rattle.wfc_choose.proofs.CallerLemmas.{picked_open}
 use Rattle.wfc_search.specs.Between.{IsBetween, Cuts}
 use Rattle.wfc_search.specs.Follow.{Keeps, IsPutOn, IsCutBack}
 use Rattle.wfc_search.specs.Last.{choice_in}
-use Rattle.wfc_search.specs.Run.{State, Choice, last_choice, chosen, turn_of}
+use Rattle.wfc_search.specs.Run.{State, Choice, last_choice, after_choice, turn_of}
 use Rattle.wfc_proof.specs.Journal.{JournalView, after_lines, IsCutOff}
 use Rattle.wfc_proof.proofs.CallerLemmas.{cut_off_behind}
 use Rattle.wfc_search.specs.Telling.{opening_lines, turn_lines, IsCutOffFrom}
@@ -107,11 +107,11 @@ draws_is P rule store chooser D words left cell value word alive picks read word
 -- the turn that it is
 choice_turn : (P : Network) (rule : Rule) (budget : ℕ) (s : State) (cell value word : ℕ) (left : Stream) → is_dead P (greatest P s.standing) ≡ false
     → picked rule (sizes_of P (greatest P s.standing)) ≡ Some cell → ◌≡◌ {A = ℕ × Stream} (word, left) (next_u64 s.words) → value ≡ drawn P (values_at P (greatest P s.standing) cell) word
-    → turn_of P rule budget s ≡ (Chose cell value, chosen s cell value left)
+    → turn_of P rule budget s ≡ (Chose cell value, after_choice s cell value left)
 choice_turn P rule budget s cell value word left alive picks word_is value_is =
     made_choice P rule budget s cell alive picks
-    ∙ ap (λ (next : ℕ × Stream). (Chose cell (drawn P (values_at P (greatest P s.standing) cell) next.0), chosen s cell (drawn P (values_at P (greatest P s.standing) cell) next.0) next.1)) (sym word_is)
-    ∙ ap (λ (v : ℕ). (Chose cell v, chosen s cell v left)) (sym value_is)
+    ∙ ap (λ (next : ℕ × Stream). (Chose cell (drawn P (values_at P (greatest P s.standing) cell) next.0), after_choice s cell (drawn P (values_at P (greatest P s.standing) cell) next.0) next.1)) (sym word_is)
+    ∙ ap (λ (v : ℕ). (Chose cell v, after_choice s cell v left)) (sym value_is)
 
 -- of the search
 pub choice_made : (P : Network) (rule : Rule) (old new : StoreView) (chooser : Told) (course : Course) (words left : Stream) (cell value word : ℕ) → IsAlive P old chooser
@@ -125,7 +125,7 @@ choice_cut : (P : Network) → IsProblem P → (rule : Rule) (old : StoreView) (
     → Draws P rule old words left cell value word → Cuts P (greatest P old.standing) (Is value cell)
 choice_cut P p rule old chooser words left cell value word alive d =
     let s : State = record { standing = old.standing; retractions = 0; draws = 0; words = words } in
-    choice_cuts P p rule s (chosen s cell value left) old.standing
+    choice_cuts P p rule s (after_choice s cell value left) old.standing
     (record { alive = alive.alive; cell = cell; value = value; words = left; picks = d.picks; draws = d.value_is ∙ ap (λ (next : ℕ × Stream). drawn P (values_at P (greatest P old.standing) cell) next.0) d.word_is; next = refl })
 
 -- it is a literal of the problem
@@ -139,7 +139,7 @@ choice_between : (P : Network) → IsProblem P → (rule : Rule) (old : StoreVie
     → Draws P rule old words left cell value word → IsBetween P course.budget old.standing course.retractions → IsBetween P course.budget (old.standing ++ Is value cell ∷ []) course.retractions
 choice_between P p rule old chooser course words left cell value word alive d between =
     let s : State = state_at old course 0 words in
-    turn_between P p rule course.budget s (chosen s cell value left) (Chose cell value) between
+    turn_between P p rule course.budget s (after_choice s cell value left) (Chose cell value) between
     (choice_turn P rule course.budget s cell value word left alive.alive d.picks d.word_is d.value_is) (λ o e. cc)
 
 -- there is room for it

@@ -7,7 +7,7 @@ use Rattle.std.proofs.Math.Seq.{take-append_seam}
 use Rattle.wfc_domains.specs.Domains.{Flags, has, size_of, flags_of}
 use Rattle.wfc_domains.specs.Removals.{without}
 use Rattle.wfc_domains.proofs.Removals.{without-split, without-within}
-use Rattle.wfc_domains.specs.Store.{StoreView, IsSound, IsVerdict, left_of, before_of, added_of, mark_of, all_but_last}
+use Rattle.wfc_domains.specs.Store.{StoreView, IsSound, IsVerdict, left_of, before_of, added_of, level_mark, all_but_last}
 use Rattle.wfc_domains.specs.declared.Removal.{Removal}
 use Rattle.wfc_domains.specs.declared.Verdict.{Verdict}
 use Rattle.wfc_domains.specs.declared.Verdict.TheVariants.{Alive, Dead}
@@ -24,11 +24,11 @@ use Rattle.wfc_search.proofs.Removals.{IsStep, size_few, step_at}
 
 -- the last level leads from the domains before it to those after it
 pub left_added : (v : StoreView) → left_of v ≡ without (before_of v) (added_of v)
-left_added v = sym (without-split (in_base v.problem) v.removals (mark_of v.marks))
+left_added v = sym (without-split (in_base v.problem) v.removals (level_mark v.marks))
 
 -- the domains before it lie within the base
 pub before_base : (v : StoreView) → Within (before_of v) (in_base v.problem)
-before_base v = without-within (in_base v.problem) (take (mark_of v.marks) v.removals)
+before_base v = without-within (in_base v.problem) (take (level_mark v.marks) v.removals)
 
 -- and those after it
 pub left_base : (v : StoreView) → Within (left_of v) (in_base v.problem)

@@ -11,7 +11,7 @@ use Rattle.wfc_problem.specs.declared.Literal.TheVariants.{Is}
 use Rattle.wfc_search.specs.Between.{Cuts}
 use Rattle.wfc_choose.specs.Draw.{drawn}
 use Rattle.wfc_choose.specs.Pick.{Rule, picked}
-use Rattle.wfc_search.specs.Run.{State, Choice, last_choice, chosen, retracted, dead_turn, alive_turn, turn_of, LeadsTo}
+use Rattle.wfc_search.specs.Run.{State, Choice, last_choice, after_choice, after_retraction, dead_turn, alive_turn, turn_of, LeadsTo}
 use Rattle.wfc_problem.specs.Sizes.{values_at, sizes_of, is_dead}
 use Rattle.wfc_search.specs.declared.Outcome.{Outcome}
 use Rattle.wfc_search.specs.declared.Outcome.TheVariants.{Map, NoMap, Spent}
@@ -29,18 +29,18 @@ pub record IsChoice (P : Network) (rule : Rule) (s t : State) (D : Test) : Type 
   pub words : Stream
   pub picks : picked rule (sizes_of P D) ≡ Some cell
   pub draws : value ≡ drawn P (values_at P D cell) (next_u64 s.words).0
-  pub next : chosen s cell value words ≡ t
+  pub next : after_choice s cell value words ≡ t
 
 pub record IsRetraction (P : Network) (budget : ℕ) (s t : State) (D : Test) : Type 0 where
   pub dead : is_dead P D ≡ true
   pub last : Choice
   pub found : last_choice s.standing ≡ Some last
   pub left : s.retractions ≡ budget → ⊥
-  pub next : retracted s last ≡ t
+  pub next : after_retraction s last ≡ t
 
 -- a retraction, where the budget isn't spent
 back_cases : (P : Network) (budget : ℕ) (s t : State) (D : Test) (last : Choice) (b : Bool) → is_dead P D ≡ true → last_choice s.standing ≡ Some last → (s.retractions == budget) ≡ b
-    → LeadsTo (cond b (Ended Spent, s) (Retracted last.cell last.value, retracted s last)) t → IsRetraction P budget s t D
+    → LeadsTo (cond b (Ended Spent, s) (Retracted last.cell last.value, after_retraction s last)) t → IsRetraction P budget s t D
 back_cases P budget s t D last true dead found full leads = absurd leads
 back_cases P budget s t D last false dead found full leads =
     record { dead = dead; last = last; found = found; left = eqb-false s.retractions budget full; next = leads }
@@ -95,7 +95,7 @@ EndCases P rule budget s outcome D = IsMapEnd P rule outcome D ⊎ (IsNoMapEnd P
 
 -- an end, where the budget is spent
 back_ends : (P : Network) (rule : Rule) (budget : ℕ) (s u : State) (D : Test) (outcome : Outcome) (last : Choice) (b : Bool) → last_choice s.standing ≡ Some last → (s.retractions == budget) ≡ b
-    → ◌≡◌ {A = Turn × State} (cond b (Ended Spent, s) (Retracted last.cell last.value, retracted s last)) (Ended outcome, u) → EndCases P rule budget s outcome D
+    → ◌≡◌ {A = Turn × State} (cond b (Ended Spent, s) (Retracted last.cell last.value, after_retraction s last)) (Ended outcome, u) → EndCases P rule budget s outcome D
 back_ends P rule budget s u D outcome last true found full is =
     inr (inr (record { is = (let e = ap (λ (x : Turn × State). x.0) is in cc); last = last; found = found; full = eqb-true s.retractions budget full }))
 back_ends P rule budget s u D outcome last false found full is = let e = ap (λ (x : Turn × State). x.0) is in cc
@@ -134,7 +134,7 @@ either_if s false x y p q = q
 either_dead : (budget : ℕ) (s : State) (m : Option Choice) → EndsOrLeads s (dead_turn budget s m)
 either_dead budget s None = inl (NoMap, refl)
 either_dead budget s (Some last) =
-    either_if s (s.retractions == budget) (Ended Spent, s) (Retracted last.cell last.value, retracted s last) (inl (Spent, refl)) (inr (retracted s last, refl))
+    either_if s (s.retractions == budget) (Ended Spent, s) (Retracted last.cell last.value, after_retraction s last) (inl (Spent, refl)) (inr (after_retraction s last, refl))
 
 -- where they aren't
 either_alive : (P : Network) (s : State) (D : Test) (o : Option ℕ) → EndsOrLeads s (alive_turn P s D o)

@@ -22,13 +22,13 @@ IsGrown P literals =
     → Cuts P (greatest P before) l
 
 -- no legal assignment lies within the base cut by these literals
-abbrev pub HasNone : Network → List Literal → Type 0
-HasNone P literals = (a : List ℕ) → IsLegalAssignment P a → LiesIn a (base_with P literals) → ⊥
+abbrev pub HasNoneWithin : Network → List Literal → Type 0
+HasNoneWithin P literals = (a : List ℕ) → IsLegalAssignment P a → LiesIn a (base_with P literals) → ⊥
 
 -- each value that is ruled out has no legal assignment with the literals before it
 abbrev pub IsReasoned : Network → List Literal → Type 0
 IsReasoned P literals = (before after : List Literal) (cell value : ℕ) → literals ≡ before ++ Not value cell ∷ after
-    → HasNone P (before ++ Is value cell ∷ [])
+    → HasNoneWithin P (before ++ Is value cell ∷ [])
 
 -- how many ways these literals leave, and 1 for none
 abbrev pub ways_with : Network → List Literal → ℕ

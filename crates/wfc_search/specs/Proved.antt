@@ -1,11 +1,11 @@
 -- What the lines of a whole run are: a proof that closes the base domains, or one of which a branch is left open.
-use Rattle.std.specs.Prelude.{◌≡◌, ℕ, ◌+◌, Bool, true, List, [], ◌∷◌, ◌++◌}
+use Rattle.std.specs.Prelude.{◌≡◌, ℕ, ◌+◌, true, List, [], ◌∷◌, ◌++◌}
 pub use Rattle.wfc_lists.specs.Counts.{one_if}
 use Rattle.wfc_choose.specs.Pick.{Rule}
 use Rattle.wfc_problem.specs.Network.{Network, in_base}
 use Rattle.wfc_problem.specs.Rounds.{greatest}
 use Rattle.wfc_problem.specs.Sizes.{is_dead}
-use Rattle.wfc_proof.specs.Lines.{Spells}
+use Rattle.wfc_proof.specs.Lines.{SpellsNodes}
 use Rattle.wfc_proof.specs.Proof.{Proof, Closes, FollowsFrom, StopsThere, is_left_off, nodes}
 use Rattle.wfc_proof.specs.declared.Line.{Line}
 use Rattle.wfc_proof.specs.declared.Line.TheVariants.{Remove, Span, Try, Empty, End, Found, Out}
@@ -20,7 +20,7 @@ pub record IsClosedBy (P : Network) (lines : List Line) : Type 0 where
   pub told : List Line
   pub proof : Proof
   pub closes : Closes P (in_base P) proof
-  pub spells : Spells told (nodes proof)
+  pub spells : SpellsNodes told (nodes proof)
   pub whole : lines ≡ told ++ End ∷ []
 
 -- the lines spell a proof that follows from the base domains, of which a branch is left open, and then this line
@@ -30,7 +30,7 @@ pub record IsLeftOpen (P : Network) (lines : List Line) (last : Line) : Type 0 w
   pub follows : FollowsFrom P (in_base P) proof
   pub stops : StopsThere proof
   pub left_off : is_left_off proof ≡ true
-  pub spells : Spells told (nodes proof)
+  pub spells : SpellsNodes told (nodes proof)
   pub whole : lines ≡ told ++ last ∷ []
 
 -- what the lines of a run with this outcome are
@@ -78,7 +78,7 @@ deaths_of P [] = 0
 deaths_of P (s ∷ later) = one_if (is_dead P (greatest P s.standing)) + deaths_of P later
 
 -- the run from this state has these lines' choices, and as many dead states as they have empty cells
-pub record HasCounts (P : Network) (rule : Rule) (budget : ℕ) (s : State) (outcome : Outcome)
+pub record CountsChoices (P : Network) (rule : Rule) (budget : ℕ) (s : State) (outcome : Outcome)
     (lines : List Line) : Type 0 where
   pub later : List State
   pub run : IsRunFrom P rule budget s later outcome

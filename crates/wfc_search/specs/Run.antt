@@ -47,8 +47,8 @@ last_choice [] = None
 last_choice (l ∷ ls) = behind l (last_choice ls)
 
 -- the state after a choice is taken back: what it chose is ruled out in its stead
-abbrev pub retracted : State → Choice → State
-retracted s last = record {
+abbrev pub after_retraction : State → Choice → State
+after_retraction s last = record {
   standing = last.before ++ Not last.value last.cell ∷ [];
   retractions = s.retractions + 1;
   draws = s.draws;
@@ -56,8 +56,8 @@ retracted s last = record {
 }
 
 -- the state after a cell is given a value, with these words left
-abbrev pub chosen : State → ℕ → ℕ → Stream → State
-chosen s cell value words = record {
+abbrev pub after_choice : State → ℕ → ℕ → Stream → State
+after_choice s cell value words = record {
   standing = s.standing ++ Is value cell ∷ [];
   retractions = s.retractions;
   draws = s.draws + 1;
@@ -68,12 +68,12 @@ chosen s cell value words = record {
 abbrev pub dead_turn : ℕ → State → Option Choice → Turn × State
 dead_turn budget s None = (Ended NoMap, s)
 dead_turn budget s (Some last) =
-    if s.retractions == budget then (Ended Spent, s) else (Retracted last.cell last.value, retracted s last)
+    if s.retractions == budget then (Ended Spent, s) else (Retracted last.cell last.value, after_retraction s last)
 
 -- a cell is given the value that the next word draws
 abbrev pub draw_at : Network → State → Test → ℕ → ℕ × Stream → Turn × State
 draw_at P s D cell next =
-    (Chose cell (drawn P (values_at P D cell) next.0), chosen s cell (drawn P (values_at P D cell) next.0) next.1)
+    (Chose cell (drawn P (values_at P D cell) next.0), after_choice s cell (drawn P (values_at P D cell) next.0) next.1)
 
 -- a turn where no cell is empty: a map, or the picked cell draws one of its values
 abbrev pub alive_turn : Network → State → Test → Option ℕ → Turn × State

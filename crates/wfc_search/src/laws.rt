@@ -20,7 +20,7 @@ ghost use Rattle.wfc_domains.specs.Store.{StoreView};
 ghost use Rattle.wfc_proof.specs.declared.Line.{Line};
 ghost use Rattle.wfc_proof.specs.declared.Line.TheVariants.{Remove, Try, Empty, End, Found};
 ghost use Rattle.std.specs.Prelude.{◌∷◌};
-ghost use Rattle.wfc_search.specs.Proved.{AreProof, HasCounts, empties_in, tries_in};
+ghost use Rattle.wfc_search.specs.Proved.{AreProof, CountsChoices, empties_in, tries_in};
 ghost use Rattle.wfc_search.specs.Telling.{IsStoreAt, TellsRun};
 ghost use Rattle.wfc_search.specs.declared.Outcome.{Outcome};
 ghost use Rattle.wfc_search.specs.declared.Outcome.TheVariants.{Map, NoMap, Spent};
@@ -125,7 +125,7 @@ pub fn runs_tell_proofs()
         TellsRun P rule budget s first outcome lines → AreProof P outcome lines }
     ensures counts { (P : Network) (rule : Rule) (budget : ℕ) (s : State) (first : StoreView)
         (outcome : Outcome) (lines : List Line) → s.standing ≡ [] → IsStoreAt P s first →
-        TellsRun P rule budget s first outcome lines → HasCounts P rule budget s outcome lines }
+        TellsRun P rule budget s first outcome lines → CountsChoices P rule budget s outcome lines }
 {}
 
 /// The trials of lines are in their order, the cell before the value, and each empty cell counts once.

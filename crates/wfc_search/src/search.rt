@@ -56,7 +56,7 @@ fn sizes_in<S: Store>(alloc: Global, store: &S, cells: u32) -> Result<Vec<u32>, 
 }
 
 impl<'p, S: Store> Search<'p, S> {
-    ghost use Rattle.wfc_search.specs.Shown.{shown};
+    ghost use Rattle.wfc_search.specs.Shown.{view_of_search};
 
     /// A search that has made no turn. It takes all its memory here; the store and the chooser are dropped where there
     /// isn't enough. The chooser is told the sizes of all cells, which it is told only here.
@@ -70,7 +70,8 @@ impl<'p, S: Store> Search<'p, S> {
         requires same_problem { (S.view store).problem ≡ problem.now }
         requires empty { (S.view store).standing ≡ [] }
         requires spare { depth_of problem.now ≤ (S.view store).spare }
-        ensures ready { IfOk result (λ made. IsReady (shown S.view made (told made.chooser))) }
+        ensures ready { IfOk result (λ made. IsReady (view_of_search S.view made (told
+            made.chooser))) }
         ensures going { IfOk result (λ made. IsGoing made.course) }
         ensures problem { IfOk result (λ made. made.problem.now ≡ problem.now) }
         ensures store { IfOk result (λ made. S.view made.store ≡ S.view store) }
@@ -99,7 +100,7 @@ impl<'p, S: Store> Search<'p, S> {
 
     /// Takes the last choice back, and rules its value out instead.
     fn retract<L: Ledger>(&mut self, last: LastChoice, steps: &mut Steps<L>) -> Turn
-        requires ready { IsReady (shown S.view self.old (told self.old.chooser)) }
+        requires ready { IsReady (view_of_search S.view self.old (told self.old.chooser)) }
         requires dead { is_dead self.old.problem.now
             (greatest self.old.problem.now (S.view self.old.store).standing) ≡ true }
         requires last { choice_in (S.view self.old.store).standing (Some last) ≡ last_choice
@@ -110,11 +111,11 @@ impl<'p, S: Store> Search<'p, S> {
         requires left { self.old.course.retractions ≢ self.old.course.budget }
         requires few { self.old.course.budget < 2 ^ 32 }
         requires going { self.old.course.outcome ≡ None }
-        ensures turn { IsWordless (shown S.view self.old (told self.old.chooser)) result
-            (shown S.view self.new (told self.new.chooser)) }
-        ensures ready { IsReady (shown S.view self.new (told self.new.chooser)) }
-        ensures kept { IsOnward (shown S.view self.old (told self.old.chooser))
-            (shown S.view self.new (told self.new.chooser)) }
+        ensures turn { IsWordless (view_of_search S.view self.old (told self.old.chooser)) result
+            (view_of_search S.view self.new (told self.new.chooser)) }
+        ensures ready { IsReady (view_of_search S.view self.new (told self.new.chooser)) }
+        ensures kept { IsOnward (view_of_search S.view self.old (told self.old.chooser))
+            (view_of_search S.view self.new (told self.new.chooser)) }
     {
         follow::cut_back(&mut self.store, &mut self.chooser, last.at, steps);
         let ruled_out = Literal::Not {
@@ -131,15 +132,15 @@ impl<'p, S: Store> Search<'p, S> {
 
     /// A turn where some cell is empty.
     fn dead_turn<L: Ledger>(&mut self, steps: &mut Steps<L>) -> Turn
-        requires ready { IsReady (shown S.view self.old (told self.old.chooser)) }
+        requires ready { IsReady (view_of_search S.view self.old (told self.old.chooser)) }
         requires dead { is_dead self.old.problem.now
             (greatest self.old.problem.now (S.view self.old.store).standing) ≡ true }
         requires going { self.old.course.outcome ≡ None }
-        ensures turn { IsWordless (shown S.view self.old (told self.old.chooser)) result
-            (shown S.view self.new (told self.new.chooser)) }
-        ensures ready { IsReady (shown S.view self.new (told self.new.chooser)) }
-        ensures kept { IsOnward (shown S.view self.old (told self.old.chooser))
-            (shown S.view self.new (told self.new.chooser)) }
+        ensures turn { IsWordless (view_of_search S.view self.old (told self.old.chooser)) result
+            (view_of_search S.view self.new (told self.new.chooser)) }
+        ensures ready { IsReady (view_of_search S.view self.new (told self.new.chooser)) }
+        ensures kept { IsOnward (view_of_search S.view self.old (told self.old.chooser))
+            (view_of_search S.view self.new (told self.new.chooser)) }
     {
         match last_choice_of(self.store.standing()) {
             None => Turn::Ended(Outcome::NoMap),
@@ -155,16 +156,17 @@ impl<'p, S: Store> Search<'p, S> {
 
     /// Gives a cell the value that the next word draws.
     fn choose<R: Rng, L: Ledger>(&mut self, cell: u32, words: &mut R, steps: &mut Steps<L>) -> Turn
-        requires ready { IsReady (shown S.view self.old (told self.old.chooser)) }
+        requires ready { IsReady (view_of_search S.view self.old (told self.old.chooser)) }
         requires alive { (S.view self.old.store).verdict ≡ Alive }
         requires picked { Some cell ≡ picked (told self.old.chooser).rule
             (told self.old.chooser).sizes }
         requires going { self.old.course.outcome ≡ None }
-        ensures turn { IsTurn (shown S.view self.old (told self.old.chooser)) (R.stream words.old)
-            result (shown S.view self.new (told self.new.chooser)) (R.stream words.new) }
-        ensures ready { IsReady (shown S.view self.new (told self.new.chooser)) }
-        ensures kept { IsOnward (shown S.view self.old (told self.old.chooser))
-            (shown S.view self.new (told self.new.chooser)) }
+        ensures turn { IsTurn (view_of_search S.view self.old (told self.old.chooser)) (R.stream
+            words.old) result (view_of_search S.view self.new (told self.new.chooser)) (R.stream
+            words.new) }
+        ensures ready { IsReady (view_of_search S.view self.new (told self.new.chooser)) }
+        ensures kept { IsOnward (view_of_search S.view self.old (told self.old.chooser))
+            (view_of_search S.view self.new (told self.new.chooser)) }
     {
         let word = words.next_u64();
         let value = draw(self.problem, self.store.domains(), cell, word);
@@ -175,14 +177,15 @@ impl<'p, S: Store> Search<'p, S> {
 
     /// A turn where no cell is empty.
     fn alive_turn<R: Rng, L: Ledger>(&mut self, words: &mut R, steps: &mut Steps<L>) -> Turn
-        requires ready { IsReady (shown S.view self.old (told self.old.chooser)) }
+        requires ready { IsReady (view_of_search S.view self.old (told self.old.chooser)) }
         requires alive { (S.view self.old.store).verdict ≡ Alive }
         requires going { self.old.course.outcome ≡ None }
-        ensures turn { IsTurn (shown S.view self.old (told self.old.chooser)) (R.stream words.old)
-            result (shown S.view self.new (told self.new.chooser)) (R.stream words.new) }
-        ensures ready { IsReady (shown S.view self.new (told self.new.chooser)) }
-        ensures kept { IsOnward (shown S.view self.old (told self.old.chooser))
-            (shown S.view self.new (told self.new.chooser)) }
+        ensures turn { IsTurn (view_of_search S.view self.old (told self.old.chooser)) (R.stream
+            words.old) result (view_of_search S.view self.new (told self.new.chooser)) (R.stream
+            words.new) }
+        ensures ready { IsReady (view_of_search S.view self.new (told self.new.chooser)) }
+        ensures kept { IsOnward (view_of_search S.view self.old (told self.old.chooser))
+            (view_of_search S.view self.new (told self.new.chooser)) }
     {
         match follow::pick(&self.chooser) {
             None => Turn::Ended(Outcome::Map),
@@ -192,13 +195,14 @@ impl<'p, S: Store> Search<'p, S> {
 
     /// Makes a turn, and tells nobody.
     fn turn<R: Rng, L: Ledger>(&mut self, words: &mut R, steps: &mut Steps<L>) -> Turn
-        requires ready { IsReady (shown S.view self.old (told self.old.chooser)) }
+        requires ready { IsReady (view_of_search S.view self.old (told self.old.chooser)) }
         requires going { self.old.course.outcome ≡ None }
-        ensures turn { IsTurn (shown S.view self.old (told self.old.chooser)) (R.stream words.old)
-            result (shown S.view self.new (told self.new.chooser)) (R.stream words.new) }
-        ensures ready { IsReady (shown S.view self.new (told self.new.chooser)) }
-        ensures kept { IsOnward (shown S.view self.old (told self.old.chooser))
-            (shown S.view self.new (told self.new.chooser)) }
+        ensures turn { IsTurn (view_of_search S.view self.old (told self.old.chooser)) (R.stream
+            words.old) result (view_of_search S.view self.new (told self.new.chooser)) (R.stream
+            words.new) }
+        ensures ready { IsReady (view_of_search S.view self.new (told self.new.chooser)) }
+        ensures kept { IsOnward (view_of_search S.view self.old (told self.old.chooser))
+            (view_of_search S.view self.new (told self.new.chooser)) }
     {
         match self.store.verdict() {
             Verdict::Dead { .. } => self.dead_turn(steps),
@@ -214,19 +218,21 @@ impl<'p, S: Store> Search<'p, S> {
         journal: &mut J,
         steps: &mut Steps<L>,
     ) -> Result<Turn, JournalFault>
-        requires ready { IsReady (shown S.view self.old (told self.old.chooser)) }
+        requires ready { IsReady (view_of_search S.view self.old (told self.old.chooser)) }
         requires going { IsGoing self.old.course }
         requires journal { (J.seen journal.old).failed ≡ false }
 
         // It is the turn of the run from the standing literals and the retractions, with the next word where one is drawn.
-        ensures turn { Turns (shown S.view self.old (told self.old.chooser)) (R.stream words.old)
-            result (shown S.view self.new (told self.new.chooser)) (R.stream words.new) }
+        ensures turn { Turns (view_of_search S.view self.old (told self.old.chooser)) (R.stream
+            words.old) result (view_of_search S.view self.new (told self.new.chooser)) (R.stream
+            words.new) }
         ensures outcome { IfOk result (λ turn. self.new.course.outcome ≡ outcome_after turn) }
-        ensures ready { OnOk result (IsReady (shown S.view self.new (told self.new.chooser))) }
+        ensures ready { OnOk result (IsReady (view_of_search S.view self.new (told
+            self.new.chooser))) }
 
         ensures told { IfOk result (λ turn. IsStepTold (S.view self.old.store) turn
             (S.view self.new.store) (J.seen journal.old) (J.seen journal.new)) }
-        ensures failed { StepFails result (shown S.view self.old (told self.old.chooser))
+        ensures failed { StepFails result (view_of_search S.view self.old (told self.old.chooser))
             (R.stream words.old) (S.view self.new.store) (J.seen journal.old) (J.seen journal.new) }
         ensures broken { IsTrue self.new.course.broken ↔ IsErr result }
 
@@ -254,21 +260,23 @@ impl<'p, S: Store> Search<'p, S> {
         journal: &mut J,
         steps: &mut Steps<L>,
     ) -> Result<Outcome, JournalFault>
-        requires ready { IsReady (shown S.view self.old (told self.old.chooser)) }
+        requires ready { IsReady (view_of_search S.view self.old (told self.old.chooser)) }
         requires going { IsGoing self.old.course }
         requires journal { (J.seen journal.old).failed ≡ false }
 
         // It is the end of the run from the standing literals and the retractions, with the words that the source gives.
-        ensures end { Ends (shown S.view self.old (told self.old.chooser)) (R.stream words.old)
-            result (shown S.view self.new (told self.new.chooser)) (R.stream words.new) }
+        ensures end { Ends (view_of_search S.view self.old (told self.old.chooser)) (R.stream
+            words.old) result (view_of_search S.view self.new (told self.new.chooser)) (R.stream
+            words.new) }
         ensures outcome { IfOk result (λ outcome. self.new.course.outcome ≡ Some outcome) }
         ensures enough { volume_of self.old.problem.now ≤ self.old.course.budget → result ≢ Ok
             Outcome.Spent }
-        ensures ready { OnOk result (IsReady (shown S.view self.new (told self.new.chooser))) }
+        ensures ready { OnOk result (IsReady (view_of_search S.view self.new (told
+            self.new.chooser))) }
 
-        ensures told { IfOk result (λ end. IsRunTold (shown S.view self.old (told self.old.chooser))
-            (R.stream words.old) end (J.seen journal.old) (J.seen journal.new)) }
-        ensures failed { RunFails result (shown S.view self.old (told self.old.chooser))
+        ensures told { IfOk result (λ end. IsRunTold (view_of_search S.view self.old (told
+            self.old.chooser)) (R.stream words.old) end (J.seen journal.old) (J.seen journal.new)) }
+        ensures failed { RunFails result (view_of_search S.view self.old (told self.old.chooser))
             (R.stream words.old) (J.seen journal.old) (J.seen journal.new) }
         ensures broken { IsTrue self.new.course.broken ↔ IsErr result }
 
@@ -296,8 +304,8 @@ impl<'p, S: Store> Search<'p, S> {
     #[inline]
     pub fn outcome(&self) -> Option<Outcome>
         ensures value { result ≡ self.now.course.outcome }
-        ensures true_end { IsReady (shown S.view self.now (told self.now.chooser)) → ForSome result
-            (SaysTrue (shown S.view self.now (told self.now.chooser))) }
+        ensures true_end { IsReady (view_of_search S.view self.now (told self.now.chooser)) →
+            ForSome result (SaysTrue (view_of_search S.view self.now (told self.now.chooser))) }
     {
         self.course.outcome
     }
@@ -331,7 +339,7 @@ impl<'p, S: Store> Search<'p, S> {
 
     /// The value of a cell in the map that was found. It looks through the values for it.
     pub fn value_at(&self, cell: u32) -> u16
-        requires ready { IsReady (shown S.view self.now (told self.now.chooser)) }
+        requires ready { IsReady (view_of_search S.view self.now (told self.now.chooser)) }
         requires map { self.now.course.outcome ≡ Some Outcome.Map }
         requires cell_in { cell < self.now.problem.now.cells }
         ensures value { result ≡ slice_index

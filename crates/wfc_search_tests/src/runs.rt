@@ -12,15 +12,15 @@ use std::test::Fail;
 use wfc_choose::{Buckets, Scanning};
 use wfc_domains::Steps;
 use wfc_problem::Problem;
-use wfc_runs::{End, Ran, outcome_counted, run, run_counted, words_of_seed};
+use wfc_runs::{Ran, RunEnd, outcome_counted, run, run_counted, words_of_seed};
 use wfc_search::Outcome;
 
 /// How a run ended, without its assignment.
 fn outcome_of(ran: &Ran) -> Outcome {
     match &ran.end {
-        End::Map { .. } => Outcome::Map,
-        End::NoMap => Outcome::NoMap,
-        End::Spent => Outcome::Spent,
+        RunEnd::Map { .. } => Outcome::Map,
+        RunEnd::NoMap => Outcome::NoMap,
+        RunEnd::Spent => Outcome::Spent,
     }
 }
 
@@ -64,9 +64,9 @@ fn rings_have_no_map(rt: HostRuntime) -> Result<(), Fail> {
 /// The assignment of a map.
 fn assignment_of(ran: Ran) -> Option<Vec<u16>> {
     match ran.end {
-        End::Map { assignment } => Some(assignment),
-        End::NoMap => None,
-        End::Spent => None,
+        RunEnd::Map { assignment } => Some(assignment),
+        RunEnd::NoMap => None,
+        RunEnd::Spent => None,
     }
 }
 

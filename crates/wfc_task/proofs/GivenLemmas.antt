@@ -9,8 +9,8 @@ use Rattle.wfc_model.specs.Legal.{Pin}
 use Rattle.wfc_model.specs.Raster.{Raster}
 use Rattle.wfc_outside.specs.Folder.{File}
 use Rattle.wfc_outside.specs.Gives.{result_map}
-use Rattle.wfc_overlap.specs.Bridge.{IsRoom, pairs}
-use Rattle.wfc_overlap.specs.Built.{built, pins_in, texts_of}
+use Rattle.wfc_overlap.specs.Bridge.{IsRoom, window_pair_count}
+use Rattle.wfc_overlap.specs.Built.{picture_problem, picture_pins, texts_of}
 use Rattle.wfc_overlap.specs.Sample.{Output, output_with, problem_of_sample}
 use Rattle.wfc_pattern.specs.Learning.{patterns_of}
 use Rattle.wfc_pattern.specs.Patterns.{PatternsView}
@@ -38,11 +38,11 @@ use Rattle.wfc_task.proofs.LessonLemmas.{built_is, grid_sampled, lesson_of, made
 use Rattle.wfc_task.proofs.TaskLemmas.{behind_picture, behind_sampled}
 use Rattle.wfc_task.specs.Asked.{IsSampleAsked}
 use Rattle.wfc_task.specs.Given.{HoldsPins, IsProblemOf, IsSample, IsSampleFile, Shows, ShowsGrid, ShowsPpm}
-use Rattle.wfc_task.specs.Lesson.{IsLesson, IsNumbered, IsSampled}
+use Rattle.wfc_task.specs.Lesson.{IsLesson, HasShownNumbers, IsSampled}
 use Rattle.wfc_task.specs.SamplePlans.{picture_plan, pins_plan, problem_plan, sample_plan, sampled_plan}
-use Rattle.wfc_task.specs.Sampled.{SampledView, of_grid, of_ppm}
-use Rattle.wfc_task.specs.Sources.{is_picture_name, side_of}
-use Rattle.wfc_task.specs.Steps.{coloured, pins_in as lines_in, posed, sampled_in, shown_in, taught}
+use Rattle.wfc_task.specs.Sampled.{SampledView, shown_by_grid, shown_by_ppm}
+use Rattle.wfc_task.specs.Sources.{is_picture_name, window_side_of}
+use Rattle.wfc_task.specs.Steps.{sample_in_numbers, read_pin_lines as lines_in, problem_of_lines, sampled_in, shown_in, patterns_taught}
 use Rattle.wfc_task.specs.declared.lesson.Taught.{Taught}
 use Rattle.wfc_words.specs.RequestView.{RequestView}
 
@@ -50,15 +50,15 @@ use Rattle.wfc_words.specs.RequestView.{RequestView}
 grid_shown : (bytes : List ℕ) (sampled : SampledView) → shown_in false bytes ≡ Ok sampled → ShowsGrid bytes sampled
 grid_shown bytes sampled is = by_grid (grid_of bytes) refl is
   where
-    by_grid : (read : Result GridView GridFault) → grid_of bytes ≡ read → result_map of_grid (or_refuse (refusals.Grid Sample) read) ≡ Ok sampled → ShowsGrid bytes sampled
-    by_grid (Ok grid) was is = let spelled = read_grid bytes grid was in record { grid = grid; spelled = spelled.0; small = spelled.1; shows = let same : of_grid grid ≡ sampled = cc (is) in sym same }
+    by_grid : (read : Result GridView GridFault) → grid_of bytes ≡ read → result_map shown_by_grid (or_refuse (refusals.Grid Sample) read) ≡ Ok sampled → ShowsGrid bytes sampled
+    by_grid (Ok grid) was is = let spelled = read_grid bytes grid was in record { grid = grid; spelled = spelled.0; small = spelled.1; shows = let same : shown_by_grid grid ≡ sampled = cc (is) in sym same }
     by_grid (Err fault) was is = absurd (cc (is))
 
 ppm_shown : (bytes : List ℕ) (sampled : SampledView) → shown_in true bytes ≡ Ok sampled → ShowsPpm bytes sampled
 ppm_shown bytes sampled is = by_ppm (ppm_of bytes) refl is
   where
-    by_ppm : (read : Result PpmView PpmFault) → ppm_of bytes ≡ read → result_map of_ppm (or_refuse (refusals.Ppm Sample) read) ≡ Ok sampled → ShowsPpm bytes sampled
-    by_ppm (Ok ppm) was is = record { ppm = ppm; read = was; spelled = λ numbers. (read-spelled bytes ppm numbers was).0; small = (read-picture bytes ppm was).1; shows = let same : of_ppm ppm ≡ sampled = cc (is) in sym same }
+    by_ppm : (read : Result PpmView PpmFault) → ppm_of bytes ≡ read → result_map shown_by_ppm (or_refuse (refusals.Ppm Sample) read) ≡ Ok sampled → ShowsPpm bytes sampled
+    by_ppm (Ok ppm) was is = record { ppm = ppm; read = was; spelled = λ numbers. (read-spelled bytes ppm numbers was).0; small = (read-picture bytes ppm was).1; shows = let same : shown_by_ppm ppm ≡ sampled = cc (is) in sym same }
     by_ppm (Err fault) was is = absurd (cc (is))
 
 shown_given : (picture : Bool) (bytes : List ℕ) (sampled : SampledView) → shown_in picture bytes ≡ Ok sampled → Shows picture bytes sampled
@@ -67,10 +67,10 @@ shown_given false bytes sampled is = grid_shown bytes sampled is
 
 given_shown : (picture : Bool) (bytes : List ℕ) (sampled : SampledView) → Shows picture bytes sampled → shown_in picture bytes ≡ Ok sampled
 given_shown true bytes sampled shown =
-    ap (λ read. result_map of_ppm (or_refuse (refusals.Ppm Sample) read)) shown.read
+    ap (λ read. result_map shown_by_ppm (or_refuse (refusals.Ppm Sample) read)) shown.read
     ∙ ap (λ sampled. let end : Result SampledView Refusal = Ok sampled in end) (sym shown.shows)
 given_shown false bytes sampled shown =
-    ap (λ read. result_map of_grid (or_refuse (refusals.Grid Sample) read)) (grid_read bytes shown.grid shown.spelled shown.small)
+    ap (λ read. result_map shown_by_grid (or_refuse (refusals.Grid Sample) read)) (grid_read bytes shown.grid shown.spelled shown.small)
     ∙ ap (λ sampled. let end : Result SampledView Refusal = Ok sampled in end) (sym shown.shows)
 
 pub sampled_given : (asked : RequestView) (files : List File) (sampled : SampledView) → outcome (sampled_plan asked) files ≡ Ok sampled → IsSampleFile files asked.file sampled
@@ -87,34 +87,34 @@ pub sample_given : (asked : RequestView) (files : List File) (lesson : Taught) �
 sample_given asked files lesson is =
     let seen = outcome_parts (picture_plan asked) (behind_picture asked) files lesson is in
     let shown = outcome_parts (sampled_plan asked) behind_sampled files seen.0 seen.1 in
-    let painted = outcome_parts (step (coloured shown.0)) (λ made. let end : Plan (Kind × Raster × List Symbol) = done (shown.0.kind, made.0, made.1) in end) files seen.0 shown.2 in
-    let known = outcome_parts (step (taught asked seen.0.1)) (λ patterns. let end : Plan Taught = done (record { kind = seen.0.0; palette = seen.0.2; patterns = patterns }) in end) files lesson seen.2 in
+    let painted = outcome_parts (step (sample_in_numbers shown.0)) (λ made. let end : Plan (Kind × Raster × List Symbol) = done (shown.0.kind, made.0, made.1) in end) files seen.0 shown.2 in
+    let known = outcome_parts (step (patterns_taught asked seen.0.1)) (λ patterns. let end : Plan Taught = done (record { kind = seen.0.0; palette = seen.0.2; patterns = patterns }) in end) files lesson seen.2 in
     let same : record { kind = seen.0.0; palette = seen.0.2; patterns = known.0 } ≡ lesson = done_is _ lesson files known.2 in
     let pieces : (shown.0.kind, painted.0.0, painted.0.1) ≡ seen.0 = done_is _ seen.0 files painted.2 in
-    let numbers : indexed shown.0.symbols shown.0.width ≡ Ok painted.0 = unrefused refusals.Colours (indexed shown.0.symbols shown.0.width) painted.0 (step_ok (coloured shown.0) files painted.0 painted.1) in
+    let numbers : indexed shown.0.symbols shown.0.width ≡ Ok painted.0 = unrefused refusals.Colours (indexed shown.0.symbols shown.0.width) painted.0 (step_ok (sample_in_numbers shown.0) files painted.0 painted.1) in
     subst (λ (lesson : Taught). IsSample asked files lesson.kind lesson.patterns lesson.palette) same (record {
       sampled = shown.0;
       file = sampled_given asked files shown.0 shown.1;
       same_kind = ap (λ (made : Kind × Raster × List Symbol). made.0) pieces;
       picture = seen.0.1;
       numbered = numbers ∙ ap (λ (made : Kind × Raster × List Symbol). let end : Result (Raster × List Symbol) PaletteFault = Ok (made.1, made.2) in end) pieces;
-      learned = unrefused refusals.Learn (patterns_of seen.0.1 (side_of asked.source) asked.symmetry asked.wrap_in) known.0 (step_ok (taught asked seen.0.1) files known.0 known.1);
+      learned = unrefused refusals.Learn (patterns_of seen.0.1 (window_side_of asked.source) asked.symmetry asked.wrap_in) known.0 (step_ok (patterns_taught asked seen.0.1) files known.0 known.1);
     })
 
 pub given_sample : (asked : RequestView) (files : List File) (kind : Kind) (patterns : PatternsView) (palette : List Symbol) → IsSample asked files kind patterns palette
     → outcome (sample_plan asked) files ≡ Ok (record { kind = kind; palette = palette; patterns = patterns })
 given_sample asked files kind patterns palette sample =
     let sampled = sample.sampled in
-    let coloured_as : outcome (step (coloured sampled)) files ≡ Ok (sample.picture, palette)
-    = ok_step (coloured sampled) files (sample.picture, palette) (ok_refused refusals.Colours (indexed sampled.symbols sampled.width) (sample.picture, palette) sample.numbered) in
+    let coloured_as : outcome (step (sample_in_numbers sampled)) files ≡ Ok (sample.picture, palette)
+    = ok_step (sample_in_numbers sampled) files (sample.picture, palette) (ok_refused refusals.Colours (indexed sampled.symbols sampled.width) (sample.picture, palette) sample.numbered) in
     let seen : outcome (picture_plan asked) files ≡ Ok (kind, sample.picture, palette)
     = outcome_on (sampled_plan asked) behind_sampled files sampled (given_sampled asked files sampled sample.file)
-    ∙ outcome_on (step (coloured sampled)) (λ made. let end : Plan (Kind × Raster × List Symbol) = done (sampled.kind, made.0, made.1) in end) files (sample.picture, palette) coloured_as
+    ∙ outcome_on (step (sample_in_numbers sampled)) (λ made. let end : Plan (Kind × Raster × List Symbol) = done (sampled.kind, made.0, made.1) in end) files (sample.picture, palette) coloured_as
     ∙ ap (λ kind. let end : Result (Kind × Raster × List Symbol) Fault = Ok (kind, sample.picture, palette) in end) sample.same_kind in
-    let known : outcome (step (taught asked sample.picture)) files ≡ Ok patterns
-    = ok_step (taught asked sample.picture) files patterns (ok_refused refusals.Learn (patterns_of sample.picture (side_of asked.source) asked.symmetry asked.wrap_in) patterns sample.learned) in
+    let known : outcome (step (patterns_taught asked sample.picture)) files ≡ Ok patterns
+    = ok_step (patterns_taught asked sample.picture) files patterns (ok_refused refusals.Learn (patterns_of sample.picture (window_side_of asked.source) asked.symmetry asked.wrap_in) patterns sample.learned) in
     outcome_on (picture_plan asked) (behind_picture asked) files (kind, sample.picture, palette) seen
-    ∙ outcome_on (step (taught asked sample.picture)) (λ patterns. let end : Plan Taught = done (record { kind = kind; palette = palette; patterns = patterns }) in end) files patterns known
+    ∙ outcome_on (step (patterns_taught asked sample.picture)) (λ patterns. let end : Plan Taught = done (record { kind = kind; palette = palette; patterns = patterns }) in end) files patterns known
 
 -- what a file shows are the pixels of a picture
 file_sampled : (files : List File) (name : List ℕ) (sampled : SampledView) → IsSampleFile files name sampled → IsSampled sampled
@@ -132,8 +132,8 @@ sample_lesson asked files kind patterns palette asks sample =
     let shows = file_sampled files asked.file sampled sample.file in
     let of_palette = numbered_sample sampled (sample.picture, palette) shows (ok_refused refusals.Colours (indexed sampled.symbols sampled.width) (sample.picture, palette) sample.numbered) in
     let small = made_small sampled.symbols sampled.width (sample.picture, palette) (inl (sym sample.numbered)) shows.small in
-    lesson_of asked kind sample.picture palette patterns asks (subst (λ kind. IsNumbered kind sample.picture palette) sample.same_kind of_palette) small
-    (ok_refused refusals.Learn (patterns_of sample.picture (side_of asked.source) asked.symmetry asked.wrap_in) patterns sample.learned)
+    lesson_of asked kind sample.picture palette patterns asks (subst (λ kind. HasShownNumbers kind sample.picture palette) sample.same_kind of_palette) small
+    (ok_refused refusals.Learn (patterns_of sample.picture (window_side_of asked.source) asked.symmetry asked.wrap_in) patterns sample.learned)
 
 -- pins and steps
 pub pins_given : (name : Option (List ℕ)) (files : List File) (lines : List PinView) → outcome (pins_plan name) files ≡ Ok lines → HoldsPins files name lines
@@ -152,22 +152,22 @@ given_pins (Some name) files lines held =
 pub problem_given : (asked : RequestView) (files : List File) (lesson : Taught) (P : Network) → outcome (problem_plan asked lesson) files ≡ Ok P → IsProblemOf asked files lesson.patterns lesson.palette P
 problem_given asked files lesson P is =
     let output = output_with asked.width asked.height asked.wrap_out in
-    let held = outcome_parts (pins_plan asked.pins) (λ lines. step (posed asked lesson.patterns lesson.palette lines)) files P is in
+    let held = outcome_parts (pins_plan asked.pins) (λ lines. step (problem_of_lines asked lesson.patterns lesson.palette lines)) files P is in
     let made = built_is lesson.patterns lesson.palette output held.0 P
-    (unrefused refusals.Build (built lesson.patterns lesson.palette output held.0) P (step_ok (posed asked lesson.patterns lesson.palette held.0) files P held.2)) in
+    (unrefused refusals.Build (picture_problem lesson.patterns lesson.palette output held.0) P (step_ok (problem_of_lines asked lesson.patterns lesson.palette held.0) files P held.2)) in
     record { lines = held.0; held = pins_given asked.pins files held.0 held.1; room = made.0; pins = made.1.0; meant = made.1.1; problem = made.1.2 }
 
 given_built : (patterns : PatternsView) (palette : List Symbol) (output : Output) (lines : List PinView) (pins : List Pin) → IsRoom patterns output
-    → pins_in (texts_of palette) output.width output.height lines ≡ Ok pins → built patterns palette output lines ≡ Ok (problem_of_sample patterns output pins)
+    → picture_pins (texts_of palette) output.width output.height lines ≡ Ok pins → picture_problem patterns palette output lines ≡ Ok (problem_of_sample patterns output pins)
 given_built patterns palette output lines pins room meant =
     let wide : nat_lt output.width patterns.n ≡ false = grind (arith, nat_tests, room.wide) in
     let high : nat_lt output.height patterns.n ≡ false = grind (arith, nat_tests, room.high) in
-    let few : nat_lt MAX_PAIRS (pairs patterns output) ≡ false = grind (arith, nat_tests, room.few_pairs) in
+    let few : nat_lt MAX_PAIRS (window_pair_count patterns output) ≡ false = grind (arith, nat_tests, room.few_pairs) in
     rw (wide, high, few, meant) refl
 
 pub given_problem : (asked : RequestView) (files : List File) (lesson : Taught) (P : Network) → IsProblemOf asked files lesson.patterns lesson.palette P → outcome (problem_plan asked lesson) files ≡ Ok P
 given_problem asked files lesson P task =
     let output = output_with asked.width asked.height asked.wrap_out in
-    outcome_on (pins_plan asked.pins) (λ lines. step (posed asked lesson.patterns lesson.palette lines)) files task.lines (given_pins asked.pins files task.lines task.held)
-    ∙ ok_step (posed asked lesson.patterns lesson.palette task.lines) files P
-    (ok_refused refusals.Build (built lesson.patterns lesson.palette output task.lines) P (given_built lesson.patterns lesson.palette output task.lines task.pins task.room task.meant ∙ ap (λ P. let end : Result Network BuildFault = Ok P in end) (sym task.problem)))
+    outcome_on (pins_plan asked.pins) (λ lines. step (problem_of_lines asked lesson.patterns lesson.palette lines)) files task.lines (given_pins asked.pins files task.lines task.held)
+    ∙ ok_step (problem_of_lines asked lesson.patterns lesson.palette task.lines) files P
+    (ok_refused refusals.Build (picture_problem lesson.patterns lesson.palette output task.lines) P (given_built lesson.patterns lesson.palette output task.lines task.pins task.room task.meant ∙ ap (λ P. let end : Result Network BuildFault = Ok P in end) (sym task.problem)))

@@ -5,7 +5,7 @@ use Rattle.std.specs.List.{concat, list_any}
 use Rattle.std.specs.Prelude.{All}
 use Rattle.wfc_picture.specs.declared.symbol.Kind.{Kind}
 use Rattle.wfc_picture.specs.declared.symbol.Kind.TheVariants as kinds
-use Rattle.wfc_render.specs.Layout.{IsLayout, form_for, forms_of, layout_in, layout_of, pixels_of, same_form}
+use Rattle.wfc_render.specs.Layout.{IsLayout, form_for, forms_of, layout_in, layout_of, pixel_count, same_form}
 use Rattle.wfc_render.specs.declared.form.Form.{Form}
 use Rattle.wfc_render.specs.declared.form.Form.TheVariants as form
 use Rattle.wfc_render.specs.declared.form.Layout.{Layout}
@@ -47,18 +47,18 @@ laid_out kind asked width height side l is = by_form (form_for kind asked) refl 
     made : Form → Layout
     made form = record { kind = kind; form = form; width = width; height = height; side = side }
 
-    by_size : (form : Form) (large : Bool) → form_for kind (Some form) ≡ Some form → nat_lt MAX_MAP_PIXELS (pixels_of width height side) ≡ large
-        → (if large then Err (fault.TooLarge (pixels_of width height side)) else Ok (made form)) ≡ Ok l → IsLaidOut kind width height side l
+    by_size : (form : Form) (large : Bool) → form_for kind (Some form) ≡ Some form → nat_lt MAX_MAP_PIXELS (pixel_count width height side) ≡ large
+        → (if large then Err (fault.TooLarge (pixel_count width height side)) else Ok (made form)) ≡ Ok l → IsLaidOut kind width height side l
     by_size form true again large is = absurd (cc (is))
     by_size form false again small is =
         let same : made form ≡ l = cc (is) in
         let is_layout : IsLayout (made form)
-        = ap (λ f. layout_in kind f width height side) again ∙ ap (λ b. if b then Err (fault.TooLarge (pixels_of width height side)) else Ok (made form)) small in
+        = ap (λ f. layout_in kind f width height side) again ∙ ap (λ b. if b then Err (fault.TooLarge (pixel_count width height side)) else Ok (made form)) small in
         subst (λ l. IsLaidOut kind width height side l) same (record { layout = is_layout; same_kind = refl; width_is = refl; height_is = refl; side_is = refl })
 
     by_form : (form : Option Form) → form_for kind asked ≡ form → layout_in kind form width height side ≡ Ok l → IsLaidOut kind width height side l
     by_form None was is = absurd (cc (is))
-    by_form (Some form) was is = by_size form (nat_lt MAX_MAP_PIXELS (pixels_of width height side)) (form_again kind asked form was) refl is
+    by_form (Some form) was is = by_size form (nat_lt MAX_MAP_PIXELS (pixel_count width height side)) (form_again kind asked form was) refl is
 
 -- what holds of each of several lists holds of them joined
 pub each_joined : (P : ℕ → Type 0) (F : ℕ → List ℕ) → ((y : ℕ) → All P (F y)) → (ys : List ℕ) → All P (concat (map F ys))

@@ -27,21 +27,21 @@ use Rattle.wfc_task.specs.Given.{IsSample}
 use Rattle.wfc_task.specs.Lesson.{IsShown}
 use Rattle.wfc_task.specs.SamplePlans.{picture_plan, sample_plan, sampled_plan}
 use Rattle.wfc_task.specs.Sampled.{SampledView}
-use Rattle.wfc_task.specs.Sources.{side_of}
-use Rattle.wfc_task.specs.Steps.{coloured, taught}
+use Rattle.wfc_task.specs.Sources.{window_side_of}
+use Rattle.wfc_task.specs.Steps.{sample_in_numbers, patterns_taught}
 use Rattle.wfc_task.specs.declared.lesson.Taught.{Taught}
 use Rattle.wfc_words.specs.RequestView.{RequestView}
 
 -- the windows have the side asked for, and no two symbols of the palette are one
 pub record IsByRequest (asked : RequestView) (patterns : PatternsView) (palette : List Symbol) : Type 0 where
-  pub side : patterns.n ≡ side_of asked.source
+  pub side : patterns.n ≡ window_side_of asked.source
   pub apart : IsDistinct same_symbol palette
 
 -- so it is of symbols that are numbered, and then learned from
-by_request : (asked : RequestView) (symbols : List Symbol) (width : ℕ) (made : Raster × List Symbol) (patterns : PatternsView) → indexed symbols width ≡ Ok made → patterns_of made.0 (side_of asked.source) asked.symmetry asked.wrap_in ≡ Ok patterns
+by_request : (asked : RequestView) (symbols : List Symbol) (width : ℕ) (made : Raster × List Symbol) (patterns : PatternsView) → indexed symbols width ≡ Ok made → patterns_of made.0 (window_side_of asked.source) asked.symmetry asked.wrap_in ≡ Ok patterns
     → IsByRequest asked patterns made.1
 by_request asked symbols width made patterns numbered learned = record {
-  side = ap (λ (p : PatternsView). p.n) (learned_is made.0 (side_of asked.source) asked.symmetry asked.wrap_in patterns learned).2;
+  side = ap (λ (p : PatternsView). p.n) (learned_is made.0 (window_side_of asked.source) asked.symmetry asked.wrap_in patterns learned).2;
   apart = subst (IsDistinct same_symbol) (sym (ap (λ (m : Raster × List Symbol). m.1) (indexed_is symbols width made numbered))) (IsDistinct-unrepeated same_symbol symbols);
 }
 
@@ -55,24 +55,24 @@ pub goes_by_request : (asked : RequestView) (lesson : Taught) (before after : Fo
 goes_by_request asked lesson before after (inr short) = absurd (cc (short.1.2))
 goes_by_request asked lesson before after (inl follows) =
     let behind_picture : Kind × Raster × List Symbol → Plan Taught =
-    λ made. and_then (step (taught asked made.1)) (λ patterns. done (record { kind = made.0; palette = made.2; patterns = patterns })) in
+    λ made. and_then (step (patterns_taught asked made.1)) (λ patterns. done (record { kind = made.0; palette = made.2; patterns = patterns })) in
     let of_picture = follows_parts (picture_plan asked) behind_picture before after lesson follows in
     let made = of_picture.0 in
-    let of_patterns = follows_parts (step (taught asked made.1)) (λ patterns. done (record { kind = made.0; palette = made.2; patterns = patterns })) before after lesson of_picture.2 in
+    let of_patterns = follows_parts (step (patterns_taught asked made.1)) (λ patterns. done (record { kind = made.0; palette = made.2; patterns = patterns })) before after lesson of_picture.2 in
     let behind_sampled : SampledView → Plan (Kind × Raster × List Symbol) =
-    λ sampled. and_then (step (coloured sampled)) (λ made. done (sampled.kind, made.0, made.1)) in
+    λ sampled. and_then (step (sample_in_numbers sampled)) (λ made. done (sampled.kind, made.0, made.1)) in
     let of_sampled = follows_parts (sampled_plan asked) behind_sampled before before made of_picture.1 in
     let sampled = of_sampled.0 in
-    let of_colours = follows_parts (step (coloured sampled)) (λ made. done (sampled.kind, made.0, made.1)) before before made of_sampled.2 in
+    let of_colours = follows_parts (step (sample_in_numbers sampled)) (λ made. done (sampled.kind, made.0, made.1)) before before made of_sampled.2 in
     let numbers = of_colours.0 in
     let same : made ≡ (sampled.kind, numbers.0, numbers.1) = cc (of_colours.2.1) in
     let is : lesson ≡ record { kind = made.0; palette = made.2; patterns = of_patterns.0 } = cc (of_patterns.2.1) in
-    let learned = unrefused Learn (patterns_of made.1 (side_of asked.source) asked.symmetry asked.wrap_in) of_patterns.0 (step_follows (taught asked made.1) before before of_patterns.0 of_patterns.1) in
-    let numbered = unrefused Colours (indexed sampled.symbols sampled.width) numbers (step_follows (coloured sampled) before before numbers of_colours.1) in
+    let learned = unrefused Learn (patterns_of made.1 (window_side_of asked.source) asked.symmetry asked.wrap_in) of_patterns.0 (step_follows (patterns_taught asked made.1) before before of_patterns.0 of_patterns.1) in
+    let numbered = unrefused Colours (indexed sampled.symbols sampled.width) numbers (step_follows (sample_in_numbers sampled) before before numbers of_colours.1) in
     subst (λ (l : Taught). IsByRequest asked l.patterns l.palette) (sym is)
     (subst (λ (m : Kind × Raster × List Symbol). IsByRequest asked of_patterns.0 m.2) (sym same)
     (by_request asked sampled.symbols sampled.width numbers of_patterns.0 numbered
-    (subst (λ (m : Kind × Raster × List Symbol). let end : Result PatternsView _ = Ok of_patterns.0 in patterns_of m.1 (side_of asked.source) asked.symmetry asked.wrap_in ≡ end) same learned)))
+    (subst (λ (m : Kind × Raster × List Symbol). let end : Result PatternsView _ = Ok of_patterns.0 in patterns_of m.1 (window_side_of asked.source) asked.symmetry asked.wrap_in ≡ end) same learned)))
 
 -- ---- the symbols of a palette
 

@@ -17,8 +17,8 @@ use Rattle.wfc_model.specs.Legal.{Pin}
 use Rattle.wfc_model.specs.Raster.{IsFilled, Raster, height_of, numbers_of, raster_of}
 use Rattle.wfc_outside.specs.Gives.{Gives, result_map}
 use Rattle.wfc_overlap.proofs.CallerLemmas.{sample_problem}
-use Rattle.wfc_overlap.specs.Bridge.{IsRoom, pairs}
-use Rattle.wfc_overlap.specs.Built.{built, pins_in, texts_of}
+use Rattle.wfc_overlap.specs.Bridge.{IsRoom, window_pair_count}
+use Rattle.wfc_overlap.specs.Built.{picture_problem, picture_pins, texts_of}
 use Rattle.wfc_overlap.specs.Sample.{Output, output_with, problem_of_sample}
 use Rattle.wfc_pattern.proofs.CallerLemmas.{taught_are_patterns}
 use Rattle.wfc_pattern.specs.Learning.{is_below_n, learned_patterns, patterns_of}
@@ -46,10 +46,10 @@ use Rattle.wfc_problem.specs.Network.{IsProblem, Network}
 use Rattle.wfc_problem.specs.declared.TheConstants.{MAX_PAIRS}
 use Rattle.wfc_render.specs.Map.{is_of_kind}
 use Rattle.wfc_task.specs.Asked.{IsSampleAsked}
-use Rattle.wfc_task.specs.Lesson.{IsLesson, IsNumbered, IsPosed, IsSampled}
-use Rattle.wfc_task.specs.Sampled.{SampledView, colours_of, of_grid, of_ppm, symbols_of}
-use Rattle.wfc_task.specs.Sources.{side_of}
-use Rattle.wfc_task.specs.Steps.{coloured, posed, taught}
+use Rattle.wfc_task.specs.Lesson.{IsLesson, HasShownNumbers, IsPosed, IsSampled}
+use Rattle.wfc_task.specs.Sampled.{SampledView, shown_colours, shown_by_grid, shown_by_ppm, symbols_of}
+use Rattle.wfc_task.specs.Sources.{window_side_of}
+use Rattle.wfc_task.specs.Steps.{sample_in_numbers, problem_of_lines, patterns_taught}
 use Rattle.wfc_words.specs.RequestView.{RequestView}
 
 -- the picture and the palette of symbols, where they have one
@@ -72,16 +72,16 @@ learned_is sample n s wrap patterns is = by_tests (is_below_n sample n wrap) (na
     by_tests false true p q is = absurd (cc)
     by_tests false false p q is = (p, grind (arith, nat_tests, q), cc)
 
--- the problem that was built, where one was
-pub built_is : (patterns : PatternsView) (palette : List Symbol) (output : Output) (lines : List PinView) (P : Network) → built patterns palette output lines ≡ Ok P
-    → IsRoom patterns output × ((pins : List Pin) × (pins_in (texts_of palette) output.width output.height lines ≡ Ok pins) × (P ≡ problem_of_sample patterns output pins))
+-- the problem that was picture_problem, where one was
+pub built_is : (patterns : PatternsView) (palette : List Symbol) (output : Output) (lines : List PinView) (P : Network) → picture_problem patterns palette output lines ≡ Ok P
+    → IsRoom patterns output × ((pins : List Pin) × (picture_pins (texts_of palette) output.width output.height lines ≡ Ok pins) × (P ≡ problem_of_sample patterns output pins))
 built_is patterns palette output lines P is =
-    by_tests (nat_lt output.width patterns.n) (nat_lt output.height patterns.n) (nat_lt MAX_PAIRS (pairs patterns output)) (pins_in (texts_of palette) output.width output.height lines) refl refl refl refl is
+    by_tests (nat_lt output.width patterns.n) (nat_lt output.height patterns.n) (nat_lt MAX_PAIRS (window_pair_count patterns output)) (picture_pins (texts_of palette) output.width output.height lines) refl refl refl refl is
   where
-    by_tests : (narrow low many : Bool) (pins : Result (List Pin) BuildFault) → nat_lt output.width patterns.n ≡ narrow → nat_lt output.height patterns.n ≡ low → nat_lt MAX_PAIRS (pairs patterns output) ≡ many
-        → pins_in (texts_of palette) output.width output.height lines ≡ pins
-        → (if narrow || low then Err SizeBelowN else (if many then Err (TooLarge (pairs patterns output)) else result_map (problem_of_sample patterns output) pins)) ≡ Ok P
-        → IsRoom patterns output × ((pins : List Pin) × (pins_in (texts_of palette) output.width output.height lines ≡ Ok pins) × (P ≡ problem_of_sample patterns output pins))
+    by_tests : (narrow low many : Bool) (pins : Result (List Pin) BuildFault) → nat_lt output.width patterns.n ≡ narrow → nat_lt output.height patterns.n ≡ low → nat_lt MAX_PAIRS (window_pair_count patterns output) ≡ many
+        → picture_pins (texts_of palette) output.width output.height lines ≡ pins
+        → (if narrow || low then Err SizeBelowN else (if many then Err (TooLarge (window_pair_count patterns output)) else result_map (problem_of_sample patterns output) pins)) ≡ Ok P
+        → IsRoom patterns output × ((pins : List Pin) × (picture_pins (texts_of palette) output.width output.height lines ≡ Ok pins) × (P ≡ problem_of_sample patterns output pins))
     by_tests true low many pins p q r t is = absurd (cc)
     by_tests false true many pins p q r t is = absurd (cc)
     by_tests false false true pins p q r t is = absurd (cc)
@@ -89,7 +89,7 @@ built_is patterns palette output lines P is =
     by_tests false false false (Ok pins) p q r t is = (record { wide = grind (arith, nat_tests, p); high = grind (arith, nat_tests, q); few_pairs = grind (arith, nat_tests, r) }, (pins, t, cc))
 
 -- what a grid shows
-pub grid_sampled : (grid : GridView) → IsGrid grid → grid.width * grid.height ≤ MAX_CELLS → IsSampled (of_grid grid)
+pub grid_sampled : (grid : GridView) → IsGrid grid → grid.width * grid.height ≤ MAX_CELLS → IsSampled (shown_by_grid grid)
 grid_sampled grid is_grid small =
     let many : length (symbols_of grid) ≡ grid.width * grid.height = length-map grid.bytes (λ byte. Char byte) ∙ is_grid.filled.as_many in
     record {
@@ -101,9 +101,9 @@ grid_sampled grid is_grid small =
     }
 
 -- what a picture of colours shows
-pub ppm_sampled : (ppm : PpmView) → IsPpm ppm → ppm.width * ppm.height ≤ MAX_PIXELS → IsSampled (of_ppm ppm)
+pub ppm_sampled : (ppm : PpmView) → IsPpm ppm → ppm.width * ppm.height ≤ MAX_PIXELS → IsSampled (shown_by_ppm ppm)
 ppm_sampled ppm is_ppm small =
-    let many : length (colours_of ppm) ≡ ppm.width * ppm.height = length-map ppm.pixels (λ colour. Rgb colour) ∙ is_ppm.filled.as_many in
+    let many : length (shown_colours ppm) ≡ ppm.width * ppm.height = length-map ppm.pixels (λ colour. Rgb colour) ∙ is_ppm.filled.as_many in
     record {
       height = ppm.height;
       filled = record { some_column = is_ppm.filled.some_column; some_row = is_ppm.filled.some_row; as_many = many };
@@ -123,7 +123,7 @@ sampled_some sampled is = some_pixel sampled.width is.height (length sampled.sym
     some_pixel width height many is some high = let one : 1 * 1 ≤ width * height = mul-le 1 1 width height some high in omega arith
 
 -- what the pixels of a sample are numbered as
-pub numbered_sample : (sampled : SampledView) (made : Raster × List Symbol) → IsSampled sampled → coloured sampled ≡ Ok made → IsNumbered sampled.kind made.0 made.1
+pub numbered_sample : (sampled : SampledView) (made : Raster × List Symbol) → IsSampled sampled → sample_in_numbers sampled ≡ Ok made → HasShownNumbers sampled.kind made.0 made.1
 numbered_sample sampled made shows is =
     let symbols = sampled.symbols in
     let many : length symbols ≡ sampled.width * shows.height = shows.filled.as_many in
@@ -132,7 +132,7 @@ numbered_sample sampled made shows is =
     let as_many : length (numbered symbols) ≡ sampled.width * shows.height = length-map symbols _ ∙ many in
     let filled : IsFilled sampled.width (length symbols / sampled.width) (numbered symbols)
     = subst (λ h. IsFilled sampled.width h (numbered symbols)) (sym high) (record { some_column = shows.filled.some_column; some_row = shows.filled.some_row; as_many = as_many }) in
-    subst (λ (made : Raster × List Symbol). IsNumbered sampled.kind made.0 made.1) (sym same) (record {
+    subst (λ (made : Raster × List Symbol). HasShownNumbers sampled.kind made.0 made.1) (sym same) (record {
       raster = (IsSized-raster_of sampled.width (length symbols / sampled.width) (numbered symbols) filled).raster;
       shown = record {
         maxval = shows.maxval;
@@ -149,10 +149,10 @@ numbered_sample sampled made shows is =
     whole width height some = ap (λ m. m / width) (commute width height) ∙ div-mul-add height width 0 some
 
 -- what such a picture teaches
-pub lesson_of : (asked : RequestView) (kind : Kind) (picture : Raster) (palette : List Symbol) (patterns : PatternsView) → IsSampleAsked asked → IsNumbered kind picture palette → picture.width * height_of picture ≤ MAX_PIXELS
-    → taught asked picture ≡ Ok patterns → IsLesson (record { kind = kind; palette = palette; patterns = patterns })
+pub lesson_of : (asked : RequestView) (kind : Kind) (picture : Raster) (palette : List Symbol) (patterns : PatternsView) → IsSampleAsked asked → HasShownNumbers kind picture palette → picture.width * height_of picture ≤ MAX_PIXELS
+    → patterns_taught asked picture ≡ Ok patterns → IsLesson (record { kind = kind; palette = palette; patterns = patterns })
 lesson_of asked kind picture palette patterns asks of_palette small is =
-    let n = side_of asked.source in
+    let n = window_side_of asked.source in
     let gives = unrefused _ (patterns_of picture n asked.symmetry asked.wrap_in) patterns is in
     let same = (learned_is picture n asked.symmetry asked.wrap_in patterns gives).2 in
     let known = learned_known picture of_palette.raster n asked.symmetry asked.wrap_in in
@@ -166,10 +166,10 @@ lesson_of asked kind picture palette patterns asks of_palette small is =
     }
 
 -- the problem of such patterns
-pub posed_of : (asked : RequestView) (patterns : PatternsView) (palette : List Symbol) (lines : List PinView) (P : Network) → IsPatterns patterns → posed asked patterns palette lines ≡ Ok P → IsPosed asked patterns P
+pub posed_of : (asked : RequestView) (patterns : PatternsView) (palette : List Symbol) (lines : List PinView) (P : Network) → IsPatterns patterns → problem_of_lines asked patterns palette lines ≡ Ok P → IsPosed asked patterns P
 posed_of asked patterns palette lines P are is =
     let output = output_with asked.width asked.height asked.wrap_out in
-    let made = built_is patterns palette output lines P (unrefused _ (built patterns palette output lines) P is) in
+    let made = built_is patterns palette output lines P (unrefused _ (picture_problem patterns palette output lines) P is) in
     record {
       sound = subst IsProblem (sym made.1.2) (sample_problem patterns output made.1.0 are made.0);
       wide = made.0.wide;
@@ -178,14 +178,14 @@ posed_of asked patterns palette lines P are is =
     }
 
 -- the same of results
-pub numbered_result : (sampled : SampledView) (result : Result (Raster × List Symbol) Refusal) → IsSampled sampled → GivesStep (coloured sampled) result → IfOk result (λ made. IsNumbered sampled.kind made.0 made.1)
+pub numbered_result : (sampled : SampledView) (result : Result (Raster × List Symbol) Refusal) → IsSampled sampled → GivesStep (sample_in_numbers sampled) result → IfOk result (λ made. HasShownNumbers sampled.kind made.0 made.1)
 numbered_result sampled (Err refusal) shows gives = tt
-numbered_result sampled (Ok made) shows gives = numbered_sample sampled made shows (step_is (coloured sampled) made gives)
+numbered_result sampled (Ok made) shows gives = numbered_sample sampled made shows (step_is (sample_in_numbers sampled) made gives)
 
-pub posed_result : (asked : RequestView) (patterns : PatternsView) (palette : List Symbol) (lines : List PinView) (result : Result Network Refusal) → IsPatterns patterns → GivesStep (posed asked patterns palette lines) result
+pub posed_result : (asked : RequestView) (patterns : PatternsView) (palette : List Symbol) (lines : List PinView) (result : Result Network Refusal) → IsPatterns patterns → GivesStep (problem_of_lines asked patterns palette lines) result
     → IfOk result (IsPosed asked patterns)
 posed_result asked patterns palette lines (Err refusal) are gives = tt
-posed_result asked patterns palette lines (Ok P) are gives = posed_of asked patterns palette lines P are (step_is (posed asked patterns palette lines) P gives)
+posed_result asked patterns palette lines (Ok P) are gives = posed_of asked patterns palette lines P are (step_is (problem_of_lines asked patterns palette lines) P gives)
 
 -- a picture of numbered symbols has no more pixels than there are symbols
 pub made_small : (symbols : List Symbol) (width : ℕ) (made : Raster × List Symbol) → Gives palettes.NoMemory (λ made. made) (let given : Result (Raster × List Symbol) PaletteFault = Ok made in given) (indexed symbols width)

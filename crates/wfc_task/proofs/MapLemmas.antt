@@ -10,7 +10,7 @@ use Rattle.wfc_model.specs.Raster.{Raster}
 use Rattle.wfc_outside.specs.Folder.{File}
 use Rattle.wfc_overlap.proofs.CallerLemmas.{back, sample_problem, there}
 use Rattle.wfc_overlap.specs.Bridge.{AreInside, IsTaughtBy, numbers_of_windows}
-use Rattle.wfc_overlap.specs.Built.{pin_in, pin_with, pins_in, texts_of}
+use Rattle.wfc_overlap.specs.Built.{picture_pin, marked_pin, picture_pins, texts_of}
 use Rattle.wfc_pattern.specs.Patterns.{PatternsView}
 use Rattle.wfc_pins.specs.InOrder.{and_rest}
 use Rattle.wfc_pins.specs.PinView.{PinView}
@@ -24,9 +24,9 @@ use Rattle.wfc_task.proofs.RequestLemmas.{command_output, command_source}
 use Rattle.wfc_task.proofs.TilingLemmas.{held_mask, pins_placed}
 use Rattle.wfc_task.specs.Asked.{AskedBy, IsOutputAsked}
 use Rattle.wfc_task.specs.MapKind.{IsMapProblem, MapKind}
-use Rattle.wfc_task.specs.Maps.{flat_maps, IsLegal, IsLegalBy, map_by, output_of, rules_of}
+use Rattle.wfc_task.specs.Maps.{flat_maps, IsLegal, IsLegalBy, map_by, asked_output, rules_of}
 use Rattle.wfc_task.specs.Posed.{OfTiles, Posed, PosedBy}
-use Rattle.wfc_task.specs.Sources.{side_of}
+use Rattle.wfc_task.specs.Sources.{window_side_of}
 use Rattle.wfc_task.specs.TileGiven.{HoldsPicture, HoldsPictures, IsTileSetOf}
 use Rattle.wfc_tiled.proofs.CallerLemmas.{assignment_is_map, map_is_assignment, tiles_problem}
 use Rattle.wfc_tiled.specs.Maps.{numbers_of_places}
@@ -46,13 +46,13 @@ use Rattle.wfc_words.specs.declared.kinds.SourceModel.TheVariants.{Overlap, Tile
 -- ---- the pins of a sample's map
 
 -- the pins that lines mean are inside
-pin_inside : (texts : List (List ℕ)) (width height : ℕ) (line : PinView) (pin : Pin) → pin_in texts width height line ≡ Ok pin → (pin.column < width) × (pin.row < height)
+pin_inside : (texts : List (List ℕ)) (width height : ℕ) (line : PinView) (pin : Pin) → picture_pin texts width height line ≡ Ok pin → (pin.column < width) × (pin.row < height)
 pin_inside texts width height line pin is = by_tests (nat_lt line.x width) (nat_lt line.y height) (position (λ text. bytes_eq text line.symbol) texts) refl refl is
   where
     by_tests : (wide high : Bool) (place : Option ℕ) → nat_lt line.x width ≡ wide → nat_lt line.y height ≡ high
-        → (if wide && high then ok_or (option_map (pin_with line) place) (UnknownSymbol line.line) else Err (PinOutside line.line)) ≡ Ok pin → (pin.column < width) × (pin.row < height)
+        → (if wide && high then ok_or (option_map (marked_pin line) place) (UnknownSymbol line.line) else Err (PinOutside line.line)) ≡ Ok pin → (pin.column < width) × (pin.row < height)
     by_tests true true (Some number) p q is =
-        let same : pin_with line number ≡ pin = cc (is) in
+        let same : marked_pin line number ≡ pin = cc (is) in
         let x_in : line.x < width = grind (arith, nat_tests, p) in
         let y_in : line.y < height = grind (arith, nat_tests, q) in
         subst (λ (pin : Pin). (pin.column < width) × (pin.row < height)) same (x_in, y_in)
@@ -60,13 +60,13 @@ pin_inside texts width height line pin is = by_tests (nat_lt line.x width) (nat_
     by_tests true false place p q is = absurd (cc (is))
     by_tests false high place p q is = absurd (cc (is))
 
-pub pins_inside : (texts : List (List ℕ)) (width height : ℕ) (lines : List PinView) (pins : List Pin) → pins_in texts width height lines ≡ Ok pins → All (λ (pin : Pin). (pin.column < width) × (pin.row < height)) pins
+pub pins_inside : (texts : List (List ℕ)) (width height : ℕ) (lines : List PinView) (pins : List Pin) → picture_pins texts width height lines ≡ Ok pins → All (λ (pin : Pin). (pin.column < width) × (pin.row < height)) pins
 pins_inside texts width height [] pins is =
     let same : (let none : List Pin = [] in none) ≡ pins = cc (is) in subst (All (λ (pin : Pin). (pin.column < width) × (pin.row < height))) same (All-nil (λ (pin : Pin). (pin.column < width) × (pin.row < height)))
-pins_inside texts width height (line ∷ lines) pins is = by_first (pin_in texts width height line) (pins_in texts width height lines) refl refl is (λ rest known. pins_inside texts width height lines rest known)
+pins_inside texts width height (line ∷ lines) pins is = by_first (picture_pin texts width height line) (picture_pins texts width height lines) refl refl is (λ rest known. pins_inside texts width height lines rest known)
   where
-    by_first : (first : Result Pin BuildFault) (rest : Result (List Pin) BuildFault) → pin_in texts width height line ≡ first → pins_in texts width height lines ≡ rest → and_rest first rest ≡ Ok pins
-        → ((rest : List Pin) → pins_in texts width height lines ≡ Ok rest → All (λ (pin : Pin). (pin.column < width) × (pin.row < height)) rest) → All (λ (pin : Pin). (pin.column < width) × (pin.row < height)) pins
+    by_first : (first : Result Pin BuildFault) (rest : Result (List Pin) BuildFault) → picture_pin texts width height line ≡ first → picture_pins texts width height lines ≡ rest → and_rest first rest ≡ Ok pins
+        → ((rest : List Pin) → picture_pins texts width height lines ≡ Ok rest → All (λ (pin : Pin). (pin.column < width) × (pin.row < height)) rest) → All (λ (pin : Pin). (pin.column < width) × (pin.row < height)) pins
     by_first (Err fault) rest p q is known = absurd (cc (is))
     by_first (Ok pin) (Err fault) p q is known = absurd (cc (is))
     by_first (Ok pin) (Ok rest) p q is known =
@@ -117,18 +117,18 @@ bridged (Overlap n) asked files P of asks output =
     let sample = of.sample in
     let problem = of.problem in
     let lesson = sample_lesson asked files of.kind of.patterns of.palette asks sample in
-    let learned = learned_is sample.picture (side_of asked.source) asked.symmetry asked.wrap_in of.patterns sample.learned in
-    let taught : IsTaughtBy sample.picture (rules_of asked) of.patterns (output_of asked) =
+    let learned = learned_is sample.picture (window_side_of asked.source) asked.symmetry asked.wrap_in of.patterns sample.learned in
+    let taught : IsTaughtBy sample.picture (rules_of asked) of.patterns (asked_output asked) =
     record { same_side = ap (λ (p : PatternsView). p.n) learned.2; same_wrap = refl; windows = ap (λ (p : PatternsView). p.windows) learned.2 } in
-    let inside : AreInside (output_of asked) problem.pins = pins_inside (texts_of of.palette) asked.width asked.height problem.lines problem.pins problem.meant in
+    let inside : AreInside (asked_output asked) problem.pins = pins_inside (texts_of of.palette) asked.width asked.height problem.lines problem.pins problem.meant in
     record {
-      problem = subst IsProblem (sym problem.problem) (sample_problem of.patterns (output_of asked) problem.pins lesson.patterns problem.room);
-      makes = λ a legal. back sample.picture (rules_of asked) of.patterns (output_of asked) problem.pins a lesson.patterns problem.room taught inside
+      problem = subst IsProblem (sym problem.problem) (sample_problem of.patterns (asked_output asked) problem.pins lesson.patterns problem.room);
+      makes = λ a legal. back sample.picture (rules_of asked) of.patterns (asked_output asked) problem.pins a lesson.patterns problem.room taught inside
           (subst (λ P. IsLegalAssignment P a) problem.problem legal);
       assigned = λ m legal. (
-        numbers_of_windows of.patterns (output_of asked) m,
-        subst (λ P. IsLegalAssignment P (numbers_of_windows of.patterns (output_of asked) m)) (sym problem.problem)
-            (there sample.picture (rules_of asked) of.patterns (output_of asked) problem.pins m lesson.patterns taught legal),
+        numbers_of_windows of.patterns (asked_output asked) m,
+        subst (λ P. IsLegalAssignment P (numbers_of_windows of.patterns (asked_output asked) m)) (sym problem.problem)
+            (there sample.picture (rules_of asked) of.patterns (asked_output asked) problem.pins m lesson.patterns taught legal),
       );
     }
 

@@ -7,8 +7,8 @@ use Rattle.wfc_plan.specs.Plan.{Follows, Goes, Plan, and_then, done, read, refus
 use Rattle.wfc_plan.specs.declared.fault.Refusal.{Refusal}
 use Rattle.wfc_plan.specs.declared.fault.Refusal.TheVariants as refusals
 use Rattle.wfc_task.specs.TilePlans.{document_plan, next_plan, picture_plan, pictures_plan, tiles_plan}
-use Rattle.wfc_task.specs.TileSteps.{pictured}
-use Rattle.wfc_tileset.specs.Document.{and_then as if_given}
+use Rattle.wfc_task.specs.TileSteps.{with_next_picture}
+use Rattle.wfc_tileset.specs.Document.{result_then as if_given}
 use Rattle.wfc_tileset.specs.Pictures.{picture_for, picture_name, picture_taken, with_picture}
 use Rattle.wfc_tileset.specs.Tiles.{PictureView, TileSetView}
 use Rattle.wfc_tileset.specs.declared.fault.TileFault.{TileFault}
@@ -58,7 +58,7 @@ next_enough : (left : ℕ) (name : Option (List ℕ)) (set next : TileSetView) (
 next_enough left None set next before after is enough follows = let same : next ≡ set = cc (follows.1) in subst (IsEnough left) (sym same) (inl is)
 next_enough left (Some name) set next before after is enough (inr unread) = absurd (cc (unread.2))
 next_enough left (Some name) set next before after is enough (inl goes_on) =
-    let taken = taken_is set goes_on.0 next (unrefused refusals.Tiles (picture_taken set goes_on.0) next (step_follows (pictured set goes_on.0) before after next goes_on.2)) in
+    let taken = taken_is set goes_on.0 next (unrefused refusals.Tiles (picture_taken set goes_on.0) next (step_follows (with_next_picture set goes_on.0) before after next goes_on.2)) in
     elim enough [
       | inl whole ↦ absurd (let none : None ≡ Some name = sym whole ∙ is in cc)
       | inr few ↦ inr (omega (arith, ap length taken.0, taken.1, few))

@@ -4,8 +4,8 @@ use Rattle.std.proofs.lemmas.Bool.Decides.{nat_tests}
 use Rattle.std.specs.Prelude.{◌↔◌}
 use Rattle.wfc_outside.specs.Folder.{File}
 use Rattle.wfc_outside.specs.Gives.{result_map}
-use Rattle.wfc_overlap.specs.Bridge.{pairs}
-use Rattle.wfc_overlap.specs.Built.{pins_in, texts_of}
+use Rattle.wfc_overlap.specs.Bridge.{window_pair_count}
+use Rattle.wfc_overlap.specs.Built.{picture_pins, texts_of}
 use Rattle.wfc_overlap.specs.Sample.{problem_of_sample}
 use Rattle.wfc_pins.specs.PinView.{PinView}
 use Rattle.wfc_pins.specs.Pins.{pins_of}
@@ -27,7 +27,7 @@ use Rattle.wfc_task.proofs.SampleOrderLemmas.{same_lesson}
 use Rattle.wfc_task.specs.Given.{HoldsPins}
 use Rattle.wfc_task.specs.SamplePlans.{pins_plan, problem_plan, sample_plan}
 use Rattle.wfc_task.specs.Stages.{IsBelowFault, IsCountFault, IsPairsFault, IsPinFault, IsPinsFault, IsSizeFault, output_asked}
-use Rattle.wfc_task.specs.Steps.{pins_in as lines_in, posed}
+use Rattle.wfc_task.specs.Steps.{read_pin_lines as lines_in, problem_of_lines}
 use Rattle.wfc_task.specs.declared.lesson.Taught.{Taught}
 use Rattle.wfc_words.specs.RequestView.{RequestView}
 
@@ -64,8 +64,8 @@ same_lines files name lines stage was =
 abbrev pub built_stages : RequestView → Taught → List PinView → List TaskStage
 built_stages asked lesson lines =
     IsBelowFault asked lesson.patterns.n
-    ∷ IsCountFault (pairs lesson.patterns (output_asked asked))
-    ∷ IsRefusal refusals.Build (pins_in (texts_of lesson.palette) asked.width asked.height lines)
+    ∷ IsCountFault (window_pair_count lesson.patterns (output_asked asked))
+    ∷ IsRefusal refusals.Build (picture_pins (texts_of lesson.palette) asked.width asked.height lines)
     ∷ []
 
 -- the lines, where nothing else is at fault
@@ -74,7 +74,7 @@ faults_lines : {X T : Type 0} (make : List X → T) (pins : Result (List X) Buil
 faults_lines make (Ok pins) fault files = (λ is. absurd (cc (is)), λ has. absurd (cc (has.1)))
 faults_lines make (Err why) fault files = (λ is. (why, refl, cc (is)), λ has. cc (has.1, has.2))
 
--- a count of pairs, and then the lines
+-- a count of window_pair_count, and then the lines
 pub faults_count : {X T : Type 0} (count : ℕ) (make : List X → T) (pins : Result (List X) BuildFault) (files : List File)
     → Faults (step (or_refuse refusals.Build (if nat_lt MAX_PAIRS count then Err (TooLarge count) else result_map make pins))) files (IsFirstFault (IsCountFault count ∷ IsRefusal refusals.Build pins ∷ []))
 faults_count {T = T} count make pins files fault = by_test (nat_lt MAX_PAIRS count) refl
@@ -94,13 +94,13 @@ faults_count {T = T} count make pins files fault = by_test (nat_lt MAX_PAIRS cou
         from (inr (_, inr (_, none))) = absurd none
 
 faults_built : (asked : RequestView) (lesson : Taught) (lines : List PinView) (files : List File)
-    → Faults (step (posed asked lesson.patterns lesson.palette lines)) files (IsFirstFault (built_stages asked lesson lines))
+    → Faults (step (problem_of_lines asked lesson.patterns lesson.palette lines)) files (IsFirstFault (built_stages asked lesson lines))
 faults_built asked lesson lines files fault = by_tests (nat_lt asked.width lesson.patterns.n) (nat_lt asked.height lesson.patterns.n) refl refl
   where
     rest : Result Network BuildFault
     rest =
-        if nat_lt MAX_PAIRS (pairs lesson.patterns (output_asked asked)) then Err (TooLarge (pairs lesson.patterns (output_asked asked)))
-        else result_map (problem_of_sample lesson.patterns (output_asked asked)) (pins_in (texts_of lesson.palette) asked.width asked.height lines)
+        if nat_lt MAX_PAIRS (window_pair_count lesson.patterns (output_asked asked)) then Err (TooLarge (window_pair_count lesson.patterns (output_asked asked)))
+        else result_map (problem_of_sample lesson.patterns (output_asked asked)) (picture_pins (texts_of lesson.palette) asked.width asked.height lines)
 
     below : (asked.width < lesson.patterns.n) ⊎ (asked.height < lesson.patterns.n)
         → (outcome (step (or_refuse refusals.Build (let end : Result Network BuildFault = Err SizeBelowN in end))) files ≡ Err fault) ↔ IsFirstFault (built_stages asked lesson lines) fault
@@ -120,9 +120,9 @@ faults_built asked lesson lines files fault = by_tests (nat_lt asked.width lesso
         fits f has = elim has.below [ inl narrow ↦ grind (arith, nat_tests, w, narrow) | inr low ↦ grind (arith, nat_tests, h, low) ]
 
         counted : Faults (step (or_refuse refusals.Build rest)) files
-            (IsFirstFault (IsCountFault (pairs lesson.patterns (output_asked asked)) ∷ IsRefusal refusals.Build (pins_in (texts_of lesson.palette) asked.width asked.height lines) ∷ []))
+            (IsFirstFault (IsCountFault (window_pair_count lesson.patterns (output_asked asked)) ∷ IsRefusal refusals.Build (picture_pins (texts_of lesson.palette) asked.width asked.height lines) ∷ []))
         counted =
-            faults_count (pairs lesson.patterns (output_asked asked)) (problem_of_sample lesson.patterns (output_asked asked)) (pins_in (texts_of lesson.palette) asked.width asked.height lines) files
+            faults_count (window_pair_count lesson.patterns (output_asked asked)) (problem_of_sample lesson.patterns (output_asked asked)) (picture_pins (texts_of lesson.palette) asked.width asked.height lines) files
 
         to : outcome (step (or_refuse refusals.Build rest)) files ≡ Err fault → IsFirstFault (built_stages asked lesson lines) fault
         to is = inr (fits, (counted fault).0 is)
@@ -138,9 +138,9 @@ problem_stages asked files = IsSizeFault asked files ∷ IsPairsFault asked file
 same_built : (asked : RequestView) (files : List File) (lesson : Taught) (lines : List PinView) → outcome (sample_plan asked) files ≡ Ok lesson → outcome (pins_plan asked.pins) files ≡ Ok lines
     → Same (IsFirstFault (built_stages asked lesson lines)) (IsFirstFault (problem_stages asked files))
 same_built asked files lesson lines was held =
-    let meant : Taught → List PinView → TaskStage = λ other lines. IsRefusal refusals.Build (pins_in (texts_of other.palette) asked.width asked.height lines) in
+    let meant : Taught → List PinView → TaskStage = λ other lines. IsRefusal refusals.Build (picture_pins (texts_of other.palette) asked.width asked.height lines) in
     let of_lines : Taught → TaskStage = λ other fault. (lines : List PinView) × HoldsPins files asked.pins lines × meant other lines fault in
-    let counted : Taught → TaskStage = λ other. IsCountFault (pairs other.patterns (output_asked asked)) in
+    let counted : Taught → TaskStage = λ other. IsCountFault (window_pair_count other.patterns (output_asked asked)) in
     same_first (IsBelowFault asked lesson.patterns.n) (IsSizeFault asked files) (counted lesson ∷ meant lesson lines ∷ []) (IsPairsFault asked files ∷ IsPinFault asked files ∷ [])
     (same_lesson asked files lesson (λ other. IsBelowFault asked other.patterns.n) was)
     (same_first (counted lesson) (IsPairsFault asked files) (meant lesson lines ∷ []) (IsPinFault asked files ∷ []) (same_lesson asked files lesson counted was)
@@ -151,7 +151,7 @@ same_built asked files lesson lines was held =
 pub faults_problem : (asked : RequestView) (files : List File) (lesson : Taught) → outcome (sample_plan asked) files ≡ Ok lesson
     → Faults (problem_plan asked lesson) files (IsFirstFault (IsNamedFault Pins files asked.pins ∷ IsPinsFault files asked.pins ∷ problem_stages asked files))
 faults_problem asked files lesson was =
-    faults_group (pins_plan asked.pins) (λ lines. step (posed asked lesson.patterns lesson.palette lines)) files (pins_stages files asked.pins) (problem_stages asked files) (faults_pins files asked.pins)
+    faults_group (pins_plan asked.pins) (λ lines. step (problem_of_lines asked lesson.patterns lesson.palette lines)) files (pins_stages files asked.pins) (problem_stages asked files) (faults_pins files asked.pins)
     (λ lines held.
-    faults_as (step (posed asked lesson.patterns lesson.palette lines)) files (IsFirstFault (built_stages asked lesson lines)) (IsFirstFault (problem_stages asked files))
+    faults_as (step (problem_of_lines asked lesson.patterns lesson.palette lines)) files (IsFirstFault (built_stages asked lesson lines)) (IsFirstFault (problem_stages asked files))
     (same_built asked files lesson lines was held) (faults_built asked lesson lines files))

@@ -2,7 +2,7 @@
 use Rattle.std.proofs.Common.{ap, arith, refl, true, ◌∙◌, ◌≡◌}
 use Rattle.std.specs.Prelude.{codes}
 use Rattle.wfc_task.specs.Asked.{AskedBy, IsOutputAsked, IsSourceAsked}
-use Rattle.wfc_task.specs.Sources.{side_of}
+use Rattle.wfc_task.specs.Sources.{window_side_of}
 use Rattle.wfc_words.specs.Commands.{requires_word}
 use Rattle.wfc_words.specs.InRange.{IsInRange, IsModel}
 use Rattle.wfc_words.specs.RequestView.{RequestView}
@@ -16,7 +16,7 @@ source_asked asked range takes = by_source asked.source refl (range.map.model ta
   where
     by_source : (source : SourceModel) → asked.source ≡ source → IsModel source → AskedBy source asked
     by_source (Overlap n) is model =
-        let same : side_of asked.source ≡ n = ap side_of is in
+        let same : window_side_of asked.source ≡ n = ap window_side_of is in
         record { some_side = omega (arith, same, model.0); small_side = omega (arith, same, model.1); some_image = range.map.some_image; eight_images = range.map.eight_images }
     by_source Tiles is model = tt
 

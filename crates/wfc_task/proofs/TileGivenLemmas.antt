@@ -22,8 +22,8 @@ use Rattle.wfc_task.specs.SamplePlans.{pins_plan}
 use Rattle.wfc_task.specs.Steps.{grid_in}
 use Rattle.wfc_task.specs.TileGiven.{HoldsMask, HoldsPicture, HoldsPictures, IsTileProblemOf, IsTileSetOf}
 use Rattle.wfc_task.specs.TilePlans.{document_plan, mask_plan_by, next_plan, picture_plan, pictures_plan, tiled_plan, tiles_plan}
-use Rattle.wfc_task.specs.TileSteps.{document_in, mask_in, pictured, posed_tiles}
-use Rattle.wfc_tiled.specs.Built.{built, pairs, pins_in}
+use Rattle.wfc_task.specs.TileSteps.{document_in, mask_in, with_next_picture, posed_tiles}
+use Rattle.wfc_tiled.specs.Built.{tile_map_problem, tile_pair_count, tile_map_pins}
 use Rattle.wfc_tiled.specs.Mask.{MaskView, mask_of, plain_mask}
 use Rattle.wfc_tiled.specs.Tiles.{problem_of_tiles}
 use Rattle.wfc_tileset.specs.Document.{set_of}
@@ -40,14 +40,14 @@ ended value = Ok value
 pub picture_given : (files : List File) (name : Option (List ℕ)) (before after : TileSetView) → outcome (picture_plan name before) files ≡ Ok after → HoldsPicture files name before after
 picture_given files None before after is = done_is before after files is
 picture_given files (Some name) before after is =
-    let parts = outcome_parts (file_plan (Picture (length before.pictures)) name) (λ bytes. step (pictured before bytes)) files after is in
-    (parts.0, file_given (Picture (length before.pictures)) name files parts.0 parts.1, unrefused refusals.Tiles (picture_taken before parts.0) after (step_ok (pictured before parts.0) files after parts.2))
+    let parts = outcome_parts (file_plan (Picture (length before.pictures)) name) (λ bytes. step (with_next_picture before bytes)) files after is in
+    (parts.0, file_given (Picture (length before.pictures)) name files parts.0 parts.1, unrefused refusals.Tiles (picture_taken before parts.0) after (step_ok (with_next_picture before parts.0) files after parts.2))
 
 pub given_picture : (files : List File) (name : Option (List ℕ)) (before after : TileSetView) → HoldsPicture files name before after → outcome (picture_plan name before) files ≡ Ok after
 given_picture files None before after holds = ap ended holds
 given_picture files (Some name) before after holds =
-    outcome_on (file_plan (Picture (length before.pictures)) name) (λ bytes. step (pictured before bytes)) files holds.0 (given_file (Picture (length before.pictures)) name files holds.0 holds.1)
-    ∙ ok_step (pictured before holds.0) files after (ok_refused refusals.Tiles (picture_taken before holds.0) after holds.2)
+    outcome_on (file_plan (Picture (length before.pictures)) name) (λ bytes. step (with_next_picture before bytes)) files holds.0 (given_file (Picture (length before.pictures)) name files holds.0 holds.1)
+    ∙ ok_step (with_next_picture before holds.0) files after (ok_refused refusals.Tiles (picture_taken before holds.0) after holds.2)
 
 pub pictures_given : (files : List File) (left : ℕ) (before after : TileSetView) → outcome (pictures_plan left before) files ≡ Ok after → HoldsPictures files left before after
 pictures_given files zero before after is = done_is before after files is
@@ -115,7 +115,7 @@ tiled_given asked files set mask P is =
     let masked = outcome_parts (mask_plan_by asked.mask asked) (behind_masked asked set parts.0) files (mask, P) parts.2 in
     let made = outcome_parts (step (posed_tiles asked set masked.0 parts.0)) (λ (P : Network). let end : Plan (MaskView × Network) = done (masked.0, P) in end) files (mask, P) masked.2 in
     let ends : (masked.0, made.0) ≡ (mask, P) = done_is (masked.0, made.0) (mask, P) files made.2 in
-    let is_built = tiles_built_is set masked.0 asked.wrap_out parts.0 made.0 (unrefused refusals.Build (built set masked.0 asked.wrap_out parts.0) made.0 (step_ok (posed_tiles asked set masked.0 parts.0) files made.0 made.1)) in
+    let is_built = tiles_built_is set masked.0 asked.wrap_out parts.0 made.0 (unrefused refusals.Build (tile_map_problem set masked.0 asked.wrap_out parts.0) made.0 (step_ok (posed_tiles asked set masked.0 parts.0) files made.0 made.1)) in
     subst (λ (end : MaskView × Network). IsTileProblemOf asked files set end.0 end.1) ends (record {
       lines = parts.0;
       held = pins_given asked.pins files parts.0 parts.1;
@@ -126,17 +126,17 @@ tiled_given asked files set mask P is =
       problem = is_built.1.2;
     })
 
-given_tiles_built : (set : TileSetView) (mask : MaskView) (wrap : Bool) (lines : List PinView) (pins : List Pin) → pairs set mask ≤ MAX_PAIRS → pins_in set.tiles mask lines ≡ Ok pins
-    → built set mask wrap lines ≡ Ok (problem_of_tiles set mask wrap pins)
+given_tiles_built : (set : TileSetView) (mask : MaskView) (wrap : Bool) (lines : List PinView) (pins : List Pin) → tile_pair_count set mask ≤ MAX_PAIRS → tile_map_pins set.tiles mask lines ≡ Ok pins
+    → tile_map_problem set mask wrap lines ≡ Ok (problem_of_tiles set mask wrap pins)
 given_tiles_built set mask wrap lines pins few meant =
-    let test : nat_lt MAX_PAIRS (pairs set mask) ≡ false = grind (arith, nat_tests, few) in
+    let test : nat_lt MAX_PAIRS (tile_pair_count set mask) ≡ false = grind (arith, nat_tests, few) in
     rw (test, meant) refl
 
 pub given_tiled : (asked : RequestView) (files : List File) (set : TileSetView) (mask : MaskView) (P : Network) → IsTileProblemOf asked files set mask P → outcome (tiled_plan asked set) files ≡ Ok (mask, P)
 given_tiled asked files set mask P of =
-    let is_built : built set mask asked.wrap_out of.lines ≡ Ok P
+    let is_built : tile_map_problem set mask asked.wrap_out of.lines ≡ Ok P
     = given_tiles_built set mask asked.wrap_out of.lines of.pins of.few_pairs of.meant ∙ ap (λ P. let end : Result Network BuildFault = Ok P in end) (sym of.problem) in
     outcome_on (pins_plan asked.pins) (behind_pins asked set) files of.lines (given_pins asked.pins files of.lines of.held)
     ∙ outcome_on (mask_plan_by asked.mask asked) (behind_masked asked set of.lines) files mask (given_mask asked files asked.mask mask of.masked)
     ∙ outcome_on (step (posed_tiles asked set mask of.lines)) (λ (P : Network). let end : Plan (MaskView × Network) = done (mask, P) in end) files P
-    (ok_step (posed_tiles asked set mask of.lines) files P (ok_refused refusals.Build (built set mask asked.wrap_out of.lines) P is_built))
+    (ok_step (posed_tiles asked set mask of.lines) files P (ok_refused refusals.Build (tile_map_problem set mask asked.wrap_out of.lines) P is_built))

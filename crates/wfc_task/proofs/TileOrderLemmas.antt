@@ -24,8 +24,8 @@ use Rattle.wfc_task.specs.Steps.{grid_in}
 use Rattle.wfc_task.specs.TileGiven.{HoldsMask, IsTileSetOf}
 use Rattle.wfc_task.specs.TilePlans.{document_plan, mask_plan, mask_plan_by, next_plan, picture_plan, pictures_plan, tiled_plan, tiles_plan}
 use Rattle.wfc_task.specs.TileStages.{IsDocumentFault, IsDocumentOf, IsGridOf, IsMaskFault, IsMaskFormFault, IsPictureFault, IsPicturesFault, IsTileLayoutFault, IsTilePairsFault, IsTilePinFault, IsTilesFault}
-use Rattle.wfc_task.specs.TileSteps.{document_in, laid_tiles, mask_in, pictured, posed_tiles}
-use Rattle.wfc_tiled.specs.Built.{pairs, pins_in}
+use Rattle.wfc_task.specs.TileSteps.{document_in, laid_tiles, mask_in, with_next_picture, posed_tiles}
+use Rattle.wfc_tiled.specs.Built.{tile_pair_count, tile_map_pins}
 use Rattle.wfc_tiled.specs.Mask.{MaskView, mask_of}
 use Rattle.wfc_tiled.specs.Tiles.{problem_of_tiles}
 use Rattle.wfc_tileset.specs.Document.{set_of}
@@ -56,7 +56,7 @@ faults_picture files None set = λ fault. (λ is. absurd (cc (is)), λ none. abs
 faults_picture files (Some name) set =
     faults_as (picture_plan (Some name) set) files (λ fault. IsReadingFault (Picture (length set.pictures)) files name fault ⊎ ((bytes : List ℕ) × (outcome (file_plan (Picture (length set.pictures)) name) files ≡ Ok bytes) × IsRefusal refusals.Tiles (picture_taken set bytes) fault))
     (IsPictureFault files (Some name) set) same
-    (faults_pair (file_plan (Picture (length set.pictures)) name) (λ bytes. step (pictured set bytes)) files (IsReadingFault (Picture (length set.pictures)) files name) (λ bytes. IsRefusal refusals.Tiles (picture_taken set bytes))
+    (faults_pair (file_plan (Picture (length set.pictures)) name) (λ bytes. step (with_next_picture set bytes)) files (IsReadingFault (Picture (length set.pictures)) files name) (λ bytes. IsRefusal refusals.Tiles (picture_taken set bytes))
     (faults_reading (Picture (length set.pictures)) files name) (λ bytes. faults_step refusals.Tiles (picture_taken set bytes) files))
   where
     same : Same (λ fault. IsReadingFault (Picture (length set.pictures)) files name fault ⊎ ((bytes : List ℕ) × (outcome (file_plan (Picture (length set.pictures)) name) files ≡ Ok bytes) × IsRefusal refusals.Tiles (picture_taken set bytes) fault))
@@ -181,11 +181,11 @@ tile_problem_stages asked files = IsTilePairsFault asked files ∷ IsTilePinFaul
 
 same_tiles_built : (asked : RequestView) (files : List File) (set : TileSetView) (lines : List PinView) (mask : MaskView) → outcome (tiles_plan asked) files ≡ Ok set
     → outcome (pins_plan asked.pins) files ≡ Ok lines → outcome (mask_plan asked) files ≡ Ok mask
-    → Same (IsFirstFault (IsCountFault (pairs set mask) ∷ IsRefusal refusals.Build (pins_in set.tiles mask lines) ∷ [])) (IsFirstFault (tile_problem_stages asked files))
+    → Same (IsFirstFault (IsCountFault (tile_pair_count set mask) ∷ IsRefusal refusals.Build (tile_map_pins set.tiles mask lines) ∷ [])) (IsFirstFault (tile_problem_stages asked files))
 same_tiles_built asked files set lines mask was held masked =
-    let counted : TileSetView → MaskView → TaskStage = λ set mask. IsCountFault (pairs set mask) in
+    let counted : TileSetView → MaskView → TaskStage = λ set mask. IsCountFault (tile_pair_count set mask) in
     let counted_on : TileSetView → TaskStage = λ set fault. (mask : MaskView) × HoldsMask asked files asked.mask mask × counted set mask fault in
-    let meant : TileSetView → MaskView → List PinView → TaskStage = λ set mask lines. IsRefusal refusals.Build (pins_in set.tiles mask lines) in
+    let meant : TileSetView → MaskView → List PinView → TaskStage = λ set mask lines. IsRefusal refusals.Build (tile_map_pins set.tiles mask lines) in
     let meant_by : TileSetView → MaskView → TaskStage = λ set mask fault. (lines : List PinView) × HoldsPins files asked.pins lines × meant set mask lines fault in
     let meant_on : TileSetView → TaskStage = λ set fault. (mask : MaskView) × HoldsMask asked files asked.mask mask × meant_by set mask fault in
     same_first (counted set mask) (IsTilePairsFault asked files) (meant set mask lines ∷ []) (IsTilePinFault asked files ∷ [])
@@ -208,8 +208,8 @@ faults_tiled asked files set was =
     (λ lines held.
     faults_group (mask_plan asked) (behind_masked asked set lines) files (mask_stages asked files asked.mask) (tile_problem_stages asked files) (faults_mask asked files asked.mask)
     (λ mask masked.
-    let pins : List TaskStage = IsCountFault (pairs set mask) ∷ IsRefusal refusals.Build (pins_in set.tiles mask lines) ∷ [] in
+    let pins : List TaskStage = IsCountFault (tile_pair_count set mask) ∷ IsRefusal refusals.Build (tile_map_pins set.tiles mask lines) ∷ [] in
     faults_group (step (posed_tiles asked set mask lines)) (λ (P : Network). let end : Plan (MaskView × Network) = done (mask, P) in end) files (tile_problem_stages asked files) []
     (faults_as (step (posed_tiles asked set mask lines)) files (IsFirstFault pins) (IsFirstFault (tile_problem_stages asked files)) (same_tiles_built asked files set lines mask was held masked)
-    (faults_count (pairs set mask) (problem_of_tiles set mask asked.wrap_out) (pins_in set.tiles mask lines) files))
+    (faults_count (tile_pair_count set mask) (problem_of_tiles set mask asked.wrap_out) (tile_map_pins set.tiles mask lines) files))
     (λ P made. faults_none (mask, P) files)))

@@ -1,14 +1,14 @@
 -- What a request has to say, so that a sample can be learned from and a map made.
 use Rattle.std.specs.Prelude.{◌<◌, ◌≤◌}
-use Rattle.wfc_task.specs.Sources.{side_of}
+use Rattle.wfc_task.specs.Sources.{window_side_of}
 use Rattle.wfc_words.specs.RequestView.{RequestView}
 use Rattle.wfc_words.specs.declared.kinds.SourceModel.{SourceModel}
 use Rattle.wfc_words.specs.declared.kinds.SourceModel.TheVariants.{Overlap, Tiles}
 
 -- a window has a side of 1 to 6, and one to eight of its images are learned
 pub record IsSampleAsked (asked : RequestView) : Type 0 where
-  pub some_side : 0 < side_of asked.source
-  pub small_side : side_of asked.source ≤ 6
+  pub some_side : 0 < window_side_of asked.source
+  pub small_side : window_side_of asked.source ≤ 6
   pub some_image : 0 < asked.symmetry
   pub eight_images : asked.symmetry ≤ 8
 

@@ -6,7 +6,7 @@ use Rattle.wfc_model.specs.Legal.{Pin}
 use Rattle.wfc_model.specs.Raster.{Raster}
 use Rattle.wfc_outside.specs.Folder.{File}
 use Rattle.wfc_overlap.specs.Bridge.{IsRoom}
-use Rattle.wfc_overlap.specs.Built.{pins_in, texts_of}
+use Rattle.wfc_overlap.specs.Built.{picture_pins, texts_of}
 use Rattle.wfc_overlap.specs.Sample.{output_with, problem_of_sample}
 use Rattle.wfc_pattern.specs.Learning.{patterns_of}
 use Rattle.wfc_pattern.specs.Patterns.{PatternsView}
@@ -20,8 +20,8 @@ use Rattle.wfc_ppm.specs.Ppm.{PpmView}
 use Rattle.wfc_ppm.specs.Reading.{ppm_of}
 use Rattle.wfc_ppm.specs.Spelling.{SpellsPpm}
 use Rattle.wfc_problem.specs.Network.{Network}
-use Rattle.wfc_task.specs.Sampled.{SampledView, of_grid, of_ppm}
-use Rattle.wfc_task.specs.Sources.{is_picture_name, side_of}
+use Rattle.wfc_task.specs.Sampled.{SampledView, shown_by_grid, shown_by_ppm}
+use Rattle.wfc_task.specs.Sources.{is_picture_name, window_side_of}
 use Rattle.wfc_words.specs.RequestView.{RequestView}
 
 -- the bytes spell a grid, within the limit of a grid, that shows this
@@ -29,7 +29,7 @@ pub record ShowsGrid (bytes : List ℕ) (sampled : SampledView) : Type 0 where
   pub grid : GridView
   pub spelled : SpellsGrid bytes grid
   pub small : grid.width * grid.height ≤ 1048576
-  pub shows : sampled ≡ of_grid grid
+  pub shows : sampled ≡ shown_by_grid grid
 
 -- the bytes are read as a picture of colours, within the limit of a picture, that shows this; numbers below 256 spell it
 pub record ShowsPpm (bytes : List ℕ) (sampled : SampledView) : Type 0 where
@@ -37,7 +37,7 @@ pub record ShowsPpm (bytes : List ℕ) (sampled : SampledView) : Type 0 where
   pub read : ppm_of bytes ≡ Ok ppm
   pub spelled : All (λ byte. byte < 256) bytes → SpellsPpm bytes ppm
   pub small : ppm.width * ppm.height ≤ 1048576
-  pub shows : sampled ≡ of_ppm ppm
+  pub shows : sampled ≡ shown_by_ppm ppm
 
 -- the bytes show this, as a picture of colours or as a grid
 abbrev pub Shows : Bool → List ℕ → SampledView → Type 0
@@ -59,7 +59,7 @@ pub record IsSample (asked : RequestView) (files : List File) (kind : Kind)
   pub same_kind : sampled.kind ≡ kind
   pub picture : Raster
   pub numbered : indexed sampled.symbols sampled.width ≡ Ok (picture, palette)
-  pub learned : patterns_of picture (side_of asked.source) asked.symmetry asked.wrap_in ≡ Ok patterns
+  pub learned : patterns_of picture (window_side_of asked.source) asked.symmetry asked.wrap_in ≡ Ok patterns
 
 -- whatever the kind of its symbols is
 abbrev pub IsTaught : RequestView → List File → PatternsView → List Symbol → Type 0
@@ -77,5 +77,5 @@ pub record IsProblemOf (asked : RequestView) (files : List File) (patterns : Pat
   pub held : HoldsPins files asked.pins lines
   pub room : IsRoom patterns (output_with asked.width asked.height asked.wrap_out)
   pub pins : List Pin
-  pub meant : pins_in (texts_of palette) asked.width asked.height lines ≡ Ok pins
+  pub meant : picture_pins (texts_of palette) asked.width asked.height lines ≡ Ok pins
   pub problem : P ≡ problem_of_sample patterns (output_with asked.width asked.height asked.wrap_out) pins

@@ -28,7 +28,7 @@ pub record IsSampled (sampled : SampledView) : Type 0 where
   pub symbols : All (λ symbol. IsTrue (is_of_kind sampled.kind symbol)) sampled.symbols
 
 -- the numbers of a picture are those of a palette that a sample of this kind can show
-pub record IsNumbered (kind : Kind) (picture : Raster) (palette : List Symbol) : Type 0 where
+pub record HasShownNumbers (kind : Kind) (picture : Raster) (palette : List Symbol) : Type 0 where
   pub raster : IsRaster picture
   pub shown : IsShown kind palette
   pub numbers : All (λ number. number < length palette) (numbers_of picture)

@@ -20,8 +20,8 @@ use Rattle.wfc_words.specs.declared.kinds.SourceModel.{SourceModel}
 use Rattle.wfc_words.specs.declared.kinds.SourceModel.TheVariants.{Overlap, Tiles}
 
 -- the output that a request asks for
-abbrev pub output_of : RequestView → Output
-output_of asked = output_with asked.width asked.height asked.wrap_out
+abbrev pub asked_output : RequestView → Output
+asked_output asked = output_with asked.width asked.height asked.wrap_out
 
 -- how windows are taken and compared as a request says
 abbrev pub rules_of : RequestView → Rules
@@ -50,7 +50,7 @@ IsLegal asked files P posed m = IsLegalBy asked.source asked files P posed m
 -- the map that an assignment makes
 abbrev pub map_by : (source : SourceModel) (asked : RequestView) (files : List File) (P : Network)
     → PosedBy source asked files P → List ℕ → Raster
-map_by (Overlap n) asked files P of a = picture_of of.patterns (output_of asked) a
+map_by (Overlap n) asked files P of a = picture_of of.patterns (asked_output asked) a
 map_by Tiles asked files P of a = tile_map of.mask a
 
 -- the map that an assignment makes for a request, of windows or of tiles as it says

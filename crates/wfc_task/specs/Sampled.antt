@@ -23,13 +23,13 @@ abbrev pub symbols_of : GridView → List Symbol
 symbols_of grid = map (λ byte. Char byte) grid.bytes
 
 -- what a grid shows
-abbrev pub of_grid : GridView → SampledView
-of_grid grid = record { kind = kinds.Grid; width = grid.width; symbols = symbols_of grid }
+abbrev pub shown_by_grid : GridView → SampledView
+shown_by_grid grid = record { kind = kinds.Grid; width = grid.width; symbols = symbols_of grid }
 
 -- what the pixels of a picture of colours show
-abbrev pub colours_of : PpmView → List Symbol
-colours_of ppm = map (λ colour. Rgb colour) ppm.pixels
+abbrev pub shown_colours : PpmView → List Symbol
+shown_colours ppm = map (λ colour. Rgb colour) ppm.pixels
 
 -- what a picture of colours shows
-abbrev pub of_ppm : PpmView → SampledView
-of_ppm ppm = record { kind = kinds.Ppm ppm.maxval; width = ppm.width; symbols = colours_of ppm }
+abbrev pub shown_by_ppm : PpmView → SampledView
+shown_by_ppm ppm = record { kind = kinds.Ppm ppm.maxval; width = ppm.width; symbols = shown_colours ppm }

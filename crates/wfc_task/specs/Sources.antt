@@ -14,6 +14,6 @@ is_of_windows (Overlap n) = true
 is_of_windows Tiles = false
 
 -- the side of a window, and 0 where the map is of tiles
-abbrev pub side_of : SourceModel → ℕ
-side_of (Overlap n) = n
-side_of Tiles = 0
+abbrev pub window_side_of : SourceModel → ℕ
+window_side_of (Overlap n) = n
+window_side_of Tiles = 0

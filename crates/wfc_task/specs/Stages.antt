@@ -3,8 +3,8 @@ use Rattle.std.specs.Prelude.{Bool, List, None, Ok, Option, Some, false, true, �
 use Rattle.wfc_grid.specs.Reading.{grid_of}
 use Rattle.wfc_model.specs.Raster.{Raster}
 use Rattle.wfc_outside.specs.Folder.{File}
-use Rattle.wfc_overlap.specs.Bridge.{pairs}
-use Rattle.wfc_overlap.specs.Built.{pins_in, texts_of}
+use Rattle.wfc_overlap.specs.Bridge.{window_pair_count}
+use Rattle.wfc_overlap.specs.Built.{picture_pins, texts_of}
 use Rattle.wfc_overlap.specs.Sample.{Output, output_with}
 use Rattle.wfc_pattern.specs.Learning.{patterns_of}
 use Rattle.wfc_picture.specs.Palette.{indexed}
@@ -23,7 +23,7 @@ use Rattle.wfc_problem.specs.declared.TheConstants.{MAX_PAIRS}
 use Rattle.wfc_render.specs.Layout.{layout_of}
 use Rattle.wfc_task.specs.Given.{HoldsPins, IsSample, IsSampleFile}
 use Rattle.wfc_task.specs.Sampled.{SampledView}
-use Rattle.wfc_task.specs.Sources.{is_picture_name, side_of}
+use Rattle.wfc_task.specs.Sources.{is_picture_name, window_side_of}
 use Rattle.wfc_task.specs.declared.lesson.Taught.{Taught}
 use Rattle.wfc_words.specs.RequestView.{RequestView}
 
@@ -47,7 +47,7 @@ IsSymbolsFault asked files fault =
     × IsRefusal refusals.Colours (indexed sampled.symbols sampled.width) fault
 
 -- the file shows a picture of these numbers, which have this palette
-pub record IsPictureOf (asked : RequestView) (files : List File) (made : Raster × List Symbol)
+pub record IsReadPicture (asked : RequestView) (files : List File) (made : Raster × List Symbol)
     : Type 0 where
   pub sampled : SampledView
   pub file : IsSampleFile files asked.file sampled
@@ -56,9 +56,9 @@ pub record IsPictureOf (asked : RequestView) (files : List File) (made : Raster 
 -- nothing can be learned of the sample
 abbrev pub IsLearnFault : RequestView → List File → TaskStage
 IsLearnFault asked files fault =
-    (made : Raster × List Symbol) × IsPictureOf asked files made
+    (made : Raster × List Symbol) × IsReadPicture asked files made
     × IsRefusal refusals.Learn
-    (patterns_of made.0 (side_of asked.source) asked.symmetry asked.wrap_in) fault
+    (patterns_of made.0 (window_side_of asked.source) asked.symmetry asked.wrap_in) fault
 
 -- the sample teaches this
 abbrev pub Teaches : RequestView → List File → Taught → Type 0
@@ -94,16 +94,16 @@ abbrev pub IsSizeFault : RequestView → List File → TaskStage
 IsSizeFault asked files fault =
     (lesson : Taught) × Teaches asked files lesson × IsBelowFault asked lesson.patterns.n fault
 
--- there are so many pairs, which are too many
+-- there are so many window_pair_count, which are too many
 pub record IsCountFault (count : ℕ) (fault : Fault) : Type 0 where
   pub many : MAX_PAIRS < count
   pub is : fault ≡ Refused (refusals.Build (TooLarge count))
 
--- there are too many pairs of a place and a pattern
+-- there are too many window_pair_count of a place and a pattern
 abbrev pub IsPairsFault : RequestView → List File → TaskStage
 IsPairsFault asked files fault =
     (lesson : Taught) × Teaches asked files lesson
-    × IsCountFault (pairs lesson.patterns (output_asked asked)) fault
+    × IsCountFault (window_pair_count lesson.patterns (output_asked asked)) fault
 
 -- a line of pins means none of what was learned
 abbrev pub IsPinFault : RequestView → List File → TaskStage
@@ -111,4 +111,4 @@ IsPinFault asked files fault =
     (lesson : Taught) × Teaches asked files lesson
     × ((lines : List PinView) × HoldsPins files asked.pins lines
     × IsRefusal refusals.Build
-    (pins_in (texts_of lesson.palette) asked.width asked.height lines) fault)
+    (picture_pins (texts_of lesson.palette) asked.width asked.height lines) fault)

@@ -4,7 +4,7 @@ use Rattle.wfc_grid.specs.Grid.{GridView}
 use Rattle.wfc_grid.specs.Reading.{grid_of}
 use Rattle.wfc_model.specs.Raster.{Raster}
 use Rattle.wfc_outside.specs.Gives.{result_map}
-use Rattle.wfc_overlap.specs.Built.{built}
+use Rattle.wfc_overlap.specs.Built.{picture_problem}
 use Rattle.wfc_overlap.specs.Sample.{output_with}
 use Rattle.wfc_pattern.specs.Learning.{patterns_of}
 use Rattle.wfc_pattern.specs.Patterns.{PatternsView}
@@ -23,8 +23,8 @@ use Rattle.wfc_ppm.specs.Reading.{ppm_of}
 use Rattle.wfc_problem.specs.Network.{Network}
 use Rattle.wfc_render.specs.Layout.{layout_of}
 use Rattle.wfc_render.specs.declared.form.Layout.{Layout}
-use Rattle.wfc_task.specs.Sampled.{SampledView, of_grid, of_ppm}
-use Rattle.wfc_task.specs.Sources.{is_picture_name, side_of}
+use Rattle.wfc_task.specs.Sampled.{SampledView, shown_by_grid, shown_by_ppm}
+use Rattle.wfc_task.specs.Sources.{is_picture_name, window_side_of}
 use Rattle.wfc_words.specs.RequestView.{RequestView}
 
 -- the grid that a file spells
@@ -32,34 +32,34 @@ abbrev pub grid_in : Source → List ℕ → Result GridView Refusal
 grid_in source text = or_refuse (Grid source) (grid_of text)
 
 -- the picture of colours that a file spells
-abbrev pub ppm_in : Source → List ℕ → Result PpmView Refusal
-ppm_in source text = or_refuse (Ppm source) (ppm_of text)
+abbrev pub ppm_of_file : Source → List ℕ → Result PpmView Refusal
+ppm_of_file source text = or_refuse (Ppm source) (ppm_of text)
 
 -- what the bytes of a sample show: a picture of colours where its name says so, else a grid
 abbrev pub shown_in : Bool → List ℕ → Result SampledView Refusal
-shown_in true text = result_map of_ppm (ppm_in Sample text)
-shown_in false text = result_map of_grid (grid_in Sample text)
+shown_in true text = result_map shown_by_ppm (ppm_of_file Sample text)
+shown_in false text = result_map shown_by_grid (grid_in Sample text)
 
 -- what the bytes of the sample of a request show, by the name of its file
 abbrev pub sampled_in : RequestView → List ℕ → Result SampledView Refusal
 sampled_in asked text = shown_in (is_picture_name asked.file) text
 
 -- the picture of a sample in numbers, and the palette that says what they stand for
-abbrev pub coloured : SampledView → Result (Raster × List Symbol) Refusal
-coloured sampled = or_refuse Colours (indexed sampled.symbols sampled.width)
+abbrev pub sample_in_numbers : SampledView → Result (Raster × List Symbol) Refusal
+sample_in_numbers sampled = or_refuse Colours (indexed sampled.symbols sampled.width)
 
 -- what a picture teaches by a request
-abbrev pub taught : RequestView → Raster → Result PatternsView Refusal
-taught asked picture = or_refuse Learn (patterns_of picture (side_of asked.source) asked.symmetry asked.wrap_in)
+abbrev pub patterns_taught : RequestView → Raster → Result PatternsView Refusal
+patterns_taught asked picture = or_refuse Learn (patterns_of picture (window_side_of asked.source) asked.symmetry asked.wrap_in)
 
 -- how the map of a sample of this kind is written
-abbrev pub laid : Kind → RequestView → Result Layout Refusal
-laid kind asked = or_refuse Render (layout_of kind asked.form asked.width asked.height 1)
+abbrev pub sample_layout : Kind → RequestView → Result Layout Refusal
+sample_layout kind asked = or_refuse Render (layout_of kind asked.form asked.width asked.height 1)
 
 -- the pins and bans that a file has
-abbrev pub pins_in : List ℕ → Result (List PinView) Refusal
-pins_in text = or_refuse Pins (pins_of text)
+abbrev pub read_pin_lines : List ℕ → Result (List PinView) Refusal
+read_pin_lines text = or_refuse Pins (pins_of text)
 
 -- the problem of learned patterns and the lines of a pins file
-abbrev pub posed : RequestView → PatternsView → List Symbol → List PinView → Result Network Refusal
-posed asked patterns palette lines = or_refuse Build (built patterns palette (output_with asked.width asked.height asked.wrap_out) lines)
+abbrev pub problem_of_lines : RequestView → PatternsView → List Symbol → List PinView → Result Network Refusal
+problem_of_lines asked patterns palette lines = or_refuse Build (picture_problem patterns palette (output_with asked.width asked.height asked.wrap_out) lines)

@@ -9,7 +9,7 @@ use Rattle.wfc_plan.specs.Files.{IsFile}
 use Rattle.wfc_problem.specs.Network.{Network}
 use Rattle.wfc_problem.specs.declared.TheConstants.{MAX_PAIRS}
 use Rattle.wfc_task.specs.Given.{HoldsPins}
-use Rattle.wfc_tiled.specs.Built.{pairs, pins_in}
+use Rattle.wfc_tiled.specs.Built.{tile_pair_count, tile_map_pins}
 use Rattle.wfc_tiled.specs.Mask.{MaskView, mask_of, plain_mask}
 use Rattle.wfc_tiled.specs.Tiles.{problem_of_tiles}
 use Rattle.wfc_tileset.specs.Document.{set_of}
@@ -59,7 +59,7 @@ pub record IsTileProblemOf (asked : RequestView) (files : List File) (set : Tile
   pub lines : List PinView
   pub held : HoldsPins files asked.pins lines
   pub masked : HoldsMask asked files asked.mask mask
-  pub few_pairs : pairs set mask ≤ MAX_PAIRS
+  pub few_pairs : tile_pair_count set mask ≤ MAX_PAIRS
   pub pins : List Pin
-  pub meant : pins_in set.tiles mask lines ≡ Ok pins
+  pub meant : tile_map_pins set.tiles mask lines ≡ Ok pins
   pub problem : P ≡ problem_of_tiles set mask asked.wrap_out pins

@@ -6,7 +6,7 @@ use Rattle.wfc_plan.specs.declared.fault.Source.TheVariants.{Mask, Picture, Samp
 use Rattle.wfc_problem.specs.Network.{Network}
 use Rattle.wfc_task.specs.SamplePlans.{pins_plan}
 use Rattle.wfc_task.specs.Steps.{grid_in}
-use Rattle.wfc_task.specs.TileSteps.{document_in, mask_in, pictured, posed_tiles}
+use Rattle.wfc_task.specs.TileSteps.{document_in, mask_in, with_next_picture, posed_tiles}
 use Rattle.wfc_tiled.specs.Mask.{MaskView, plain_mask}
 use Rattle.wfc_tileset.specs.Pictures.{picture_name}
 use Rattle.wfc_tileset.specs.Tiles.{TileSetView}
@@ -20,7 +20,7 @@ document_plan asked = and_then (file_plan Sample asked.file) (λ bytes. step (do
 abbrev pub picture_plan : Option (List ℕ) → TileSetView → Plan TileSetView
 picture_plan None set = done set
 picture_plan (Some name) set =
-    and_then (file_plan (Picture (length set.pictures)) name) (λ bytes. step (pictured set bytes))
+    and_then (file_plan (Picture (length set.pictures)) name) (λ bytes. step (with_next_picture set bytes))
 
 -- the picture of the next tile is read, if it has one
 abbrev pub next_plan : TileSetView → Plan TileSetView

@@ -12,7 +12,7 @@ use Rattle.wfc_render.specs.Layout.{layout_of}
 use Rattle.wfc_task.specs.Given.{HoldsPins}
 use Rattle.wfc_task.specs.Stages.{IsCountFault}
 use Rattle.wfc_task.specs.TileGiven.{HoldsMask, HoldsPicture, IsTileSetOf}
-use Rattle.wfc_tiled.specs.Built.{pairs, pins_in}
+use Rattle.wfc_tiled.specs.Built.{tile_pair_count, tile_map_pins}
 use Rattle.wfc_tiled.specs.Mask.{MaskView, mask_of}
 use Rattle.wfc_tileset.specs.Document.{set_of}
 use Rattle.wfc_tileset.specs.Pictures.{kind_of, picture_name, picture_taken, side_of}
@@ -87,12 +87,12 @@ IsMaskFault asked files (Some name) fault =
 
 -- ---- problems
 
--- there are too many pairs of a place that is no hole and a variant
+-- there are too many tile_pair_count of a place that is no hole and a variant
 abbrev pub IsTilePairsFault : RequestView → List File → TaskStage
 IsTilePairsFault asked files fault =
     (set : TileSetView) × IsTileSetOf asked files set
     × ((mask : MaskView) × HoldsMask asked files asked.mask mask
-    × IsCountFault (pairs set mask) fault)
+    × IsCountFault (tile_pair_count set mask) fault)
 
 -- a line of pins means no variant of the tile set at a place that is no hole
 abbrev pub IsTilePinFault : RequestView → List File → TaskStage
@@ -100,4 +100,4 @@ IsTilePinFault asked files fault =
     (set : TileSetView) × IsTileSetOf asked files set
     × ((mask : MaskView) × HoldsMask asked files asked.mask mask
     × ((lines : List PinView) × HoldsPins files asked.pins lines
-    × IsRefusal refusals.Build (pins_in set.tiles mask lines) fault))
+    × IsRefusal refusals.Build (tile_map_pins set.tiles mask lines) fault))

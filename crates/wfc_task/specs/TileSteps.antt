@@ -8,7 +8,7 @@ use Rattle.wfc_plan.specs.declared.fault.Refusal.TheVariants.{Build, Mask, Rende
 use Rattle.wfc_problem.specs.Network.{Network}
 use Rattle.wfc_render.specs.Layout.{layout_of}
 use Rattle.wfc_render.specs.declared.form.Layout.{Layout}
-use Rattle.wfc_tiled.specs.Built.{built}
+use Rattle.wfc_tiled.specs.Built.{tile_map_problem}
 use Rattle.wfc_tiled.specs.Mask.{MaskView, mask_of}
 use Rattle.wfc_tileset.specs.Document.{set_of}
 use Rattle.wfc_tileset.specs.Pictures.{kind_of, picture_taken, side_of}
@@ -20,8 +20,8 @@ abbrev pub document_in : List ℕ → Result TileSetView Refusal
 document_in text = or_refuse Tiles (set_of text)
 
 -- the tile set with the picture of its next tile
-abbrev pub pictured : TileSetView → List ℕ → Result TileSetView Refusal
-pictured set text = or_refuse Tiles (picture_taken set text)
+abbrev pub with_next_picture : TileSetView → List ℕ → Result TileSetView Refusal
+with_next_picture set text = or_refuse Tiles (picture_taken set text)
 
 -- how a map of a tile set is written
 abbrev pub laid_tiles : TileSetView → RequestView → Result Layout Refusal
@@ -33,4 +33,4 @@ mask_in asked grid = or_refuse Mask (mask_of grid asked.width asked.height)
 
 -- the problem of a tile set, a mask and the lines of a pins file
 abbrev pub posed_tiles : RequestView → TileSetView → MaskView → List PinView → Result Network Refusal
-posed_tiles asked set mask lines = or_refuse Build (built set mask asked.wrap_out lines)
+posed_tiles asked set mask lines = or_refuse Build (tile_map_problem set mask asked.wrap_out lines)

@@ -9,8 +9,8 @@ use Rattle.wfc_tileset.specs.Tiles.{TileSetView}
 use Rattle.wfc_words.specs.RequestView.{RequestView}
 
 -- the mask, or that without holes where there is none
-abbrev pub masked : RequestView → Option MaskView → MaskView
-masked asked mask = unwrap_or mask (plain_mask asked.width asked.height)
+abbrev pub mask_or_whole : RequestView → Option MaskView → MaskView
+mask_or_whole asked mask = unwrap_or mask (plain_mask asked.width asked.height)
 
 -- a mask has the sides of the map asked for
 pub record HasSides (asked : RequestView) (mask : MaskView) : Type 0 where
@@ -19,7 +19,7 @@ pub record HasSides (asked : RequestView) (mask : MaskView) : Type 0 where
 
 -- the mask has the sides of the map, and the problem is that of these tiles on it, for some pins at
 -- places that are no holes
-pub record IsTiled (asked : RequestView) (set : TileSetView) (mask : MaskView) (P : Network) : Type 0 where
+pub record IsTilingTask (asked : RequestView) (set : TileSetView) (mask : MaskView) (P : Network) : Type 0 where
   pub same_width : mask.width ≡ asked.width
   pub same_height : mask.height ≡ asked.height
   pub pins : List Pin

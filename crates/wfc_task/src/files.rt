@@ -7,13 +7,13 @@ ghost use Rattle.wfc_outside.specs.Gives.{result_map};
 ghost use Rattle.wfc_pattern.specs.Patterns.{IsPatterns};
 ghost use Rattle.wfc_plan.specs.Plan.{Goes};
 ghost use Rattle.wfc_task.specs.Asked.{IsOutputAsked, IsSampleAsked};
-ghost use Rattle.wfc_task.specs.Lesson.{IsLesson, IsNumbered, IsPosed, IsSampled};
+ghost use Rattle.wfc_task.specs.Lesson.{IsLesson, HasShownNumbers, IsPosed, IsSampled};
 ghost use Rattle.wfc_task.specs.SamplePlans.{picture_plan, pins_file_plan, pins_plan, problem_plan, sample_plan, sampled_plan};
 ghost use Rattle.wfc_task.specs.Sampled.{sampled_view};
 
 use crate::lesson::Taught;
 use crate::sampled::{Sampled, shown};
-use crate::steps::{coloured, pins_in, posed, taught};
+use crate::steps::{patterns_taught, problem_of_lines, read_pin_lines, sample_in_numbers};
 use std::alloc::Global;
 use wfc_outside::Folder;
 use wfc_picture::{Kind, MAX_PIXELS, Palette, Picture};
@@ -44,11 +44,11 @@ fn picture<F: Folder>(
     folder: &mut F,
 ) -> Result<(Kind, Picture, Palette), Fault>
     ensures goes { Goes (picture_plan request.now) (F.seen folder.old) (F.seen folder.new) result }
-    ensures numbered { IfOk result (λ made. IsNumbered made.0 made.1 made.2) }
+    ensures numbered { IfOk result (λ made. HasShownNumbers made.0 made.1 made.2) }
     ensures small { IfOk result (λ made. made.1.width * height_of made.1 ≤ MAX_PIXELS) }
 {
     let sampled = sample_file(alloc, request, folder)?;
-    let (picture, palette) = coloured(alloc, &sampled)?;
+    let (picture, palette) = sample_in_numbers(alloc, &sampled)?;
     Ok((sampled.kind, picture, palette))
 }
 
@@ -59,7 +59,7 @@ pub fn sample<F: Folder>(alloc: Global, request: &Request, folder: &mut F) -> Re
     ensures lesson { IfOk result IsLesson }
 {
     let (kind, picture, palette) = picture(alloc, request, folder)?;
-    let patterns = taught(alloc, request, &picture)?;
+    let patterns = patterns_taught(alloc, request, &picture)?;
     Ok(Taught {
         kind,
         palette,
@@ -73,7 +73,7 @@ fn pins_file<F: Folder>(alloc: Global, folder: &mut F, name: &str) -> Result<Vec
         (F.seen folder.old) (F.seen folder.new) (result_map (λ lines. lines.items) result) }
 {
     let bytes = whole_file(alloc, folder, Source::Pins, name)?;
-    let lines = pins_in(alloc, &bytes)?;
+    let lines = read_pin_lines(alloc, &bytes)?;
     Ok(lines)
 }
 
@@ -106,6 +106,6 @@ pub fn problem<F: Folder>(
     ensures posed { IfOk result (IsPosed request.now taught.now.patterns) }
 {
     let lines = pins(alloc, folder, request.pins())?;
-    let problem = posed(alloc, request, taught, &lines)?;
+    let problem = problem_of_lines(alloc, request, taught, &lines)?;
     Ok(problem)
 }

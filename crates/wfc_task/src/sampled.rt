@@ -4,7 +4,7 @@ ghost use Rattle.std.specs.Prelude.{IfOk, Ok, length, ◌*◌, ◌≡◌, ◌≤
 ghost use Rattle.wfc_outside.specs.Gives.{result_map};
 ghost use Rattle.wfc_plan.specs.Plan.{GivesStep};
 ghost use Rattle.wfc_task.specs.Lesson.{IsSampled};
-ghost use Rattle.wfc_task.specs.Sampled.{colours_of, of_grid, of_ppm, sampled_view, symbols_of};
+ghost use Rattle.wfc_task.specs.Sampled.{shown_colours, shown_by_grid, shown_by_ppm, sampled_view, symbols_of};
 ghost use Rattle.wfc_task.specs.Steps.{sampled_in};
 
 use crate::sources::is_picture_name;
@@ -33,17 +33,17 @@ pub(crate) fn shown(alloc: Global, request: &Request, bytes: &[u8]) -> Result<Sa
 {
     if is_picture_name(request.file().as_bytes()) {
         let ppm = ppm(alloc, Source::Sample, bytes)?;
-        of_ppm(alloc, ppm)
+        shown_by_ppm(alloc, ppm)
     } else {
         let grid = grid(alloc, Source::Sample, bytes)?;
-        of_grid(alloc, grid)
+        shown_by_grid(alloc, grid)
     }
 }
 
 /// What a picture of colours shows. The picture is let go.
-fn of_ppm(alloc: Global, ppm: Ppm) -> Result<Sampled, Refusal>
+fn shown_by_ppm(alloc: Global, ppm: Ppm) -> Result<Sampled, Refusal>
     requires small { ppm.width * ppm.height ≤ MAX_PIXELS }
-    ensures exact { GivesStep (Ok (of_ppm ppm)) (result_map sampled_view result) }
+    ensures exact { GivesStep (Ok (shown_by_ppm ppm)) (result_map sampled_view result) }
     ensures sampled { IfOk result (λ sampled. IsSampled (sampled_view sampled)) }
 {
     let width = ppm.width;
@@ -58,7 +58,7 @@ fn of_ppm(alloc: Global, ppm: Ppm) -> Result<Sampled, Refusal>
 
 /// What the pixels of a picture of colours show.
 fn colours(alloc: Global, ppm: Ppm) -> Result<Vec<Symbol>, NoMemory>
-    ensures value { IfOk result (λ symbols. symbols.items ≡ colours_of ppm) }
+    ensures value { IfOk result (λ symbols. symbols.items ≡ shown_colours ppm) }
 {
     let pixels = ppm.pixels.as_slice();
     let mut symbols = Vec::with_capacity(alloc, pixels.len())?;
@@ -69,9 +69,9 @@ fn colours(alloc: Global, ppm: Ppm) -> Result<Vec<Symbol>, NoMemory>
 }
 
 /// What a grid shows. The grid is let go.
-fn of_grid(alloc: Global, grid: Grid) -> Result<Sampled, Refusal>
+fn shown_by_grid(alloc: Global, grid: Grid) -> Result<Sampled, Refusal>
     requires small { grid.width * grid.height ≤ MAX_CELLS }
-    ensures exact { GivesStep (Ok (of_grid grid)) (result_map sampled_view result) }
+    ensures exact { GivesStep (Ok (shown_by_grid grid)) (result_map sampled_view result) }
     ensures sampled { IfOk result (λ sampled. IsSampled (sampled_view sampled)) }
 {
     let width = grid.width;

@@ -1,7 +1,7 @@
 //! What a map is made of, and which files are pictures in colours.
 
 ghost use Rattle.std.specs.Prelude.{◌≡◌};
-ghost use Rattle.wfc_task.specs.Sources.{is_picture_name, side_of};
+ghost use Rattle.wfc_task.specs.Sources.{is_picture_name, window_side_of};
 
 use wfc_words::SourceModel;
 
@@ -13,8 +13,8 @@ pub(crate) fn is_picture_name(name: &[u8]) -> bool
 }
 
 /// The side of a window, in pixels; 0 where the map is of tiles.
-pub fn side_of(source: SourceModel) -> u32
-    ensures value { result ≡ side_of source }
+pub fn window_side_of(source: SourceModel) -> u32
+    ensures value { result ≡ window_side_of source }
 {
     match source {
         SourceModel::Overlap { n } => n,

@@ -3,7 +3,7 @@
 ghost use Rattle.std.specs.Prelude.{IfOk, length, ◌%◌, ◌*◌, ◌<◌, ◌≡◌, ◌≤◌};
 ghost use Rattle.wfc_model.specs.Raster.{height_of};
 ghost use Rattle.wfc_outside.specs.Gives.{result_map};
-ghost use Rattle.wfc_overlap.specs.Built.{built};
+ghost use Rattle.wfc_overlap.specs.Built.{picture_problem};
 ghost use Rattle.wfc_overlap.specs.Sample.{output_with};
 ghost use Rattle.wfc_pattern.specs.Learning.{patterns_of};
 ghost use Rattle.wfc_pattern.specs.Patterns.{IsPatterns};
@@ -11,13 +11,13 @@ ghost use Rattle.wfc_picture.specs.Palette.{indexed};
 ghost use Rattle.wfc_plan.specs.Plan.{GivesStep, or_refuse};
 ghost use Rattle.wfc_plan.specs.declared.fault.Refusal.TheVariants.{Build, Colours, Learn};
 ghost use Rattle.wfc_task.specs.Asked.{IsOutputAsked, IsSampleAsked};
-ghost use Rattle.wfc_task.specs.Lesson.{IsNumbered, IsPosed, IsSampled};
+ghost use Rattle.wfc_task.specs.Lesson.{HasShownNumbers, IsPosed, IsSampled};
 ghost use Rattle.wfc_task.specs.Sampled.{sampled_view};
-ghost use Rattle.wfc_task.specs.Steps.{coloured, grid_in, laid, pins_in, posed, ppm_in, taught};
+ghost use Rattle.wfc_task.specs.Steps.{sample_in_numbers, grid_in, sample_layout, read_pin_lines, problem_of_lines, ppm_of_file, patterns_taught};
 
 use crate::lesson::Taught;
 use crate::sampled::Sampled;
-use crate::sources::side_of;
+use crate::sources::window_side_of;
 use std::alloc::Global;
 use wfc_grid::{Grid, MAX_CELLS};
 use wfc_outside::MAX_FILE_BYTES;
@@ -47,7 +47,7 @@ pub(crate) fn grid(alloc: Global, source: Source, bytes: &[u8]) -> Result<Grid, 
 /// The picture of colours that the bytes of a file spell.
 pub(crate) fn ppm(alloc: Global, source: Source, bytes: &[u8]) -> Result<Ppm, Refusal>
     requires short { length bytes.now ≤ MAX_FILE_BYTES }
-    ensures exact { GivesStep (ppm_in source bytes.now) result }
+    ensures exact { GivesStep (ppm_of_file source bytes.now) result }
     ensures small { IfOk result (λ ppm. ppm.width * ppm.height ≤ MAX_PIXELS) }
 {
     match wfc_ppm::read(alloc, bytes) {
@@ -57,17 +57,24 @@ pub(crate) fn ppm(alloc: Global, source: Source, bytes: &[u8]) -> Result<Ppm, Re
 }
 
 /// The picture of a sample in numbers, and its palette.
-pub(crate) fn coloured(alloc: Global, sampled: &Sampled) -> Result<(Picture, Palette), Refusal>
+pub(crate) fn sample_in_numbers(
+    alloc: Global,
+    sampled: &Sampled,
+) -> Result<(Picture, Palette), Refusal>
     requires sampled { IsSampled (sampled_view sampled.now) }
-    ensures exact { GivesStep (coloured (sampled_view sampled.now)) result }
-    ensures numbered { IfOk result (λ made. IsNumbered sampled.now.kind made.0 made.1) }
+    ensures exact { GivesStep (sample_in_numbers (sampled_view sampled.now)) result }
+    ensures numbered { IfOk result (λ made. HasShownNumbers sampled.now.kind made.0 made.1) }
     ensures small { IfOk result (λ made. made.0.width * height_of made.0 ≤ MAX_PIXELS) }
 {
-    indexed(alloc, &sampled.symbols, sampled.width)
+    numbered_picture(alloc, &sampled.symbols, sampled.width)
 }
 
 /// The picture of these symbols in numbers, and its palette.
-pub fn indexed(alloc: Global, symbols: &[Symbol], width: u32) -> Result<(Picture, Palette), Refusal>
+pub fn numbered_picture(
+    alloc: Global,
+    symbols: &[Symbol],
+    width: u32,
+) -> Result<(Picture, Palette), Refusal>
     requires some_column { 0 < width }
     requires rows { length symbols.now % width ≡ 0 }
     requires some_pixel { 0 < length symbols.now }
@@ -82,21 +89,21 @@ pub fn indexed(alloc: Global, symbols: &[Symbol], width: u32) -> Result<(Picture
 }
 
 /// What a picture teaches by the request.
-pub(crate) fn taught(
+pub(crate) fn patterns_taught(
     alloc: Global,
     request: &Request,
     picture: &Picture,
 ) -> Result<Patterns, Refusal>
     requires sample { IsSampleAsked request.now }
     requires small { picture.now.width * height_of picture.now ≤ MAX_PIXELS }
-    ensures exact { GivesStep (taught request.now picture.now) result }
+    ensures exact { GivesStep (patterns_taught request.now picture.now) result }
 {
-    let n = side_of(request.source);
-    learned(alloc, picture, n, request.symmetry, request.wrap_in)
+    let n = window_side_of(request.source);
+    patterns_of_picture(alloc, picture, n, request.symmetry, request.wrap_in)
 }
 
 /// What a picture teaches: its windows of `n` by `n` pixels, each in its first `symmetry` images.
-pub fn learned(
+pub fn patterns_of_picture(
     alloc: Global,
     picture: &Picture,
     n: u32,
@@ -117,9 +124,9 @@ pub fn learned(
 }
 
 /// How the map of a sample of this kind is written.
-pub fn laid(kind: Kind, request: &Request) -> Result<Layout, Refusal>
+pub fn sample_layout(kind: Kind, request: &Request) -> Result<Layout, Refusal>
     requires output { IsOutputAsked request.now }
-    ensures exact { result ≡ laid kind request.now }
+    ensures exact { result ≡ sample_layout kind request.now }
 {
     match layout(kind, request.form, request.width, request.height, 1) {
         Ok(layout) => Ok(layout),
@@ -128,9 +135,9 @@ pub fn laid(kind: Kind, request: &Request) -> Result<Layout, Refusal>
 }
 
 /// The pins and bans of the bytes of a pins file.
-pub(crate) fn pins_in(alloc: Global, bytes: &[u8]) -> Result<Vec<PinLine>, Refusal>
+pub(crate) fn read_pin_lines(alloc: Global, bytes: &[u8]) -> Result<Vec<PinLine>, Refusal>
     requires short { length bytes.now ≤ MAX_FILE_BYTES }
-    ensures exact { GivesStep (pins_in bytes.now) (result_map (λ lines. lines.items) result) }
+    ensures exact { GivesStep (read_pin_lines bytes.now) (result_map (λ lines. lines.items) result) }
 {
     match read_pins(alloc, bytes) {
         Ok(lines) => Ok(lines),
@@ -139,19 +146,19 @@ pub(crate) fn pins_in(alloc: Global, bytes: &[u8]) -> Result<Vec<PinLine>, Refus
 }
 
 /// The problem of what a sample teaches and the lines of a pins file.
-pub(crate) fn posed(
+pub(crate) fn problem_of_lines(
     alloc: Global,
     request: &Request,
     taught: &Taught,
     lines: &[PinLine],
 ) -> Result<Problem, Refusal>
-    requires patterns { IsPatterns taught.now.patterns }
+    requires patterns { IsPatterns patterns_taught.now.patterns }
     requires output { IsOutputAsked request.now }
-    ensures exact { GivesStep (posed request.now taught.now.patterns taught.now.palette lines.now)
-        result }
-    ensures posed { IfOk result (IsPosed request.now taught.now.patterns) }
+    ensures exact { GivesStep (problem_of_lines request.now patterns_taught.now.patterns
+        patterns_taught.now.palette lines.now) result }
+    ensures posed { IfOk result (IsPosed request.now patterns_taught.now.patterns) }
 {
-    let output = Output {
+    let output = AskedOutput {
         width: request.width,
         height: request.height,
         wrap: request.wrap_out,
@@ -161,7 +168,7 @@ pub(crate) fn posed(
 
 /// A map that is to be made: its sides, in pixels, and whether it wraps.
 #[derive(Clone, Copy)]
-pub struct Output {
+pub struct AskedOutput {
     pub width: u32,
     pub height: u32,
     pub wrap: bool,
@@ -172,17 +179,17 @@ pub fn posed_for(
     alloc: Global,
     patterns: &Patterns,
     palette: &Palette,
-    output: Output,
+    output: AskedOutput,
     lines: &[PinLine],
 ) -> Result<Problem, Refusal>
     requires some_width { 0 < output.width }
     requires some_height { 0 < output.height }
     requires width_limit { output.width ≤ 4096 }
     requires height_limit { output.height ≤ 4096 }
-    ensures exact { GivesStep (or_refuse Build (built patterns.now palette.now
+    ensures exact { GivesStep (or_refuse Build (picture_problem patterns.now palette.now
         (output_with output.width output.height output.wrap) lines.now)) result }
 {
-    let Output {
+    let AskedOutput {
         width,
         height,
         wrap,

@@ -5,11 +5,11 @@ ghost use Rattle.wfc_outside.specs.Gives.{result_map};
 ghost use Rattle.wfc_plan.specs.Plan.{Goes};
 ghost use Rattle.wfc_task.specs.Asked.{IsOutputAsked};
 ghost use Rattle.wfc_task.specs.TilePlans.{document_plan, mask_file_plan, mask_plan, next_plan, pictures_plan, tiled_plan, tiles_plan};
-ghost use Rattle.wfc_task.specs.Tiling.{HasSides, IsTiled, masked};
+ghost use Rattle.wfc_task.specs.Tiling.{HasSides, IsTilingTask, mask_or_whole};
 
 use crate::files::pins;
 use crate::steps::grid;
-use crate::tile_steps::{document, mask_in, posed_tiles, take_picture};
+use crate::tile_steps::{mask_in, posed_tiles, take_picture, tile_document};
 use std::alloc::Global;
 use wfc_outside::Folder;
 use wfc_plan::{Fault, Source, whole_file};
@@ -28,7 +28,7 @@ fn document_file<F: Folder>(
         (F.seen folder.old) (F.seen folder.new) result }
 {
     let bytes = whole_file(alloc, folder, Source::Sample, request.file())?;
-    let tiles = document(alloc, &bytes)?;
+    let tiles = tile_document(alloc, &bytes)?;
     Ok(tiles)
 }
 
@@ -96,8 +96,8 @@ pub fn mask<F: Folder>(
 ) -> Result<Option<Mask>, Fault>
     requires output { IsOutputAsked request.now }
     ensures goes { Goes (mask_plan request.now)
-        (F.seen folder.old) (F.seen folder.new) (result_map (masked request.now) result) }
-    ensures sides { IfOk result (λ mask. HasSides request.now (masked request.now mask)) }
+        (F.seen folder.old) (F.seen folder.new) (result_map (mask_or_whole request.now) result) }
+    ensures sides { IfOk result (λ mask. HasSides request.now (mask_or_whole request.now mask)) }
 {
     match request.mask() {
         Some(name) => Ok(Some(mask_file(alloc, request, folder, name)?)),
@@ -114,9 +114,9 @@ pub fn tiled_problem<F: Folder>(
 ) -> Result<(Option<Mask>, Problem), Fault>
     requires output { IsOutputAsked request.now }
     ensures goes { Goes (tiled_plan request.now tiles.now) (F.seen folder.old) (F.seen folder.new)
-        (result_map (λ made. (masked request.now made.0, made.1)) result) }
+        (result_map (λ made. (mask_or_whole request.now made.0, made.1)) result) }
     ensures tiled { IfOk result (λ made.
-        IsTiled request.now tiles.now (masked request.now made.0) made.1) }
+        IsTilingTask request.now tiles.now (mask_or_whole request.now made.0) made.1) }
 {
     let lines = pins(alloc, folder, request.pins())?;
     let mask = mask(alloc, request, folder)?;

@@ -4,9 +4,9 @@ ghost use Rattle.std.specs.Prelude.{IfOk, IsSome, length, ◌≡◌, ◌≤◌};
 ghost use Rattle.wfc_outside.specs.Gives.{Gives, result_map};
 ghost use Rattle.wfc_plan.specs.Plan.{GivesStep};
 ghost use Rattle.wfc_task.specs.Asked.{IsOutputAsked};
-ghost use Rattle.wfc_task.specs.TileSteps.{document_in, laid_tiles, mask_in, pictured, posed_tiles};
-ghost use Rattle.wfc_task.specs.Tiling.{HasSides, IsTiled, masked};
-ghost use Rattle.wfc_tiled.specs.Built.{built};
+ghost use Rattle.wfc_task.specs.TileSteps.{document_in, laid_tiles, mask_in, with_next_picture, posed_tiles};
+ghost use Rattle.wfc_task.specs.Tiling.{HasSides, IsTilingTask, mask_or_whole};
+ghost use Rattle.wfc_tiled.specs.Built.{tile_map_problem};
 ghost use Rattle.wfc_tileset.specs.Pictures.{picture_name};
 
 use std::alloc::Global;
@@ -21,7 +21,7 @@ use wfc_tileset::{TileSet, read};
 use wfc_words::Request;
 
 /// The tile set that a document spells, whose pictures are named and not read.
-pub fn document(alloc: Global, bytes: &[u8]) -> Result<TileSet, Refusal>
+pub fn tile_document(alloc: Global, bytes: &[u8]) -> Result<TileSet, Refusal>
     requires short { length bytes.now ≤ MAX_FILE_BYTES }
     ensures exact { GivesStep (document_in bytes.now) result }
 {
@@ -34,7 +34,8 @@ pub fn document(alloc: Global, bytes: &[u8]) -> Result<TileSet, Refusal>
 /// Takes the picture of the next tile.
 pub(crate) fn take_picture(alloc: Global, tiles: &mut TileSet, bytes: &[u8]) -> Result<(), Refusal>
     requires named { IsSome (picture_name tiles.old (length tiles.old.pictures)) }
-    ensures exact { GivesStep (pictured tiles.old bytes.now) (result_map (λ _. tiles.new) result) }
+    ensures exact { GivesStep (with_next_picture tiles.old bytes.now) (result_map (λ _. tiles.new)
+        result) }
 {
     match tiles.take_picture(alloc, bytes) {
         Ok(()) => Ok(()),
@@ -77,10 +78,11 @@ pub(crate) fn posed_tiles(
     lines: &[PinLine],
 ) -> Result<Problem, Refusal>
     requires output { IsOutputAsked request.now }
-    requires sides { HasSides request.now (masked request.now mask.now) }
+    requires sides { HasSides request.now (mask_or_whole request.now mask.now) }
     ensures exact { GivesStep
-        (posed_tiles request.now tiles.now (masked request.now mask.now) lines.now) result }
-    ensures tiled { IfOk result (IsTiled request.now tiles.now (masked request.now mask.now)) }
+        (posed_tiles request.now tiles.now (mask_or_whole request.now mask.now) lines.now) result }
+    ensures tiled { IfOk result (IsTilingTask request.now tiles.now (mask_or_whole request.now
+        mask.now)) }
 {
     match built(alloc, request, tiles, mask, lines) {
         Ok(problem) => Ok(problem),
@@ -97,8 +99,8 @@ fn built(
     lines: &[PinLine],
 ) -> Result<Problem, BuildFault>
     requires output { IsOutputAsked request.now }
-    ensures exact { Gives BuildFault.NoMemory (λ problem. problem) result
-        (built tiles.now (masked request.now mask.now) request.now.wrap_out lines.now) }
+    ensures exact { Gives BuildFault.NoMemory (λ problem. problem) result (tile_map_problem
+        tiles.now (mask_or_whole request.now mask.now) request.now.wrap_out lines.now) }
 {
     match mask {
         Some(mask) => build_masked(alloc, tiles, mask, request.wrap_out, lines),

@@ -20,7 +20,7 @@ use Rattle.wfc_tileset.specs.Allowed.{IsAcross, IsDown, across_pairs, down_pairs
 use Rattle.wfc_tileset.specs.declared.TheConstants.{HOLE}
 use Rattle.wfc_tileset.proofs.CallerLemmas.{has_the_pair, pair_has}
 use Rattle.wfc_tiled.specs.Mask.{MaskView, IsMask, IsPlace, cell_number}
-use Rattle.wfc_tiled.specs.Tiles.{is_step, step_from, fits, suits_at, problem_of_tiles}
+use Rattle.wfc_tiled.specs.Tiles.{is_step, step_from, variants_fit, variant_suits_at, problem_of_tiles}
 use Rattle.wfc_tiled.specs.Maps.{IsNext, IsLegalTileMap, IsPlaced, ArePlaced, number_of_cell, numbers_of_cells, tile_map, numbers_of_places}
 use Rattle.wfc_tiled.proofs.MaskLemmas.{found, stands, member, there}
 use Rattle.wfc_tiled.proofs.TileLemmas.{place_is, length-weights, neighbour-cell, neighbour-beside, beside-neighbour, support-fits, fits-support, base-at}
@@ -57,7 +57,7 @@ next_is : (count : ℕ) (wrap : Bool) (at next : ℕ) → at < count → IsNext 
 next_is count wrap at next inside is =
     let s = stepped-is count 1 0 at inside (omega arith) in
     let below = s.below in
-    let fits = is.0 in
+    let variants_fit = is.0 in
     elim is.1 [
       | inl e ↦ elim s.apart [ inl f ↦ omega arith | inr more ↦ elim more [ inl f ↦ absurd (omega arith) | inr f ↦ absurd (omega arith) ] ]
       | inr last ↦ let l = last.1 in let z = last.2 in elim s.apart [ inl f ↦ absurd (omega arith) | inr more ↦ elim more [ inl f ↦ omega arith | inr f ↦ absurd (omega arith) ] ]
@@ -103,7 +103,7 @@ module _ (set : TileSetView) (mask : MaskView) (wrap : Bool) (pins : List Pin) w
         let at = place_is set mask wrap pins is c inside in
         subst (λ k. k < count) (sym (number c inside)) (legal.filled (place c % w) (place c / w) at.column at.row (is_place c inside))
 
-    pin_suits : (c : ℕ) → c < P.cells → (pin : Pin) → IsHeld m pin → suits_at w (place c) (get_or a c 0) pin ≡ true
+    pin_suits : (c : ℕ) → c < P.cells → (pin : Pin) → IsHeld m pin → variant_suits_at w (place c) (get_or a c 0) pin ≡ true
     pin_suits c inside pin held = by (cell_of w pin.column pin.row == place c) refl
       where
         by : (b : Bool) → (cell_of w pin.column pin.row == place c) ≡ b → (not b || suits pin (get_or a c 0)) ≡ true
@@ -119,13 +119,13 @@ module _ (set : TileSetView) (mask : MaskView) (wrap : Bool) (pins : List Pin) w
     based : (c : ℕ) → c < P.cells → IsTrue (in_base P c (get_or a c 0))
     based c inside =
         base-at set mask wrap pins c (get_or a c 0) inside (value_in c inside)
-        ∙ pass_all (λ pin. suits_at w (place c) (get_or a c 0) pin) pins (λ pin within.
+        ∙ pass_all (λ pin. variant_suits_at w (place c) (get_or a c 0) pin) pins (λ pin within.
         let held = legal.held within.0 pin within.1 in
         pin_suits c inside pin (subst (IsHeld m) within.2 held.1))
 
-    -- what stands beside a cell fits
+    -- what stands beside a cell variants_fit
     fitting_at : (c d n : ℕ) → c < P.cells → n < P.cells → d < 4 → is_step mask wrap (place c % w) (place c / w) d ≡ true → place n ≡ step_from mask (place c % w) (place c / w) d
-        → fits set d (get_or a c 0) (get_or a n 0) ≡ true
+        → variants_fit set d (get_or a c 0) (get_or a n 0) ≡ true
     fitting_at c zero n inside other dir step at =
         let x = place c % w in
         let y = place c / w in
@@ -311,7 +311,7 @@ module _ (set : TileSetView) (mask : MaskView) (wrap : Bool) (pins : List Pin) w
         let v = get_or a c.0 0 in
         let s = stands mask.places (cell_of w pin.column pin.row) c.0 c.1.cell in
         let met = sym (base-at set mask wrap pins c.0 v c.1.inside (value c.0 c.1.inside)) ∙ legal.based c.0 c.1.inside in
-        let one = all_pass (λ (pin : Pin). suits_at w (place c.0) v pin) pins pin met within in
+        let one = all_pass (λ (pin : Pin). variant_suits_at w (place c.0) v pin) pins pin met within in
         let suits_it : suits pin v ≡ true = sym (ap (λ b. not b || suits pin v) (eq-eqb (cell_of w pin.column pin.row) (place c.0) (sym s.1))) ∙ one in (
           p.place,
           record {

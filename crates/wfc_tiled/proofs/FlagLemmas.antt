@@ -11,12 +11,12 @@ use Rattle.wfc_places.specs.Steps.{cell_of}
 use Rattle.wfc_places.proofs.CallerLemmas.{rows_cut}
 use Rattle.wfc_tiled.specs.Cut.{meets_at}
 use Rattle.wfc_tiled.specs.Mask.{MaskView, IsMask, cell_number}
-use Rattle.wfc_tiled.specs.Tiles.{suits_at, meets}
+use Rattle.wfc_tiled.specs.Tiles.{variant_suits_at, variant_meets_pins}
 use Rattle.wfc_tiled.proofs.MaskLemmas.{found, stands}
 
-meets_more : (width : ℕ) (pins : List Pin) (pin : Pin) (n v : ℕ) → meets width (pins ++ pin ∷ []) n v ≡ (meets width pins n v && suits_at width n v pin)
+meets_more : (width : ℕ) (pins : List Pin) (pin : Pin) (n v : ℕ) → variant_meets_pins width (pins ++ pin ∷ []) n v ≡ (variant_meets_pins width pins n v && variant_suits_at width n v pin)
 meets_more width pins pin n v =
-    list_all-append (λ p. suits_at width n v p) pins (pin ∷ []) ∙ ap (λ b. meets width pins n v && b) (and-true (suits_at width n v pin))
+    list_all-append (λ p. variant_suits_at width n v p) pins (pin ∷ []) ∙ ap (λ b. variant_meets_pins width pins n v && b) (and-true (variant_suits_at width n v pin))
 
 -- one pin more, at whose cell the row was cut
 pub met_more : (n : ℕ) (mask : MaskView) (old new : List Bool) (pins : List Pin) (pin : Pin) (cell : ℕ) → IsMask mask → HasFlags n (length mask.places) old (meets_at mask pins)
@@ -33,11 +33,11 @@ met_more n mask old new pins pin cell is so_far at cut =
     same : (v : ℕ) → meets_at mask (pins ++ pin ∷ []) cell v ≡ (meets_at mask pins cell v && suits pin v)
     same v =
         meets_more mask.width pins pin (get_or mask.places cell 0) v
-        ∙ ap (λ b. meets mask.width pins (get_or mask.places cell 0) v && (not b || suits pin v)) (eq-eqb (cell_of mask.width pin.column pin.row) (get_or mask.places cell 0) (sym here.1))
+        ∙ ap (λ b. variant_meets_pins mask.width pins (get_or mask.places cell 0) v && (not b || suits pin v)) (eq-eqb (cell_of mask.width pin.column pin.row) (get_or mask.places cell 0) (sym here.1))
 
     other : (c v : ℕ) → c < length mask.places → c ≢ cell → meets_at mask (pins ++ pin ∷ []) c v ≡ meets_at mask pins c v
     other c v inside ne =
         meets_more mask.width pins pin (get_or mask.places c 0) v
-        ∙ ap (λ b. meets mask.width pins (get_or mask.places c 0) v && (not b || suits pin v)) (ne_eqb (cell_of mask.width pin.column pin.row) (get_or mask.places c 0)
+        ∙ ap (λ b. variant_meets_pins mask.width pins (get_or mask.places c 0) v && (not b || suits pin v)) (ne_eqb (cell_of mask.width pin.column pin.row) (get_or mask.places c 0)
         (λ e. ne (one c cell (sym (found mask.places (cell_of mask.width pin.column pin.row) c is.rising inside (sym e)) ∙ at))))
-        ∙ and-true (meets mask.width pins (get_or mask.places c 0) v)
+        ∙ and-true (variant_meets_pins mask.width pins (get_or mask.places c 0) v)

@@ -15,7 +15,7 @@ use Rattle.wfc_tileset.proofs.CallerLemmas.{has_the_pair, pair_has}
 use Rattle.wfc_tiled.specs.Maps.{ArePlaced}
 use Rattle.wfc_tiled.specs.Mask.{MaskView, IsMask, cell_number}
 use Rattle.wfc_tiled.specs.Subject.{HoldsPinAt, cell_column, cell_row}
-use Rattle.wfc_tiled.specs.Tiles.{fits, problem_of_tiles, suits_at}
+use Rattle.wfc_tiled.specs.Tiles.{variants_fit, problem_of_tiles, variant_suits_at}
 use Rattle.wfc_tiled.proofs.MaskLemmas.{found, stands}
 use Rattle.wfc_tiled.proofs.TileLemmas.{base-at, beside-neighbour, fits-support, neighbour-beside, place_is, support-fits}
 
@@ -79,8 +79,8 @@ module _ (set : TileSetView) (mask : MaskView) (wrap : Bool) (pins : List Pin) w
 
   -- ---- supports
 
-  -- what fits is allowed
-  support_by : (v u d : ℕ) (Allowed : Type 0) → v < count → d < 4 → (fits set d v u ≡ true → Allowed) → (Allowed → fits set d v u ≡ true)
+  -- what variants_fit is allowed
+  support_by : (v u d : ℕ) (Allowed : Type 0) → v < count → d < 4 → (variants_fit set d v u ≡ true → Allowed) → (Allowed → variants_fit set d v u ≡ true)
       → Contains (supports_of (problem_of_tiles set mask wrap pins) v d) u ↔ ((u < count) × Allowed)
   support_by v u d Allowed first dir there back = (
     λ has. (let is = support-fits set mask wrap pins v u d dir has in (is.second, there is.fit)),
@@ -109,10 +109,10 @@ module _ (set : TileSetView) (mask : MaskView) (wrap : Bool) (pins : List Pin) w
   pin_place : IsMask mask → (c : ℕ) → c < length mask.places → (pin : Pin) → pin.column ≡ cell_column mask c → pin.row ≡ cell_row mask c → cell_of w pin.column pin.row ≡ get_or mask.places c 0
   pin_place is c inside pin column row = ap (λ k. cell_of w k pin.row) column ∙ ap (cell_of w (cell_column mask c)) row ∙ (place_is set mask wrap pins is c inside).cell
 
-  suits_there : (n v : ℕ) (pin : Pin) → cell_of w pin.column pin.row ≡ n → suits_at w n v pin ≡ true → suits pin v ≡ true
+  suits_there : (n v : ℕ) (pin : Pin) → cell_of w pin.column pin.row ≡ n → variant_suits_at w n v pin ≡ true → suits pin v ≡ true
   suits_there n v pin same test = sym (ap (λ t. not t || suits pin v) (eq-eqb (cell_of w pin.column pin.row) n same)) ∙ test
 
-  there_suits : (n v : ℕ) (pin : Pin) → (cell_of w pin.column pin.row ≡ n → suits pin v ≡ true) → suits_at w n v pin ≡ true
+  there_suits : (n v : ℕ) (pin : Pin) → (cell_of w pin.column pin.row ≡ n → suits pin v ≡ true) → variant_suits_at w n v pin ≡ true
   there_suits n v pin here = by (cell_of w pin.column pin.row == n) refl
     where
       by : (b : Bool) → (cell_of w pin.column pin.row == n) ≡ b → (not b || suits pin v) ≡ true
@@ -124,13 +124,13 @@ module _ (set : TileSetView) (mask : MaskView) (wrap : Bool) (pins : List Pin) w
   base-holds is c v inside value base k d l column row =
       held-from_suits (get_or pins k d) v
       (suits_there (get_or mask.places c 0) v (get_or pins k d) (pin_place is c inside (get_or pins k d) column row)
-      (AllPass-from_list_all (λ pin. suits_at w (get_or mask.places c 0) v pin) pins (sym (base-at set mask wrap pins c v inside value) ∙ base) k d l))
+      (AllPass-from_list_all (λ pin. variant_suits_at w (get_or mask.places c 0) v pin) pins (sym (base-at set mask wrap pins c v inside value) ∙ base) k d l))
 
   pub holds-base : IsMask mask → ArePlaced mask pins → (c v : ℕ) → c < length mask.places → v < count
       → All (HoldsPinAt (cell_column mask c) (cell_row mask c) v) pins → in_base (problem_of_tiles set mask wrap pins) c v ≡ true
   holds-base is placed c v inside value holds =
       base-at set mask wrap pins c v inside value
-      ∙ list_all-from_AllPass (λ pin. suits_at w (get_or mask.places c 0) v pin) pins (λ k d l.
+      ∙ list_all-from_AllPass (λ pin. variant_suits_at w (get_or mask.places c 0) v pin) pins (λ k d l.
       let pin = get_or pins k d in
       let here = place_is set mask wrap pins is c inside in
       there_suits (get_or mask.places c 0) v pin (λ same.

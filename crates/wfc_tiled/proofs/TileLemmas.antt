@@ -15,45 +15,45 @@ use Rattle.wfc_problem.proofs.CallerLemmas.{neighbour_read, neighbour_not_none, 
 use Rattle.wfc_places.specs.Steps.{stepped, is_there, cell_of}
 use Rattle.wfc_places.proofs.CallerLemmas as shared
 use Rattle.wfc_places.proofs.CallerLemmas.{IsFitting, length-supports, supports_rise, stepped-is, stepped-stepped, there_again, one_across, one_down}
-use Rattle.wfc_tileset.specs.Tiles.{TileSetView, IsWeighed, variant_total, variant_at, tile_at}
+use Rattle.wfc_tileset.specs.Tiles.{TileSetView, HasWeight, variant_total, variant_at, tile_at}
 use Rattle.wfc_tileset.specs.TileSets.{IsTileSet}
 use Rattle.wfc_tileset.proofs.CallerLemmas.{few_tiles, variant_there}
 use Rattle.wfc_outside.specs.Gives.{result_map}
 use Rattle.wfc_pins.specs.PinView.{PinView}
 use Rattle.wfc_pins.specs.declared.fault.BuildFault.TheVariants.{TooLarge}
-use Rattle.wfc_tiled.specs.Built.{built, built_pins, pairs, pins_in, roomy_mask}
+use Rattle.wfc_tiled.specs.Built.{tile_map_problem, checked_tile_map_pins, tile_pair_count, tile_map_pins, roomy_mask}
 use Rattle.wfc_tiled.specs.Mask.{MaskView, IsMask, cell_number, plain_mask}
-use Rattle.wfc_tiled.specs.Tiles.{is_step, step_from, beside, all_beside, fits, meets, base_row, problem_of_tiles}
+use Rattle.wfc_tiled.specs.Tiles.{is_step, step_from, tile_beside, tiles_beside, variants_fit, variant_meets_pins, base_row, problem_of_tiles}
 use Rattle.wfc_tiled.proofs.MaskLemmas.{found, stands, few}
 
--- what fits in a direction fits the other way round in the opposite one
-pub opposite_fits : (set : TileSetView) (d v w : ℕ) → d < 4 → fits set d v w ≡ true → fits set (opposite d) w v ≡ true
+-- what variants_fit in a direction variants_fit the other way round in the opposite one
+pub opposite_fits : (set : TileSetView) (d v w : ℕ) → d < 4 → variants_fit set d v w ≡ true → variants_fit set (opposite d) w v ≡ true
 opposite_fits set zero v w dir t = t
 opposite_fits set (suc zero) v w dir t = t
 opposite_fits set (suc (suc zero)) v w dir t = t
 opposite_fits set (suc (suc (suc zero))) v w dir t = t
 opposite_fits set (suc (suc (suc (suc d)))) v w dir t = absurd (omega arith)
 
--- too many pairs of a place and a variant
-pub crowded_mask : (set : TileSetView) (mask : MaskView) → MAX_PAIRS < pairs set mask → roomy_mask set mask ≡ Err (TooLarge (pairs set mask))
-crowded_mask set mask more = cond-true (ltb MAX_PAIRS (pairs set mask)) (Err (TooLarge (pairs set mask))) (Ok mask) (lt-ltb MAX_PAIRS (pairs set mask) more)
+-- too many tile_pair_count of a place and a variant
+pub crowded_mask : (set : TileSetView) (mask : MaskView) → MAX_PAIRS < tile_pair_count set mask → roomy_mask set mask ≡ Err (TooLarge (tile_pair_count set mask))
+crowded_mask set mask more = cond-true (ltb MAX_PAIRS (tile_pair_count set mask)) (Err (TooLarge (tile_pair_count set mask))) (Ok mask) (lt-ltb MAX_PAIRS (tile_pair_count set mask) more)
 
-pub crowded_pins : (set : TileSetView) (mask : MaskView) (lines : List PinView) → MAX_PAIRS < pairs set mask → built_pins set mask lines ≡ Err (TooLarge (pairs set mask))
-crowded_pins set mask lines more = cond-true (ltb MAX_PAIRS (pairs set mask)) (Err (TooLarge (pairs set mask))) (pins_in set.tiles mask lines) (lt-ltb MAX_PAIRS (pairs set mask) more)
+pub crowded_pins : (set : TileSetView) (mask : MaskView) (lines : List PinView) → MAX_PAIRS < tile_pair_count set mask → checked_tile_map_pins set mask lines ≡ Err (TooLarge (tile_pair_count set mask))
+crowded_pins set mask lines more = cond-true (ltb MAX_PAIRS (tile_pair_count set mask)) (Err (TooLarge (tile_pair_count set mask))) (tile_map_pins set.tiles mask lines) (lt-ltb MAX_PAIRS (tile_pair_count set mask) more)
 
 -- on a map without holes
 pub too_large : (set : TileSetView) (w h product : ℕ) → product ≡ w * h * variant_total set.tiles → MAX_PAIRS < product
     → roomy_mask set (plain_mask w h) ≡ Err (TooLarge product)
 too_large set w h product is more =
-    let same : pairs set (plain_mask w h) ≡ product = ap (λ k. k * variant_total set.tiles) (length-range_with_len 0 (w * h)) ∙ sym is in
+    let same : tile_pair_count set (plain_mask w h) ≡ product = ap (λ k. k * variant_total set.tiles) (length-range_with_len 0 (w * h)) ∙ sym is in
     crowded_mask set (plain_mask w h) (omega (arith, same)) ∙ ap (λ k. Err (TooLarge k)) same
 
--- what is built is the problem of the pins that are found, in a mask with few enough pairs
-pub built_from_pins : (set : TileSetView) (mask : MaskView) (wrap : Bool) (lines : List PinView) → built set mask wrap lines ≡ result_map (problem_of_tiles set mask wrap) (built_pins set mask lines)
-built_from_pins set mask wrap lines = by_case (nat_lt MAX_PAIRS (pairs set mask))
+-- what is tile_map_problem is the problem of the pins that are found, in a mask with few enough tile_pair_count
+pub built_from_pins : (set : TileSetView) (mask : MaskView) (wrap : Bool) (lines : List PinView) → tile_map_problem set mask wrap lines ≡ result_map (problem_of_tiles set mask wrap) (checked_tile_map_pins set mask lines)
+built_from_pins set mask wrap lines = by_case (nat_lt MAX_PAIRS (tile_pair_count set mask))
   where
-    by_case : (large : Bool) → cond large (Err (TooLarge (pairs set mask))) (result_map (problem_of_tiles set mask wrap) (pins_in set.tiles mask lines))
-        ≡ result_map (problem_of_tiles set mask wrap) (cond large (Err (TooLarge (pairs set mask))) (pins_in set.tiles mask lines))
+    by_case : (large : Bool) → cond large (Err (TooLarge (tile_pair_count set mask))) (result_map (problem_of_tiles set mask wrap) (tile_map_pins set.tiles mask lines))
+        ≡ result_map (problem_of_tiles set mask wrap) (cond large (Err (TooLarge (tile_pair_count set mask))) (tile_map_pins set.tiles mask lines))
     by_case true = refl
     by_case false = refl
 
@@ -77,12 +77,12 @@ module _ (set : TileSetView) (mask : MaskView) (wrap : Bool) (pins : List Pin) w
   pub place_is : IsMask mask → (c : ℕ) → c < P.cells → IsCell mask.width mask.height (place c) (place c % mask.width) (place c / mask.width)
   place_is is c inside = cell_is mask.width mask.height (place c) (omega (arith, is.inside c 0 inside))
 
-  -- ---- what lies beside a cell
+  -- ---- what lies tile_beside a cell
 
-  pub entry : (c d : ℕ) → c < P.cells → d < 4 → get_or P.neighbours (c * 4 + d) NO_CELL ≡ beside mask wrap (place c % mask.width) (place c / mask.width) d
+  pub entry : (c d : ℕ) → c < P.cells → d < 4 → get_or P.neighbours (c * 4 + d) NO_CELL ≡ tile_beside mask wrap (place c % mask.width) (place c / mask.width) d
   entry c d inside dir =
-      table-at (λ n. all_beside mask wrap n) 4 (λ n. length-map-range_with_len (λ d. beside mask wrap (n % mask.width) (n / mask.width) d) 0 4) mask.places c d 0 NO_CELL inside dir
-      ∙ get_or-map-range_with_len (λ d. beside mask wrap (place c % mask.width) (place c / mask.width) d) 0 4 d d NO_CELL dir (zero-add d)
+      table-at (λ n. tiles_beside mask wrap n) 4 (λ n. length-map-range_with_len (λ d. tile_beside mask wrap (n % mask.width) (n / mask.width) d) 0 4) mask.places c d 0 NO_CELL inside dir
+      ∙ get_or-map-range_with_len (λ d. tile_beside mask wrap (place c % mask.width) (place c / mask.width) d) 0 4 d d NO_CELL dir (zero-add d)
 
   -- a step leads from the place of a cell to that of another
   pub record IsBeside (c d m : ℕ) : Type 0 where
@@ -103,7 +103,7 @@ module _ (set : TileSetView) (mask : MaskView) (wrap : Bool) (pins : List Pin) w
   neighbour-cell c d m at =
       let read = neighbour_read P c d m at in
       row_below c d 4 P.cells
-      (omega (arith, read.inside, length-table (λ n. all_beside mask wrap n) 4 (λ n. length-map-range_with_len (λ d. beside mask wrap (n % mask.width) (n / mask.width) d) 0 4) mask.places))
+      (omega (arith, read.inside, length-table (λ n. tiles_beside mask wrap n) 4 (λ n. length-map-range_with_len (λ d. tile_beside mask wrap (n % mask.width) (n / mask.width) d) 0 4) mask.places))
 
   pub neighbour-beside : (c d m : ℕ) → neighbour P c d ≡ Some m → IsBeside c d m
   neighbour-beside c d m at =
@@ -173,11 +173,11 @@ module _ (set : TileSetView) (mask : MaskView) (wrap : Bool) (pins : List Pin) w
 
   -- ---- which variants may stand side by side
 
-  pub support-fits : (v w d : ℕ) → d < 4 → Contains (supports_of P v d) w → IsFitting count (fits set) v w d
-  support-fits v w d dir has = shared.support-fits P count (fits set) refl v w d has
+  pub support-fits : (v w d : ℕ) → d < 4 → Contains (supports_of P v d) w → IsFitting count (variants_fit set) v w d
+  support-fits v w d dir has = shared.support-fits P count (variants_fit set) refl v w d has
 
-  pub fits-support : (v w d : ℕ) → d < 4 → IsFitting count (fits set) v w d → Contains (supports_of P v d) w
-  fits-support v w d dir fit = shared.fits-support P count (fits set) refl v w d dir fit
+  pub fits-support : (v w d : ℕ) → d < 4 → IsFitting count (variants_fit set) v w d → Contains (supports_of P v d) w
+  fits-support v w d dir fit = shared.fits-support P count (variants_fit set) refl v w d dir fit
 
   symmetric : (v w d : ℕ) → Contains (supports_of P v d) w → Contains (supports_of P w (opposite d)) v
   symmetric v w d has =
@@ -192,15 +192,15 @@ module _ (set : TileSetView) (mask : MaskView) (wrap : Bool) (pins : List Pin) w
 
   length-base : length P.base ≡ P.cells * length P.weights
   length-base =
-      length-table (λ n. base_row set mask.width pins n) count (λ n. length-map-range_with_len (λ v. meets mask.width pins n v) 0 count) mask.places
+      length-table (λ n. base_row set mask.width pins n) count (λ n. length-map-range_with_len (λ v. variant_meets_pins mask.width pins n v) 0 count) mask.places
       ∙ ap (λ k. P.cells * k) (sym length-weights)
 
-  pub base-at : (c v : ℕ) → c < P.cells → v < count → in_base P c v ≡ meets mask.width pins (place c) v
+  pub base-at : (c v : ℕ) → c < P.cells → v < count → in_base P c v ≡ variant_meets_pins mask.width pins (place c) v
   base-at c v inside value =
       ap (λ k. has_flag k P.base c v) length-weights
       ∙ flag_at count P.base c v value
-      ∙ table-at (λ n. base_row set mask.width pins n) count (λ n. length-map-range_with_len (λ v. meets mask.width pins n v) 0 count) mask.places c v 0 false inside value
-      ∙ get_or-map-range_with_len (λ v. meets mask.width pins (place c) v) 0 count v v false value (zero-add v)
+      ∙ table-at (λ n. base_row set mask.width pins n) count (λ n. length-map-range_with_len (λ v. variant_meets_pins mask.width pins n v) 0 count) mask.places c v 0 false inside value
+      ∙ get_or-map-range_with_len (λ v. variant_meets_pins mask.width pins (place c) v) 0 count v v false value (zero-add v)
 
   some_variant : IsTileSet set → 0 < count
   some_variant is = omega (arith, few_tiles set.tiles, is.some_tile)
@@ -208,10 +208,10 @@ module _ (set : TileSetView) (mask : MaskView) (wrap : Bool) (pins : List Pin) w
   weight_at : (v : ℕ) → v < count → get_or P.weights v 0 ≡ (tile_at set.tiles (variant_at set.tiles v).0).weight
   weight_at v inside = get_or-map-range_with_len (λ v. (tile_at set.tiles (variant_at set.tiles v).0).weight) 0 count v v 0 inside (zero-add v)
 
-  weighed : IsTileSet set → (v : ℕ) → v < count → IsWeighed (tile_at set.tiles (variant_at set.tiles v).0)
+  weighed : IsTileSet set → (v : ℕ) → v < count → HasWeight (tile_at set.tiles (variant_at set.tiles v).0)
   weighed is v inside = is.weighed _ _ (variant_there set.tiles v inside).tile_in
 
-  pub tiles_problem : IsTileSet set → IsMask mask → pairs set mask ≤ MAX_PAIRS → IsProblem P
+  pub tiles_problem : IsTileSet set → IsMask mask → tile_pair_count set mask ≤ MAX_PAIRS → IsProblem P
   tiles_problem tiles is few_pairs = record {
     sized = record {
       some_cell = is.some_place;
@@ -222,13 +222,13 @@ module _ (set : TileSetView) (mask : MaskView) (wrap : Bool) (pins : List Pin) w
       some_value = omega (arith, some_variant tiles, length-weights);
       few_values = omega (arith, tiles.limit, length-weights);
       few_pairs = subst (λ k. P.cells * k ≤ MAX_PAIRS) (sym length-weights) few_pairs;
-      neighbours_table = length-table (λ n. all_beside mask wrap n) 4 (λ n. length-map-range_with_len (λ d. beside mask wrap (n % mask.width) (n / mask.width) d) 0 4) mask.places;
-      supports_table = length-supports P count (fits set) refl ∙ ap (λ k. k * 4) (sym length-weights);
+      neighbours_table = length-table (λ n. tiles_beside mask wrap n) 4 (λ n. length-map-range_with_len (λ d. tile_beside mask wrap (n % mask.width) (n / mask.width) d) 0 4) mask.places;
+      supports_table = length-supports P count (variants_fit set) refl ∙ ap (λ k. k * 4) (sym length-weights);
       base_table = length-base;
     };
     indexed = record {
       in_cells = in_cells;
-      rising = supports_rise P count (fits set) refl;
+      rising = supports_rise P count (variants_fit set) refl;
       in_values = λ v w d has. let fit = support-fits v w d (supports_inside P v d w has).0 has in omega (arith, length-weights, fit.second);
     };
     weighed = record {

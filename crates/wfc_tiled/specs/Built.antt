@@ -1,4 +1,4 @@
--- What is built of a tile set, a mask and the lines of a pins file: a problem, or the first fault.
+-- What is tile_map_problem of a tile set, a mask and the lines of a pins file: a problem, or the first fault.
 use Rattle.std.specs.Prelude.{ℕ, ◌*◌, ◌&&◌, nat_lt, Bool, List, length, map, is_some, Result, Ok, Err, if◌then◌else◌}
 use Rattle.std.specs.Option.{ok_or, option_map}
 use Rattle.wfc_outside.specs.Gives.{result_map}
@@ -10,41 +10,41 @@ use Rattle.wfc_pins.specs.declared.fault.BuildFault.TheVariants.{PinOutside, Pin
 use Rattle.wfc_problem.specs.Network.{Network}
 use Rattle.wfc_problem.specs.declared.TheConstants.{MAX_PAIRS}
 use Rattle.wfc_places.specs.Steps.{cell_of}
-use Rattle.wfc_places.specs.Marks.{pin_with}
+use Rattle.wfc_places.specs.Marks.{marked_pin}
 use Rattle.wfc_tileset.specs.Tiles.{TileView, TileSetView, variant_of, variant_total}
 use Rattle.wfc_tiled.specs.Mask.{MaskView, cell_number}
 use Rattle.wfc_tiled.specs.Tiles.{problem_of_tiles}
 
 -- the pin that a line means: its place has to be inside and no hole, and its symbol the spelling of a variant
-abbrev pub pin_in : List TileView → MaskView → PinView → Result Pin BuildFault
-pin_in tiles mask line =
+abbrev pub tile_map_pin : List TileView → MaskView → PinView → Result Pin BuildFault
+tile_map_pin tiles mask line =
     if nat_lt line.x mask.width && nat_lt line.y mask.height
     then (if is_some (cell_number mask (cell_of mask.width line.x line.y))
-    then ok_or (option_map (pin_with line) (variant_of tiles line.symbol)) (UnknownSymbol line.line)
+    then ok_or (option_map (marked_pin line) (variant_of tiles line.symbol)) (UnknownSymbol line.line)
     else Err (PinInHole line.line))
     else Err (PinOutside line.line)
 
 -- the pins that the lines mean, or the fault of the first line that has one
-abbrev pub pins_in : List TileView → MaskView → List PinView → Result (List Pin) BuildFault
-pins_in tiles mask lines = all_in_order (map (pin_in tiles mask) lines)
+abbrev pub tile_map_pins : List TileView → MaskView → List PinView → Result (List Pin) BuildFault
+tile_map_pins tiles mask lines = all_in_order (map (tile_map_pin tiles mask) lines)
 
--- how many pairs of a place and a variant there are
-abbrev pub pairs : TileSetView → MaskView → ℕ
-pairs set mask = length mask.places * variant_total set.tiles
+-- how many tile_pair_count of a place and a variant there are
+abbrev pub tile_pair_count : TileSetView → MaskView → ℕ
+tile_pair_count set mask = length mask.places * variant_total set.tiles
 
--- the mask, but for too many pairs
+-- the mask, but for too many tile_pair_count
 abbrev pub roomy_mask : TileSetView → MaskView → Result MaskView BuildFault
 roomy_mask set mask =
-    if nat_lt MAX_PAIRS (pairs set mask) then Err (TooLarge (pairs set mask)) else Ok mask
+    if nat_lt MAX_PAIRS (tile_pair_count set mask) then Err (TooLarge (tile_pair_count set mask)) else Ok mask
 
--- the pins that the lines mean, but for too many pairs
-abbrev pub built_pins : TileSetView → MaskView → List PinView → Result (List Pin) BuildFault
-built_pins set mask lines =
-    if nat_lt MAX_PAIRS (pairs set mask) then Err (TooLarge (pairs set mask))
-    else pins_in set.tiles mask lines
+-- the pins that the lines mean, but for too many tile_pair_count
+abbrev pub checked_tile_map_pins : TileSetView → MaskView → List PinView → Result (List Pin) BuildFault
+checked_tile_map_pins set mask lines =
+    if nat_lt MAX_PAIRS (tile_pair_count set mask) then Err (TooLarge (tile_pair_count set mask))
+    else tile_map_pins set.tiles mask lines
 
--- the problem, but for too many pairs, and for a line at fault
-abbrev pub built : TileSetView → MaskView → Bool → List PinView → Result Network BuildFault
-built set mask wrap lines =
-    if nat_lt MAX_PAIRS (pairs set mask) then Err (TooLarge (pairs set mask))
-    else result_map (problem_of_tiles set mask wrap) (pins_in set.tiles mask lines)
+-- the problem, but for too many tile_pair_count, and for a line at fault
+abbrev pub tile_map_problem : TileSetView → MaskView → Bool → List PinView → Result Network BuildFault
+tile_map_problem set mask wrap lines =
+    if nat_lt MAX_PAIRS (tile_pair_count set mask) then Err (TooLarge (tile_pair_count set mask))
+    else result_map (problem_of_tiles set mask wrap) (tile_map_pins set.tiles mask lines)

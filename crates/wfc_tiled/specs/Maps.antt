@@ -60,8 +60,8 @@ abbrev pub numbers_of_places : MaskView → Raster → List ℕ
 numbers_of_places mask m = map (λ n. number_at m (n % mask.width) (n / mask.width)) mask.places
 
 -- the map is legal for each tile set and all pins for whose problem the assignment is
-abbrev pub IsLegalWith : MaskView → List ℕ → Raster → Type 0
-IsLegalWith mask a m =
+abbrev pub IsLegalMapWith : MaskView → List ℕ → Raster → Type 0
+IsLegalMapWith mask a m =
     (set : TileSetView) (wrap : Bool) (pins : List Pin)
     → IsProblem (problem_of_tiles set mask wrap pins) → ArePlaced mask pins
     → IsLegalAssignment (problem_of_tiles set mask wrap pins) a → IsLegalTileMap set mask wrap pins m

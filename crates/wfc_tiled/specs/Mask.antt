@@ -39,8 +39,8 @@ abbrev pub plain_mask : ℕ → ℕ → MaskView
 plain_mask width height = record { width = width; height = height; places = range_with_len 0 (width * height) }
 
 -- a byte of a mask's grid that is no place and no hole
-abbrev pub is_other : ℕ → Bool
-is_other byte = not (byte == 46 || byte == 35)
+abbrev pub is_no_mask_byte : ℕ → Bool
+is_no_mask_byte byte = not (byte == 46 || byte == 35)
 
 -- the places that a grid has: those of its dots
 abbrev pub places_of : List ℕ → List ℕ
@@ -56,5 +56,5 @@ mask_from grid None places = Ok (record { width = grid.width; height = grid.heig
 abbrev pub mask_of : GridView → ℕ → ℕ → Result MaskView MaskFault
 mask_of grid width height =
     if grid.width == width && grid.height == height
-    then mask_from grid (position is_other grid.bytes) (places_of grid.bytes)
+    then mask_from grid (position is_no_mask_byte grid.bytes) (places_of grid.bytes)
     else Err (SizeDiffers grid.width grid.height)

@@ -13,8 +13,8 @@ abbrev pub two_holes : MaskView
 two_holes = record { width = 3; height = 2; places = 0 ∷ 2 ∷ 3 ∷ 4 ∷ [] }
 
 -- a grid of three by two
-abbrev pub grid_of : List ℕ → GridView
-grid_of bytes = record { width = 3; height = 2; bytes = bytes }
+abbrev pub three_by_two_grid : List ℕ → GridView
+three_by_two_grid bytes = record { width = 3; height = 2; bytes = bytes }
 
 -- a straight line of weight 3 and a cross of weight 5 that nothing may touch
 abbrev pub line_and_cross : TileSetView
@@ -26,15 +26,15 @@ line_and_cross = record {
 }
 
 -- a line of a pins file
-abbrev pub line_of : ℕ → Bool → ℕ → ℕ → List ℕ → PinView
-line_of number keep x y symbol = record { line = number; keep = keep; x = x; y = y; symbol = symbol }
+abbrev pub tile_pin_line : ℕ → Bool → ℕ → ℕ → List ℕ → PinView
+tile_pin_line number keep x y symbol = record { line = number; keep = keep; x = x; y = y; symbol = symbol }
 
 -- lines for a map with two holes: the first two lie outside, the third in a hole, and there is no variant that
 -- the last names
 abbrev pub faulty_lines : List PinView
 faulty_lines =
-    line_of 1 true 3 0 (codes "y") ∷ line_of 2 true 0 2 (codes "x/0")
-    ∷ line_of 3 false 2 1 (codes "y") ∷ line_of 4 true 0 0 (codes "x/1") ∷ []
+    tile_pin_line 1 true 3 0 (codes "y") ∷ tile_pin_line 2 true 0 2 (codes "x/0")
+    ∷ tile_pin_line 3 false 2 1 (codes "y") ∷ tile_pin_line 4 true 0 0 (codes "x/1") ∷ []
 
 -- four by two places: the first two and the last of the upper row, and the last of the lower, are no holes
 abbrev pub four_places : MaskView

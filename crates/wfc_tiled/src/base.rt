@@ -8,24 +8,25 @@ ghost use Rattle.wfc_places.specs.Marks.{suits};
 ghost use Rattle.wfc_tiled.specs.Cut.{meets_at};
 ghost use Rattle.wfc_tiled.specs.Mask.{IsMask, cell_number};
 ghost use Rattle.wfc_tiled.specs.Maps.{ArePlaced};
-ghost use Rattle.wfc_tiled.specs.Tiles.{base_table};
+ghost use Rattle.wfc_tiled.specs.Tiles.{tile_base_table};
 
 use crate::holes::Mask;
 use std::alloc::Global;
 use wfc_outside::NoMemory;
-use wfc_places::{Mark, all_set, cut_row};
+use wfc_places::{PinMark, all_set, cut_row};
 use wfc_tileset::TileSet;
 
 /// For each cell and variant whether the variant meets all pins and bans of the cell's place, cell
 /// by cell.
-pub fn base_of_marks(
+pub fn tile_base_of_marks(
     alloc: Global,
     tiles: &TileSet,
     mask: &Mask,
-    marks: &[Mark],
+    marks: &[PinMark],
 ) -> Result<Vec<bool>, NoMemory>
     requires placed { ArePlaced mask.now marks.now }
-    ensures value { IfOk result (λ flags. flags.items ≡ base_table tiles.now mask.now marks.now) }
+    ensures value { IfOk result (λ flags. flags.items ≡ tile_base_table tiles.now mask.now
+        marks.now) }
 {
     let count = tiles.variants() as usize;
     let mut flags = all_set(alloc, mask.cells() as usize * count)?;
@@ -34,7 +35,7 @@ pub fn base_of_marks(
 }
 
 /// Takes away what doesn't meet the pins and bans.
-fn cut_all(flags: &mut [bool], tiles: &TileSet, mask: &Mask, marks: &[Mark])
+fn cut_all(flags: &mut [bool], tiles: &TileSet, mask: &Mask, marks: &[PinMark])
     requires placed { ArePlaced mask.now marks.now }
     requires all { HasFlags (variant_total tiles.now.tiles) (length mask.now.places) flags.old
         (meets_at mask.now []) }
@@ -47,7 +48,7 @@ fn cut_all(flags: &mut [bool], tiles: &TileSet, mask: &Mask, marks: &[Mark])
 }
 
 /// Takes away what doesn't meet a pin or a ban, at the cell of its place.
-fn cut(flags: &mut [bool], tiles: &TileSet, mask: &Mask, mark: &Mark)
+fn cut(flags: &mut [bool], tiles: &TileSet, mask: &Mask, mark: &PinMark)
     requires column_in { mark.now.column < mask.now.width }
     requires row_in { mark.now.row < mask.now.height }
     requires table { length flags.old ≡ length mask.now.places * variant_total tiles.now.tiles }

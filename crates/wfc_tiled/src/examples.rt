@@ -4,16 +4,16 @@
 ghost use Rattle.std.specs.Prelude.{◌≡◌, ℕ, ◌<◌, List, [], ◌∷◌, map, true, false, codes, Ok, Err};
 ghost use Rattle.wfc_model.specs.Legal.{banned_pin, kept_pin};
 ghost use Rattle.wfc_model.specs.Raster.{raster_of};
-ghost use Rattle.wfc_tileset.specs.Samples.{crossing, lines};
+ghost use Rattle.wfc_tileset.specs.Samples.{crossing, straight_lines};
 ghost use Rattle.wfc_tileset.specs.Tiles.{TileSetView};
 ghost use Rattle.wfc_tileset.specs.declared.TheConstants.{HOLE};
 ghost use Rattle.wfc_pins.specs.PinView.{PinView};
-ghost use Rattle.wfc_tiled.specs.Built.{built_pins, pairs, pins_in, roomy_mask};
+ghost use Rattle.wfc_tiled.specs.Built.{checked_tile_map_pins, tile_pair_count, tile_map_pins, roomy_mask};
 ghost use Rattle.wfc_tiled.specs.Mask.{MaskView, mask_of, plain_mask};
 ghost use Rattle.wfc_tiled.specs.Maps.{IsLegalTileMap, IsNext, numbers_of_places, tile_map};
 ghost use Rattle.wfc_tiled.specs.Subject.{HoldsPinAt, cell_column, cell_row};
-ghost use Rattle.wfc_tiled.specs.Tiles.{base_table, fitting, neighbour_table, support_table, weights_of};
-ghost use Rattle.wfc_tiled.specs.Small.{faulty_lines, four_places, four_tiles, four_with, grid_of, line_and_cross, line_of, two_holes};
+ghost use Rattle.wfc_tiled.specs.Tiles.{tile_base_table, fitting_variants, tile_neighbour_table, tile_support_table, variant_weights};
+ghost use Rattle.wfc_tiled.specs.Small.{faulty_lines, four_places, four_tiles, four_with, three_by_two_grid, line_and_cross, tile_pin_line, two_holes};
 ghost use Rattle.wfc_tiled.specs.declared.reading.MaskFault.TheVariants as mask_faults;
 ghost use Rattle.wfc_pins.specs.declared.fault.BuildFault.TheVariants as build_faults;
 ghost use Rattle.wfc_problem.specs.declared.TheConstants.{MAX_PAIRS, NO_CELL};
@@ -21,59 +21,63 @@ ghost use Rattle.wfc_problem.specs.declared.TheConstants.{MAX_PAIRS, NO_CELL};
 /// What lies to the left, below, to the right and above, on a map that doesn't wrap, on one that
 /// does, and on one that is one place wide.
 pub fn neighbours_by_example()
-    ensures flat { neighbour_table two_holes false
+    ensures flat { tile_neighbour_table two_holes false
         ≡ NO_CELL ∷ 2 ∷ NO_CELL ∷ NO_CELL ∷ NO_CELL ∷ NO_CELL ∷ NO_CELL ∷ NO_CELL
         ∷ NO_CELL ∷ NO_CELL ∷ 3 ∷ 0 ∷ 2 ∷ NO_CELL ∷ NO_CELL ∷ NO_CELL ∷ [] }
-    ensures wrapped { neighbour_table two_holes true ≡ 1 ∷ 2 ∷ NO_CELL ∷ 2 ∷ NO_CELL ∷ NO_CELL ∷ 0
-        ∷ NO_CELL ∷ NO_CELL ∷ 0 ∷ 3 ∷ 0 ∷ 2 ∷ NO_CELL ∷ NO_CELL ∷ NO_CELL ∷ [] }
-    ensures own_neighbour { neighbour_table (plain_mask 1 2) true
+    ensures wrapped { tile_neighbour_table two_holes true ≡ 1 ∷ 2 ∷ NO_CELL ∷ 2 ∷ NO_CELL ∷ NO_CELL
+        ∷ 0 ∷ NO_CELL ∷ NO_CELL ∷ 0 ∷ 3 ∷ 0 ∷ 2 ∷ NO_CELL ∷ NO_CELL ∷ NO_CELL ∷ [] }
+    ensures own_neighbour { tile_neighbour_table (plain_mask 1 2) true
         ≡ 0 ∷ 1 ∷ 0 ∷ 1 ∷ 1 ∷ 0 ∷ 1 ∷ 0 ∷ [] }
 {}
 
 /// Which variants may stand beside one, direction by direction, and what they weigh.
 pub fn supports_by_example()
-    ensures lines { support_table lines
+    ensures lines { tile_support_table straight_lines
         ≡ (0 ∷ []) ∷ [] ∷ (0 ∷ []) ∷ [] ∷ [] ∷ (1 ∷ []) ∷ [] ∷ (1 ∷ []) ∷ [] }
-    ensures right { fitting crossing 5 2 ≡ 9 ∷ [] }
-    ensures left { fitting crossing 9 0 ≡ 3 ∷ 5 ∷ [] }
-    ensures below { fitting crossing 10 1 ≡ 0 ∷ 4 ∷ [] }
-    ensures above { fitting crossing 4 3 ≡ 10 ∷ [] }
-    ensures weights { weights_of line_and_cross.tiles ≡ 3 ∷ 3 ∷ 5 ∷ [] }
+    ensures right { fitting_variants crossing 5 2 ≡ 9 ∷ [] }
+    ensures left { fitting_variants crossing 9 0 ≡ 3 ∷ 5 ∷ [] }
+    ensures below { fitting_variants crossing 10 1 ≡ 0 ∷ 4 ∷ [] }
+    ensures above { fitting_variants crossing 4 3 ≡ 10 ∷ [] }
+    ensures weights { variant_weights line_and_cross.tiles ≡ 3 ∷ 3 ∷ 5 ∷ [] }
 {}
 
 /// A pin keeps one variant at the cell of its place, and a ban takes one away.
 pub fn pins_by_example()
-    ensures base { base_table lines two_holes (kept_pin 0 1 1 ∷ banned_pin 2 0 0 ∷ [])
+    ensures base { tile_base_table straight_lines two_holes (kept_pin 0 1 1 ∷ banned_pin 2 0 0 ∷ [])
         ≡ true ∷ true ∷ false ∷ true ∷ false ∷ true ∷ true ∷ true ∷ [] }
-    ensures read { pins_in line_and_cross.tiles two_holes (line_of 4 true 2 0 (codes "line/1")
-        ∷ line_of 7 false 1 1 (codes "x/0") ∷ []) ≡ Ok (kept_pin 2 0 1 ∷ banned_pin 1 1 2 ∷ []) }
-    ensures faults { map (λ line. pins_in line_and_cross.tiles two_holes (line ∷ [])) faulty_lines
-        ≡ Err (build_faults.PinOutside 1) ∷ Err (build_faults.PinOutside 2)
-        ∷ Err (build_faults.PinInHole 3) ∷ Err (build_faults.UnknownSymbol 4) ∷ [] }
+    ensures read { tile_map_pins line_and_cross.tiles two_holes (tile_pin_line 4 true 2 0 (codes
+        "line/1") ∷ tile_pin_line 7 false 1 1 (codes "x/0") ∷ []) ≡ Ok (kept_pin 2 0 1 ∷ banned_pin
+        1 1 2 ∷ []) }
+    ensures faults { map (λ line. tile_map_pins line_and_cross.tiles two_holes (line ∷ []))
+        faulty_lines ≡ Err (build_faults.PinOutside 1) ∷ Err (build_faults.PinOutside 2) ∷ Err
+        (build_faults.PinInHole 3) ∷ Err (build_faults.UnknownSymbol 4) ∷ [] }
 {}
 
 /// Few enough pairs of a place and a variant leave the mask, and the pins that the lines mean; too
 /// many come before a line at fault.
 pub fn builds_by_pairs()
-    ensures counted { pairs line_and_cross two_holes ≡ 12 }
+    ensures counted { tile_pair_count line_and_cross two_holes ≡ 12 }
     ensures roomy { roomy_mask line_and_cross two_holes ≡ Ok two_holes }
-    ensures pins { built_pins line_and_cross two_holes (line_of 4 true 2 0 (codes "line/1")
-        ∷ line_of 7 false 1 1 (codes "x/0") ∷ []) ≡ Ok (kept_pin 2 0 1 ∷ banned_pin 1 1 2 ∷ []) }
-    ensures line { built_pins line_and_cross two_holes (line_of 3 true 1 0 (codes "x/0") ∷ [])
-        ≡ Err (build_faults.PinInHole 3) }
-    ensures crowded_mask { (set : TileSetView) (mask : MaskView) → MAX_PAIRS < pairs set mask
-        → roomy_mask set mask ≡ Err (build_faults.TooLarge (pairs set mask)) }
-    ensures crowded_pins { (set : TileSetView) (mask : MaskView) (lines : List PinView)
-        → MAX_PAIRS < pairs set mask
-        → built_pins set mask lines ≡ Err (build_faults.TooLarge (pairs set mask)) }
+    ensures pins { checked_tile_map_pins line_and_cross two_holes (tile_pin_line 4 true 2 0 (codes
+        "line/1") ∷ tile_pin_line 7 false 1 1 (codes "x/0") ∷ []) ≡ Ok (kept_pin 2 0 1 ∷ banned_pin
+        1 1 2 ∷ []) }
+    ensures line { checked_tile_map_pins line_and_cross two_holes (tile_pin_line 3 true 1 0 (codes
+        "x/0") ∷ []) ≡ Err (build_faults.PinInHole 3) }
+    ensures crowded_mask { (set : TileSetView) (mask : MaskView) → MAX_PAIRS < tile_pair_count set
+        mask → roomy_mask set mask ≡ Err (build_faults.TooLarge (tile_pair_count set mask)) }
+    ensures crowded_pins { (set : TileSetView) (mask : MaskView) (straight_lines : List PinView) →
+        MAX_PAIRS < tile_pair_count set mask → checked_tile_map_pins set mask straight_lines ≡ Err
+        (build_faults.TooLarge (tile_pair_count set mask)) }
 {}
 
 /// Masks of grids, and their first faults.
 pub fn masks_by_example()
-    ensures read { mask_of (grid_of (codes ".#...#")) 3 2 ≡ Ok two_holes }
-    ensures sides { mask_of (grid_of (codes "x#...#")) 2 3 ≡ Err (mask_faults.SizeDiffers 3 2) }
-    ensures symbol { mask_of (grid_of (codes ".#..x ")) 3 2 ≡ Err (mask_faults.BadSymbol 2 2) }
-    ensures holes { mask_of (grid_of (codes "######")) 3 2 ≡ Err mask_faults.AllHoles }
+    ensures read { mask_of (three_by_two_grid (codes ".#...#")) 3 2 ≡ Ok two_holes }
+    ensures sides { mask_of (three_by_two_grid (codes "x#...#")) 2 3 ≡ Err (mask_faults.SizeDiffers
+        3 2) }
+    ensures symbol { mask_of (three_by_two_grid (codes ".#..x ")) 3 2 ≡ Err (mask_faults.BadSymbol 2
+        2) }
+    ensures holes { mask_of (three_by_two_grid (codes "######")) 3 2 ≡ Err mask_faults.AllHoles }
 {}
 
 /// A map is made of an assignment, and gives it again.
@@ -115,9 +119,9 @@ pub fn legal_maps_by_example()
 /// A map one wide that wraps is its own neighbour across: a line that stands above itself may not
 /// stand beside itself.
 pub fn narrow_maps_by_example()
-    ensures across { IsLegalTileMap lines (plain_mask 1 2) true []
+    ensures across { IsLegalTileMap straight_lines (plain_mask 1 2) true []
         (raster_of 1 2 (1 ∷ 1 ∷ [])) → ⊥ }
-    ensures down { IsLegalTileMap lines (plain_mask 2 1) true []
+    ensures down { IsLegalTileMap straight_lines (plain_mask 2 1) true []
         (raster_of 2 1 (0 ∷ 0 ∷ [])) → ⊥ }
 {}
 

@@ -9,7 +9,7 @@ ghost use Rattle.wfc_problem.specs.Assignment.{IsLegalAssignment};
 ghost use Rattle.wfc_problem.specs.declared.TheConstants.{MAX_PAIRS};
 ghost use Rattle.wfc_tileset.specs.Tiles.{TileSetView, variant_total};
 ghost use Rattle.wfc_tileset.specs.TileSets.{IsTileSet};
-ghost use Rattle.wfc_tiled.specs.Built.{pairs};
+ghost use Rattle.wfc_tiled.specs.Built.{tile_pair_count};
 ghost use Rattle.wfc_tiled.specs.Mask.{IsMask, MaskView};
 ghost use Rattle.wfc_tiled.specs.Maps.{ArePlaced, IsLegalTileMap, numbers_of_places, tile_map};
 ghost use Rattle.wfc_tiled.specs.Subject.{AreAcross, AreDown, HoldsPinAt, IsCellStep, IsTileSupport, cell_column, cell_row};
@@ -19,7 +19,7 @@ ghost use Rattle.wfc_tiled.specs.Tiles.{problem_of_tiles};
 /// variant.
 pub fn tile_sets_make_problems()
     ensures problem { (set : TileSetView) (mask : MaskView) (wrap : Bool) (pins : List Pin) →
-        IsTileSet set → IsMask mask → pairs set mask ≤ MAX_PAIRS →
+        IsTileSet set → IsMask mask → tile_pair_count set mask ≤ MAX_PAIRS →
         IsProblem (problem_of_tiles set mask wrap pins) }
 {}
 

@@ -15,9 +15,9 @@ mod problem;
 mod reading;
 mod supports;
 
-pub use base::base_of_marks;
+pub use base::tile_base_of_marks;
 pub use holes::Mask;
 pub use painting::{tiles_of, tiles_of_masked};
-pub use problem::{build, build_masked, checked_marks, checked_plain, parts_of_marks};
+pub use problem::{build, build_masked, checked_plain, checked_tile_marks, tile_parts_of_marks};
 pub use reading::{MAX_MASK_BYTES, MaskFault, mask};
-pub use supports::{fits, weights};
+pub use supports::{variants_fit, weights};

@@ -1,7 +1,7 @@
 //! What lies beside each place.
 
 ghost use Rattle.std.specs.Prelude.{◌≡◌, ◌+◌, ◌<◌, ◌≤◌, ◌++◌, ◌*◌, OnOk, IfOk, IfSome};
-ghost use Rattle.wfc_tiled.specs.Tiles.{all_beside, beside, neighbour_table};
+ghost use Rattle.wfc_tiled.specs.Tiles.{tiles_beside, tile_beside, tile_neighbour_table};
 
 use crate::holes::Mask;
 use std::alloc::Global;
@@ -11,7 +11,7 @@ use wfc_problem::NO_CELL;
 
 /// For each place and direction the cell that lies there, or `NO_CELL`.
 pub(crate) fn neighbours(alloc: Global, mask: &Mask, wrap: bool) -> Result<Vec<u32>, NoMemory>
-    ensures value { IfOk result (λ table. table.items ≡ neighbour_table mask.now wrap) }
+    ensures value { IfOk result (λ table. table.items ≡ tile_neighbour_table mask.now wrap) }
 {
     let mut table = Vec::with_capacity(alloc, mask.cells() as usize * 4)?;
     for place in mask.places() {
@@ -24,21 +24,21 @@ pub(crate) fn neighbours(alloc: Global, mask: &Mask, wrap: bool) -> Result<Vec<u
 fn push_place(table: &mut Vec<u32>, mask: &Mask, wrap: bool, place: u32) -> Result<(), NoMemory>
     requires place_in { place < mask.now.width * mask.now.height }
     ensures place { OnOk result (table.new.items
-        ≡ table.old.items ++ all_beside mask.now wrap place) }
+        ≡ table.old.items ++ tiles_beside mask.now wrap place) }
 {
     let x = place % mask.width();
     let y = place / mask.width();
     for dir in 0..4 {
-        table.push(beside(mask, wrap, x, y, dir))?;
+        table.push(tile_beside(mask, wrap, x, y, dir))?;
     }
     Ok(())
 }
 
 /// The cell beside a place in a direction, or `NO_CELL`.
-fn beside(mask: &Mask, wrap: bool, x: u32, y: u32, dir: u8) -> u32
+fn tile_beside(mask: &Mask, wrap: bool, x: u32, y: u32, dir: u8) -> u32
     requires x_in { x < mask.now.width }
     requires y_in { y < mask.now.height }
-    ensures value { result ≡ beside mask.now wrap x y dir }
+    ensures value { result ≡ tile_beside mask.now wrap x y dir }
 {
     let Some(u) = along(x, right_by(dir), left_by(dir), mask.width(), wrap) else {
         return NO_CELL;

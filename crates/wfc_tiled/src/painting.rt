@@ -3,7 +3,7 @@
 ghost use Rattle.std.specs.Prelude.{◌≡◌, ◌*◌, ◌<◌, ◌≤◌, length, IfOk};
 ghost use Rattle.wfc_model.specs.Raster.{IsFilled, raster_of};
 ghost use Rattle.wfc_tiled.specs.Mask.{cell_number, plain_mask};
-ghost use Rattle.wfc_tiled.specs.Maps.{IsLegalWith, number_of_cell, numbers_of_cells, tile_map};
+ghost use Rattle.wfc_tiled.specs.Maps.{IsLegalMapWith, number_of_cell, numbers_of_cells, tile_map};
 
 use crate::holes::Mask;
 use std::alloc::Global;
@@ -25,7 +25,7 @@ pub fn tiles_of(
     requires each_cell { length assignment.now ≡ width * height }
     ensures value { IfOk result (λ picture. picture
         ≡ tile_map (plain_mask width height) assignment.now) }
-    ensures legal { IfOk result (IsLegalWith (plain_mask width height) assignment.now) }
+    ensures legal { IfOk result (IsLegalMapWith (plain_mask width height) assignment.now) }
 {
     let mask = Mask::plain(alloc, width, height)?;
     tiles_of_masked(alloc, &mask, assignment)
@@ -35,7 +35,7 @@ pub fn tiles_of(
 pub fn tiles_of_masked(alloc: Global, mask: &Mask, assignment: &[u16]) -> Result<Picture, NoMemory>
     requires each_cell { length assignment.now ≡ length mask.now.places }
     ensures value { IfOk result (λ picture. picture ≡ tile_map mask.now assignment.now) }
-    ensures legal { IfOk result (IsLegalWith mask.now assignment.now) }
+    ensures legal { IfOk result (IsLegalMapWith mask.now assignment.now) }
 {
     let numbers = numbers(alloc, mask, assignment)?;
     Ok(filled(mask.width(), mask.height(), numbers))

@@ -2,13 +2,13 @@
 
 ghost use Rattle.std.specs.Prelude.{◌≡◌, ◌<◌, IfOk};
 ghost use Rattle.wfc_outside.specs.Gives.{Gives};
-ghost use Rattle.wfc_tiled.specs.Built.{pin_in, pins_in};
+ghost use Rattle.wfc_tiled.specs.Built.{tile_map_pin, tile_map_pins};
 ghost use Rattle.wfc_tiled.specs.Maps.{ArePlaced, IsPlaced};
 
 use crate::holes::Mask;
 use std::alloc::Global;
 use wfc_pins::{BuildFault, PinLine};
-use wfc_places::Mark;
+use wfc_places::PinMark;
 use wfc_tileset::TileSet;
 
 /// What the lines of a pins file mean, or the first line at fault.
@@ -17,9 +17,9 @@ pub(crate) fn marks(
     tiles: &TileSet,
     mask: &Mask,
     pins: &[PinLine],
-) -> Result<Vec<Mark>, BuildFault>
+) -> Result<Vec<PinMark>, BuildFault>
     ensures exact { Gives BuildFault.NoMemory (λ marks. marks.items) result
-        (pins_in tiles.now.tiles mask.now pins.now) }
+        (tile_map_pins tiles.now.tiles mask.now pins.now) }
     ensures placed { IfOk result (λ marks. ArePlaced mask.now marks.items) }
 {
     let mut marks = Vec::with_capacity(alloc, pins.len())?;
@@ -30,8 +30,8 @@ pub(crate) fn marks(
 }
 
 /// What one line means.
-fn mark(tiles: &TileSet, mask: &Mask, line: &PinLine) -> Result<Mark, BuildFault>
-    ensures exact { result ≡ pin_in tiles.now.tiles mask.now line.now }
+fn mark(tiles: &TileSet, mask: &Mask, line: &PinLine) -> Result<PinMark, BuildFault>
+    ensures exact { result ≡ tile_map_pin tiles.now.tiles mask.now line.now }
     ensures placed { IfOk result (IsPlaced mask.now) }
 {
     if line.x >= mask.width() || line.y >= mask.height() {
@@ -41,7 +41,7 @@ fn mark(tiles: &TileSet, mask: &Mask, line: &PinLine) -> Result<Mark, BuildFault
         return Err(BuildFault::PinInHole { line: line.line });
     };
     match tiles.find(&line.symbol) {
-        Some(variant) => Ok(Mark {
+        Some(variant) => Ok(PinMark {
             keep: line.keep,
             column: line.x,
             row: line.y,

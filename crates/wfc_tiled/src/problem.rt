@@ -2,13 +2,13 @@
 
 ghost use Rattle.std.specs.Prelude.{◌≡◌, ◌<◌, ◌≤◌, IfOk};
 ghost use Rattle.wfc_outside.specs.Gives.{Gives};
-ghost use Rattle.wfc_tiled.specs.Built.{built, built_pins, pairs, roomy_mask};
+ghost use Rattle.wfc_tiled.specs.Built.{tile_map_problem, checked_tile_map_pins, tile_pair_count, roomy_mask};
 ghost use Rattle.wfc_tiled.specs.Mask.{IsMask, plain_mask};
 ghost use Rattle.wfc_tiled.specs.Maps.{ArePlaced};
 ghost use Rattle.wfc_tiled.specs.Tiles.{problem_of_tiles};
 ghost use Rattle.wfc_tileset.specs.TileSets.{IsTileSet};
 
-use crate::base::base_of_marks;
+use crate::base::tile_base_of_marks;
 use crate::holes::Mask;
 use crate::neighbours::neighbours;
 use crate::pins::marks;
@@ -16,7 +16,7 @@ use crate::supports::{supports, weights};
 use std::alloc::Global;
 use wfc_outside::NoMemory;
 use wfc_pins::{BuildFault, PinLine};
-use wfc_places::{Mark, problem_with};
+use wfc_places::{PinMark, problem_with};
 use wfc_problem::{MAX_PAIRS, Parts, Problem};
 use wfc_tileset::TileSet;
 
@@ -39,7 +39,7 @@ pub fn build(
     requires width_limit { width ≤ 4096 }
     requires height_limit { height ≤ 4096 }
     ensures exact { Gives BuildFault.NoMemory (λ problem. problem) result
-        (built tiles.now (plain_mask width height) wrap pins.now) }
+        (tile_map_problem tiles.now (plain_mask width height) wrap pins.now) }
 {
     let mask = checked_plain(alloc, tiles, width, height)?;
     build_masked(alloc, tiles, &mask, wrap, pins)
@@ -80,24 +80,24 @@ pub fn build_masked(
     pins: &[PinLine],
 ) -> Result<Problem, BuildFault>
     ensures exact { Gives BuildFault.NoMemory (λ problem. problem) result
-        (built tiles.now mask.now wrap pins.now) }
+        (tile_map_problem tiles.now mask.now wrap pins.now) }
 {
-    let marks = checked_marks(alloc, tiles, mask, pins)?;
-    let parts = parts_of_marks(alloc, tiles, mask, wrap, &marks)?;
+    let marks = checked_tile_marks(alloc, tiles, mask, pins)?;
+    let parts = tile_parts_of_marks(alloc, tiles, mask, wrap, &marks)?;
     Ok(problem_with(parts))
 }
 
 /// What the lines of a pins file mean for the problem that `build_masked` builds, or the first of
 /// its faults.
-pub fn checked_marks(
+pub fn checked_tile_marks(
     alloc: Global,
     tiles: &TileSet,
     mask: &Mask,
     pins: &[PinLine],
-) -> Result<Vec<Mark>, BuildFault>
+) -> Result<Vec<PinMark>, BuildFault>
     ensures exact { Gives BuildFault.NoMemory (λ marks. marks.items) result
-        (built_pins tiles.now mask.now pins.now) }
-    ensures few_pairs { IfOk result (λ marks. pairs tiles.now mask.now ≤ MAX_PAIRS) }
+        (checked_tile_map_pins tiles.now mask.now pins.now) }
+    ensures few_pairs { IfOk result (λ marks. tile_pair_count tiles.now mask.now ≤ MAX_PAIRS) }
     ensures placed { IfOk result (λ marks. ArePlaced mask.now marks.items) }
     ensures tile_set { IsTileSet tiles.now }
     ensures mask { IsMask mask.now }
@@ -110,12 +110,12 @@ pub fn checked_marks(
 }
 
 /// What the problem of a tile set for a map with holes is made of, with these pins and bans.
-pub fn parts_of_marks(
+pub fn tile_parts_of_marks(
     alloc: Global,
     tiles: &TileSet,
     mask: &Mask,
     wrap: bool,
-    marks: &[Mark],
+    marks: &[PinMark],
 ) -> Result<Parts, NoMemory>
     requires placed { ArePlaced mask.now marks.now }
     ensures value { IfOk result (λ parts. parts
@@ -127,6 +127,6 @@ pub fn parts_of_marks(
         neighbours: neighbours(alloc, mask, wrap)?,
         weights: weights(alloc, tiles)?,
         supports: supports(alloc, tiles)?,
-        base: base_of_marks(alloc, tiles, mask, marks)?,
+        base: tile_base_of_marks(alloc, tiles, mask, marks)?,
     })
 }

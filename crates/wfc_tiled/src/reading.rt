@@ -2,7 +2,7 @@
 
 ghost use Rattle.std.specs.Prelude.{◌≡◌, ◌<◌, ◌≤◌, ◌++◌, ◌∷◌, ◌==◌, [], if◌then◌else◌, length, position, IfOk, IfSome, OnOk};
 ghost use Rattle.wfc_outside.specs.Gives.{Gives};
-ghost use Rattle.wfc_tiled.specs.Mask.{is_other, mask_of, places_of};
+ghost use Rattle.wfc_tiled.specs.Mask.{is_no_mask_byte, mask_of, places_of};
 
 use crate::holes::Mask;
 use std::alloc::{AllocError, AllocFailed, Global};
@@ -94,7 +94,7 @@ pub fn mask(alloc: Global, grid: &Grid, width: u32, height: u32) -> Result<Mask,
 /// The first byte that is no place and no hole.
 fn first_other(bytes: &[u8]) -> Option<u32>
     requires few { length bytes.now ≤ MAX_MASK_BYTES }
-    ensures value { result ≡ position is_other bytes.now }
+    ensures value { result ≡ position is_no_mask_byte bytes.now }
 {
     match place_of_other(bytes) {
         Some(at) => Some(at as u32),
@@ -104,15 +104,15 @@ fn first_other(bytes: &[u8]) -> Option<u32>
 
 /// Where it stands.
 fn place_of_other(bytes: &[u8]) -> Option<usize>
-    ensures value { result ≡ position is_other bytes.now }
+    ensures value { result ≡ position is_no_mask_byte bytes.now }
     ensures within { IfSome result (λ at. at < length bytes.now) }
 {
-    bytes.iter().position(|byte| is_other(*byte))
+    bytes.iter().position(|byte| is_no_mask_byte(*byte))
 }
 
 /// Whether a byte is no place and no hole.
-fn is_other(byte: u8) -> bool
-    ensures value { result ≡ is_other byte }
+fn is_no_mask_byte(byte: u8) -> bool
+    ensures value { result ≡ is_no_mask_byte byte }
 {
     !(byte == b'.' || byte == b'#')
 }

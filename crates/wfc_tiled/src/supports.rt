@@ -2,7 +2,7 @@
 
 ghost use Rattle.std.specs.Prelude.{◌≡◌, ◌<◌, ◌++◌, ◌∷◌, [], if◌then◌else◌, map, IfOk, OnOk};
 ghost use Rattle.wfc_tileset.specs.Tiles.{variant_total};
-ghost use Rattle.wfc_tiled.specs.Tiles.{all_fitting, fits, fitting, support_table, weights_of};
+ghost use Rattle.wfc_tiled.specs.Tiles.{all_fitting, variants_fit, fitting_variants, tile_support_table, variant_weights};
 
 use std::alloc::Global;
 use wfc_outside::NoMemory;
@@ -13,7 +13,7 @@ use wfc_tileset::TileSet;
 /// memory than they need.
 pub(crate) fn supports(alloc: Global, tiles: &TileSet) -> Result<Vec<Vec<u16>>, NoMemory>
     ensures value { IfOk result (λ lists.
-        map (λ list. list.items) lists.items ≡ support_table tiles.now) }
+        map (λ list. list.items) lists.items ≡ tile_support_table tiles.now) }
 {
     let mut lists = Vec::with_capacity(alloc, tiles.variants() as usize * 4)?;
     for v in 0..tiles.variants() {
@@ -34,30 +34,30 @@ fn push_lists(
         ≡ map (λ list. list.items) lists.old.items ++ all_fitting tiles.now v) }
 {
     for dir in 0..4 {
-        let list = fitting(alloc, tiles, v, dir)?;
+        let list = fitting_variants(alloc, tiles, v, dir)?;
         lists.push(Vec::from_slice(alloc, list.as_slice())?)?;
     }
     Ok(())
 }
 
 /// The variants that may stand beside one in a direction, rising.
-fn fitting(alloc: Global, tiles: &TileSet, v: u16, dir: u8) -> Result<Vec<u16>, NoMemory>
+fn fitting_variants(alloc: Global, tiles: &TileSet, v: u16, dir: u8) -> Result<Vec<u16>, NoMemory>
     requires v_in { v < variant_total tiles.now.tiles }
-    ensures value { IfOk result (λ list. list.items ≡ fitting tiles.now v dir) }
+    ensures value { IfOk result (λ list. list.items ≡ fitting_variants tiles.now v dir) }
 {
     let mut list = Vec::new(alloc);
     for w in 0..tiles.variants() {
-        push_if(&mut list, w, fits(tiles, dir, v, w))?;
+        push_if(&mut list, w, variants_fit(tiles, dir, v, w))?;
     }
     Ok(list)
 }
 
 /// Whether `w` may stand beside `v` in a direction.
 #[inline]
-pub fn fits(tiles: &TileSet, dir: u8, v: u16, w: u16) -> bool
+pub fn variants_fit(tiles: &TileSet, dir: u8, v: u16, w: u16) -> bool
     requires v_in { v < variant_total tiles.now.tiles }
     requires w_in { w < variant_total tiles.now.tiles }
-    ensures value { result ≡ fits tiles.now dir v w }
+    ensures value { result ≡ variants_fit tiles.now dir v w }
 {
     match dir {
         0 => tiles.across(w, v),
@@ -69,7 +69,7 @@ pub fn fits(tiles: &TileSet, dir: u8, v: u16, w: u16) -> bool
 
 /// How much each variant weighs.
 pub fn weights(alloc: Global, tiles: &TileSet) -> Result<Vec<u32>, NoMemory>
-    ensures value { IfOk result (λ weights. weights.items ≡ weights_of tiles.now.tiles) }
+    ensures value { IfOk result (λ weights. weights.items ≡ variant_weights tiles.now.tiles) }
 {
     let mut weights = Vec::with_capacity(alloc, tiles.variants() as usize)?;
     for v in 0..tiles.variants() {

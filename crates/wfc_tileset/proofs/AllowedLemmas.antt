@@ -11,8 +11,8 @@ use Rattle.wfc_symmetry.specs.declared.class.Class.{Class}
 use Rattle.wfc_symmetry.specs.declared.class.Class.TheVariants.{X, I, L, T, F, Slash}
 use Rattle.wfc_tileset.specs.declared.tile.End.{End}
 use Rattle.wfc_tileset.specs.declared.tile.Pair.{Pair}
-use Rattle.wfc_tileset.specs.Tiles.{TileView, TileSetView, Variant, tile_at, variants_of_tile, moved}
-use Rattle.wfc_tileset.specs.Allowed.{named_variant, beside, stacked, beside_by, stacked_by, IsAcross, IsDown, IsEnd, IsPair, ArePairs}
+use Rattle.wfc_tileset.specs.Tiles.{TileView, TileSetView, Variant, tile_at, variants_of_tile, moved_variant}
+use Rattle.wfc_tileset.specs.Allowed.{named_variant, pairs_beside, upright_pairs, beside_by, stacked_by, IsAcross, IsDown, IsPairEnd, IsPair, ArePairs}
 
 -- ---- members of joined lists
 
@@ -83,7 +83,7 @@ of_four P a b c d x at_a at_b at_c at_d m = elim (Contains_cases a (b ∷ c ∷ 
 abbrev pub Inside : List TileView → Variant → Type 0
 Inside tiles v = v.1 < variants_of_tile (tile_at tiles v.0)
 
-pub Inside_moved : (tiles : List TileView) (v : Variant) (k : ℕ) → Inside tiles v → k < 8 → Inside tiles (moved tiles v k)
+pub Inside_moved : (tiles : List TileView) (v : Variant) (k : ℕ) → Inside tiles v → k < 8 → Inside tiles (moved_variant tiles v k)
 Inside_moved tiles v k inside below = acted_below (tile_at tiles v.0).class v.1 k inside below
 
 -- each class has a variant
@@ -98,23 +98,23 @@ some_of F = lit< tt
 some_variant : (tiles : List TileView) (t : ℕ) → Inside tiles (t, 0)
 some_variant tiles t = some_of (tile_at tiles t).class
 
-pub Inside_named : (tiles : List TileView) (end : End) → IsEnd tiles end → Inside tiles (named_variant tiles end)
+pub Inside_named : (tiles : List TileView) (end : End) → IsPairEnd tiles end → Inside tiles (named_variant tiles end)
 Inside_named tiles end is_end = Inside_moved tiles (end.tile, 0) end.turn (some_variant tiles end.tile) is_end.turn_in
 
 -- an action behind another is the action that they are joined to
-behind : (tiles : List TileView) (v : Variant) (a b : ℕ) → Inside tiles v → a < 8 → b < 8 → moved tiles (moved tiles v b) a ≡ moved tiles v (action_behind a b)
+behind : (tiles : List TileView) (v : Variant) (a b : ℕ) → Inside tiles v → a < 8 → b < 8 → moved_variant tiles (moved_variant tiles v b) a ≡ moved_variant tiles v (action_behind a b)
 behind tiles v a b inside in_a in_b = ap (λ i. (v.0, i)) (acted_behind (tile_at tiles v.0).class v.1 a b inside in_a in_b)
 
 -- the same of two pairs of actions that are joined to one, and of three actions
 swapped : (tiles : List TileView) (v : Variant) (a b c d : ℕ) → Inside tiles v → a < 8 → b < 8 → c < 8 → d < 8
-    → action_behind a b ≡ action_behind c d → moved tiles (moved tiles v b) a ≡ moved tiles (moved tiles v d) c
+    → action_behind a b ≡ action_behind c d → moved_variant tiles (moved_variant tiles v b) a ≡ moved_variant tiles (moved_variant tiles v d) c
 swapped tiles v a b c d inside in_a in_b in_c in_d same =
-    behind tiles v a b inside in_a in_b ∙ ap (moved tiles v) same ∙ sym (behind tiles v c d inside in_c in_d)
+    behind tiles v a b inside in_a in_b ∙ ap (moved_variant tiles v) same ∙ sym (behind tiles v c d inside in_c in_d)
 
 thrice : (tiles : List TileView) (v : Variant) (a b c : ℕ) → Inside tiles v → a < 8 → b < 8 → c < 8 → action_behind b c < 8
-    → moved tiles (moved tiles (moved tiles v c) b) a ≡ moved tiles v (action_behind a (action_behind b c))
+    → moved_variant tiles (moved_variant tiles (moved_variant tiles v c) b) a ≡ moved_variant tiles v (action_behind a (action_behind b c))
 thrice tiles v a b c inside in_a in_b in_c in_joined =
-    ap (λ u. moved tiles u a) (behind tiles v b c inside in_b in_c) ∙ behind tiles v a (action_behind b c) inside in_a in_joined
+    ap (λ u. moved_variant tiles u a) (behind tiles v b c inside in_b in_c) ∙ behind tiles v a (action_behind b c) inside in_a in_joined
 
 -- two pairs with equal parts are equal
 abbrev two : Variant → Variant → Variant × Variant
@@ -126,10 +126,10 @@ both a b c d e f = ap (λ x. two x b) e ∙ ap (λ y. two c y) f
 -- ---- one declared pair
 
 -- the pairs and the ones above each other after a quarter turn
-up_by_one : (tiles : List TileView) (l r : Variant) → Inside tiles l → Inside tiles r → (p : Variant × Variant) → Contains (beside tiles l r) p
-    → Contains (stacked tiles (moved tiles r 1) (moved tiles l 1)) (moved tiles p.1 1, moved tiles p.0 1)
+up_by_one : (tiles : List TileView) (l r : Variant) → Inside tiles l → Inside tiles r → (p : Variant × Variant) → Contains (pairs_beside tiles l r) p
+    → Contains (upright_pairs tiles (moved_variant tiles r 1) (moved_variant tiles l 1)) (moved_variant tiles p.1 1, moved_variant tiles p.0 1)
 up_by_one tiles l r in_l in_r p c =
-    of_four (λ p. Contains (stacked tiles (moved tiles r 1) (moved tiles l 1)) (moved tiles p.1 1, moved tiles p.0 1)) _ _ _ _ p
+    of_four (λ p. Contains (upright_pairs tiles (moved_variant tiles r 1) (moved_variant tiles l 1)) (moved_variant tiles p.1 1, moved_variant tiles p.0 1)) _ _ _ _ p
     (0, omega arith, refl)
     (2, omega arith, both _ _ _ _ (swapped tiles r 4 1 1 6 in_r (lit< tt) (lit< tt) (lit< tt) (lit< tt) refl) (swapped tiles l 4 1 1 6 in_l (lit< tt) (lit< tt) (lit< tt) (lit< tt) refl))
     (1, omega arith, both _ _ _ _ (swapped tiles l 6 1 1 4 in_l (lit< tt) (lit< tt) (lit< tt) (lit< tt) refl) (swapped tiles r 6 1 1 4 in_r (lit< tt) (lit< tt) (lit< tt) (lit< tt) refl))
@@ -138,9 +138,9 @@ up_by_one tiles l r in_l in_r p c =
 
 -- the other way, the upper one goes to the left
 left_by_one : (tiles : List TileView) (l r : Variant) → Inside tiles l → Inside tiles r → (p : Variant × Variant)
-    → Contains (stacked tiles (moved tiles r 1) (moved tiles l 1)) p → Contains (beside tiles l r) (moved tiles p.0 1, moved tiles p.1 1)
+    → Contains (upright_pairs tiles (moved_variant tiles r 1) (moved_variant tiles l 1)) p → Contains (pairs_beside tiles l r) (moved_variant tiles p.0 1, moved_variant tiles p.1 1)
 left_by_one tiles l r in_l in_r p c =
-    of_four (λ p. Contains (beside tiles l r) (moved tiles p.0 1, moved tiles p.1 1)) _ _ _ _ p
+    of_four (λ p. Contains (pairs_beside tiles l r) (moved_variant tiles p.0 1, moved_variant tiles p.1 1)) _ _ _ _ p
     (3, omega arith, both _ _ _ _ (sym (behind tiles r 1 1 in_r (lit< tt) (lit< tt))) (sym (behind tiles l 1 1 in_l (lit< tt) (lit< tt))))
     (1, omega arith, both _ _ _ _ (sym (thrice tiles l 1 6 1 in_l (lit< tt) (lit< tt) (lit< tt) (lit< tt))) (sym (thrice tiles r 1 6 1 in_r (lit< tt) (lit< tt) (lit< tt) (lit< tt))))
     (2, omega arith, both _ _ _ _ (sym (thrice tiles r 1 4 1 in_r (lit< tt) (lit< tt) (lit< tt) (lit< tt))) (sym (thrice tiles l 1 4 1 in_l (lit< tt) (lit< tt) (lit< tt) (lit< tt))))
@@ -148,10 +148,10 @@ left_by_one tiles l r in_l in_r p c =
     c
 
 -- a reflection exchanges left and right
-over_by_one : (tiles : List TileView) (l r : Variant) → Inside tiles l → Inside tiles r → (p : Variant × Variant) → Contains (beside tiles l r) p
-    → Contains (beside tiles l r) (moved tiles p.1 4, moved tiles p.0 4)
+over_by_one : (tiles : List TileView) (l r : Variant) → Inside tiles l → Inside tiles r → (p : Variant × Variant) → Contains (pairs_beside tiles l r) p
+    → Contains (pairs_beside tiles l r) (moved_variant tiles p.1 4, moved_variant tiles p.0 4)
 over_by_one tiles l r in_l in_r p c =
-    of_four (λ p. Contains (beside tiles l r) (moved tiles p.1 4, moved tiles p.0 4)) _ _ _ _ p
+    of_four (λ p. Contains (pairs_beside tiles l r) (moved_variant tiles p.1 4, moved_variant tiles p.0 4)) _ _ _ _ p
     (2, omega arith, refl)
     (3, omega arith, both _ _ _ _ (sym (behind tiles r 4 6 in_r (lit< tt) (lit< tt))) (sym (behind tiles l 4 6 in_l (lit< tt) (lit< tt))))
     (0, omega arith, both _ _ _ _ (sym (behind tiles l 4 4 in_l (lit< tt) (lit< tt))) (sym (behind tiles r 4 4 in_r (lit< tt) (lit< tt))))
@@ -159,10 +159,10 @@ over_by_one tiles l r in_l in_r p c =
     c
 
 -- and leaves upper and lower as they are
-over_below_by_one : (tiles : List TileView) (u d : Variant) → Inside tiles u → Inside tiles d → (p : Variant × Variant) → Contains (stacked tiles u d) p
-    → Contains (stacked tiles u d) (moved tiles p.0 4, moved tiles p.1 4)
+over_below_by_one : (tiles : List TileView) (u d : Variant) → Inside tiles u → Inside tiles d → (p : Variant × Variant) → Contains (upright_pairs tiles u d) p
+    → Contains (upright_pairs tiles u d) (moved_variant tiles p.0 4, moved_variant tiles p.1 4)
 over_below_by_one tiles u d in_u in_d p c =
-    of_four (λ p. Contains (stacked tiles u d) (moved tiles p.0 4, moved tiles p.1 4)) _ _ _ _ p
+    of_four (λ p. Contains (upright_pairs tiles u d) (moved_variant tiles p.0 4, moved_variant tiles p.1 4)) _ _ _ _ p
     (2, omega arith, refl)
     (3, omega arith, both _ _ _ _ (sym (behind tiles d 4 6 in_d (lit< tt) (lit< tt))) (sym (behind tiles u 4 6 in_u (lit< tt) (lit< tt))))
     (0, omega arith, both _ _ _ _ (sym (behind tiles u 4 4 in_u (lit< tt) (lit< tt))) (sym (behind tiles d 4 4 in_d (lit< tt) (lit< tt))))
@@ -171,28 +171,28 @@ over_below_by_one tiles u d in_u in_d p c =
 
 -- ---- all declared pairs
 
-pub allowed_up : (set : TileSetView) (v w : Variant) → ArePairs set → IsAcross set v w → IsDown set (moved set.tiles w 1) (moved set.tiles v 1)
+pub allowed_up : (set : TileSetView) (v w : Variant) → ArePairs set → IsAcross set v w → IsDown set (moved_variant set.tiles w 1) (moved_variant set.tiles v 1)
 allowed_up set v w are c =
-    carried (beside_by set.tiles) (stacked_by set.tiles) (λ p. (moved set.tiles p.1 1, moved set.tiles p.0 1)) (IsPair set.tiles) set.pairs are
+    carried (beside_by set.tiles) (stacked_by set.tiles) (λ p. (moved_variant set.tiles p.1 1, moved_variant set.tiles p.0 1)) (IsPair set.tiles) set.pairs are
     (λ pair p is_pair m. up_by_one set.tiles (named_variant set.tiles pair.left) (named_variant set.tiles pair.right) (Inside_named set.tiles pair.left is_pair.left_in) (Inside_named set.tiles pair.right is_pair.right_in) p m)
     (v, w) c
 
-pub allowed_left : (set : TileSetView) (v w : Variant) → ArePairs set → IsDown set v w → IsAcross set (moved set.tiles v 1) (moved set.tiles w 1)
+pub allowed_left : (set : TileSetView) (v w : Variant) → ArePairs set → IsDown set v w → IsAcross set (moved_variant set.tiles v 1) (moved_variant set.tiles w 1)
 allowed_left set v w are c =
-    carried (stacked_by set.tiles) (beside_by set.tiles) (λ p. (moved set.tiles p.0 1, moved set.tiles p.1 1)) (IsPair set.tiles) set.pairs are
+    carried (stacked_by set.tiles) (beside_by set.tiles) (λ p. (moved_variant set.tiles p.0 1, moved_variant set.tiles p.1 1)) (IsPair set.tiles) set.pairs are
     (λ pair p is_pair m. left_by_one set.tiles (named_variant set.tiles pair.left) (named_variant set.tiles pair.right) (Inside_named set.tiles pair.left is_pair.left_in) (Inside_named set.tiles pair.right is_pair.right_in) p m)
     (v, w) c
 
-pub allowed_over : (set : TileSetView) (v w : Variant) → ArePairs set → IsAcross set v w → IsAcross set (moved set.tiles w 4) (moved set.tiles v 4)
+pub allowed_over : (set : TileSetView) (v w : Variant) → ArePairs set → IsAcross set v w → IsAcross set (moved_variant set.tiles w 4) (moved_variant set.tiles v 4)
 allowed_over set v w are c =
-    carried (beside_by set.tiles) (beside_by set.tiles) (λ p. (moved set.tiles p.1 4, moved set.tiles p.0 4)) (IsPair set.tiles) set.pairs are
+    carried (beside_by set.tiles) (beside_by set.tiles) (λ p. (moved_variant set.tiles p.1 4, moved_variant set.tiles p.0 4)) (IsPair set.tiles) set.pairs are
     (λ pair p is_pair m. over_by_one set.tiles (named_variant set.tiles pair.left) (named_variant set.tiles pair.right) (Inside_named set.tiles pair.left is_pair.left_in) (Inside_named set.tiles pair.right is_pair.right_in) p m)
     (v, w) c
 
-pub allowed_over_below : (set : TileSetView) (v w : Variant) → ArePairs set → IsDown set v w → IsDown set (moved set.tiles v 4) (moved set.tiles w 4)
+pub allowed_over_below : (set : TileSetView) (v w : Variant) → ArePairs set → IsDown set v w → IsDown set (moved_variant set.tiles v 4) (moved_variant set.tiles w 4)
 allowed_over_below set v w are c =
-    carried (stacked_by set.tiles) (stacked_by set.tiles) (λ p. (moved set.tiles p.0 4, moved set.tiles p.1 4)) (IsPair set.tiles) set.pairs are
-    (λ pair p is_pair m. over_below_by_one set.tiles (moved set.tiles (named_variant set.tiles pair.right) 1) (moved set.tiles (named_variant set.tiles pair.left) 1)
+    carried (stacked_by set.tiles) (stacked_by set.tiles) (λ p. (moved_variant set.tiles p.0 4, moved_variant set.tiles p.1 4)) (IsPair set.tiles) set.pairs are
+    (λ pair p is_pair m. over_below_by_one set.tiles (moved_variant set.tiles (named_variant set.tiles pair.right) 1) (moved_variant set.tiles (named_variant set.tiles pair.left) 1)
     (Inside_moved set.tiles (named_variant set.tiles pair.right) 1 (Inside_named set.tiles pair.right is_pair.right_in) (lit< tt))
     (Inside_moved set.tiles (named_variant set.tiles pair.left) 1 (Inside_named set.tiles pair.left is_pair.left_in) (lit< tt)) p m)
     (v, w) c

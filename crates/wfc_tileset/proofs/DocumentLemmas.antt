@@ -16,11 +16,11 @@ use Rattle.wfc_tileset.specs.declared.fault.Key.TheVariants as key
 use Rattle.wfc_tileset.specs.declared.fault.TileFault.TheVariants as fault
 use Rattle.wfc_tileset.specs.declared.tile.Pair.{Pair}
 use Rattle.wfc_tileset.specs.Tiles.{TileView}
-use Rattle.wfc_tileset.specs.Document.{and_then, parsed, table_in, tile_from, tiles_from, pair_from, pairs_from}
+use Rattle.wfc_tileset.specs.Document.{result_then, parsed_document, table_in, tile_from, tiles_from, pair_from, pairs_from}
 
 -- the tile of an element, behind those before it
 abbrev pub tile_in : List TileView → Data → Result TileView TileFault
-tile_in before d = and_then (table_in (place.Tile (length before)) key.Tile d) (tile_from before)
+tile_in before d = result_then (table_in (place.Tile (length before)) key.Tile d) (tile_from before)
 
 -- the tiles behind a first one
 pub tiles_next : (before : List TileView) (d : Data) (ds : Items) (tile : TileView) → Ok tile ≡ tile_in before d → tiles_from before (item d ds) ≡ tiles_from (before ++ tile ∷ []) ds
@@ -32,7 +32,7 @@ tiles_fault before d ds fault is = rw (← is)
 
 -- the pair of an element
 abbrev pub pair_in : List TileView → ℕ → Data → Result Pair TileFault
-pair_in tiles pair d = and_then (table_in (place.Pair pair) key.Pair d) (pair_from tiles pair)
+pair_in tiles pair d = result_then (table_in (place.Pair pair) key.Pair d) (pair_from tiles pair)
 
 -- the pairs behind a first one
 pub pairs_next : (tiles : List TileView) (before : List Pair) (d : Data) (ds : Items) (pair : Pair) → Ok pair ≡ pair_in tiles (length before) d → pairs_from tiles before (item d ds) ≡ pairs_from tiles (before ++ pair ∷ []) ds
@@ -43,14 +43,14 @@ pub pairs_fault : (tiles : List TileView) (before : List Pair) (d : Data) (ds : 
 pairs_fault tiles before d ds fault is = rw (← is)
 
 -- bytes that are no text are no document
-pub parsed_no_text : (bytes : List ℕ) → (IsUtf8 bytes → ⊥) → parsed bytes ≡ Err fault.Toml
+pub parsed_no_text : (bytes : List ℕ) → (IsUtf8 bytes → ⊥) → parsed_document bytes ≡ Err fault.Toml
 parsed_no_text bytes other = elim (cases_Bool (is_utf8 bytes)) [
   | inl spelled ↦ absurd (other (IsUtf8-from_is_utf8 bytes spelled))
   | inr unspelled ↦ rw unspelled
 ]
 
 -- a text is the document that toml reads
-pub parsed_text : (bytes text : List ℕ) → text ≡ bytes → IsUtf8 bytes → parsed bytes ≡ ok_or (parse_document text) fault.Toml
+pub parsed_text : (bytes text : List ℕ) → text ≡ bytes → IsUtf8 bytes → parsed_document bytes ≡ ok_or (parse_document text) fault.Toml
 parsed_text bytes text same is = rw (is_utf8-from_IsUtf8 bytes is, same)
 
 -- ---- the first place that passes a test

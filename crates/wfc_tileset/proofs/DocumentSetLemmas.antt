@@ -8,10 +8,10 @@ use Rattle.std.proofs.lemmas.List.{length_push}
 use Rattle.std.proofs.lemmas.List.Elements.{All-nil, All-push}
 use Rattle.toml.specs.Data.{Data, Items, no_items, item, Members, get_member, as_integer}
 use Rattle.wfc_symmetry.specs.declared.class.Class.{Class}
-use Rattle.wfc_tileset.specs.Allowed.{IsEnd, IsPair}
-use Rattle.wfc_tileset.specs.Document.{and_then, class_in, elements_in, end_from, end_in, end_with, few_variants, fits_first, has_name, name_in, name_length, pair_from, pair_with, pairs_from, parsed, picture_in, set_from, set_of, set_with, some_tiles, table_in, text_in, tile_from, tile_with, tiles_from, turn_of, weight_in, weight_of}
+use Rattle.wfc_tileset.specs.Allowed.{IsPairEnd, IsPair}
+use Rattle.wfc_tileset.specs.Document.{result_then, class_in, elements_in, pair_end_from, pair_end_in, pair_end_with, few_variants, fits_first, has_name, name_in, name_length, pair_from, pair_with, pairs_from, parsed_document, picture_in, set_from, set_of, set_with, some_tiles, table_in, required_text, tile_from, tile_with, tiles_from, turn_digit, weight_in, tile_weight}
 use Rattle.wfc_tileset.specs.Pictures.{picture_for, picture_taken, with_picture}
-use Rattle.wfc_tileset.specs.Tiles.{TileView, TileSetView, IsWeighed, variant_total}
+use Rattle.wfc_tileset.specs.Tiles.{TileView, TileSetView, HasWeight, variant_total}
 use Rattle.wfc_tileset.specs.TileSets.{AreAlike, IsTileSet}
 use Rattle.wfc_tileset.specs.declared.fault.Key.{Key}
 use Rattle.wfc_tileset.specs.declared.fault.Key.TheVariants as key
@@ -26,7 +26,7 @@ use Rattle.wfc_tileset.proofs.DocumentLemmas.{pair_in, tile_in}
 use Rattle.wfc_tileset.proofs.NameLemmas.{place_inside}
 
 -- what two steps came to
-pub then_parts : {A B : Type 0} (first : Result A TileFault) (next : A → Result B TileFault) (b : B) → and_then first next ≡ Ok b → (a : A) × (first ≡ Ok a) × (next a ≡ Ok b)
+pub then_parts : {A B : Type 0} (first : Result A TileFault) (next : A → Result B TileFault) (b : B) → result_then first next ≡ Ok b → (a : A) × (first ≡ Ok a) × (next a ≡ Ok b)
 then_parts (Ok a) next b is = (a, refl, is)
 then_parts (Err fault) next b is = absurd (cc)
 
@@ -37,7 +37,7 @@ there None fault a is = absurd (cc)
 
 -- ---- a tile
 
-weight_fits : (z : ℤ) (w : ℕ) → weight_of z ≡ Some w → (1 ≤ w) × (w ≤ 1000000)
+weight_fits : (z : ℤ) (w : ℕ) → tile_weight z ≡ Some w → (1 ≤ w) × (w ≤ 1000000)
 weight_fits (negsuc n) w is = absurd (cc)
 weight_fits (pos n) w is = by_tests (nat_le 1 n) (nat_le n 1000000) refl refl is
   where
@@ -53,25 +53,25 @@ weight_fits (pos n) w is = by_tests (nat_le 1 n) (nat_le n 1000000) refl refl is
 weight_read : (t : ℕ) (d : Option Data) (w : ℕ) → weight_in t d ≡ Ok w → (1 ≤ w) × (w ≤ 1000000)
 weight_read t None w is = let one : 1 ≡ w = cc in (omega (arith, one), omega (arith, one))
 weight_read t (Some d) w is =
-    let number = then_parts (ok_or (as_integer d) (fault.WrongKind (place.Tile t) key.Weight)) (λ z. ok_or (weight_of z) (fault.BadWeight t)) w is in
-    weight_fits number.0 w (there (weight_of number.0) (fault.BadWeight t) w number.2)
+    let number = then_parts (ok_or (as_integer d) (fault.WrongKind (place.Tile t) key.Weight)) (λ z. ok_or (tile_weight z) (fault.BadWeight t)) w is in
+    weight_fits number.0 w (there (tile_weight number.0) (fault.BadWeight t) w number.2)
 
 -- a tile that may stand behind others
 record IsNext (before : List TileView) (tile : TileView) : Type 0 where
-  weighed : IsWeighed tile
+  weighed : HasWeight tile
   alike : fits_first before tile.picture ≡ true
 
 abbrev pub behind_picture : List TileView → List ℕ → Class → ℕ → Option (List ℕ) → Result TileView TileFault
 behind_picture before name class weight picture = if fits_first before picture then Ok (tile_with name class weight picture) else Err (fault.MixedKinds (length before))
 
 abbrev pub behind_weight : List TileView → Members → List ℕ → Class → ℕ → Result TileView TileFault
-behind_weight before ms name class weight = and_then (picture_in (length before) (get_member (codes "picture") ms)) (behind_picture before name class weight)
+behind_weight before ms name class weight = result_then (picture_in (length before) (get_member (codes "picture") ms)) (behind_picture before name class weight)
 
 abbrev pub behind_class : List TileView → Members → List ℕ → Class → Result TileView TileFault
-behind_class before ms name class = and_then (weight_in (length before) (get_member (codes "weight") ms)) (behind_weight before ms name class)
+behind_class before ms name class = result_then (weight_in (length before) (get_member (codes "weight") ms)) (behind_weight before ms name class)
 
 abbrev pub behind_name : List TileView → Members → List ℕ → Result TileView TileFault
-behind_name before ms name = and_then (class_in (length before) (get_member (codes "class") ms)) (behind_class before ms name)
+behind_name before ms name = result_then (class_in (length before) (get_member (codes "class") ms)) (behind_class before ms name)
 
 fits_next : (before : List TileView) (name : List ℕ) (class : Class) (weight : ℕ) (picture : Option (List ℕ)) (tile : TileView) → (1 ≤ weight) × (weight ≤ 1000000) → behind_picture before name class weight picture ≡ Ok tile → IsNext before tile
 fits_next before name class weight picture tile fits is = by_test (fits_first before picture) refl is
@@ -93,12 +93,12 @@ tile_next before ms tile is =
 -- ---- all tiles
 
 record AreRead (tiles : List TileView) : Type 0 where
-  weighed : All IsWeighed tiles
+  weighed : All HasWeight tiles
   alike : AreAlike tiles
 
 one_more : (before : List TileView) (tile : TileView) → AreRead before → IsNext before tile → AreRead (before ++ tile ∷ [])
 one_more before tile read next =
-    record { weighed = All-push IsWeighed before tile read.weighed next.weighed; alike = alike_more before tile read.alike next.alike }
+    record { weighed = All-push HasWeight before tile read.weighed next.weighed; alike = alike_more before tile read.alike next.alike }
 
 first_read : (before : List TileView) (d : Data) (ds : Items) (tiles : List TileView) → tiles_from before (item d ds) ≡ Ok tiles → (tile : TileView) × IsNext before tile × (tiles_from (before ++ tile ∷ []) ds ≡ Ok tiles)
 first_read before d ds tiles is =
@@ -114,7 +114,7 @@ tiles_read (item d ds) before tiles read is =
     (rest.0, omega (arith, rest.1, length_push before first.0))
 
 none_read : AreRead []
-none_read = record { weighed = All-nil IsWeighed; alike = λ k d within. absurd (omega arith) }
+none_read = record { weighed = All-nil HasWeight; alike = λ k d within. absurd (omega arith) }
 
 some_read : (items : Items) (tiles : List TileView) → some_tiles items ≡ Ok tiles → AreRead tiles × (0 < length tiles)
 some_read no_items tiles is = absurd (cc)
@@ -132,7 +132,7 @@ few_kept tiles kept is = by_test (nat_le (variant_total tiles) MAX_VARIANTS) ref
 
 -- ---- pairs
 
-pub turn_low : (rest : List ℕ) (turn : ℕ) → turn_of rest ≡ Some turn → turn < 8
+pub turn_low : (rest : List ℕ) (turn : ℕ) → turn_digit rest ≡ Some turn → turn < 8
 turn_low [] turn is = let none : 0 ≡ turn = cc in omega (arith, none)
 turn_low (blank ∷ []) turn is = absurd (cc)
 turn_low (blank ∷ digit ∷ []) turn is = by_tests (nat_le 48 digit) (nat_le digit 55) refl refl is
@@ -147,30 +147,30 @@ turn_low (blank ∷ digit ∷ []) turn is = by_tests (nat_le 48 digit) (nat_le d
 turn_low (blank ∷ digit ∷ more ∷ rest) turn is = absurd (cc)
 
 abbrev pub behind_place : List ℕ → ℕ → ℕ → Result End TileFault
-behind_place text pair tile = and_then (ok_or (turn_of (drop (name_length text) text)) (fault.BadTurn pair)) (λ turn. Ok (end_with tile turn))
+behind_place text pair tile = result_then (ok_or (turn_digit (drop (name_length text) text)) (fault.BadTurn pair)) (λ turn. Ok (pair_end_with tile turn))
 
-end_read : (tiles : List TileView) (pair : ℕ) (text : List ℕ) (end : End) → end_from tiles pair text ≡ Ok end → IsEnd tiles end
+end_read : (tiles : List TileView) (pair : ℕ) (text : List ℕ) (end : End) → pair_end_from tiles pair text ≡ Ok end → IsPairEnd tiles end
 end_read tiles pair text end is =
     let tile = then_parts (ok_or (position (has_name (take (name_length text) text)) tiles) (fault.UnknownTile pair)) (behind_place text pair) end is in
-    let turn = then_parts (ok_or (turn_of (drop (name_length text) text)) (fault.BadTurn pair)) (λ turn. let made : Result End TileFault = Ok (end_with tile.0 turn) in made) end tile.2 in
+    let turn = then_parts (ok_or (turn_digit (drop (name_length text) text)) (fault.BadTurn pair)) (λ turn. let made : Result End TileFault = Ok (pair_end_with tile.0 turn) in made) end tile.2 in
     let found = there (position (has_name (take (name_length text) text)) tiles) (fault.UnknownTile pair) tile.0 tile.1 in
-    let same : end_with tile.0 turn.0 ≡ end = cc (turn.2) in
-    subst (IsEnd tiles) same (record {
+    let same : pair_end_with tile.0 turn.0 ≡ end = cc (turn.2) in
+    subst (IsPairEnd tiles) same (record {
       tile_in = place_inside (has_name (take (name_length text) text)) tiles (Some tile.0) (sym found);
-      turn_in = turn_low (drop (name_length text) text) turn.0 (there (turn_of (drop (name_length text) text)) (fault.BadTurn pair) turn.0 turn.1);
+      turn_in = turn_low (drop (name_length text) text) turn.0 (there (turn_digit (drop (name_length text) text)) (fault.BadTurn pair) turn.0 turn.1);
     })
 
 abbrev pub behind_left : List TileView → ℕ → Members → End → Result Pair TileFault
-behind_left tiles pair ms left = and_then (end_in tiles pair key.Right (get_member (codes "right") ms)) (λ right. Ok (pair_with left right))
+behind_left tiles pair ms left = result_then (pair_end_in tiles pair key.Right (get_member (codes "right") ms)) (λ right. Ok (pair_with left right))
 
-end_of_read : (tiles : List TileView) (pair : ℕ) (which : Key) (d : Option Data) (end : End) → end_in tiles pair which d ≡ Ok end → IsEnd tiles end
+end_of_read : (tiles : List TileView) (pair : ℕ) (which : Key) (d : Option Data) (end : End) → pair_end_in tiles pair which d ≡ Ok end → IsPairEnd tiles end
 end_of_read tiles pair which d end is =
-    let text = then_parts (text_in (place.Pair pair) which d) (end_from tiles pair) end is in end_read tiles pair text.0 end text.2
+    let text = then_parts (required_text (place.Pair pair) which d) (pair_end_from tiles pair) end is in end_read tiles pair text.0 end text.2
 
 pair_read : (tiles : List TileView) (pair : ℕ) (ms : Members) (made : Pair) → pair_from tiles pair ms ≡ Ok made → IsPair tiles made
 pair_read tiles pair ms made is =
-    let left = then_parts (end_in tiles pair key.Left (get_member (codes "left") ms)) (behind_left tiles pair ms) made is in
-    let right = then_parts (end_in tiles pair key.Right (get_member (codes "right") ms)) (λ right. let made : Result Pair TileFault = Ok (pair_with left.0 right) in made) made left.2 in
+    let left = then_parts (pair_end_in tiles pair key.Left (get_member (codes "left") ms)) (behind_left tiles pair ms) made is in
+    let right = then_parts (pair_end_in tiles pair key.Right (get_member (codes "right") ms)) (λ right. let made : Result Pair TileFault = Ok (pair_with left.0 right) in made) made left.2 in
     let same : pair_with left.0 right.0 ≡ made = cc (right.2) in
     subst (IsPair tiles) same (record {
       left_in = end_of_read tiles pair key.Left (get_member (codes "left") ms) left.0 left.1;
@@ -187,19 +187,19 @@ pairs_read tiles (item d ds) before pairs read is =
 -- ---- the document
 
 abbrev pub behind_tiles : Items → List TileView → Result TileSetView TileFault
-behind_tiles pairs tiles = and_then (pairs_from tiles [] pairs) (λ pairs. Ok (set_with tiles pairs))
+behind_tiles pairs tiles = result_then (pairs_from tiles [] pairs) (λ pairs. Ok (set_with tiles pairs))
 
 abbrev pub behind_arrays : Items → Items → Result TileSetView TileFault
-behind_arrays tiles pairs = and_then (and_then (some_tiles tiles) few_variants) (behind_tiles pairs)
+behind_arrays tiles pairs = result_then (result_then (some_tiles tiles) few_variants) (behind_tiles pairs)
 
 abbrev pub behind_tile_items : Members → Items → Result TileSetView TileFault
-behind_tile_items ms tiles = and_then (elements_in key.Pair (get_member (codes "pair") ms)) (behind_arrays tiles)
+behind_tile_items ms tiles = result_then (elements_in key.Pair (get_member (codes "pair") ms)) (behind_arrays tiles)
 
 pub set_read : (ms : Members) (set : TileSetView) → set_from ms ≡ Ok set → IsTileSet set
 set_read ms set is =
     let tile_items = then_parts (elements_in key.Tile (get_member (codes "tile") ms)) (behind_tile_items ms) set is in
     let pair_items = then_parts (elements_in key.Pair (get_member (codes "pair") ms)) (behind_arrays tile_items.0) set tile_items.2 in
-    let kept = then_parts (and_then (some_tiles tile_items.0) few_variants) (behind_tiles pair_items.0) set pair_items.2 in
+    let kept = then_parts (result_then (some_tiles tile_items.0) few_variants) (behind_tiles pair_items.0) set pair_items.2 in
     let some = then_parts (some_tiles tile_items.0) few_variants kept.0 kept.1 in
     let pairs = then_parts (pairs_from kept.0 [] pair_items.0) (λ pairs. let made : Result TileSetView TileFault = Ok (set_with kept.0 pairs) in made) set kept.2 in
     let read = some_read tile_items.0 some.0 some.1 in
@@ -207,7 +207,7 @@ set_read ms set is =
     let same : set_with kept.0 pairs.0 ≡ set = cc (pairs.2) in
     subst IsTileSet same (record {
       some_tile = subst (λ (ts : List TileView). 0 < length ts) few.0 read.1;
-      weighed = subst (All IsWeighed) few.0 read.0.weighed;
+      weighed = subst (All HasWeight) few.0 read.0.weighed;
       alike = subst AreAlike few.0 read.0.alike;
       limit = subst (λ (ts : List TileView). variant_total ts ≤ MAX_VARIANTS) few.0 few.1;
       pairs = pairs_read kept.0 pair_items.0 [] pairs.0 (All-nil (IsPair kept.0)) pairs.1;
@@ -215,7 +215,7 @@ set_read ms set is =
 
 -- bytes that are read as a tile set spell one
 pub document_is_set : (bytes : List ℕ) (set : TileSetView) → set_of bytes ≡ Ok set → IsTileSet set
-document_is_set bytes set is = let ms = then_parts (parsed bytes) set_from set is in set_read ms.0 set ms.2
+document_is_set bytes set is = let ms = then_parts (parsed_document bytes) set_from set is in set_read ms.0 set ms.2
 
 -- a picture more changes nothing of it
 pub pictured_is_set : (set : TileSetView) (bytes : List ℕ) (after : TileSetView) → IsTileSet set → picture_taken set bytes ≡ Ok after → IsTileSet after

@@ -8,10 +8,10 @@ use Rattle.wfc_picture.specs.declared.symbol.Kind.{Kind}
 use Rattle.wfc_picture.specs.declared.symbol.Kind.TheVariants as kinds
 use Rattle.wfc_tileset.specs.declared.fault.TileFault.{TileFault}
 use Rattle.wfc_tileset.specs.declared.fault.TileFault.TheVariants as fault
-use Rattle.wfc_tileset.specs.Document.{and_then}
-use Rattle.wfc_tileset.specs.Pictures.{ArePictures, IsDrawn, IsPicture, IsPictureOf, fitting, fitting_first, kind_of, next_name, one_kind, picture_for, picture_name, picture_of, side_of, some_picture, with_picture}
+use Rattle.wfc_tileset.specs.Document.{result_then}
+use Rattle.wfc_tileset.specs.Pictures.{ArePictures, IsDrawn, IsPicture, IsPictureOf, fitting_picture, fitting_first, kind_of, next_name, one_kind, picture_for, picture_name, tile_picture_of, side_of, some_picture, with_picture}
 use Rattle.wfc_tileset.specs.Tiles.{PictureView, TileView, TileSetView, tile_at}
-use Rattle.wfc_tileset.specs.TileSets.{IsClosed}
+use Rattle.wfc_tileset.specs.TileSets.{HasClosedTables}
 
 -- ---- a picture that is as the first
 
@@ -41,7 +41,7 @@ like_first tile first picture p e = by (one_kind picture.kind first.kind) refl (
     by false k s t e = absurd (cc (e))
 
 -- a picture that fits is of the kind and the side of all
-picture_fits : (before : List PictureView) (picture p : PictureView) → IsPicture p → Ok p ≡ fitting before picture
+picture_fits : (before : List PictureView) (picture p : PictureView) → IsPicture p → Ok p ≡ fitting_picture before picture
     → IsPictureOf (kind_of (before ++ p ∷ [])) (side_of (before ++ p ∷ [])) p
 picture_fits [] picture p is e = record { same_kind = refl; same_side = refl; is_picture = is }
 picture_fits (first ∷ more) picture p is e =
@@ -55,18 +55,18 @@ picture_fits (first ∷ more) picture p is e =
 -- and so is the next picture
 pub next_fits : (set : TileSetView) (bytes : List ℕ) (p : PictureView) → IsPicture p → Ok p ≡ picture_for set bytes
     → IsPictureOf (kind_of (set.pictures ++ p ∷ [])) (side_of (set.pictures ++ p ∷ [])) p
-next_fits set bytes p is e = by (picture_of (next_name set) bytes) e
+next_fits set bytes p is e = by (tile_picture_of (next_name set) bytes) e
   where
-    by : (found : Option PictureView) → Ok p ≡ and_then (some_picture (length set.pictures) found) (fitting set.pictures)
+    by : (found : Option PictureView) → Ok p ≡ result_then (some_picture (length set.pictures) found) (fitting_picture set.pictures)
         → IsPictureOf (kind_of (set.pictures ++ p ∷ [])) (side_of (set.pictures ++ p ∷ [])) p
     by None e = absurd (cc (e))
     by (Some picture) e = picture_fits set.pictures picture p is e
 
 -- the next picture is the one that its file is, if it fits
-pub next_is : (set : TileSetView) (bytes : List ℕ) (picture : PictureView) (result : Result PictureView TileFault) → picture_of (next_name set) bytes ≡ Some picture
-    → result ≡ fitting set.pictures picture → Gives fault.NoMemory (λ p. p) result (picture_for set bytes)
+pub next_is : (set : TileSetView) (bytes : List ℕ) (picture : PictureView) (result : Result PictureView TileFault) → tile_picture_of (next_name set) bytes ≡ Some picture
+    → result ≡ fitting_picture set.pictures picture → Gives fault.NoMemory (λ p. p) result (picture_for set bytes)
 next_is set bytes picture result found fits =
-    inl (itself result ∙ fits ∙ sym (ap (λ (o : Option PictureView). and_then (some_picture (length set.pictures) o) (fitting set.pictures)) found))
+    inl (itself result ∙ fits ∙ sym (ap (λ (o : Option PictureView). result_then (some_picture (length set.pictures) o) (fitting_picture set.pictures)) found))
   where
     itself : (r : Result PictureView TileFault) → result_map (λ p. p) r ≡ r
     itself (Ok p) = refl
@@ -99,8 +99,8 @@ drawn_more set p drawn some is = record {
     first (x ∷ before) named some = named (omega arith)
 
 -- and its tables stay what they are
-pub closed_more : (set : TileSetView) (across down : List Bool) (p : PictureView) → IsClosed set across down → IsSome (picture_name set (length set.pictures))
-    → IsPictureOf (kind_of (set.pictures ++ p ∷ [])) (side_of (set.pictures ++ p ∷ [])) p → IsClosed (with_picture set p) across down
+pub closed_more : (set : TileSetView) (across down : List Bool) (p : PictureView) → HasClosedTables set across down → IsSome (picture_name set (length set.pictures))
+    → IsPictureOf (kind_of (set.pictures ++ p ∷ [])) (side_of (set.pictures ++ p ∷ [])) p → HasClosedTables (with_picture set p) across down
 closed_more set across down p closed some is = record {
   across_is = closed.across_is;
   down_is = closed.down_is;

@@ -5,7 +5,7 @@ use Rattle.std.specs.List.{list_any}
 use Rattle.std.specs.Option.{ok_or, option_map}
 use Rattle.toml.specs.Data.{Data, string, integer, array, Items, no_items, item, Members, get_member, as_integer, as_str, as_table, as_array}
 use Rattle.wfc_symmetry.specs.declared.class.Class.{Class}
-use Rattle.wfc_tileset.specs.Document.{and_then, class_in, class_of, elements_in, few_variants, fits_first, has_name, is_name, name_in, pairs_from, parsed, picture_in, set_from, set_of, set_with, some_tiles, table_in, text_in, tile_from, tile_with, tiles_from, weight_in, weight_of}
+use Rattle.wfc_tileset.specs.Document.{result_then, class_in, symmetry_class, elements_in, few_variants, fits_first, has_name, is_name, name_in, pairs_from, parsed_document, picture_in, set_from, set_of, set_with, some_tiles, table_in, required_text, tile_from, tile_with, tiles_from, weight_in, tile_weight}
 use Rattle.wfc_tileset.specs.Says.{AreNamedBehind, AreSaid, SaysPair, SaysSet, SaysTile}
 use Rattle.wfc_tileset.specs.Tiles.{TileView, TileSetView}
 use Rattle.wfc_tileset.specs.declared.fault.Key.{Key}
@@ -21,7 +21,7 @@ use Rattle.wfc_tileset.proofs.SaysPairLemmas.{array_there, integer_there, pairs_
 
 name_says : (before : List TileView) (d : Option Data) (name : List ℕ) → name_in before d ≡ Ok name → (d ≡ Some (string name)) × (is_name name ≡ true) × (list_any (has_name name) before ≡ false)
 name_says before d name is =
-    let text = then_parts (text_in (place.Tile (length before)) key.Name d) (behind before) name is in
+    let text = then_parts (required_text (place.Tile (length before)) key.Name d) (behind before) name is in
     let read = text_there (place.Tile (length before)) key.Name d text.0 text.1 in
     let tests = by_tests text.0 (is_name text.0) refl (list_any (has_name text.0) before) refl text.2 in
     (read ∙ ap (λ t. Some (string t)) tests.0, ap is_name (sym tests.0) ∙ tests.1.0, ap (λ t. list_any (has_name t) before) (sym tests.0) ∙ tests.1.1)
@@ -36,12 +36,12 @@ name_says before d name is =
     by_tests text true e true f is = absurd (cc)
     by_tests text false e twice f is = absurd (cc)
 
-class_says : (t : ℕ) (d : Option Data) (class : Class) → class_in t d ≡ Ok class → (word : List ℕ) × (d ≡ Some (string word)) × (class_of word ≡ Some class)
+class_says : (t : ℕ) (d : Option Data) (class : Class) → class_in t d ≡ Ok class → (word : List ℕ) × (d ≡ Some (string word)) × (symmetry_class word ≡ Some class)
 class_says t d class is =
-    let text = then_parts (text_in (place.Tile t) key.Class d) (λ text. ok_or (class_of text) (fault.BadClass t)) class is in
-    (text.0, text_there (place.Tile t) key.Class d text.0 text.1, there (class_of text.0) (fault.BadClass t) class text.2)
+    let text = then_parts (required_text (place.Tile t) key.Class d) (λ text. ok_or (symmetry_class text) (fault.BadClass t)) class is in
+    (text.0, text_there (place.Tile t) key.Class d text.0 text.1, there (symmetry_class text.0) (fault.BadClass t) class text.2)
 
-weight_is : (z : ℤ) (w : ℕ) → weight_of z ≡ Some w → z ≡ pos w
+weight_is : (z : ℤ) (w : ℕ) → tile_weight z ≡ Some w → z ≡ pos w
 weight_is (negsuc n) w is = absurd (cc)
 weight_is (pos n) w is = by_test (nat_le 1 n && nat_le n 1000000) is
   where
@@ -52,9 +52,9 @@ weight_is (pos n) w is = by_test (nat_le 1 n && nat_le n 1000000) is
 weight_says : (t : ℕ) (d : Option Data) (w : ℕ) → weight_in t d ≡ Ok w → ((d ≡ None) × (w ≡ 1)) ⊎ (d ≡ Some (integer (pos w)))
 weight_says t None w is = inl (refl, cc)
 weight_says t (Some d) w is =
-    let number = then_parts (ok_or (as_integer d) (fault.WrongKind (place.Tile t) key.Weight)) (λ z. ok_or (weight_of z) (fault.BadWeight t)) w is in
+    let number = then_parts (ok_or (as_integer d) (fault.WrongKind (place.Tile t) key.Weight)) (λ z. ok_or (tile_weight z) (fault.BadWeight t)) w is in
     let read = integer_there d number.0 (there (as_integer d) (fault.WrongKind (place.Tile t) key.Weight) number.0 number.1) in
-    inr (ap Some (read ∙ ap integer (weight_is number.0 w (there (weight_of number.0) (fault.BadWeight t) w number.2))))
+    inr (ap Some (read ∙ ap integer (weight_is number.0 w (there (tile_weight number.0) (fault.BadWeight t) w number.2))))
 
 picture_says : (t : ℕ) (d : Option Data) (picture : Option (List ℕ)) → picture_in t d ≡ Ok picture → d ≡ option_map string picture
 picture_says t None picture is = let same : None ≡ picture = cc in ap (option_map string) same
@@ -133,7 +133,7 @@ set_says : (ms : Members) (set : TileSetView) → set_from ms ≡ Ok set → Say
 set_says ms set is =
     let tile_items = then_parts (elements_in key.Tile (get_member (codes "tile") ms)) (behind_tile_items ms) set is in
     let pair_items = then_parts (elements_in key.Pair (get_member (codes "pair") ms)) (behind_arrays tile_items.0) set tile_items.2 in
-    let kept = then_parts (and_then (some_tiles tile_items.0) few_variants) (behind_tiles pair_items.0) set pair_items.2 in
+    let kept = then_parts (result_then (some_tiles tile_items.0) few_variants) (behind_tiles pair_items.0) set pair_items.2 in
     let some = then_parts (some_tiles tile_items.0) few_variants kept.0 kept.1 in
     let pairs = then_parts (pairs_from kept.0 [] pair_items.0) (λ pairs. let made : Result TileSetView TileFault = Ok (set_with kept.0 pairs) in made) set kept.2 in
     let few = few_kept some.0 kept.0 some.2 in
@@ -154,5 +154,5 @@ set_says ms set is =
     })
 
 -- bytes that are read as a tile set spell a document that says it
-pub document_says : (bytes : List ℕ) (set : TileSetView) → set_of bytes ≡ Ok set → (ms : Members) × (parsed bytes ≡ Ok ms) × SaysSet ms set
-document_says bytes set is = let ms = then_parts (parsed bytes) set_from set is in (ms.0, ms.1, set_says ms.0 set ms.2)
+pub document_says : (bytes : List ℕ) (set : TileSetView) → set_of bytes ≡ Ok set → (ms : Members) × (parsed_document bytes ≡ Ok ms) × SaysSet ms set
+document_says bytes set is = let ms = then_parts (parsed_document bytes) set_from set is in (ms.0, ms.1, set_says ms.0 set ms.2)

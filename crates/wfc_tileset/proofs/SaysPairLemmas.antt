@@ -10,7 +10,7 @@ use Rattle.std.proofs.lemmas.List.{get_or-drop, length-drop, take-append-drop}
 use Rattle.std.proofs.lemmas.List.Sums.{passes_at_first}
 use Rattle.std.proofs.lemmas.Slice.Eq.{bytes_eq-Decides}
 use Rattle.toml.specs.Data.{Data, string, integer, float, boolean, datetime, array, table, Items, no_items, item, Members, get_member, as_integer, as_str, as_table, as_array}
-use Rattle.wfc_tileset.specs.Document.{end_from, end_in, end_with, has_name, name_length, pair_from, pair_with, pairs_from, table_in, text_in, turn_of}
+use Rattle.wfc_tileset.specs.Document.{pair_end_from, pair_end_in, pair_end_with, has_name, name_length, pair_from, pair_with, pairs_from, table_in, required_text, turn_digit}
 use Rattle.wfc_tileset.specs.Says.{AreSaid, SaysEnd, SaysPair}
 use Rattle.wfc_tileset.specs.Tiles.{TileView, tile_at}
 use Rattle.wfc_tileset.specs.declared.fault.Key.{Key}
@@ -63,13 +63,13 @@ table_there (datetime t) ms is = absurd (cc)
 table_there (array ds) ms is = absurd (cc)
 table_there (table m) ms is = let same : m ≡ ms = cc in ap table same
 
-pub text_there : (where_is : Place) (which : Key) (d : Option Data) (text : List ℕ) → text_in where_is which d ≡ Ok text → d ≡ Some (string text)
+pub text_there : (where_is : Place) (which : Key) (d : Option Data) (text : List ℕ) → required_text where_is which d ≡ Ok text → d ≡ Some (string text)
 text_there where_is which None text is = absurd (cc)
 text_there where_is which (Some d) text is = ap Some (str_there d text (there (as_str d) (fault.WrongKind where_is which) text is))
 
 -- ---- a pair
 
-turn_says : (rest : List ℕ) (turn : ℕ) → turn_of rest ≡ Some turn → ((rest ≡ []) × (turn ≡ 0)) ⊎ ((blank : ℕ) × (rest ≡ blank ∷ (48 + turn) ∷ []))
+turn_says : (rest : List ℕ) (turn : ℕ) → turn_digit rest ≡ Some turn → ((rest ≡ []) × (turn ≡ 0)) ⊎ ((blank : ℕ) × (rest ≡ blank ∷ (48 + turn) ∷ []))
 turn_says [] turn is = inl (refl, cc)
 turn_says (blank ∷ []) turn is = absurd (cc)
 turn_says (blank ∷ digit ∷ []) turn is = by_tests (nat_le 48 digit) (nat_le digit 55) refl is
@@ -102,13 +102,13 @@ blank_behind text blank rest is =
     let at : get_or text (name_length text) 0 ≡ blank = ap (λ n. get_or text n 0) (omega arith) ∙ sym (get_or-drop (name_length text) text 0 0) ∙ ap (λ l. get_or l 0 0) is in
     sym at ∙ eqb-true (get_or text (name_length text) 0) 32 (passes_at_first (λ b. b == 32) text 0 inside)
 
-end_says : (tiles : List TileView) (pair : ℕ) (text : List ℕ) (end : End) → end_from tiles pair text ≡ Ok end → SaysEnd tiles text end
+end_says : (tiles : List TileView) (pair : ℕ) (text : List ℕ) (end : End) → pair_end_from tiles pair text ≡ Ok end → SaysEnd tiles text end
 end_says tiles pair text end is =
     let tile = then_parts (ok_or (position (has_name (take (name_length text) text)) tiles) (fault.UnknownTile pair)) (behind_place text pair) end is in
-    let turn = then_parts (ok_or (turn_of (drop (name_length text) text)) (fault.BadTurn pair)) (λ turn. let made : Result End TileFault = Ok (end_with tile.0 turn) in made) end tile.2 in
+    let turn = then_parts (ok_or (turn_digit (drop (name_length text) text)) (fault.BadTurn pair)) (λ turn. let made : Result End TileFault = Ok (pair_end_with tile.0 turn) in made) end tile.2 in
     let found = there (position (has_name (take (name_length text) text)) tiles) (fault.UnknownTile pair) tile.0 tile.1 in
-    let turned = there (turn_of (drop (name_length text) text)) (fault.BadTurn pair) turn.0 turn.1 in
-    let same : end_with tile.0 turn.0 ≡ end = cc (turn.2) in
+    let turned = there (turn_digit (drop (name_length text) text)) (fault.BadTurn pair) turn.0 turn.1 in
+    let same : pair_end_with tile.0 turn.0 ≡ end = cc (turn.2) in
     let name = found_name tiles (take (name_length text) text) tile.0 found in
     let parts : text ≡ (tile_at tiles tile.0).name ++ drop (name_length text) text = sym (take-append-drop (name_length text) text) ∙ ap (λ n. n ++ drop (name_length text) text) (sym name) in
     subst (SaysEnd tiles text) same (record {
@@ -123,15 +123,15 @@ end_says tiles pair text end is =
     by t turn parts (inl (none, zero_turn)) = inl (parts ∙ ap (λ r. (tile_at tiles t).name ++ r) none ∙ append-nil (tile_at tiles t).name, zero_turn)
     by t turn parts (inr (blank, rest)) = inr (parts ∙ ap (λ r. (tile_at tiles t).name ++ r) (rest ∙ ap (λ b. b ∷ (48 + turn) ∷ []) (blank_behind text blank ((48 + turn) ∷ []) rest)))
 
-end_in_says : (tiles : List TileView) (pair : ℕ) (which : Key) (d : Option Data) (end : End) → end_in tiles pair which d ≡ Ok end → (text : List ℕ) × (d ≡ Some (string text)) × SaysEnd tiles text end
+end_in_says : (tiles : List TileView) (pair : ℕ) (which : Key) (d : Option Data) (end : End) → pair_end_in tiles pair which d ≡ Ok end → (text : List ℕ) × (d ≡ Some (string text)) × SaysEnd tiles text end
 end_in_says tiles pair which d end is =
-    let text = then_parts (text_in (place.Pair pair) which d) (end_from tiles pair) end is in
+    let text = then_parts (required_text (place.Pair pair) which d) (pair_end_from tiles pair) end is in
     (text.0, text_there (place.Pair pair) which d text.0 text.1, end_says tiles pair text.0 end text.2)
 
 pair_says : (tiles : List TileView) (pair : ℕ) (ms : Members) (made : Pair) → pair_from tiles pair ms ≡ Ok made → SaysPair tiles ms made
 pair_says tiles pair ms made is =
-    let left = then_parts (end_in tiles pair key.Left (get_member (codes "left") ms)) (behind_left tiles pair ms) made is in
-    let right = then_parts (end_in tiles pair key.Right (get_member (codes "right") ms)) (λ right. let made : Result Pair TileFault = Ok (pair_with left.0 right) in made) made left.2 in
+    let left = then_parts (pair_end_in tiles pair key.Left (get_member (codes "left") ms)) (behind_left tiles pair ms) made is in
+    let right = then_parts (pair_end_in tiles pair key.Right (get_member (codes "right") ms)) (λ right. let made : Result Pair TileFault = Ok (pair_with left.0 right) in made) made left.2 in
     let same : pair_with left.0 right.0 ≡ made = cc (right.2) in
     let one = end_in_says tiles pair key.Left (get_member (codes "left") ms) left.0 left.1 in
     let two = end_in_says tiles pair key.Right (get_member (codes "right") ms) right.0 right.1 in

@@ -8,8 +8,8 @@ use Rattle.std.proofs.Math.Seq.{take-append_seam, drop-append_seam}
 use Rattle.wfc_symmetry.specs.Class.{variant_count}
 use Rattle.wfc_symmetry.specs.declared.class.Class.{Class}
 use Rattle.wfc_symmetry.specs.declared.class.Class.TheVariants.{X, I, L, T, F, Slash}
-use Rattle.wfc_tileset.specs.Tiles.{TileView, Variant, tile_at, variants, variant_total, variant_at, variant_of, spelling, Spells}
-use Rattle.wfc_tileset.specs.Numbers.{first_of, number_of, IsNamed}
+use Rattle.wfc_tileset.specs.Tiles.{TileView, Variant, tile_at, variants, variant_total, variant_at, variant_of, spelling, SpellsVariant}
+use Rattle.wfc_tileset.specs.Numbers.{tile_start, variant_number, IsNamed}
 use Rattle.wfc_tileset.proofs.VariantLemmas.{first-suc, length-variants_from, number_below, number-variant, variant-number, variant_there}
 
 -- a tile has at most eight variants
@@ -31,7 +31,7 @@ equal_parts xs ys b c e =
 
 -- a word of a tile's name and the number of one of its variants spells that variant
 pub spelled : (tiles : List TileView) (word name : List ℕ) (t i : ℕ) → IsNamed tiles name i t → name ++ 47 ∷ (48 + i) ∷ [] ≡ word
-    → Spells tiles word (number_of tiles (t, i))
+    → SpellsVariant tiles word (variant_number tiles (t, i))
 spelled tiles word name t i is e = (
   number_below tiles t i is.tile_in is.index_in,
   ap (spelling tiles) (variant-number tiles (t, i) (record { tile_in = is.tile_in; index_in = is.index_in }))
@@ -40,14 +40,14 @@ spelled tiles word name t i is e = (
 
 -- a word that is no name with a slash and a digit spells nothing
 pub no_parts : (tiles : List TileView) (word : List ℕ) → ((name : List ℕ) (index : ℕ) → index < 8 → name ++ 47 ∷ (48 + index) ∷ [] ≡ word → ⊥)
-    → (v : ℕ) → Spells tiles word v → ⊥
+    → (v : ℕ) → SpellsVariant tiles word v → ⊥
 no_parts tiles word none v s =
     let is = variant_there tiles v s.0 in
     none (tile_at tiles (variant_at tiles v).0).name (variant_at tiles v).1 (omega (arith, is.index_in, eight (tile_at tiles (variant_at tiles v).0).class)) s.1
 
 -- and so does one whose name and number no tile has
 pub no_tile : (tiles : List TileView) (word name : List ℕ) (i : ℕ) → name ++ 47 ∷ (48 + i) ∷ [] ≡ word → ((t : ℕ) → IsNamed tiles name i t → ⊥)
-    → (v : ℕ) → Spells tiles word v → ⊥
+    → (v : ℕ) → SpellsVariant tiles word v → ⊥
 no_tile tiles word name i e none v s =
     let is = variant_there tiles v s.0 in
     let same = equal_parts (tile_at tiles (variant_at tiles v).0).name name (48 + (variant_at tiles v).1) (48 + i) (s.1 ∙ sym e) in
@@ -57,7 +57,7 @@ no_tile tiles word name i e none v s =
 -- ---- the first variant that a word spells
 
 -- the variants of later tiles are numbered later
-first_rises : (tiles : List TileView) (s t : ℕ) → s ≤ t → first_of tiles s ≤ first_of tiles t
+first_rises : (tiles : List TileView) (s t : ℕ) → s ≤ t → tile_start tiles s ≤ tile_start tiles t
 first_rises [] zero t le = omega arith
 first_rises [] (suc s) zero le = omega arith
 first_rises [] (suc s) (suc t) le = omega arith
@@ -67,7 +67,7 @@ first_rises (x ∷ xs) (suc s) (suc t) le = omega (arith, first_rises xs s t (om
 
 -- before the first tile with that name and number, no variant is spelled so
 pub none_before : (tiles : List TileView) (word name : List ℕ) (t i : ℕ) → name ++ 47 ∷ (48 + i) ∷ [] ≡ word
-    → ((k : ℕ) → k < t → IsNamed tiles name i k → ⊥) → (w : ℕ) → w < number_of tiles (t, i) → Spells tiles word w → ⊥
+    → ((k : ℕ) → k < t → IsNamed tiles name i k → ⊥) → (w : ℕ) → w < variant_number tiles (t, i) → SpellsVariant tiles word w → ⊥
 none_before tiles word name t i e none w below s =
     let is = variant_there tiles w s.0 in
     let same = equal_parts (tile_at tiles (variant_at tiles w).0).name name (48 + (variant_at tiles w).1) (48 + i) (s.1 ∙ sym e) in
@@ -79,18 +79,18 @@ none_before tiles word name t i e none w below s =
     ]
 
 -- a variant with another spelling fails the test
-fails : (tiles : List TileView) (word : List ℕ) (v : ℕ) → v < variant_total tiles → (Spells tiles word v → ⊥) → bytes_eq (spelling tiles (variant_at tiles v)) word ≡ false
+fails : (tiles : List TileView) (word : List ℕ) (v : ℕ) → v < variant_total tiles → (SpellsVariant tiles word v → ⊥) → bytes_eq (spelling tiles (variant_at tiles v)) word ≡ false
 fails tiles word v below other = elim (cases_Bool (bytes_eq (spelling tiles (variant_at tiles v)) word)) [
   | inl same ↦ absurd (other (below, (bytes_eq-Decides _ word).0 same))
   | inr different ↦ different
 ]
 
-pub first_variant : (tiles : List TileView) (word : List ℕ) (v : ℕ) → Spells tiles word v → ((w : ℕ) → w < v → Spells tiles word w → ⊥) → variant_of tiles word ≡ Some v
+pub first_variant : (tiles : List TileView) (word : List ℕ) (v : ℕ) → SpellsVariant tiles word v → ((w : ℕ) → w < v → SpellsVariant tiles word w → ⊥) → variant_of tiles word ≡ Some v
 first_variant tiles word v s none =
     let below : v < variant_total tiles = s.0 in
     position_at (λ (p : Variant). bytes_eq (spelling tiles p) word) (variants tiles) v (0, 0) (omega (arith, length-variants_from 0 tiles, s.0))
     ((bytes_eq-Decides _ word).1 s.1) (λ k before. fails tiles word k (omega arith) (none k before))
 
-pub no_variant : (tiles : List TileView) (word : List ℕ) → ((v : ℕ) → Spells tiles word v → ⊥) → variant_of tiles word ≡ None
+pub no_variant : (tiles : List TileView) (word : List ℕ) → ((v : ℕ) → SpellsVariant tiles word v → ⊥) → variant_of tiles word ≡ None
 no_variant tiles word none =
     position_none (λ (p : Variant). bytes_eq (spelling tiles p) word) (variants tiles) (0, 0) (λ k within. fails tiles word k (omega (arith, length-variants_from 0 tiles)) (none k))

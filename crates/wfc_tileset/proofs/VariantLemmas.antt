@@ -7,7 +7,7 @@ use Rattle.std.proofs.lemmas.List.FromFn.{length-map-range_with_len, get_or-map-
 use Rattle.std.proofs.lemmas.List.Sums.{sum_by-cons}
 use Rattle.wfc_tileset.specs.Tiles.{TileView, Variant, variants_from, variants, variant_total, variants_of_tile, tile_at, variant_at}
 use Rattle.wfc_tileset.specs.declared.variants.TheConstants.{MAX_VARIANTS}
-use Rattle.wfc_tileset.specs.Numbers.{first_of, number_of, IsVariant, IsNumbered}
+use Rattle.wfc_tileset.specs.Numbers.{tile_start, variant_number, IsVariant, IsNumbered}
 use Rattle.wfc_tileset.proofs.AllowedLemmas.{some_of}
 
 -- the variants of one tile
@@ -29,12 +29,12 @@ few_tiles [] = omega arith
 few_tiles (x ∷ xs) = omega (arith, few_tiles xs, some_of x.class, sum_by-cons variants_of_tile x xs)
 
 -- the number of the first variant, behind one more tile
-pub first-suc : (x : TileView) (xs : List TileView) (t : ℕ) → first_of (x ∷ xs) (suc t) ≡ variants_of_tile x + first_of xs t
+pub first-suc : (x : TileView) (xs : List TileView) (t : ℕ) → tile_start (x ∷ xs) (suc t) ≡ variants_of_tile x + tile_start xs t
 first-suc x xs t = sum_by-cons variants_of_tile x (take t xs)
 
 -- a variant stands at its number
 pub variant-at-number : (s : ℕ) (xs : List TileView) (t i : ℕ) (d : Variant) → t < length xs → i < variants_of_tile (tile_at xs t)
-    → get_or (variants_from s xs) (first_of xs t + i) d ≡ (s + t, i)
+    → get_or (variants_from s xs) (tile_start xs t + i) d ≡ (s + t, i)
 variant-at-number s [] t i d in_t in_i = absurd (omega arith)
 variant-at-number s (x ∷ xs) zero i d in_t in_i =
     ap (λ n. get_or (row_of s x ++ variants_from (s + 1) xs) n d) (let k : 0 + i ≡ i = omega arith in k)
@@ -43,8 +43,8 @@ variant-at-number s (x ∷ xs) zero i d in_t in_i =
     ∙ ap (λ t. let p : Variant = (t, i) in p) (let k : s ≡ s + 0 = omega arith in k)
 variant-at-number s (x ∷ xs) (suc t) i d in_t in_i =
     ap (λ n. get_or (row_of s x ++ variants_from (s + 1) xs) n d)
-    (let k : first_of (x ∷ xs) (suc t) + i ≡ length (row_of s x) + (first_of xs t + i) = omega (arith, first-suc x xs t, length-row s x) in k)
-    ∙ get_or-append-add (row_of s x) (variants_from (s + 1) xs) (first_of xs t + i) d
+    (let k : tile_start (x ∷ xs) (suc t) + i ≡ length (row_of s x) + (tile_start xs t + i) = omega (arith, first-suc x xs t, length-row s x) in k)
+    ∙ get_or-append-add (row_of s x) (variants_from (s + 1) xs) (tile_start xs t + i) d
     ∙ variant-at-number (s + 1) xs t i d (omega arith) in_i
     ∙ ap (λ t. let p : Variant = (t, i) in p) (let k : s + 1 + t ≡ s + suc t = omega arith in k)
 
@@ -52,7 +52,7 @@ variant-at-number s (x ∷ xs) (suc t) i d in_t in_i =
 pub record Splits (xs : List TileView) (n t i : ℕ) : Type 0 where
   pub tile_in : t < length xs
   pub index_in : i < variants_of_tile (tile_at xs t)
-  pub number : n ≡ first_of xs t + i
+  pub number : n ≡ tile_start xs t + i
 
 splits_later : (x : TileView) (xs : List TileView) (n t i : ℕ) → variants_of_tile x ≤ n → Splits xs (n - variants_of_tile x) t i → Splits (x ∷ xs) n (suc t) i
 splits_later x xs n t i le s = record { tile_in = omega (arith, s.tile_in); index_in = s.index_in; number = omega (arith, s.number, first-suc x xs t) }
@@ -67,14 +67,14 @@ split (x ∷ xs) n below = elim (cases_lt n (variants_of_tile x)) [
 ]
 
 -- the number of a variant is below their count
-pub number_below : (xs : List TileView) (t i : ℕ) → t < length xs → i < variants_of_tile (tile_at xs t) → first_of xs t + i < variant_total xs
+pub number_below : (xs : List TileView) (t i : ℕ) → t < length xs → i < variants_of_tile (tile_at xs t) → tile_start xs t + i < variant_total xs
 number_below [] t i in_t in_i = absurd (omega arith)
 number_below (x ∷ xs) zero i in_t in_i = omega (arith, sum_by-cons variants_of_tile x xs)
 number_below (x ∷ xs) (suc t) i in_t in_i = omega (arith, number_below xs t i (omega arith) in_i, first-suc x xs t, sum_by-cons variants_of_tile x xs)
 
 -- ---- all variants
 
-pub variant-number : (tiles : List TileView) (v : Variant) → IsVariant tiles v → variant_at tiles (number_of tiles v) ≡ v
+pub variant-number : (tiles : List TileView) (v : Variant) → IsVariant tiles v → variant_at tiles (variant_number tiles v) ≡ v
 variant-number tiles v is =
     variant-at-number 0 tiles v.0 v.1 (0, 0) is.tile_in is.index_in ∙ ap (λ t. let p : Variant = (t, v.1) in p) (let k : 0 + v.0 ≡ v.0 = omega arith in k)
 
@@ -84,10 +84,10 @@ variant_of_split tiles n t i s =
     ∙ variant-at-number 0 tiles t i (0, 0) s.tile_in s.index_in
     ∙ ap (λ t. let p : Variant = (t, i) in p) (let k : 0 + t ≡ t = omega arith in k)
 
-pub number-variant : (tiles : List TileView) (n : ℕ) → n < variant_total tiles → number_of tiles (variant_at tiles n) ≡ n
+pub number-variant : (tiles : List TileView) (n : ℕ) → n < variant_total tiles → variant_number tiles (variant_at tiles n) ≡ n
 number-variant tiles n below =
     let s = split tiles n below in
-    ap (number_of tiles) (variant_of_split tiles n s.0 s.1 s.2) ∙ sym s.2.number
+    ap (variant_number tiles) (variant_of_split tiles n s.0 s.1 s.2) ∙ sym s.2.number
 
 pub variant_there : (tiles : List TileView) (n : ℕ) → n < variant_total tiles → IsVariant tiles (variant_at tiles n)
 variant_there tiles n below =
@@ -100,7 +100,7 @@ pub length_listed : (tiles : List TileView) (list : List Variant) (first : List 
 length_listed tiles list first is = ap length is.listed ∙ length-variants_from 0 tiles
 
 pub length_begun : (tiles : List TileView) (list : List Variant) (first : List ℕ) → IsNumbered tiles list first → length first ≡ length tiles
-length_begun tiles list first is = ap length is.begun ∙ length-map-range_with_len (first_of tiles) 0 (length tiles)
+length_begun tiles list first is = ap length is.begun ∙ length-map-range_with_len (tile_start tiles) 0 (length tiles)
 
 pub listed_at : (tiles : List TileView) (list : List Variant) (first : List ℕ) → IsNumbered tiles list first → (v : ℕ) (r : Variant) → v < variant_total tiles
     → r ≡ get_or list v r → r ≡ variant_at tiles v
@@ -108,9 +108,9 @@ listed_at tiles list first is v r below e =
     e ∙ ap (λ xs. get_or xs v r) is.listed ∙ get_or_default (variants tiles) v r (0, 0) (omega (arith, length-variants_from 0 tiles))
 
 pub begun_at : (tiles : List TileView) (list : List Variant) (first : List ℕ) → IsNumbered tiles list first → (t r : ℕ) → t < length tiles
-    → r ≡ get_or first t r → r ≡ first_of tiles t
+    → r ≡ get_or first t r → r ≡ tile_start tiles t
 begun_at tiles list first is t r below e =
-    e ∙ ap (λ xs. get_or xs t r) is.begun ∙ get_or-map-range_with_len (first_of tiles) 0 (length tiles) t t r below (omega arith)
+    e ∙ ap (λ xs. get_or xs t r) is.begun ∙ get_or-map-range_with_len (tile_start tiles) 0 (length tiles) t t r below (omega arith)
 
 -- ---- one tile more
 
@@ -130,8 +130,8 @@ variants_more tiles k tile below e =
     ∙ ap (λ t. variants (take k tiles) ++ row_of t (get_or tiles k tile)) (let n : 0 + length (take k tiles) ≡ k = omega (arith, length-take k tiles) in n)
     ∙ ap (λ x. variants (take k tiles) ++ row_of k x) (sym e)
 
-pub begun_more : (tiles : List TileView) (k : ℕ) → map (first_of tiles) (range_with_len 0 (k + 1)) ≡ map (first_of tiles) (range_with_len 0 k) ++ first_of tiles k ∷ []
-begun_more tiles k = map-range_with_len_more (first_of tiles) 0 k k (omega arith)
+pub begun_more : (tiles : List TileView) (k : ℕ) → map (tile_start tiles) (range_with_len 0 (k + 1)) ≡ map (tile_start tiles) (range_with_len 0 k) ++ tile_start tiles k ∷ []
+begun_more tiles k = map-range_with_len_more (tile_start tiles) 0 k k (omega arith)
 
 -- the first tiles have no more variants than all
 pub total_front : (tiles : List TileView) (k : ℕ) → variant_total (take k tiles) ≤ variant_total tiles
@@ -153,12 +153,12 @@ row_more start t k old new so_far pushed =
 
 -- what is numbered once the first tiles are
 abbrev pub Numbered : List TileView → ℕ → List Variant → List ℕ → Type 0
-Numbered tiles k list first = (list ≡ variants (take k tiles)) × (first ≡ map (first_of tiles) (range_with_len 0 k))
+Numbered tiles k list first = (list ≡ variants (take k tiles)) × (first ≡ map (tile_start tiles) (range_with_len 0 k))
 
 length_so_far : (tiles : List TileView) (k : ℕ) (list : List Variant) (first : List ℕ) → Numbered tiles k list first → length first ≡ k
-length_so_far tiles k list first so_far = ap length so_far.1 ∙ length-map-range_with_len (first_of tiles) 0 k
+length_so_far tiles k list first so_far = ap length so_far.1 ∙ length-map-range_with_len (tile_start tiles) 0 k
 
-total_so_far : (tiles : List TileView) (k : ℕ) (list : List Variant) (first : List ℕ) → Numbered tiles k list first → length list ≡ first_of tiles k
+total_so_far : (tiles : List TileView) (k : ℕ) (list : List Variant) (first : List ℕ) → Numbered tiles k list first → length list ≡ tile_start tiles k
 total_so_far tiles k list first so_far = ap length so_far.0 ∙ length-variants_from 0 (take k tiles)
 
 -- so far there are no more tiles and variants than fit
@@ -177,7 +177,7 @@ pub numbered_more : (tiles : List TileView) (k t n count : ℕ) (tile : TileView
     → Numbered tiles (k + 1) new_list new_first
 numbered_more tiles k t n count tile list new_list first new_first so_far below is is_t is_n is_count pushed_first pushed_list =
     let at : t ≡ k = is_t ∙ length_so_far tiles k list first so_far in
-    let begun : n ≡ first_of tiles k = is_n ∙ total_so_far tiles k list first so_far in (
+    let begun : n ≡ tile_start tiles k = is_n ∙ total_so_far tiles k list first so_far in (
       pushed_list
           ∙ ap (λ vs. vs ++ map (λ i. let p : Variant = (t, i) in p) (range_with_len 0 count)) so_far.0
           ∙ ap (λ u. variants (take k tiles) ++ map (λ i. let p : Variant = (u, i) in p) (range_with_len 0 count)) at
@@ -185,6 +185,6 @@ numbered_more tiles k t n count tile list new_list first new_first so_far below 
           ∙ sym (variants_more tiles k tile below is),
       pushed_first
           ∙ ap (λ ns. ns ++ n ∷ []) so_far.1
-          ∙ ap (λ m. map (first_of tiles) (range_with_len 0 k) ++ m ∷ []) begun
+          ∙ ap (λ m. map (tile_start tiles) (range_with_len 0 k) ++ m ∷ []) begun
           ∙ sym (begun_more tiles k),
     )

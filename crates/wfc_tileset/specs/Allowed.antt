@@ -1,40 +1,40 @@
--- Which variants may stand beside each other: what each declared pair allows under the eight actions, and nothing else.
+-- Which variants may stand pairs_beside each other: what each declared pair allows under the eight actions, and nothing else.
 use Rattle.std.specs.Prelude.{ℕ, ◌<◌, ◌==◌, ◌&&◌, Bool, List, [], ◌∷◌, Contains, length}
 use Rattle.std.specs.List.{All, flat_map, list_any}
 use Rattle.wfc_tileset.specs.declared.tile.End.{End}
 use Rattle.wfc_tileset.specs.declared.tile.Pair.{Pair}
-use Rattle.wfc_tileset.specs.Tiles.{TileView, TileSetView, Variant, moved, variant_at}
+use Rattle.wfc_tileset.specs.Tiles.{TileView, TileSetView, Variant, moved_variant, variant_at}
 
 -- the variant that one end of a declared pair names: an action on the first variant of its tile
 abbrev pub named_variant : List TileView → End → Variant
-named_variant tiles end = moved tiles (end.tile, 0) end.turn
+named_variant tiles end = moved_variant tiles (end.tile, 0) end.turn
 
 -- left and right, as a declared pair of variants allows them
-abbrev pub beside : List TileView → Variant → Variant → List (Variant × Variant)
-beside tiles left right =
+abbrev pub pairs_beside : List TileView → Variant → Variant → List (Variant × Variant)
+pairs_beside tiles left right =
     (left, right)
-    ∷ (moved tiles left 6, moved tiles right 6)
-    ∷ (moved tiles right 4, moved tiles left 4)
-    ∷ (moved tiles right 2, moved tiles left 2)
+    ∷ (moved_variant tiles left 6, moved_variant tiles right 6)
+    ∷ (moved_variant tiles right 4, moved_variant tiles left 4)
+    ∷ (moved_variant tiles right 2, moved_variant tiles left 2)
     ∷ []
 
 -- upper and lower, as the upper and the lower one of the pair allow them after a quarter turn
-abbrev pub stacked : List TileView → Variant → Variant → List (Variant × Variant)
-stacked tiles upper lower =
+abbrev pub upright_pairs : List TileView → Variant → Variant → List (Variant × Variant)
+upright_pairs tiles upper lower =
     (upper, lower)
-    ∷ (moved tiles lower 6, moved tiles upper 6)
-    ∷ (moved tiles upper 4, moved tiles lower 4)
-    ∷ (moved tiles lower 2, moved tiles upper 2)
+    ∷ (moved_variant tiles lower 6, moved_variant tiles upper 6)
+    ∷ (moved_variant tiles upper 4, moved_variant tiles lower 4)
+    ∷ (moved_variant tiles lower 2, moved_variant tiles upper 2)
     ∷ []
 
 -- the pairs of a left and a right variant that a declared pair allows
 abbrev pub beside_by : List TileView → Pair → List (Variant × Variant)
-beside_by tiles pair = beside tiles (named_variant tiles pair.left) (named_variant tiles pair.right)
+beside_by tiles pair = pairs_beside tiles (named_variant tiles pair.left) (named_variant tiles pair.right)
 
 -- the pairs of an upper and a lower variant that a declared pair allows: a quarter turn brings its right end up
 abbrev pub stacked_by : List TileView → Pair → List (Variant × Variant)
 stacked_by tiles pair =
-    stacked tiles (moved tiles (named_variant tiles pair.right) 1) (moved tiles (named_variant tiles pair.left) 1)
+    upright_pairs tiles (moved_variant tiles (named_variant tiles pair.right) 1) (moved_variant tiles (named_variant tiles pair.left) 1)
 
 -- all allowed pairs of a left and a right variant
 abbrev pub across_pairs : TileSetView → List (Variant × Variant)
@@ -69,14 +69,14 @@ abbrev pub may_be_above : TileSetView → ℕ → ℕ → Bool
 may_be_above set v w = has_pair (down_pairs set) (variant_at set.tiles v) (variant_at set.tiles w)
 
 -- an end names a tile and one of the eight actions
-pub record IsEnd (tiles : List TileView) (end : End) : Type 0 where
+pub record IsPairEnd (tiles : List TileView) (end : End) : Type 0 where
   pub tile_in : end.tile < length tiles
   pub turn_in : end.turn < 8
 
 -- a pair of two ends, each of which names one of these tiles and an action
 pub record IsPair (tiles : List TileView) (pair : Pair) : Type 0 where
-  pub left_in : IsEnd tiles pair.left
-  pub right_in : IsEnd tiles pair.right
+  pub left_in : IsPairEnd tiles pair.left
+  pub right_in : IsPairEnd tiles pair.right
 
 -- each declared pair has two ends
 abbrev pub ArePairs : TileSetView → Type 0

@@ -20,21 +20,21 @@ use Rattle.wfc_tileset.specs.declared.variants.TheConstants.{MAX_VARIANTS}
 use Rattle.wfc_tileset.specs.Tiles.{TileView, TileSetView, variant_total}
 
 -- the first step, and the second with what the first gave, up to the first fault
-abbrev pub and_then : {A B : Type 0} → Result A TileFault → (A → Result B TileFault) → Result B TileFault
-and_then (Ok x) f = f x
-and_then (Err e) f = Err e
+abbrev pub result_then : {A B : Type 0} → Result A TileFault → (A → Result B TileFault) → Result B TileFault
+result_then (Ok x) f = f x
+result_then (Err e) f = Err e
 
 infixl 10 ◌>>=◌
 -- the same, written between the two steps
 abbrev ◌>>=◌ : {A B : Type 0} → Result A TileFault → (A → Result B TileFault) → Result B TileFault
-r >>= f = and_then r f
+r >>= f = result_then r f
 
 -- ---- kinds of values
 
 -- a text that has to be there
-abbrev pub text_in : Place → Key → Option Data → Result (List ℕ) TileFault
-text_in place key None = Err (fault.MissingKey place key)
-text_in place key (Some d) = ok_or (as_str d) (fault.WrongKind place key)
+abbrev pub required_text : Place → Key → Option Data → Result (List ℕ) TileFault
+required_text place key None = Err (fault.MissingKey place key)
+required_text place key (Some d) = ok_or (as_str d) (fault.WrongKind place key)
 
 -- the elements of an array, none where it is missing
 abbrev pub elements_in : Key → Option Data → Result Items TileFault
@@ -64,13 +64,13 @@ has_name name tile = bytes_eq tile.name name
 -- the name of a tile behind those before it: it has to be there, to be a name, and to be none of theirs
 abbrev pub name_in : List TileView → Option Data → Result (List ℕ) TileFault
 name_in before d =
-    text_in (place.Tile (length before)) key.Name d >>= (λ name.
+    required_text (place.Tile (length before)) key.Name d >>= (λ name.
     if not (is_name name) then Err (fault.BadName (length before))
     else if list_any (has_name name) before then Err (fault.DoubleName (length before)) else Ok name)
 
 -- a class by its letter, or by a backslash
-abbrev pub class_of : List ℕ → Option Class
-class_of text =
+abbrev pub symmetry_class : List ℕ → Option Class
+symmetry_class text =
     if bytes_eq text (codes "X") then Some X else if bytes_eq text (codes "I") then Some I
     else if bytes_eq text (92 ∷ []) then Some Slash
     else if bytes_eq text (codes "L") then Some L else if bytes_eq text (codes "T") then Some T
@@ -78,24 +78,24 @@ class_of text =
 
 -- the class of tile t, which has to be there
 abbrev pub class_in : ℕ → Option Data → Result Class TileFault
-class_in t d = text_in (place.Tile t) key.Class d >>= (λ text. ok_or (class_of text) (fault.BadClass t))
+class_in t d = required_text (place.Tile t) key.Class d >>= (λ text. ok_or (symmetry_class text) (fault.BadClass t))
 
 -- a weight of 1 to 1,000,000
-abbrev pub weight_of : ℤ → Option ℕ
-weight_of (pos n) = if nat_le 1 n && nat_le n 1000000 then Some n else None
-weight_of (negsuc n) = None
+abbrev pub tile_weight : ℤ → Option ℕ
+tile_weight (pos n) = if nat_le 1 n && nat_le n 1000000 then Some n else None
+tile_weight (negsuc n) = None
 
 -- the weight of tile t, which is 1 where none is said
 abbrev pub weight_in : ℕ → Option Data → Result ℕ TileFault
 weight_in t None = Ok 1
 weight_in t (Some d) =
-    ok_or (as_integer d) (fault.WrongKind (place.Tile t) key.Weight) >>= (λ z. ok_or (weight_of z) (fault.BadWeight t))
+    ok_or (as_integer d) (fault.WrongKind (place.Tile t) key.Weight) >>= (λ z. ok_or (tile_weight z) (fault.BadWeight t))
 
 -- the name of a picture's file, if any
 abbrev pub picture_in : ℕ → Option Data → Result (Option (List ℕ)) TileFault
 picture_in t None = Ok None
 picture_in t (Some d) =
-    and_then (ok_or (as_str d) (fault.WrongKind (place.Tile t) key.Picture))
+    result_then (ok_or (as_str d) (fault.WrongKind (place.Tile t) key.Picture))
     (λ name. Ok (Some name))
 
 -- a file of this name is read as a PPM
@@ -132,35 +132,35 @@ tile_from before ms =
 abbrev pub tiles_from : List TileView → Items → Result (List TileView) TileFault
 tiles_from before no_items = Ok before
 tiles_from before (item d ds) =
-    and_then (and_then (table_in (place.Tile (length before)) key.Tile d) (tile_from before))
+    result_then (result_then (table_in (place.Tile (length before)) key.Tile d) (tile_from before))
     (λ tile. tiles_from (before ++ tile ∷ []) ds)
 
 -- ---- pairs
 
 -- one digit 0 to 7 behind a blank, or nothing
-abbrev pub turn_of : List ℕ → Option ℕ
-turn_of [] = Some 0
-turn_of (blank ∷ []) = None
-turn_of (blank ∷ digit ∷ []) = if nat_le 48 digit && nat_le digit 55 then Some (digit - 48) else None
-turn_of (blank ∷ digit ∷ more ∷ rest) = None
+abbrev pub turn_digit : List ℕ → Option ℕ
+turn_digit [] = Some 0
+turn_digit (blank ∷ []) = None
+turn_digit (blank ∷ digit ∷ []) = if nat_le 48 digit && nat_le digit 55 then Some (digit - 48) else None
+turn_digit (blank ∷ digit ∷ more ∷ rest) = None
 
 -- how many bytes stand before the first blank
 abbrev pub name_length : List ℕ → ℕ
 name_length text = position_or_len (λ b. b == 32) text
 
 -- an end of a pair with these parts: the number of a tile, and an action
-abbrev pub end_with : ℕ → ℕ → End
-end_with tile turn = record { tile = tile; turn = turn }
+abbrev pub pair_end_with : ℕ → ℕ → End
+pair_end_with tile turn = record { tile = tile; turn = turn }
 
 -- an end of a pair: a tile's name, and behind a blank an action
-abbrev pub end_from : List TileView → ℕ → List ℕ → Result End TileFault
-end_from tiles pair text =
+abbrev pub pair_end_from : List TileView → ℕ → List ℕ → Result End TileFault
+pair_end_from tiles pair text =
     ok_or (position (has_name (take (name_length text) text)) tiles) (fault.UnknownTile pair) >>= (λ tile.
-    ok_or (turn_of (drop (name_length text) text)) (fault.BadTurn pair) >>= (λ turn. Ok (end_with tile turn)))
+    ok_or (turn_digit (drop (name_length text) text)) (fault.BadTurn pair) >>= (λ turn. Ok (pair_end_with tile turn)))
 
 -- an end of a pair under its key, which has to be there
-abbrev pub end_in : List TileView → ℕ → Key → Option Data → Result End TileFault
-end_in tiles pair key d = text_in (place.Pair pair) key d >>= end_from tiles pair
+abbrev pub pair_end_in : List TileView → ℕ → Key → Option Data → Result End TileFault
+pair_end_in tiles pair key d = required_text (place.Pair pair) key d >>= pair_end_from tiles pair
 
 -- a pair with these two ends
 abbrev pub pair_with : End → End → Pair
@@ -169,14 +169,14 @@ pair_with left right = record { left = left; right = right }
 -- the pair that a table says, the left end looked at first
 abbrev pub pair_from : List TileView → ℕ → Members → Result Pair TileFault
 pair_from tiles pair ms =
-    end_in tiles pair key.Left (get_member (codes "left") ms) >>= (λ left.
-    end_in tiles pair key.Right (get_member (codes "right") ms) >>= (λ right. Ok (pair_with left right)))
+    pair_end_in tiles pair key.Left (get_member (codes "left") ms) >>= (λ left.
+    pair_end_in tiles pair key.Right (get_member (codes "right") ms) >>= (λ right. Ok (pair_with left right)))
 
 -- the pairs behind those before them
 abbrev pub pairs_from : List TileView → List Pair → Items → Result (List Pair) TileFault
 pairs_from tiles before no_items = Ok before
 pairs_from tiles before (item d ds) =
-    and_then (and_then (table_in (place.Pair (length before)) key.Pair d) (pair_from tiles (length before)))
+    result_then (result_then (table_in (place.Pair (length before)) key.Pair d) (pair_from tiles (length before)))
     (λ pair. pairs_from tiles (before ++ pair ∷ []) ds)
 
 -- ---- the document
@@ -205,9 +205,9 @@ set_from ms =
     pairs_from tiles [] pair_items >>= (λ pairs. Ok (set_with tiles pairs)))))
 
 -- the document that bytes spell
-abbrev pub parsed : List ℕ → Result Members TileFault
-parsed bytes = if is_utf8 bytes then ok_or (parse_document bytes) fault.Toml else Err fault.Toml
+abbrev pub parsed_document : List ℕ → Result Members TileFault
+parsed_document bytes = if is_utf8 bytes then ok_or (parse_document bytes) fault.Toml else Err fault.Toml
 
 -- the tile set of bytes
 abbrev pub set_of : List ℕ → Result TileSetView TileFault
-set_of bytes = and_then (parsed bytes) set_from
+set_of bytes = result_then (parsed_document bytes) set_from

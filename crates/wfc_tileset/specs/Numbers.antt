@@ -5,12 +5,12 @@ use Rattle.wfc_tileset.specs.declared.variants.TheConstants.{MAX_VARIANTS}
 use Rattle.wfc_tileset.specs.Tiles.{TileView, Variant, variants, variant_total, variants_of_tile, tile_at}
 
 -- the number of a tile's first variant
-abbrev pub first_of : List TileView → ℕ → ℕ
-first_of tiles t = variant_total (take t tiles)
+abbrev pub tile_start : List TileView → ℕ → ℕ
+tile_start tiles t = variant_total (take t tiles)
 
 -- the number of a variant
-abbrev pub number_of : List TileView → Variant → ℕ
-number_of tiles v = first_of tiles v.0 + v.1
+abbrev pub variant_number : List TileView → Variant → ℕ
+variant_number tiles v = tile_start tiles v.0 + v.1
 
 -- a variant of the tiles
 pub record IsVariant (tiles : List TileView) (v : Variant) : Type 0 where
@@ -26,21 +26,21 @@ pub record IsNamed (tiles : List TileView) (name : List ℕ) (index tile : ℕ) 
 -- the variants of tiles in order, and the number of each tile's first one
 pub record IsNumbered (tiles : List TileView) (list : List Variant) (first : List ℕ) : Type 0 where
   pub listed : list ≡ variants tiles
-  pub begun : first ≡ map (first_of tiles) (range_with_len 0 (length tiles))
+  pub begun : first ≡ map (tile_start tiles) (range_with_len 0 (length tiles))
   pub limit : variant_total tiles ≤ MAX_VARIANTS
 
 -- where a table has the flag of two variants
-abbrev pub place_of : List TileView → Variant × Variant → ℕ
-place_of tiles p = number_of tiles p.0 * variant_total tiles + number_of tiles p.1
+abbrev pub flag_place : List TileView → Variant × Variant → ℕ
+flag_place tiles p = variant_number tiles p.0 * variant_total tiles + variant_number tiles p.1
 
 -- a table with one more flag set
-abbrev pub marked : List TileView → List Bool → Variant × Variant → List Bool
-marked tiles flags p = slice_set flags (place_of tiles p) true
+abbrev pub with_flag : List TileView → List Bool → Variant × Variant → List Bool
+with_flag tiles flags p = slice_set flags (flag_place tiles p) true
 
 -- a table with the flags of all these pairs set
 abbrev pub all_marked : List TileView → List Bool → List (Variant × Variant) → List Bool
-all_marked tiles flags pairs = fold (marked tiles) flags pairs
+all_marked tiles flags pairs = fold (with_flag tiles) flags pairs
 
 -- the table that has the flags of these pairs and no others
-abbrev pub table_of : List TileView → List (Variant × Variant) → List Bool
-table_of tiles pairs = all_marked tiles (replicate (variant_total tiles * variant_total tiles) false) pairs
+abbrev pub pair_table : List TileView → List (Variant × Variant) → List Bool
+pair_table tiles pairs = all_marked tiles (replicate (variant_total tiles * variant_total tiles) false) pairs

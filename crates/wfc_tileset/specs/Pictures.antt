@@ -17,7 +17,7 @@ use Rattle.wfc_ppm.specs.Reading.{ppm_of}
 use Rattle.wfc_tileset.specs.declared.fault.TileFault.{TileFault}
 use Rattle.wfc_tileset.specs.declared.fault.TileFault.TheVariants as fault
 use Rattle.wfc_tileset.specs.declared.picture.TheConstants.{MAX_TILE_SIDE}
-use Rattle.wfc_tileset.specs.Document.{and_then, is_ppm_name}
+use Rattle.wfc_tileset.specs.Document.{result_then, is_ppm_name}
 use Rattle.wfc_tileset.specs.Shown.{is_of_kind}
 use Rattle.wfc_tileset.specs.Tiles.{PictureView, TileSetView, tile_at, variant_at}
 
@@ -53,8 +53,8 @@ if_read f (Ok x) = f x
 if_read f (Err e) = None
 
 -- the picture of a tile that a file of this name with these bytes is, if it is one
-abbrev pub picture_of : List ℕ → List ℕ → Option PictureView
-picture_of name bytes =
+abbrev pub tile_picture_of : List ℕ → List ℕ → Option PictureView
+tile_picture_of name bytes =
     if nat_lt MAX_FILE_BYTES (length bytes) then None
     else if is_ppm_name name then if_read of_ppm (ppm_of bytes)
     else if_read of_grid (grid_of bytes)
@@ -89,9 +89,9 @@ fitting_first tile first picture =
     else if not (picture.side == first.side) then Err (fault.SizeDiffers tile) else Ok picture
 
 -- a picture behind the others, if it is as the first one
-abbrev pub fitting : List PictureView → PictureView → Result PictureView TileFault
-fitting [] picture = Ok picture
-fitting (first ∷ more) picture = fitting_first (length (first ∷ more)) first picture
+abbrev pub fitting_picture : List PictureView → PictureView → Result PictureView TileFault
+fitting_picture [] picture = Ok picture
+fitting_picture (first ∷ more) picture = fitting_first (length (first ∷ more)) first picture
 
 -- a file that is no picture of a tile
 abbrev pub some_picture : ℕ → Option PictureView → Result PictureView TileFault
@@ -105,8 +105,8 @@ next_name set = unwrap_or (picture_name set (length set.pictures)) []
 -- the next picture, by the bytes of its file, or its fault
 abbrev pub picture_for : TileSetView → List ℕ → Result PictureView TileFault
 picture_for set bytes =
-    and_then (some_picture (length set.pictures) (picture_of (next_name set) bytes))
-    (fitting set.pictures)
+    result_then (some_picture (length set.pictures) (tile_picture_of (next_name set) bytes))
+    (fitting_picture set.pictures)
 
 -- a tile set with one more picture
 abbrev pub with_picture : TileSetView → PictureView → TileSetView
@@ -114,7 +114,7 @@ with_picture set picture = record { tiles = set.tiles; pairs = set.pairs; pictur
 
 -- the tile set with the next picture, by the bytes of its file, or that picture's fault
 abbrev pub picture_taken : TileSetView → List ℕ → Result TileSetView TileFault
-picture_taken set bytes = and_then (picture_for set bytes) (λ picture. Ok (with_picture set picture))
+picture_taken set bytes = result_then (picture_for set bytes) (λ picture. Ok (with_picture set picture))
 
 -- each tile has its picture
 abbrev pub IsPictured : TileSetView → Type 0

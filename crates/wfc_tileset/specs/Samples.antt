@@ -14,18 +14,18 @@ abbrev pub tile_of_class : Class → TileView
 tile_of_class class = record { name = []; class = class; weight = 1; picture = None }
 
 -- an end of a pair
-abbrev pub end_of : ℕ → ℕ → End
-end_of tile turn = record { tile = tile; turn = turn }
+abbrev pub small_pair_end : ℕ → ℕ → End
+small_pair_end tile turn = record { tile = tile; turn = turn }
 
 -- one straight line, which may go on to the right
-abbrev pub lines : TileSetView
-lines = record { tiles = tile_of_class I ∷ []; pairs = record { left = end_of 0 0; right = end_of 0 0 } ∷ []; pictures = [] }
+abbrev pub straight_lines : TileSetView
+straight_lines = record { tiles = tile_of_class I ∷ []; pairs = record { left = small_pair_end 0 0; right = small_pair_end 0 0 } ∷ []; pictures = [] }
 
 -- a tile without symmetry after action 5, to the left of a junction after a quarter turn
 abbrev pub crossing : TileSetView
 crossing = record {
   tiles = tile_of_class F ∷ tile_of_class T ∷ [];
-  pairs = record { left = end_of 0 5; right = end_of 1 1 } ∷ [];
+  pairs = record { left = small_pair_end 0 5; right = small_pair_end 1 1 } ∷ [];
   pictures = [];
 }
 

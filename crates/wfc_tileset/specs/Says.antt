@@ -3,7 +3,7 @@ use Rattle.std.specs.Prelude.{◌≡◌, ◌⊎◌, ℕ, ◌+◌, ◌<◌, ⊤, 
 use Rattle.std.specs.List.{list_any}
 use Rattle.std.specs.Option.{option_map}
 use Rattle.toml.specs.Data.{Data, string, integer, array, table, Items, no_items, item, Members, get_member}
-use Rattle.wfc_tileset.specs.Document.{class_of, has_name, is_name}
+use Rattle.wfc_tileset.specs.Document.{symmetry_class, has_name, is_name}
 use Rattle.wfc_tileset.specs.Tiles.{TileView, TileSetView, tile_at}
 use Rattle.wfc_tileset.specs.TileSets.{IsTileSet}
 use Rattle.wfc_tileset.specs.declared.tile.End.{End}
@@ -15,7 +15,7 @@ pub record SaysTile (ms : Members) (tile : TileView) : Type 0 where
   pub is_name : is_name tile.name ≡ true
   pub word : List ℕ
   pub class : get_member (codes "class") ms ≡ Some (string word)
-  pub class_is : class_of word ≡ Some tile.class
+  pub class_is : symmetry_class word ≡ Some tile.class
   pub weight : ((get_member (codes "weight") ms ≡ None) × (tile.weight ≡ 1))
       ⊎ (get_member (codes "weight") ms ≡ Some (integer (pos tile.weight)))
   pub picture : get_member (codes "picture") ms ≡ option_map string tile.picture

@@ -2,10 +2,10 @@
 use Rattle.std.specs.Prelude.{◌≡◌, ◌<◌, ◌≤◌, Bool, true, List, length}
 use Rattle.std.specs.List.{All}
 use Rattle.wfc_tileset.specs.declared.variants.TheConstants.{MAX_VARIANTS}
-use Rattle.wfc_tileset.specs.Tiles.{TileView, TileSetView, IsWeighed, variant_total}
+use Rattle.wfc_tileset.specs.Tiles.{TileView, TileSetView, HasWeight, variant_total}
 use Rattle.wfc_tileset.specs.Allowed.{across_pairs, down_pairs, ArePairs}
 use Rattle.wfc_tileset.specs.Document.{fits_first}
-use Rattle.wfc_tileset.specs.Numbers.{table_of}
+use Rattle.wfc_tileset.specs.Numbers.{pair_table}
 use Rattle.wfc_tileset.specs.Pictures.{IsDrawn}
 
 -- each tile names a picture of the first tile's kind, or none where that one names none
@@ -17,14 +17,14 @@ AreAlike tiles = All (λ tile. fits_first tiles tile.picture ≡ true) tiles
 -- names a tile and an action
 pub record IsTileSet (set : TileSetView) : Type 0 where
   pub some_tile : 0 < length set.tiles
-  pub weighed : All IsWeighed set.tiles
+  pub weighed : All HasWeight set.tiles
   pub alike : AreAlike set.tiles
   pub limit : variant_total set.tiles ≤ MAX_VARIANTS
   pub pairs : ArePairs set
 
 -- the two tables of a tile set, whose pictures are in order
-pub record IsClosed (set : TileSetView) (across down : List Bool) : Type 0 where
-  pub across_is : across ≡ table_of set.tiles (across_pairs set)
-  pub down_is : down ≡ table_of set.tiles (down_pairs set)
+pub record HasClosedTables (set : TileSetView) (across down : List Bool) : Type 0 where
+  pub across_is : across ≡ pair_table set.tiles (across_pairs set)
+  pub down_is : down ≡ pair_table set.tiles (down_pairs set)
   pub tile_set : IsTileSet set
   pub drawn : IsDrawn set

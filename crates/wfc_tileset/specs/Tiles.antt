@@ -18,7 +18,7 @@ pub record TileView : Type 0 where
   pub picture : Option (List ℕ)
 
 -- the tile's weight is 1 to 1,000,000
-pub record IsWeighed (tile : TileView) : Type 0 where
+pub record HasWeight (tile : TileView) : Type 0 where
   pub some_weight : 1 ≤ tile.weight
   pub small_weight : tile.weight ≤ 1000000
 
@@ -67,8 +67,8 @@ abbrev pub variant_at : List TileView → ℕ → Variant
 variant_at tiles v = slice_index_or (variants tiles) v (0, 0)
 
 -- what an action makes of a variant
-abbrev pub moved : List TileView → Variant → ℕ → Variant
-moved tiles v k = (v.0, acted (tile_at tiles v.0).class v.1 k)
+abbrev pub moved_variant : List TileView → Variant → ℕ → Variant
+moved_variant tiles v k = (v.0, acted (tile_at tiles v.0).class v.1 k)
 
 -- how a variant is spelled: the name of its tile, a slash and its number among the variants of that tile
 abbrev pub spelling : List TileView → Variant → List ℕ
@@ -79,5 +79,5 @@ abbrev pub variant_of : List TileView → List ℕ → Option ℕ
 variant_of tiles word = position (λ v. bytes_eq (spelling tiles v) word) (variants tiles)
 
 -- the word spells the variant with this number
-abbrev pub Spells : List TileView → List ℕ → ℕ → Type 0
-Spells tiles word v = (v < variant_total tiles) × (spelling tiles (variant_at tiles v) ≡ word)
+abbrev pub SpellsVariant : List TileView → List ℕ → ℕ → Type 0
+SpellsVariant tiles word v = (v < variant_total tiles) × (spelling tiles (variant_at tiles v) ≡ word)

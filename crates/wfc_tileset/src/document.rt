@@ -5,7 +5,7 @@ ghost use Rattle.std.specs.Option.{option_map, ok_or};
 ghost use Rattle.wfc_outside.specs.Gives.{Gives, result_map};
 ghost use Rattle.toml.specs.Data.{get_member};
 ghost use Rattle.toml.specs.View.{view, table_view, items_view};
-ghost use Rattle.wfc_tileset.specs.Document.{parsed, text_in, elements_in, table_in};
+ghost use Rattle.wfc_tileset.specs.Document.{parsed_document, required_text, elements_in, table_in};
 
 use crate::fault::{Key, Place, TileFault};
 use std::alloc::Global;
@@ -16,7 +16,7 @@ pub const MAX_ELEMENTS: usize = 16_777_216;
 
 /// The table that bytes spell.
 pub fn document(alloc: Global, bytes: &[u8]) -> Result<Table, TileFault>
-    ensures exact { Gives TileFault.NoMemory table_view result (parsed bytes.now) }
+    ensures exact { Gives TileFault.NoMemory table_view result (parsed_document bytes.now) }
 {
     let Ok(text) = str::from_utf8(bytes) else {
         return Err(TileFault::Toml);
@@ -42,9 +42,9 @@ pub fn member<'a>(table: &'a Table, key: &str) -> Option<&'a Value>
 }
 
 /// A text that has to be there.
-pub fn text_in(place: Place, key: Key, value: Option<&Value>) -> Result<&str, TileFault>
+pub fn required_text(place: Place, key: Key, value: Option<&Value>) -> Result<&str, TileFault>
     ensures exact { result_map (λ text. text.now) result
-        ≡ text_in place key (option_map (λ v. view v.now) value.entry) }
+        ≡ required_text place key (option_map (λ v. view v.now) value.entry) }
 {
     match value {
         None => Err(TileFault::MissingKey { place, key }),

@@ -4,9 +4,9 @@ ghost use Rattle.std.specs.Prelude.{◌≡◌, ℕ, List, [], ◌∷◌, map, re
 ghost use Rattle.toml.specs.Data.{Members, array, no_members, member};
 ghost use Rattle.wfc_symmetry.specs.declared.class.Class.TheVariants.{X, I, L, T, F, Slash};
 ghost use Rattle.wfc_tileset.specs.declared.fault.TileFault.TheVariants as fault;
-ghost use Rattle.wfc_tileset.specs.Tiles.{TileView, TileSetView, IsWeighed, variant_total};
-ghost use Rattle.wfc_tileset.specs.Document.{parsed, set_from, set_of, class_of, weight_of, is_name, is_name_byte};
-ghost use Rattle.wfc_tileset.specs.Document.{same_kind, few_variants, tile_with, set_with, pair_with, end_with};
+ghost use Rattle.wfc_tileset.specs.Tiles.{TileView, TileSetView, HasWeight, variant_total};
+ghost use Rattle.wfc_tileset.specs.Document.{parsed_document, set_from, set_of, symmetry_class, tile_weight, is_name, is_name_byte};
+ghost use Rattle.wfc_tileset.specs.Document.{same_kind, few_variants, tile_with, set_with, pair_with, pair_end_with};
 ghost use Rattle.wfc_tileset.specs.Says.{AreNamedBehind, SaysEnd, SaysSet, SaysTile};
 ghost use Rattle.wfc_tileset.specs.Documents.{wrong_pairs, wrong_pair_faults, wrong_tiles, wrong_tile_faults};
 ghost use Rattle.wfc_tileset.specs.Documents.{two_tiles, table_of_tile, drawn_data, document_of, items_of};
@@ -19,7 +19,7 @@ use crate::{HOLE, MAX_DOCUMENT_BYTES, MAX_VARIANTS};
 /// action 0.
 pub fn documents_by_example()
     ensures pair { set_from (with_pair (codes "f 5") (codes "t"))
-        ≡ Ok (set_with two_tiles (pair_with (end_with 0 5) (end_with 1 0) ∷ [])) }
+        ≡ Ok (set_with two_tiles (pair_with (pair_end_with 0 5) (pair_end_with 1 0) ∷ [])) }
     ensures picture { set_from (document_of (drawn_data (codes "a") (codes "b") 70 ∷ []) [])
         ≡ Ok (set_with (tile_with (codes "a") T 70 (Some (codes "b")) ∷ []) []) }
     ensures without_pairs { set_from (member (codes "tile") (array (items_of tiles_f_t)) no_members)
@@ -52,12 +52,12 @@ pub fn limits_are()
 
 /// The bounds of weights: 1 to 1,000,000, both in a document and in a tile set.
 pub fn weights_of_tiles()
-    ensures read { map weight_of (pos 0 ∷ pos 1 ∷ pos 1000000 ∷ pos 1000001 ∷ negsuc 0 ∷ [])
+    ensures read { map tile_weight (pos 0 ∷ pos 1 ∷ pos 1000000 ∷ pos 1000001 ∷ negsuc 0 ∷ [])
         ≡ None ∷ Some 1 ∷ Some 1000000 ∷ None ∷ None ∷ [] }
-    ensures least { IsWeighed (tile_with (codes "a") X 1 None) }
-    ensures most { IsWeighed (tile_with (codes "a") X 1000000 None) }
-    ensures zero { IsWeighed (tile_with (codes "a") X 0 None) → ⊥ }
-    ensures more { IsWeighed (tile_with (codes "a") X 1000001 None) → ⊥ }
+    ensures least { HasWeight (tile_with (codes "a") X 1 None) }
+    ensures most { HasWeight (tile_with (codes "a") X 1000000 None) }
+    ensures zero { HasWeight (tile_with (codes "a") X 0 None) → ⊥ }
+    ensures more { HasWeight (tile_with (codes "a") X 1000001 None) → ⊥ }
 {}
 
 /// The bounds of names: 1 to 64 bytes, each a letter, a digit, `_` or `-`.
@@ -70,7 +70,7 @@ pub fn names_of_tiles()
 
 /// Classes by their letters.
 pub fn words_of_tiles()
-    ensures classes { map class_of (codes "X" ∷ codes "I" ∷ codes "L" ∷ codes "T" ∷ codes "F"
+    ensures classes { map symmetry_class (codes "X" ∷ codes "I" ∷ codes "L" ∷ codes "T" ∷ codes "F"
         ∷ (92 ∷ []) ∷ codes "x" ∷ codes "XX" ∷ [] ∷ [])
         ≡ Some X ∷ Some I ∷ Some L ∷ Some T ∷ Some F ∷ Some Slash ∷ None ∷ None ∷ None ∷ [] }
 {}
@@ -78,7 +78,7 @@ pub fn words_of_tiles()
 /// A tile set that is read is one that the document says, key by key.
 pub fn read_sets_are_said()
     ensures said { (bytes : List ℕ) (set : TileSetView) → set_of bytes ≡ Ok set
-        → (ms : Members) × (parsed bytes ≡ Ok ms) × SaysSet ms set }
+        → (ms : Members) × (parsed_document bytes ≡ Ok ms) × SaysSet ms set }
 {}
 
 /// What is said of a tile and of an end of a pair, and what is not: a weight that is not the table's, an action of another
@@ -88,11 +88,11 @@ pub fn said_by_example()
         (tile_with (codes "a") T 1 None) → ⊥ }
     ensures class { SaysTile (table_of_tile (codes "a") (codes "T") 70)
         (tile_with (codes "a") F 70 None) → ⊥ }
-    ensures turn { SaysEnd two_tiles (codes "t 3") (end_with 1 3) }
-    ensures no_turn { SaysEnd two_tiles (codes "f") (end_with 0 0) }
-    ensures other_turn { SaysEnd two_tiles (codes "t 3") (end_with 1 2) → ⊥ }
-    ensures other_tile { SaysEnd two_tiles (codes "t 3") (end_with 0 3) → ⊥ }
-    ensures past { SaysEnd two_tiles (codes "t 8") (end_with 1 8) → ⊥ }
+    ensures turn { SaysEnd two_tiles (codes "t 3") (pair_end_with 1 3) }
+    ensures no_turn { SaysEnd two_tiles (codes "f") (pair_end_with 0 0) }
+    ensures other_turn { SaysEnd two_tiles (codes "t 3") (pair_end_with 1 2) → ⊥ }
+    ensures other_tile { SaysEnd two_tiles (codes "t 3") (pair_end_with 0 3) → ⊥ }
+    ensures past { SaysEnd two_tiles (codes "t 8") (pair_end_with 1 8) → ⊥ }
     ensures named_twice { AreNamedBehind []
         (tile_with (codes "a") T 1 None ∷ tile_with (codes "a") F 2 None ∷ []) → ⊥ }
 {}

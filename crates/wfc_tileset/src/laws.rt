@@ -6,9 +6,9 @@ ghost use Rattle.std.specs.List.{range_with_len, All};
 ghost use Rattle.wfc_symmetry.specs.declared.class.Class.TheVariants.{X, I, L, T, F, Slash};
 ghost use Rattle.wfc_symmetry.specs.declared.class.Class.{Class};
 ghost use Rattle.wfc_tileset.specs.declared.tile.Pair.{Pair};
-ghost use Rattle.wfc_tileset.specs.Tiles.{TileView, TileSetView, Variant, variants, variant_total, variant_at, moved};
+ghost use Rattle.wfc_tileset.specs.Tiles.{TileView, TileSetView, Variant, variants, variant_total, variant_at, moved_variant};
 ghost use Rattle.wfc_tileset.specs.Allowed.{named_variant, across_pairs, down_pairs, IsAcross, IsDown, IsPair, ArePairs};
-ghost use Rattle.wfc_tileset.specs.Samples.{lines, crossing, tile_of_class};
+ghost use Rattle.wfc_tileset.specs.Samples.{straight_lines, crossing, tile_of_class};
 
 /// The variants of a junction, a cross and a straight, tile by tile, and how many there are.
 pub fn variants_by_example()
@@ -21,10 +21,17 @@ pub fn variants_by_example()
 
 /// Straight lines that may go on to the right: then they may go on below too, and nothing else may.
 pub fn lines_by_example()
-    ensures across { across_pairs lines ≡ ((0, 0), (0, 0)) ∷ ((0, 0), (0, 0)) ∷ ((0, 0), (0, 0))
-        ∷ ((0, 0), (0, 0)) ∷ [] }
-    ensures down { down_pairs lines ≡ ((0, 1), (0, 1)) ∷ ((0, 1), (0, 1)) ∷ ((0, 1), (0, 1))
-        ∷ ((0, 1), (0, 1)) ∷ [] }
+    ensures across { across_pairs straight_lines ≡ ((0, 0), (0, 0)) ∷ ((0, 0), (0, 0)) ∷ (
+      (0, 0),
+      (0, 0),
+    ) ∷ ((0, 0), (0, 0)) ∷ [] }
+    ensures down { down_pairs straight_lines ≡ ((0, 1), (0, 1)) ∷ ((0, 1), (0, 1)) ∷ (
+      (0, 1),
+      (
+        0,
+        1,
+      ),
+    ) ∷ ((0, 1), (0, 1)) ∷ [] }
 {}
 
 /// A tile without symmetry after action 5, to the left of a junction after a quarter turn.
@@ -45,11 +52,11 @@ pub fn declared_pairs_are_allowed()
 /// to the left, and after a reflection, which exchanges left and right.
 pub fn allowed_under_the_group()
     ensures turned_up { (set : TileSetView) (v w : Variant) → ArePairs set → IsAcross set v w
-        → IsDown set (moved set.tiles w 1) (moved set.tiles v 1) }
+        → IsDown set (moved_variant set.tiles w 1) (moved_variant set.tiles v 1) }
     ensures turned_left { (set : TileSetView) (v w : Variant) → ArePairs set → IsDown set v w
-        → IsAcross set (moved set.tiles v 1) (moved set.tiles w 1) }
+        → IsAcross set (moved_variant set.tiles v 1) (moved_variant set.tiles w 1) }
     ensures reflected { (set : TileSetView) (v w : Variant) → ArePairs set → IsAcross set v w
-        → IsAcross set (moved set.tiles w 4) (moved set.tiles v 4) }
+        → IsAcross set (moved_variant set.tiles w 4) (moved_variant set.tiles v 4) }
     ensures reflected_below { (set : TileSetView) (v w : Variant) → ArePairs set → IsDown set v w
-        → IsDown set (moved set.tiles v 4) (moved set.tiles w 4) }
+        → IsDown set (moved_variant set.tiles v 4) (moved_variant set.tiles w 4) }
 {}

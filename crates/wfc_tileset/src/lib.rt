@@ -6,10 +6,10 @@ ghost use Rattle.std.specs.Prelude.{◌≡◌, ℕ, ◌<◌, ◌≤◌, ◌↔�
 ghost use Rattle.std.specs.Option.{option_map};
 ghost use Rattle.wfc_outside.specs.Gives.{Gives};
 ghost use Rattle.wfc_picture.specs.declared.symbol.Kind.TheVariants as kinds;
-ghost use Rattle.wfc_tileset.specs.Tiles.{moved, variant_total, variant_at, variant_of, tile_at, Spells};
-ghost use Rattle.wfc_tileset.specs.Allowed.{IsAcross, IsDown, IsEnd, may_be_above, may_be_left, named_variant};
+ghost use Rattle.wfc_tileset.specs.Tiles.{moved_variant, variant_total, variant_at, variant_of, tile_at, SpellsVariant};
+ghost use Rattle.wfc_tileset.specs.Allowed.{IsAcross, IsDown, IsPairEnd, may_be_above, may_be_left, named_variant};
 ghost use Rattle.wfc_tileset.specs.Names.{AreNames};
-ghost use Rattle.wfc_tileset.specs.Numbers.{number_of};
+ghost use Rattle.wfc_tileset.specs.Numbers.{variant_number};
 ghost use Rattle.wfc_tileset.specs.Pictures.{IsPicture, IsPictured, kind_of, next_name, picture_for, picture_name};
 ghost use Rattle.wfc_tileset.specs.Pictures.{picture_taken, pixel_at, side_of};
 ghost use Rattle.wfc_tileset.specs.Shown.{is_of_kind};
@@ -37,11 +37,11 @@ use marks::{across_table, down_table, is_marked};
 pub use names::Names;
 use names::names_of;
 pub use picture::MAX_TILE_SIDE;
-use picture::{TilePicture, fitting, kind_of, side_of};
+use picture::{TilePicture, fitting_picture, kind_of, side_of};
 pub use reading::{MAX_DOCUMENT_BYTES, read};
 use std::alloc::Global;
 use std::marker::Model;
-pub use terms::{name_length, turn_of};
+pub use terms::{name_length, turn_digit};
 pub use tile::{End, Pair, Tile};
 pub use variants::MAX_VARIANTS;
 use variants::Variants;
@@ -65,13 +65,13 @@ pub struct TileSet {
 
 impl Model for TileSet {
     ghost use Rattle.wfc_tileset.specs.Tiles.{TileSetView};
-    ghost use Rattle.wfc_tileset.specs.TileSets.{IsClosed};
+    ghost use Rattle.wfc_tileset.specs.TileSets.{HasClosedTables};
 
     ghost Value = { TileSetView };
 
     ghost view = { λ s. record { tiles = s.variants; pairs = s.pairs.items; pictures = s.pictures.items } };
 
-    ghost invariant = { λ s. IsClosed
+    ghost invariant = { λ s. HasClosedTables
         (record { tiles = s.variants; pairs = s.pairs.items; pictures = s.pictures.items })
         s.across.items s.down.items };
 }
@@ -141,10 +141,10 @@ impl TileSet {
 
     /// The number of the variant that an action makes of the one that an end names.
     pub fn turned(&self, end: End, k: u8) -> u16
-        requires end_in { IsEnd self.now.tiles end }
+        requires end_in { IsPairEnd self.now.tiles end }
         requires action_in { k < 8 }
-        ensures value { result ≡ number_of self.now.tiles
-            (moved self.now.tiles (named_variant self.now.tiles end) k) }
+        ensures value { result ≡ variant_number self.now.tiles
+            (moved_variant self.now.tiles (named_variant self.now.tiles end) k) }
         ensures number_in { result < variant_total self.now.tiles }
     {
         self.variants
@@ -154,8 +154,8 @@ impl TileSet {
     /// The variant that a word spells: the first, where several tiles have one name.
     pub fn find(&self, word: &[u8]) -> Option<u16>
         ensures exact { result ≡ variant_of self.now.tiles word.now }
-        ensures found { IfSome result (Spells self.now.tiles word.now) }
-        ensures none { IfNone result ((v : ℕ) → Spells self.now.tiles word.now v → ⊥) }
+        ensures found { IfSome result (SpellsVariant self.now.tiles word.now) }
+        ensures none { IfNone result ((v : ℕ) → SpellsVariant self.now.tiles word.now v → ⊥) }
     {
         let (name, index) = word::parts(word)?;
         let tile = self.variants.named_first(name, index)?;
@@ -238,7 +238,7 @@ impl TileSet {
         let tile = self.pictures();
         let name = self.next_name();
         match TilePicture::of_file(alloc, name.as_bytes(), bytes)? {
-            Some(picture) => fitting(&self.pictures, picture),
+            Some(picture) => fitting_picture(&self.pictures, picture),
             None => Err(TileFault::BadPicture { tile }),
         }
     }

@@ -2,9 +2,9 @@
 
 ghost use Rattle.std.specs.Prelude.{◌≡◌, ◌*◌, ◌+◌, ◌<◌, [], false, length, IfOk, slice_index_or};
 ghost use Rattle.std.specs.List.{All, flat_map};
-ghost use Rattle.wfc_tileset.specs.Tiles.{variant_total, moved};
-ghost use Rattle.wfc_tileset.specs.Allowed.{beside, stacked, beside_by, stacked_by, IsPair};
-ghost use Rattle.wfc_tileset.specs.Numbers.{IsVariant, marked, all_marked, table_of};
+ghost use Rattle.wfc_tileset.specs.Tiles.{variant_total, moved_variant};
+ghost use Rattle.wfc_tileset.specs.Allowed.{pairs_beside, upright_pairs, beside_by, stacked_by, IsPair};
+ghost use Rattle.wfc_tileset.specs.Numbers.{IsVariant, with_flag, all_marked, pair_table};
 
 use crate::tile::Pair;
 use crate::variants::Variants;
@@ -19,7 +19,7 @@ pub fn across_table(
 ) -> Result<Vec<bool>, NoMemory>
     requires pairs { All (IsPair variants.now) pairs.now }
     ensures exact { IfOk result (λ flags. flags.items
-        ≡ table_of variants.now (flat_map (beside_by variants.now) pairs.now)) }
+        ≡ pair_table variants.now (flat_map (beside_by variants.now) pairs.now)) }
 {
     let mut flags = unmarked(alloc, variants)?;
     for pair in pairs {
@@ -34,7 +34,7 @@ pub fn across_table(
 pub fn down_table(alloc: Global, variants: &Variants, pairs: &[Pair]) -> Result<Vec<bool>, NoMemory>
     requires pairs { All (IsPair variants.now) pairs.now }
     ensures exact { IfOk result (λ flags. flags.items
-        ≡ table_of variants.now (flat_map (stacked_by variants.now) pairs.now)) }
+        ≡ pair_table variants.now (flat_map (stacked_by variants.now) pairs.now)) }
 {
     let mut flags = unmarked(alloc, variants)?;
     for pair in pairs {
@@ -59,7 +59,7 @@ pub fn is_marked(flags: &[bool], variants: &Variants, v: u16, w: u16) -> bool
 
 /// A table without flags.
 fn unmarked(alloc: Global, variants: &Variants) -> Result<Vec<bool>, NoMemory>
-    ensures none { IfOk result (λ flags. flags.items ≡ table_of variants.now []) }
+    ensures none { IfOk result (λ flags. flags.items ≡ pair_table variants.now []) }
 {
     let side = variants.count() as usize;
     let flags = vec![in alloc; false; side * side]?;
@@ -72,7 +72,7 @@ fn mark_beside(flags: &mut [bool], variants: &Variants, left: (u32, u8), right: 
     requires right { IsVariant variants.now right }
     requires square { length flags.old ≡ variant_total variants.now * variant_total variants.now }
     ensures marked { flags.new
-        ≡ all_marked variants.now flags.old (beside variants.now left right) }
+        ≡ all_marked variants.now flags.old (pairs_beside variants.now left right) }
 {
     mark(flags, variants, left, right);
     mark_image(flags, variants, left, right, 6);
@@ -86,7 +86,7 @@ fn mark_stacked(flags: &mut [bool], variants: &Variants, upper: (u32, u8), lower
     requires lower { IsVariant variants.now lower }
     requires square { length flags.old ≡ variant_total variants.now * variant_total variants.now }
     ensures marked { flags.new
-        ≡ all_marked variants.now flags.old (stacked variants.now upper lower) }
+        ≡ all_marked variants.now flags.old (upright_pairs variants.now upper lower) }
 {
     mark(flags, variants, upper, lower);
     mark_image(flags, variants, lower, upper, 6);
@@ -100,8 +100,10 @@ fn mark_image(flags: &mut [bool], variants: &Variants, v: (u32, u8), w: (u32, u8
     requires w { IsVariant variants.now w }
     requires action_in { k < 8 }
     requires square { length flags.old ≡ variant_total variants.now * variant_total variants.now }
-    ensures marked { flags.new
-        ≡ marked variants.now flags.old (moved variants.now v k, moved variants.now w k) }
+    ensures marked { flags.new ≡ with_flag variants.now flags.old (
+      moved_variant variants.now v k,
+      moved_variant variants.now w k,
+    ) }
 {
     mark(flags, variants, variants.moved(v, k), variants.moved(w, k));
 }
@@ -111,7 +113,7 @@ fn mark(flags: &mut [bool], variants: &Variants, v: (u32, u8), w: (u32, u8))
     requires v { IsVariant variants.now v }
     requires w { IsVariant variants.now w }
     requires square { length flags.old ≡ variant_total variants.now * variant_total variants.now }
-    ensures marked { flags.new ≡ marked variants.now flags.old (v, w) }
+    ensures marked { flags.new ≡ with_flag variants.now flags.old (v, w) }
 {
     let side = variants.count() as usize;
     let row = variants.number(v) as usize;

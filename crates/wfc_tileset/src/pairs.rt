@@ -5,16 +5,16 @@ ghost use Rattle.std.specs.List.{All};
 ghost use Rattle.std.specs.Option.{option_map};
 ghost use Rattle.wfc_outside.specs.Gives.{Gives};
 ghost use Rattle.toml.specs.View.{view, table_view, items_view};
-ghost use Rattle.wfc_tileset.specs.Allowed.{IsEnd, IsPair};
-ghost use Rattle.wfc_tileset.specs.Document.{and_then, table_in, end_from, end_in, pair_from, pairs_from, has_name};
+ghost use Rattle.wfc_tileset.specs.Allowed.{IsPairEnd, IsPair};
+ghost use Rattle.wfc_tileset.specs.Document.{result_then, table_in, pair_end_from, pair_end_in, pair_from, pairs_from, has_name};
 ghost use Rattle.wfc_tileset.specs.Names.{AreNames};
 ghost use Rattle.wfc_tileset.specs.declared.fault.Place.TheVariants as place;
 ghost use Rattle.wfc_tileset.specs.declared.fault.Key.TheVariants as key;
 
-use crate::document::{MAX_ELEMENTS, member, table_in, text_in};
+use crate::document::{MAX_ELEMENTS, member, required_text, table_in};
 use crate::fault::{Key, Place, TileFault};
 use crate::names::{Names, names_of};
-use crate::terms::{name_length, turn_of};
+use crate::terms::{name_length, turn_digit};
 use crate::tile::{End, Pair, Tile};
 use std::alloc::Global;
 use toml::{Table, Value};
@@ -39,7 +39,7 @@ pub fn pairs_from(alloc: Global, tiles: &[Tile], elements: &[Value]) -> Result<V
 /// The pair of an element.
 fn pair_in(names: &Names, tiles: &[Tile], pair: u32, element: &Value) -> Result<Pair, TileFault>
     requires names { AreNames names.now tiles.now }
-    ensures exact { result ≡ and_then (table_in (place.Pair pair) key.Pair (view element.now))
+    ensures exact { result ≡ result_then (table_in (place.Pair pair) key.Pair (view element.now))
         (pair_from tiles.now pair) }
     ensures pair { IfOk result (IsPair tiles.now) }
 {
@@ -53,13 +53,13 @@ fn pair_from(names: &Names, tiles: &[Tile], pair: u32, table: &Table) -> Result<
     ensures exact { result ≡ pair_from tiles.now pair (table_view table.now) }
     ensures pair { IfOk result (IsPair tiles.now) }
 {
-    let left = end_in(names, tiles, pair, Key::Left, member(table, "left"))?;
-    let right = end_in(names, tiles, pair, Key::Right, member(table, "right"))?;
+    let left = pair_end_in(names, tiles, pair, Key::Left, member(table, "left"))?;
+    let right = pair_end_in(names, tiles, pair, Key::Right, member(table, "right"))?;
     Ok(Pair { left, right })
 }
 
 /// An end of a pair, which has to be there.
-fn end_in(
+fn pair_end_in(
     names: &Names,
     tiles: &[Tile],
     pair: u32,
@@ -67,24 +67,25 @@ fn end_in(
     value: Option<&Value>,
 ) -> Result<End, TileFault>
     requires names { AreNames names.now tiles.now }
-    ensures exact { result ≡ end_in tiles.now pair key (option_map (λ v. view v.now) value.entry) }
-    ensures end { IfOk result (IsEnd tiles.now) }
+    ensures exact { result ≡ pair_end_in tiles.now pair key (option_map (λ v. view v.now)
+        value.entry) }
+    ensures end { IfOk result (IsPairEnd tiles.now) }
 {
-    let text = text_in(Place::Pair(pair), key, value)?;
-    end_from(names, tiles, pair, text)
+    let text = required_text(Place::Pair(pair), key, value)?;
+    pair_end_from(names, tiles, pair, text)
 }
 
 /// An end of a pair: a tile's name, and behind a blank an action.
-fn end_from(names: &Names, tiles: &[Tile], pair: u32, text: &str) -> Result<End, TileFault>
+fn pair_end_from(names: &Names, tiles: &[Tile], pair: u32, text: &str) -> Result<End, TileFault>
     requires names { AreNames names.now tiles.now }
-    ensures exact { result ≡ end_from tiles.now pair text.now }
-    ensures end { IfOk result (IsEnd tiles.now) }
+    ensures exact { result ≡ pair_end_from tiles.now pair text.now }
+    ensures end { IfOk result (IsPairEnd tiles.now) }
 {
     let length = name_length(text.as_bytes());
     let Some(tile) = named(names, tiles, &text[..length]) else {
         return Err(TileFault::UnknownTile { pair });
     };
-    match turn_of(&text.as_bytes()[length..]) {
+    match turn_digit(&text.as_bytes()[length..]) {
         Some(turn) => Ok(End { tile, turn }),
         None => Err(TileFault::BadTurn { pair }),
     }

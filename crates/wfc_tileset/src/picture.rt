@@ -4,8 +4,8 @@ ghost use Rattle.std.specs.Prelude.{◌≡◌, ◌-◌, ◌<◌, ◌≤◌, ◌^
 ghost use Rattle.std.specs.Option.{option_map};
 ghost use Rattle.wfc_grid.specs.Reading.{grid_of};
 ghost use Rattle.wfc_ppm.specs.Reading.{ppm_of};
-ghost use Rattle.wfc_tileset.specs.Pictures.{IsPicture, fitting, fitting_first, if_read, is_tile_size, kind_of};
-ghost use Rattle.wfc_tileset.specs.Pictures.{of_grid, of_ppm, one_kind, picture_of, pixel_in, side_of};
+ghost use Rattle.wfc_tileset.specs.Pictures.{IsPicture, fitting_picture, fitting_first, if_read, is_tile_size, kind_of};
+ghost use Rattle.wfc_tileset.specs.Pictures.{of_grid, of_ppm, one_kind, tile_picture_of, pixel_in, side_of};
 ghost use Rattle.wfc_tileset.specs.Pictures.{turned_pixel, variant_pixel};
 ghost use Rattle.wfc_tileset.specs.Shown.{is_of_kind};
 
@@ -49,7 +49,7 @@ impl TilePicture {
         name: &[u8],
         bytes: &[u8],
     ) -> Result<Option<TilePicture>, NoMemory>
-        ensures value { IfOk result (λ picture. picture ≡ picture_of name.now bytes.now) }
+        ensures value { IfOk result (λ picture. picture ≡ tile_picture_of name.now bytes.now) }
     {
         if bytes.len() as u64 > MAX_FILE_BYTES {
             return Ok(None);
@@ -211,9 +211,12 @@ fn colours(alloc: Global, colours: &[Colour]) -> Result<Vec<Symbol>, NoMemory>
 }
 
 /// The picture behind these, if it is of the kind and the side of the first.
-pub fn fitting(before: &[TilePicture], picture: TilePicture) -> Result<TilePicture, TileFault>
+pub fn fitting_picture(
+    before: &[TilePicture],
+    picture: TilePicture,
+) -> Result<TilePicture, TileFault>
     requires few { length before.now < 2 ^ 32 }
-    ensures exact { result ≡ fitting before.now picture }
+    ensures exact { result ≡ fitting_picture before.now picture }
     ensures picture { IfOk result IsPicture }
 {
     let _side = picture.side();

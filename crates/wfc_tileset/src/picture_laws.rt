@@ -4,7 +4,7 @@
 ghost use Rattle.std.specs.Prelude.{◌≡◌, List, [], ◌∷◌, ◌++◌, codes, map, Some, None, Ok, Err};
 ghost use Rattle.std.specs.List.{range_with_len};
 ghost use Rattle.wfc_tileset.specs.declared.fault.TileFault.TheVariants as fault;
-ghost use Rattle.wfc_tileset.specs.Pictures.{picture_of, picture_taken, pixel_at, with_picture};
+ghost use Rattle.wfc_tileset.specs.Pictures.{tile_picture_of, picture_taken, pixel_at, with_picture};
 ghost use Rattle.wfc_tileset.specs.Samples.{four_characters, four_shown, four_variants, one_colour, one_taken};
 ghost use Rattle.wfc_tileset.specs.Tiles.{PictureView};
 
@@ -25,11 +25,11 @@ pub fn variants_by_example()
 /// What files are pictures of tiles: a grid where the name is not that of a PPM, square, and without
 /// a fault.
 pub fn files_by_example()
-    ensures grid { picture_of (codes "t.txt") (codes "ab\ncd\n") ≡ Some four_characters }
-    ensures ppm { picture_of (codes "t.ppm") (codes "P3 1 1 9 1 2 3") ≡ Some (one_colour 9) }
-    ensures others { map (picture_of (codes "t.ppm")) (codes "ab\ncd\n" ∷ codes "P3 1 1 2 1 2 3"
-        ∷ codes "P3 2 1 9 1 2 3 1 2 3" ∷ []) ≡ None ∷ None ∷ None ∷ [] }
-    ensures not_square { map (picture_of (codes "t.txt")) (codes "ab" ∷ codes "a\nb" ∷ [] ∷ [])
+    ensures grid { tile_picture_of (codes "t.txt") (codes "ab\ncd\n") ≡ Some four_characters }
+    ensures ppm { tile_picture_of (codes "t.ppm") (codes "P3 1 1 9 1 2 3") ≡ Some (one_colour 9) }
+    ensures others { map (tile_picture_of (codes "t.ppm")) (codes "ab\ncd\n" ∷ codes
+        "P3 1 1 2 1 2 3" ∷ codes "P3 2 1 9 1 2 3 1 2 3" ∷ []) ≡ None ∷ None ∷ None ∷ [] }
+    ensures not_square { map (tile_picture_of (codes "t.txt")) (codes "ab" ∷ codes "a\nb" ∷ [] ∷ [])
         ≡ None ∷ None ∷ None ∷ [] }
 {}
 

@@ -4,8 +4,8 @@ ghost use Rattle.std.specs.Prelude.{◌≡◌, ◌<◌, ◌≤◌, length, IfOk}
 ghost use Rattle.std.specs.List.{All};
 ghost use Rattle.wfc_outside.specs.Gives.{Gives};
 ghost use Rattle.toml.specs.View.{table_view, items_view};
-ghost use Rattle.wfc_tileset.specs.Document.{some_tiles, few_variants, and_then, set_from, set_of};
-ghost use Rattle.wfc_tileset.specs.Tiles.{IsWeighed, variant_total};
+ghost use Rattle.wfc_tileset.specs.Document.{some_tiles, few_variants, result_then, set_from, set_of};
+ghost use Rattle.wfc_tileset.specs.Tiles.{HasWeight, variant_total};
 ghost use Rattle.wfc_tileset.specs.TileSets.{AreAlike};
 
 use crate::TileSet;
@@ -50,11 +50,11 @@ fn set_from(alloc: Global, table: &Table) -> Result<TileSet, TileFault>
 fn some_tiles(alloc: Global, elements: &[Value]) -> Result<Vec<Tile>, TileFault>
     requires few { length elements.now ≤ MAX_ELEMENTS }
     ensures exact { Gives TileFault.NoMemory (λ tiles. tiles.items) result
-        (and_then (some_tiles (items_view elements.now)) few_variants) }
+        (result_then (some_tiles (items_view elements.now)) few_variants) }
     ensures limit { IfOk result (λ tiles. variant_total tiles.items ≤ MAX_VARIANTS) }
     ensures some_tile { IfOk result (λ tiles. 0 < length tiles.items) }
     ensures few_tiles { IfOk result (λ tiles. length tiles.items ≤ MAX_ELEMENTS) }
-    ensures weighed { IfOk result (λ tiles. All IsWeighed tiles.items) }
+    ensures weighed { IfOk result (λ tiles. All HasWeight tiles.items) }
     ensures alike { IfOk result (λ tiles. AreAlike tiles.items) }
 {
     if elements.is_empty() {

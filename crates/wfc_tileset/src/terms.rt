@@ -2,7 +2,7 @@
 
 ghost use Rattle.std.specs.Prelude.{◌≡◌, ◌<◌, ◌≤◌, ◌&&◌, ◌==◌, nat_le, length, position, IfSome};
 ghost use Rattle.std.specs.List.{list_all};
-ghost use Rattle.wfc_tileset.specs.Document.{is_name, is_name_byte, class_of, weight_of, turn_of, name_length, is_ppm_name};
+ghost use Rattle.wfc_tileset.specs.Document.{is_name, is_name_byte, symmetry_class, tile_weight, turn_digit, name_length, is_ppm_name};
 
 use wfc_symmetry::Class;
 
@@ -35,8 +35,8 @@ fn is_name_byte(byte: u8) -> bool
 }
 
 /// The class that a text names.
-pub fn class_of(text: &[u8]) -> Option<Class>
-    ensures value { result ≡ class_of text.now }
+pub fn symmetry_class(text: &[u8]) -> Option<Class>
+    ensures value { result ≡ symmetry_class text.now }
 {
     if text == b"X".as_slice() {
         Some(Class::X)
@@ -56,8 +56,8 @@ pub fn class_of(text: &[u8]) -> Option<Class>
 }
 
 /// A weight of 1 to 1,000,000.
-pub fn weight_of(number: i64) -> Option<u32>
-    ensures value { result ≡ weight_of number }
+pub fn tile_weight(number: i64) -> Option<u32>
+    ensures value { result ≡ tile_weight number }
     ensures range { IfSome result (λ weight. (1 ≤ weight) × (weight ≤ 1000000)) }
 {
     if number >= 1 && number <= 1_000_000 {
@@ -69,8 +69,8 @@ pub fn weight_of(number: i64) -> Option<u32>
 
 /// The action that stands behind a name: a digit 0 to 7 behind a blank, or action 0 where nothing
 /// stands there.
-pub fn turn_of(rest: &[u8]) -> Option<u8>
-    ensures value { result ≡ turn_of rest.now }
+pub fn turn_digit(rest: &[u8]) -> Option<u8>
+    ensures value { result ≡ turn_digit rest.now }
     ensures turn_in { IfSome result (λ turn. turn < 8) }
 {
     match rest {

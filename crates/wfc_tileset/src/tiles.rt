@@ -6,18 +6,18 @@ ghost use Rattle.std.specs.List.{All, list_any};
 ghost use Rattle.std.specs.Option.{option_map};
 ghost use Rattle.wfc_outside.specs.Gives.{Gives, result_map};
 ghost use Rattle.toml.specs.View.{view, table_view, items_view};
-ghost use Rattle.wfc_tileset.specs.Tiles.{IsWeighed};
+ghost use Rattle.wfc_tileset.specs.Tiles.{HasWeight};
 ghost use Rattle.wfc_tileset.specs.TileSets.{AreAlike};
 ghost use Rattle.wfc_tileset.specs.Names.{AreNames};
-ghost use Rattle.wfc_tileset.specs.Document.{and_then, table_in, name_in, class_in, weight_in, picture_in, same_kind};
+ghost use Rattle.wfc_tileset.specs.Document.{result_then, table_in, name_in, class_in, weight_in, picture_in, same_kind};
 ghost use Rattle.wfc_tileset.specs.Document.{fits_first, tile_from, tiles_from, tile_with, has_name};
 ghost use Rattle.wfc_tileset.specs.declared.fault.Place.TheVariants as place;
 ghost use Rattle.wfc_tileset.specs.declared.fault.Key.TheVariants as key;
 
-use crate::document::{MAX_ELEMENTS, member, table_in, text_in};
+use crate::document::{MAX_ELEMENTS, member, required_text, table_in};
 use crate::fault::{Key, Place, TileFault};
 use crate::names::{Names, note};
-use crate::terms::{class_of, is_name, is_ppm_name, weight_of};
+use crate::terms::{is_name, is_ppm_name, symmetry_class, tile_weight};
 use crate::tile::Tile;
 use std::alloc::Global;
 use toml::{Table, Value};
@@ -30,7 +30,7 @@ pub fn tiles_from(alloc: Global, elements: &[Value]) -> Result<Vec<Tile>, TileFa
     ensures exact { Gives TileFault.NoMemory (λ tiles. tiles.items) result
         (tiles_from [] (items_view elements.now)) }
     ensures counted { IfOk result (λ tiles. length tiles.items ≡ length elements.now) }
-    ensures weighed { IfOk result (λ tiles. All IsWeighed tiles.items) }
+    ensures weighed { IfOk result (λ tiles. All HasWeight tiles.items) }
     ensures alike { IfOk result (λ tiles. AreAlike tiles.items) }
 {
     let mut tiles = Vec::new(alloc);
@@ -53,9 +53,9 @@ fn tile_in(
     requires few { length before.now ≤ MAX_ELEMENTS }
     requires names { AreNames names.now before.now }
     ensures exact { Gives TileFault.NoMemory (λ tile. tile) result
-        (and_then (table_in (place.Tile (length before.now)) key.Tile (view element.now))
+        (result_then (table_in (place.Tile (length before.now)) key.Tile (view element.now))
         (tile_from before.now)) }
-    ensures weighed { IfOk result IsWeighed }
+    ensures weighed { IfOk result HasWeight }
     ensures alike { IfOk result (λ tile. fits_first before.now tile.picture ≡ true) }
 {
     let tile = before.len() as u32;
@@ -74,7 +74,7 @@ fn tile_from(
     requires names { AreNames names.now before.now }
     ensures exact { Gives TileFault.NoMemory (λ tile. tile) result
         (tile_from before.now (table_view table.now)) }
-    ensures weighed { IfOk result IsWeighed }
+    ensures weighed { IfOk result HasWeight }
     ensures alike { IfOk result (λ tile. fits_first before.now tile.picture ≡ true) }
 {
     let tile = before.len() as u32;
@@ -124,7 +124,7 @@ fn name_in<'a>(
         ≡ name_in before.now (option_map (λ v. view v.now) value.entry) }
 {
     let tile = before.len() as u32;
-    let name = text_in(Place::Tile(tile), Key::Name, value)?;
+    let name = required_text(Place::Tile(tile), Key::Name, value)?;
     if !is_name(name.as_bytes()) {
         return Err(TileFault::BadName { tile });
     }
@@ -146,8 +146,8 @@ fn is_taken(names: &Names, _tiles: &[Tile], name: &str) -> bool
 fn class_in(tile: u32, value: Option<&Value>) -> Result<Class, TileFault>
     ensures exact { result ≡ class_in tile (option_map (λ v. view v.now) value.entry) }
 {
-    let text = text_in(Place::Tile(tile), Key::Class, value)?;
-    match class_of(text.as_bytes()) {
+    let text = required_text(Place::Tile(tile), Key::Class, value)?;
+    match symmetry_class(text.as_bytes()) {
         Some(class) => Ok(class),
         None => Err(TileFault::BadClass { tile }),
     }
@@ -162,7 +162,7 @@ fn weight_in(tile: u32, value: Option<&Value>) -> Result<u32, TileFault>
         return Ok(1);
     };
     match value.as_integer() {
-        Some(number) => match weight_of(number) {
+        Some(number) => match tile_weight(number) {
             Some(weight) => Ok(weight),
             None => Err(TileFault::BadWeight { tile }),
         },

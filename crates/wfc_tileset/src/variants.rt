@@ -3,9 +3,9 @@
 ghost use Rattle.std.specs.Prelude.{◌≡◌, ℕ, ◌<◌, ◌≤◌, ◌++◌, length, map, IfOk, OnOk, IfSome, IfNone};
 ghost use Rattle.std.specs.List.{range_with_len};
 ghost use Rattle.wfc_symmetry.specs.Class.{variant_count};
-ghost use Rattle.wfc_tileset.specs.Tiles.{variant_total, variant_at, tile_at, moved};
-ghost use Rattle.wfc_tileset.specs.Allowed.{named_variant, IsEnd};
-ghost use Rattle.wfc_tileset.specs.Numbers.{number_of, IsNamed, IsVariant};
+ghost use Rattle.wfc_tileset.specs.Tiles.{variant_total, variant_at, tile_at, moved_variant};
+ghost use Rattle.wfc_tileset.specs.Allowed.{named_variant, IsPairEnd};
+ghost use Rattle.wfc_tileset.specs.Numbers.{variant_number, IsNamed, IsVariant};
 
 use crate::tile::{End, Tile};
 use crate::word::has_variant;
@@ -84,7 +84,7 @@ impl Variants {
     #[inline]
     pub fn number(&self, variant: (u32, u8)) -> u16
         requires variant { IsVariant self.now variant }
-        ensures value { result ≡ number_of self.now variant }
+        ensures value { result ≡ variant_number self.now variant }
         ensures number_in { result < variant_total self.now }
     {
         self.first[variant.0 as usize] + u16::from(variant.1)
@@ -111,7 +111,7 @@ impl Variants {
     pub fn moved(&self, variant: (u32, u8), k: u8) -> (u32, u8)
         requires variant { IsVariant self.now variant }
         requires action_in { k < 8 }
-        ensures value { result ≡ moved self.now variant k }
+        ensures value { result ≡ moved_variant self.now variant k }
         ensures variant { IsVariant self.now result }
     {
         let class = self.tiles[variant.0 as usize].class;
@@ -120,7 +120,7 @@ impl Variants {
 
     /// The variant that one end of a declared pair names.
     pub fn named(&self, end: End) -> (u32, u8)
-        requires end_in { IsEnd self.now end }
+        requires end_in { IsPairEnd self.now end }
         ensures value { result ≡ named_variant self.now end }
         ensures variant { IsVariant self.now result }
     {

@@ -10,7 +10,7 @@ use Rattle.wfc_words.specs.Commands.{Word, choice, command_named, command_row, d
 use Rattle.wfc_words.specs.Defaults.{HoldsDefaults}
 use Rattle.wfc_words.specs.Named.{form_named, model_asked, number_in, rule_asked}
 use Rattle.wfc_words.specs.Numbers.{NumberRange, block_range, budget_range, depth_range, format_range, height_range, number_range, quantum_range, seed_range, seeds_range, symmetry_range, width_range}
-use Rattle.wfc_words.specs.Request.{has_flag, matches_by, request_by, request_found, request_of, request_with}
+use Rattle.wfc_words.specs.Request.{is_flag_given, matches_by, request_by, request_found, request_of, request_with}
 use Rattle.wfc_words.specs.RequestView.{RequestView}
 use Rattle.wfc_words.specs.ValueWords.{word_of}
 use Rattle.wfc_words.specs.Values.{number_value, value_in, values_of}
@@ -69,7 +69,7 @@ module _ (kind : CommandKind) (rows : List Row) (values : Values) (read : AreRea
   number-absent : (range : NumberRange) (n : ℕ) → number_value kind rows range ≡ Ok n → takes_word kind (word_of range.name) ≡ false → n ≡ range.absent
   number-absent range n is lacks = value_in-absent range.name (number_in range.least range.most) range.absent n kind (word_of range.name) rows lacks is
 
-  has_flag-absent : (name : Text) → takes_word kind name ≡ false → has_flag kind name rows ≡ false
+  has_flag-absent : (name : Text) → takes_word kind name ≡ false → is_flag_given kind name rows ≡ false
   has_flag-absent name lacks = ap (λ text. option_map_or (λ t. bytes_eq t (codes "true")) text false) (word_text-absent kind name rows lacks)
 
   pub holds_defaults : HoldsDefaults (request_with kind rows values)

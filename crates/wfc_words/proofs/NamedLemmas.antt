@@ -8,7 +8,7 @@ use Rattle.wfc_choose.specs.declared.RuleKind.{RuleKind}
 use Rattle.wfc_choose.specs.declared.RuleKind.TheVariants as rules
 use Rattle.wfc_words.specs.Commands.{requires_word, word_text}
 use Rattle.wfc_words.specs.InRange.{IsModel}
-use Rattle.wfc_words.specs.Named.{is_rankable, model_asked, number_in, rule_asked, rule_named, source_of, takes_tiles, unranked, untiled}
+use Rattle.wfc_words.specs.Named.{is_rankable, model_asked, number_in, rule_asked, rule_named, source_of, takes_tiles, rule_without_ranks, model_without_tiles}
 use Rattle.wfc_words.specs.ValueWords.{word_of}
 use Rattle.wfc_words.specs.Values.{model_value, rule_value, value_in}
 use Rattle.wfc_words.specs.declared.fault.ValueName.TheVariants as names
@@ -26,7 +26,7 @@ source_of-model text source is = go (bytes_eq text (codes "tiles")) (number_in 1
     go false (Some n) was e = let same : Overlap n ≡ source = cc in subst IsModel same (number_in-range 1 6 n text was)
 
 -- a model that is read for a map without tiles is no model of tiles, and it is one that the text says
-untiled-plain : (read : Option SourceModel) (source : SourceModel) → untiled read ≡ Some source → (read ≡ Some source) × (source ≢ Tiles)
+untiled-plain : (read : Option SourceModel) (source : SourceModel) → model_without_tiles read ≡ Some source → (read ≡ Some source) × (source ≢ Tiles)
 untiled-plain None source is = let bad : ⊥ = cc in absurd bad
 untiled-plain (Some Tiles) source is = let bad : ⊥ = cc in absurd bad
 untiled-plain (Some (Overlap n)) source is = (is, λ tiles. let bad : ⊥ = cc in absurd bad)
@@ -34,7 +34,7 @@ untiled-plain (Some (Overlap n)) source is = (is, λ tiles. let bad : ⊥ = cc i
 model_asked-named : (kind : CommandKind) (text : Text) (source : SourceModel) → model_asked kind text ≡ Some source → source_of text ≡ Some source
 model_asked-named kind text source is = go (takes_tiles kind) is
   where
-    go : (tiled : Bool) → cond tiled (source_of text) (untiled (source_of text)) ≡ Some source → source_of text ≡ Some source
+    go : (tiled : Bool) → cond tiled (source_of text) (model_without_tiles (source_of text)) ≡ Some source → source_of text ≡ Some source
     go true e = e
     go false e = (untiled-plain (source_of text) source e).0
 
@@ -52,11 +52,11 @@ model-plain kind rows source is plain = by_text (word_text kind (word_of names.M
     by_text : (text : Option Text) → value_in names.Model (model_asked kind) (Overlap 0) text ≡ Ok source → source ≢ Tiles
     by_text None e tiles = cc
     by_text (Some text) e tiles =
-        let named : cond (takes_tiles kind) (source_of text) (untiled (source_of text)) ≡ Some source = in_range-some names.Model (model_asked kind text) source e in
-        (untiled-plain (source_of text) source (subst (λ tiled. cond tiled (source_of text) (untiled (source_of text)) ≡ Some source) plain named)).1 tiles
+        let named : cond (takes_tiles kind) (source_of text) (model_without_tiles (source_of text)) ≡ Some source = in_range-some names.Model (model_asked kind text) source e in
+        (untiled-plain (source_of text) source (subst (λ tiled. cond tiled (source_of text) (model_without_tiles (source_of text)) ≡ Some source) plain named)).1 tiles
 
 -- a rule that is read for runs without ranks doesn't go by ranks
-unranked-plain : (read : Option RuleKind) (rule : RuleKind) → unranked read ≡ Some rule → rule ≢ rules.Ranked
+unranked-plain : (read : Option RuleKind) (rule : RuleKind) → rule_without_ranks read ≡ Some rule → rule ≢ rules.Ranked
 unranked-plain None rule is ranked = cc
 unranked-plain (Some rules.Ranked) rule is ranked = cc
 unranked-plain (Some rules.Scanline) rule is ranked = cc
@@ -68,5 +68,5 @@ rule-plain kind rows rule is plain = by_text (word_text kind (word_of names.Rule
     by_text : (text : Option Text) → value_in names.Rule (rule_asked kind) rules.Fewest text ≡ Ok rule → rule ≢ rules.Ranked
     by_text None e ranked = cc
     by_text (Some text) e ranked =
-        let named : cond (is_rankable kind) (rule_named text) (unranked (rule_named text)) ≡ Some rule = in_range-some names.Rule (rule_asked kind text) rule e in
-        unranked-plain (rule_named text) rule (subst (λ ranks. cond ranks (rule_named text) (unranked (rule_named text)) ≡ Some rule) plain named) ranked
+        let named : cond (is_rankable kind) (rule_named text) (rule_without_ranks (rule_named text)) ≡ Some rule = in_range-some names.Rule (rule_asked kind text) rule e in
+        unranked-plain (rule_named text) rule (subst (λ ranks. cond ranks (rule_named text) (rule_without_ranks (rule_named text)) ≡ Some rule) plain named) ranked

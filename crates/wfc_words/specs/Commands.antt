@@ -19,7 +19,7 @@ pub data Word : Type 0 where
   flag : Text → Word
 
 -- a command's name, and its words by groups that commands share
-pub record Command : Type 0 where
+pub record CommandWords : Type 0 where
   pub name : Text
   pub groups : List (List Word)
 
@@ -96,11 +96,11 @@ block_words = choice (word_of names.Block) ∷ []
 -- ---- the table
 
 -- a command with its name and its groups
-abbrev row : Text → List (List Word) → Command
+abbrev row : Text → List (List Word) → CommandWords
 row name groups = record { name = name; groups = groups }
 
 -- the table: each command with its name and its groups of words
-abbrev pub command_row : CommandKind → Command
+abbrev pub command_row : CommandKind → CommandWords
 command_row Learn = row (codes "learn") (file_words ∷ model_words ∷ sample_words ∷ [])
 command_row Fill = row (codes "fill")
     (file_words ∷ model_words ∷ side_words ∷ sample_words ∷ edge_words ∷ pin_words ∷ mask_words ∷ run_words ∷ form_words ∷ [])
@@ -128,7 +128,7 @@ command_row BoxCheck = row (codes "box-check")
     (file_words ∷ side_words ∷ layer_words ∷ refutation_words ∷ edge_words ∷ pin_words ∷ [])
 
 -- all words of a command, group by group
-abbrev pub command_words : Command → List Word
+abbrev pub command_words : CommandWords → List Word
 command_words command = flat_map (λ group. group) command.groups
 
 -- all commands
@@ -209,5 +209,5 @@ abbrev pub app_with : App → List Word → App
 app_with app words = record app { top = record app.top { rules = app.top.rules ++ map rule_of_word words } }
 
 -- a command as `clap` has it, with the words of all its groups
-abbrev pub app_of_command : Command → App
+abbrev pub app_of_command : CommandWords → App
 app_of_command command = app_with (bare_app command.name) (command_words command)

@@ -28,13 +28,13 @@ takes_tiles Grow = false
 takes_tiles _ = true
 
 -- the model, if it isn't that of tiles
-abbrev pub untiled : Option SourceModel → Option SourceModel
-untiled (Some Tiles) = None
-untiled source = source
+abbrev pub model_without_tiles : Option SourceModel → Option SourceModel
+model_without_tiles (Some Tiles) = None
+model_without_tiles source = source
 
 -- the model that a text says, of those that the command's map may have
 abbrev pub model_asked : CommandKind → Text → Option SourceModel
-model_asked kind text = if takes_tiles kind then source_of text else untiled (source_of text)
+model_asked kind text = if takes_tiles kind then source_of text else model_without_tiles (source_of text)
 
 -- the rule that a text names
 abbrev pub rule_named : Text → Option RuleKind
@@ -53,13 +53,13 @@ is_rankable Grow = false
 is_rankable _ = true
 
 -- the rule, if it doesn't go by ranks
-abbrev pub unranked : Option RuleKind → Option RuleKind
-unranked (Some rules.Ranked) = None
-unranked rule = rule
+abbrev pub rule_without_ranks : Option RuleKind → Option RuleKind
+rule_without_ranks (Some rules.Ranked) = None
+rule_without_ranks rule = rule
 
 -- the rule that a text names, of those that the command's runs may have
 abbrev pub rule_asked : CommandKind → Text → Option RuleKind
-rule_asked kind text = if is_rankable kind then rule_named text else unranked (rule_named text)
+rule_asked kind text = if is_rankable kind then rule_named text else rule_without_ranks (rule_named text)
 
 -- the form that a text names, as a form that is asked for
 abbrev pub form_named : Text → Option (Option Form)

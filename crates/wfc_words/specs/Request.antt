@@ -42,8 +42,8 @@ fault_by OutOfMemory = NoMemory
 fault_by _ = Refused
 
 -- whether a flag is given
-abbrev pub has_flag : CommandKind → Text → List Row → Bool
-has_flag kind name rows = option_map_or (λ text. bytes_eq text (codes "true")) (word_text kind name rows) false
+abbrev pub is_flag_given : CommandKind → Text → List Row → Bool
+is_flag_given kind name rows = option_map_or (λ text. bytes_eq text (codes "true")) (word_text kind name rows) false
 
 -- the request with these values and the texts that were found
 abbrev pub request_with : CommandKind → List Row → Values → RequestView
@@ -54,8 +54,8 @@ request_with kind rows values = record {
   width = values.map.width;
   height = values.map.height;
   symmetry = values.map.symmetry;
-  wrap_in = has_flag kind (codes "wrap-in") rows;
-  wrap_out = has_flag kind (codes "wrap-out") rows;
+  wrap_in = is_flag_given kind (codes "wrap-in") rows;
+  wrap_out = is_flag_given kind (codes "wrap-out") rows;
   pins = word_text kind (codes "pins") rows;
   steps = word_text kind (codes "steps") rows;
   refutation = word_text kind (codes "REFUTATION") rows;

@@ -1,7 +1,7 @@
 -- The tables in the code as the definitions see them.
 use Rattle.std.specs.Prelude.{Bool, List, map}
 use Rattle.std.specs.List.{list_any}
-use Rattle.wfc_words.specs.Commands.{Command, Word, needed, choice, demand, flag}
+use Rattle.wfc_words.specs.Commands.{CommandWords, Word, needed, choice, demand, flag}
 use Rattle.wfc_words.specs.Numbers.{NumberRange}
 use Rattle.wfc_words.specs.declared.groups.Argument.{Argument}
 use Rattle.wfc_words.specs.declared.groups.Argument.TheVariants.{Required, Choice, Demand, Flag}
@@ -24,7 +24,7 @@ abbrev pub some_word : (Word → Bool) → List Argument → Bool
 some_word test arguments = list_any (λ argument. test (word_view argument)) arguments
 
 -- a row without where its texts lie
-abbrev pub row_view : CommandRow → Command
+abbrev pub row_view : CommandRow → CommandWords
 row_view row = record { name = row.name.now; groups = map (λ group. group_view group.now) row.groups.now }
 
 -- a number's row

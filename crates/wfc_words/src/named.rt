@@ -2,7 +2,7 @@
 
 ghost use Rattle.std.specs.Prelude.{◌≡◌};
 ghost use Rattle.wfc_words.specs.Named.{form_named, is_rankable, model_asked, rule_asked, rule_named, source_of};
-ghost use Rattle.wfc_words.specs.Named.{takes_tiles, unranked, untiled};
+ghost use Rattle.wfc_words.specs.Named.{takes_tiles, rule_without_ranks, model_without_tiles};
 
 use crate::kinds::{CommandKind, SourceModel};
 use wfc_choose::RuleKind;
@@ -16,7 +16,7 @@ pub(crate) fn model_asked(kind: CommandKind, text: &str) -> Option<SourceModel>
     if takes_tiles(kind) {
         return source_of(text);
     }
-    untiled(source_of(text))
+    model_without_tiles(source_of(text))
 }
 
 /// Whether the command's map may be made of tiles.
@@ -27,8 +27,8 @@ fn takes_tiles(kind: CommandKind) -> bool
 }
 
 /// The model, if it isn't that of tiles.
-fn untiled(source: Option<SourceModel>) -> Option<SourceModel>
-    ensures value { result ≡ untiled source }
+fn model_without_tiles(source: Option<SourceModel>) -> Option<SourceModel>
+    ensures value { result ≡ model_without_tiles source }
 {
     match source {
         Some(SourceModel::Tiles) => None,
@@ -56,7 +56,7 @@ pub(crate) fn rule_asked(kind: CommandKind, text: &str) -> Option<RuleKind>
     if is_rankable(kind) {
         return rule_named(text);
     }
-    unranked(rule_named(text))
+    rule_without_ranks(rule_named(text))
 }
 
 /// Whether the command's runs may have the rule that goes by ranks.
@@ -70,8 +70,8 @@ fn is_rankable(kind: CommandKind) -> bool
 }
 
 /// The rule, if it doesn't go by ranks.
-fn unranked(rule: Option<RuleKind>) -> Option<RuleKind>
-    ensures value { result ≡ unranked rule }
+fn rule_without_ranks(rule: Option<RuleKind>) -> Option<RuleKind>
+    ensures value { result ≡ rule_without_ranks rule }
 {
     match rule {
         Some(RuleKind::Ranked) => None,

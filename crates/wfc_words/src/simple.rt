@@ -8,7 +8,7 @@ ghost use Rattle.clap.specs.Values.{kind_of};
 ghost use Rattle.clap.specs.Walk.{first_of, rows_of, rule_of};
 ghost use Rattle.wfc_outside.specs.Gives.{Gives};
 ghost use Rattle.wfc_words.specs.Commands.{app_of_command, app_with, rule_of_word, word_text};
-ghost use Rattle.wfc_words.specs.Request.{fault_by, has_flag, matches_by, texts};
+ghost use Rattle.wfc_words.specs.Request.{fault_by, is_flag_given, matches_by, texts};
 ghost use Rattle.wfc_words.specs.Rows.{group_view, row_view, word_view};
 
 use crate::commands::{CommandRow, requires_it, row, takes};
@@ -114,7 +114,7 @@ fn found<'a>(matches: &ArgMatches<'a>, name: &str) -> Option<&'a str>
 
 /// Whether a flag is given.
 pub(crate) fn flag(kind: CommandKind, matches: &ArgMatches<'_>, name: &str) -> bool
-    ensures value { result ≡ has_flag kind name.now (rows_of (found_of matches.now)) }
+    ensures value { result ≡ is_flag_given kind name.now (rows_of (found_of matches.now)) }
 {
     text(kind, matches, name).is_some_and(|text| text == "true")
 }

@@ -1,7 +1,7 @@
 use Rattle.std.proofs.Common.{ap, ◌∙◌, sym, subst, refl, arith}
 use Rattle.wfc_domains.specs.Domains.{has}
 use Rattle.wfc_domains.specs.Counters.{FitsTable, counts_of}
-use Rattle.wfc_domains.specs.Store.{mark_of}
+use Rattle.wfc_domains.specs.Store.{level_mark}
 use Rattle.wfc_ac4.specs.Links.{AreLinks}
 use Rattle.wfc_ac4.proofs.Engines.{between-sound}
 use Rattle.wfc_ac4.proofs.Opening.{fresh-own}
@@ -31,7 +31,7 @@ invariant_of-result g c =
       in_log = e.between.in_log;
       settled = e.closed;
       linked = subst (λ P. AreLinks P c.in_ok-links.links) (sym (ap (λ p. p.now) e.problem ∙ c.in_ok-board.ensures.problem)) c.in_ok-links.ensures.linked;
-      marked = omega (arith, ap (λ l. mark_of l.marks) levels);
+      marked = omega (arith, ap (λ l. level_mark l.marks) levels);
       begun = e.between.board.begun;
     }
 

@@ -1,6 +1,6 @@
 //! The rows of each command for boxes, and refutations of boxes that are written and read again.
 
-use super::{Row, check_in_pieces, folder_of, has_bytes, has_status, status_of};
+use super::{Row, check_in_pieces, folder_of, has_bytes, has_status, status_of_words};
 use std::alloc::Global;
 use std::process::Abort;
 use std::test::Fail;
@@ -215,7 +215,7 @@ fn written(alloc: Global, line: &str, refutation: &[u8]) -> Result<(u8, MemorySi
     let mut folder = folder_with(alloc, refutation)?;
     let mut out = MemorySink::new(alloc, 4000, ROOM)?;
     let mut err = MemorySink::new(alloc, 4000, ROOM)?;
-    let status = status_of(alloc, line, &mut folder, &mut out, &mut err)?;
+    let status = status_of_words(alloc, line, &mut folder, &mut out, &mut err)?;
     Ok((status, out))
 }
 

@@ -1,6 +1,6 @@
 //! The lines of a pins file that are to blame.
 
-use super::{Row, check_in_pieces, folder_of, has_bytes, has_status, status_of};
+use super::{Row, check_in_pieces, folder_of, has_bytes, has_status, status_of_words};
 use std::alloc::{AllocError, Global};
 use std::process::Abort;
 use std::test::Fail;
@@ -196,7 +196,7 @@ fn answer(
     let mut folder = folder_with(alloc, pins, refutation)?;
     let mut out = MemorySink::new(alloc, 4000, ROOM)?;
     let mut err = MemorySink::new(alloc, 4000, ROOM)?;
-    let status = status_of(alloc, &line, &mut folder, &mut out, &mut err)?;
+    let status = status_of_words(alloc, &line, &mut folder, &mut out, &mut err)?;
     has_status(rt, &line, status, 0);
     Ok(out)
 }

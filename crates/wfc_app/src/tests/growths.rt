@@ -1,7 +1,7 @@
 //! Maps that are grown block by block, and blocks that are stuck.
 
 use super::cores::folder_with;
-use super::{Row, check_in_pieces, has_bytes, has_status, status_of};
+use super::{Row, check_in_pieces, has_bytes, has_status, status_of_words};
 use std::alloc::Global;
 use std::process::Abort;
 use std::test::Fail;
@@ -97,7 +97,7 @@ fn written(
 ) -> Result<MemorySink, Fail> {
     let mut out = MemorySink::new(rt.alloc(), 4000, ROOM)?;
     let mut err = MemorySink::new(rt.alloc(), 4000, ROOM)?;
-    let got = status_of(rt.alloc(), line, folder, &mut out, &mut err)?;
+    let got = status_of_words(rt.alloc(), line, folder, &mut out, &mut err)?;
     has_status(rt, line, got, status);
     Ok(out)
 }

@@ -2,7 +2,7 @@
 
 ghost use Rattle.std.specs.Prelude.{◌≤◌};
 
-use super::{check, folder_of, has_bytes, has_front, has_status, runs_to, status_of};
+use super::{check, folder_of, has_bytes, has_front, has_status, runs_to, status_of_words};
 use std::alloc::{AllocError, Global};
 use std::process::Abort;
 use std::test::Fail;
@@ -84,7 +84,7 @@ fn is_behind_the_reads(
     folder.fail_at(call)?;
     let mut out = sink_with_room(rt.alloc(), 100)?;
     let mut err = sink_with_room(rt.alloc(), 100)?;
-    let status = status_of(rt.alloc(), line, &mut folder, &mut out, &mut err)?;
+    let status = status_of_words(rt.alloc(), line, &mut folder, &mut out, &mut err)?;
     if status == 0 {
         has_bytes(rt, line, &out, answer.bytes());
         return Ok(true);
@@ -140,7 +140,7 @@ fn is_behind_the_writes(
     let mut out = sink_with_room(rt.alloc(), piece)?;
     out.fail_at(call)?;
     let mut err = sink_with_room(rt.alloc(), 100)?;
-    let status = status_of(rt.alloc(), line, &mut folder, &mut out, &mut err)?;
+    let status = status_of_words(rt.alloc(), line, &mut folder, &mut out, &mut err)?;
     if status == 0 {
         has_bytes(rt, line, &out, answer.bytes());
         return Ok(true);

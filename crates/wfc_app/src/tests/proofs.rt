@@ -1,6 +1,6 @@
 //! Refutations that are written, read again and brought to format 2.
 
-use super::{folder_of, has_bytes, has_status, status_of};
+use super::{folder_of, has_bytes, has_status, status_of_words};
 use std::alloc::Global;
 use std::process::Abort;
 use std::test::Fail;
@@ -13,7 +13,7 @@ const ROOM: usize = 200_000;
 fn written(alloc: Global, folder: &mut MemoryFolder, line: &str) -> Result<(u8, MemorySink), Fail> {
     let mut out = MemorySink::new(alloc, 4000, ROOM)?;
     let mut err = MemorySink::new(alloc, 4000, ROOM)?;
-    let status = status_of(alloc, line, folder, &mut out, &mut err)?;
+    let status = status_of_words(alloc, line, folder, &mut out, &mut err)?;
     Ok((status, out))
 }
 

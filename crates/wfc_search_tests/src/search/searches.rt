@@ -4,7 +4,7 @@ ghost use Rattle.std.specs.Prelude.{◌≡◌, ◌<◌, OnOk, Some, false};
 ghost use Rattle.wfc_domains.specs.Store.{IsOpened};
 ghost use Rattle.wfc_problem.specs.Rounds.{depth_of};
 ghost use Rattle.wfc_search.specs.Search.{IsGoing, IsReady};
-ghost use Rattle.wfc_search.specs.Shown.{shown};
+ghost use Rattle.wfc_search.specs.Shown.{view_of_search};
 
 use super::expecting::Expecting;
 use super::words::Words;
@@ -69,7 +69,7 @@ fn runs_to<S: Store, L: Ledger>(
     want: Option<Outcome>,
     blank: Blank,
 )
-    requires ready { IsReady (shown S.view search.old
+    requires ready { IsReady (view_of_search S.view search.old
         ((⟦<dyn Chooser as Chooser>⟧ search.old.chooser.vtable).told search.old.chooser.value)) }
     requires going { IsGoing search.old.course }
     requires journal { journal.old.failed ≡ false }
@@ -176,9 +176,9 @@ fn next_turn<S: Store, L: Ledger>(
     words: &mut Words,
     steps: &mut Steps<L>,
 ) -> Result<Turn, JournalFault>
-    requires ready { IsReady (shown S.view search.old
+    requires ready { IsReady (view_of_search S.view search.old
         ((⟦<dyn Chooser as Chooser>⟧ search.old.chooser.vtable).told search.old.chooser.value)) }
-    ensures ready { OnOk result (IsReady (shown S.view search.new
+    ensures ready { OnOk result (IsReady (view_of_search S.view search.new
         ((⟦<dyn Chooser as Chooser>⟧ search.new.chooser.vtable).told search.new.chooser.value))) }
 {
     let (None, false) = (search.outcome(), search.broken()) else {
@@ -193,7 +193,7 @@ fn first_turns<S: Store, L: Ledger>(
     word: u64,
     steps: &mut Steps<L>,
 ) -> Result<(Turn, Turn), Fail>
-    requires ready { IsReady (shown S.view search.old
+    requires ready { IsReady (view_of_search S.view search.old
         ((⟦<dyn Chooser as Chooser>⟧ search.old.chooser.vtable).told search.old.chooser.value)) }
 {
     let mut words = Words(word);
@@ -268,9 +268,9 @@ fn values_agree<S: Store, T: Store>(
     other: &Search<'_, T>,
     cell: u32,
 )
-    requires one { IsReady (shown S.view one.now
+    requires one { IsReady (view_of_search S.view one.now
         ((⟦<dyn Chooser as Chooser>⟧ one.now.chooser.vtable).told one.now.chooser.value)) }
-    requires other { IsReady (shown T.view other.now
+    requires other { IsReady (view_of_search T.view other.now
         ((⟦<dyn Chooser as Chooser>⟧ other.now.chooser.vtable).told other.now.chooser.value)) }
     requires one_map { one.now.course.outcome ≡ Some Outcome.Map }
     requires other_map { other.now.course.outcome ≡ Some Outcome.Map }
@@ -287,9 +287,9 @@ fn maps_agree<S: Store, T: Store>(
     one: &Search<'_, S>,
     other: &Search<'_, T>,
 )
-    requires one { IsReady (shown S.view one.now
+    requires one { IsReady (view_of_search S.view one.now
         ((⟦<dyn Chooser as Chooser>⟧ one.now.chooser.vtable).told one.now.chooser.value)) }
-    requires other { IsReady (shown T.view other.now
+    requires other { IsReady (view_of_search T.view other.now
         ((⟦<dyn Chooser as Chooser>⟧ other.now.chooser.vtable).told other.now.chooser.value)) }
     requires same_problem { one.now.problem.now ≡ problem.now }
     requires problem { other.now.problem.now ≡ problem.now }
@@ -309,15 +309,15 @@ fn runs_agree<S: Store, T: Store, L: Ledger>(
     seed: u64,
     steps: &mut Steps<L>,
 ) -> Result<(), Fail>
-    requires one { IsReady (shown S.view one.old
+    requires one { IsReady (view_of_search S.view one.old
         ((⟦<dyn Chooser as Chooser>⟧ one.old.chooser.vtable).told one.old.chooser.value)) }
-    requires other { IsReady (shown T.view other.old
+    requires other { IsReady (view_of_search T.view other.old
         ((⟦<dyn Chooser as Chooser>⟧ other.old.chooser.vtable).told other.old.chooser.value)) }
     requires one_going { IsGoing one.old.course }
     requires other_going { IsGoing other.old.course }
-    ensures one { OnOk result (IsReady (shown S.view one.new
+    ensures one { OnOk result (IsReady (view_of_search S.view one.new
         ((⟦<dyn Chooser as Chooser>⟧ one.new.chooser.vtable).told one.new.chooser.value))) }
-    ensures other { OnOk result (IsReady (shown T.view other.new
+    ensures other { OnOk result (IsReady (view_of_search T.view other.new
         ((⟦<dyn Chooser as Chooser>⟧ other.new.chooser.vtable).told other.new.chooser.value))) }
     ensures one_problem { one.new.problem.now ≡ one.old.problem.now }
     ensures other_problem { other.new.problem.now ≡ other.old.problem.now }

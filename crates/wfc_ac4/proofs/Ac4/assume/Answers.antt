@@ -1,7 +1,7 @@
 use Rattle.std.proofs.Common.{◌≡◌, ◌≤◌, ◌+◌, ap, ◌∙◌, sym, subst, arith, length, take, drop}
 use Rattle.std.proofs.lemmas.List.{length_push}
 use Rattle.wfc_domains.specs.Counters.{cost_of}
-use Rattle.wfc_domains.specs.Store.{StoreView, mark_of, added_of}
+use Rattle.wfc_domains.specs.Store.{StoreView, level_mark, added_of}
 use Rattle.wfc_domains.specs.Board.{view_of}
 use Rattle.wfc_domains.proofs.Boards.{grown-within, mark-push}
 use Rattle.wfc_domains.proofs.Sound.{board-alive}
@@ -26,7 +26,7 @@ close-requires g c =
       between = put-between f.board c.put.new.self f.counters f.head h.traced h.sound alive h.counters (h.settled alive) h.marks e.board e.cut e.put.problem e.put.more e.put.removals
           (grown-within f.board c.put.new.self h.traced e.board.traced e.put.problem e.put.more e.put.removals);
       linked = subst (λ p. AreLinks p.now c.self.inside.links) (sym e.put.problem) h.linked;
-      recent = omega (arith, e.board.begun, ap (λ l. mark_of l.marks) e.put.levels, mark-push f.board.levels.marks (length f.board.trail.removals), h.settled alive);
+      recent = omega (arith, e.board.begun, ap (λ l. level_mark l.marks) e.put.levels, mark-push f.board.levels.marks (length f.board.trail.removals), h.settled alive);
     }
 
 pub invariant_of-self : goal.invariant_of-self
@@ -47,7 +47,7 @@ invariant_of-self g c =
       in_log = e.between.in_log;
       settled = e.closed;
       linked = subst (λ p. AreLinks p.now c.self.inside.links) (sym (e.grows.problem ∙ p.problem)) h.linked;
-      marked = omega (arith, ap mark_of marks, mark-push f.board.levels.marks (length f.board.trail.removals), h.settled alive, e.forward);
+      marked = omega (arith, ap level_mark marks, mark-push f.board.levels.marks (length f.board.trail.removals), h.settled alive, e.forward);
       begun = e.between.board.begun;
     }
 
@@ -68,7 +68,7 @@ returns-clause-cost g c =
     let P = f.board.problem.now in
     let rs = c.close.new.self.board.trail.removals in
     let marks = ap (λ l. l.marks) (e.grows.levels ∙ p.levels) in
-    let m : mark_of c.close.new.self.board.levels.marks ≡ f.head = ap mark_of marks ∙ mark-push f.board.levels.marks (length f.board.trail.removals) ∙ sym (h.settled alive) in
+    let m : level_mark c.close.new.self.board.levels.marks ≡ f.head = ap level_mark marks ∙ mark-push f.board.levels.marks (length f.board.trail.removals) ∙ sym (h.settled alive) in
     let Q : StoreView → Type 0 = λ v. c.close.new.steps ≤ c.args.steps.now + cost_of v.problem (added_of (view_of c.close.new.self.board)) in
     let fact : Q (view_of f.board) =
     omega (

@@ -1,7 +1,7 @@
 use Rattle.std.proofs.Common.{◌≡◌, ◌≤◌, ◌+◌, ap, sym, subst, arith, length, drop}
 use Rattle.std.proofs.lemmas.List.{length-take}
 use Rattle.wfc_domains.specs.Counters.{cost_of}
-use Rattle.wfc_domains.specs.Store.{StoreView, IsSound, mark_of, added_of, without_last}
+use Rattle.wfc_domains.specs.Store.{StoreView, IsSound, level_mark, added_of, without_last}
 use Rattle.wfc_domains.specs.Board.{view_of, HasLevels}
 use Rattle.wfc_domains.proofs.Boards.{mark-in}
 use Rattle.wfc_domains.proofs.Sound.{sound-undone, levels-undone}
@@ -18,7 +18,7 @@ reopen-requires g c =
     let e = c.roll_back.ensures in
     let v = view_of a.board in
     let same = undone-is a.board c.roll_back.new.self.board c.pop.new.self c.mark-mark.result c.mark-mark.ensures.value e.back.problem e.back.levels e.back.removals c.pop.ensures.less in
-    record { within = omega (arith, c.mark-start.ensures.value, ap (λ (w : StoreView). mark_of w.marks) same, ap (λ (w : StoreView). length w.removals) same, mark-in (without_last v) (levels-undone v h.levels some)) }
+    record { within = omega (arith, c.mark-start.ensures.value, ap (λ (w : StoreView). level_mark w.marks) same, ap (λ (w : StoreView). length w.removals) same, mark-in (without_last v) (levels-undone v h.levels some)) }
 
 pub invariant_of-self : goal.invariant_of-self
 invariant_of-self g c =
@@ -40,7 +40,7 @@ invariant_of-self g c =
       in_log = e.rolled.in_log;
       linked = subst (λ p. AreLinks p.now c.self.inside.links) (sym e.back.problem) h.linked;
       settled = λ _. omega (arith, left, e.back.head, h.marked, m);
-      marked = omega (arith, left, e.back.head, h.marked, m, ap (λ (w : StoreView). mark_of w.marks) same, mark-in (without_last v) (levels-undone v h.levels some), length-take (mark_of v.marks) v.removals);
+      marked = omega (arith, left, e.back.head, h.marked, m, ap (λ (w : StoreView). level_mark w.marks) same, mark-in (without_last v) (levels-undone v h.levels some), length-take (level_mark v.marks) v.removals);
       begun = c.mark-start.ensures.value;
     })
 

@@ -2,7 +2,7 @@ use Rattle.std.proofs.Common.{◌≡◌, ℕ, zero, suc, ◌+◌, ◌<◌, false
 use Rattle.std.proofs.lemmas.Bool.{false≢true}
 use Rattle.wfc_model.specs.Raster.{Raster, number_at}
 use Rattle.wfc_model.proofs.CallerLemmas.{IsSized-raster_of}
-use Rattle.wfc_tileset.specs.Samples.{lines}
+use Rattle.wfc_tileset.specs.Samples.{straight_lines}
 use Rattle.wfc_tiled.specs.Mask.{plain_mask}
 use Rattle.wfc_tiled.specs.Maps.{IsLegalTileMap, IsNext}
 use Rattle.wfc_box.specs.Boxes.{IsHeldIn, LayerPin, number_in_box}
@@ -23,7 +23,7 @@ no_next : (x u : ℕ) → IsNext 1 false x u → ⊥
 no_next x u next = elim next.1 [ inl e ↦ absurd (omega (arith, next.0, e)) | inr last ↦ false≢true last.0 ]
 
 -- a layer of one place is a legal map
-layer_legal : (v : ℕ) → v < 2 → IsLegalTileMap lines (plain_mask 1 1) false [] (single v)
+layer_legal : (v : ℕ) → v < 2 → IsLegalTileMap straight_lines (plain_mask 1 1) false [] (single v)
 layer_legal v inside = record {
   sized = IsSized-raster_of 1 1 (v ∷ []) (record { some_column = lit< tt; some_row = lit< tt; as_many = refl });
   filled = λ x y column row p. subst (λ k. k < 2) (sym (at v x y column row)) inside;
@@ -33,7 +33,7 @@ layer_legal v inside = record {
   held = λ k d none. absurd (omega arith);
 }
 
-layers_legal : (k : ℕ) (d : Raster) → k < 2 → IsLegalTileMap lines (plain_mask 1 1) false [] (get_or (single 0 ∷ single 1 ∷ []) k d)
+layers_legal : (k : ℕ) (d : Raster) → k < 2 → IsLegalTileMap straight_lines (plain_mask 1 1) false [] (get_or (single 0 ∷ single 1 ∷ []) k d)
 layers_legal zero d within = layer_legal 0 (lit< tt)
 layers_legal (suc zero) d within = layer_legal 1 (lit< tt)
 layers_legal (suc (suc k)) d within = absurd (omega arith)

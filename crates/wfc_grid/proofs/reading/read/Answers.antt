@@ -1,7 +1,7 @@
 use Rattle.std.proofs.Common.{◌<◌, sym, ap, ◌∙◌, arith, ◌≡◌, length, inl, inr, Err, ◌*◌, ◌/◌, ◌≤◌}
 use Rattle.std.proofs.lemmas.Result.{err_from_is_err_and}
 use Rattle.wfc_text.specs.Line.{lines_of}
-use Rattle.wfc_grid.specs.Fault.{cells_of, width_of}
+use Rattle.wfc_grid.specs.Fault.{grid_bytes, width_of}
 use Rattle.wfc_grid.specs.declared.reading.GridFault.TheVariants.{Empty, TooLarge}
 use Rattle.wfc_grid.proofs.GridLemmas.{fault_read, grid_read, empty_fault, line_fault_first, large_fault, made_grid, refused}
 use Rattle.wfc_grid.proofs.reading.read.Goals as goal
@@ -35,13 +35,13 @@ returns-in_err-cells-clause-refused c =
 pub returns-then-len-gt-MAX_CELLS-clause-refused : goal.returns-then-len-gt-MAX_CELLS-clause-refused
 returns-then-len-gt-MAX_CELLS-clause-refused c =
     let wide : 0 < width_of (lines_of c.args.bytes.now) = omega (arith, c.first_width-width.ensures.width, c.if-width-eq0.false) in
-    let many : 1048576 < length (cells_of (lines_of c.args.bytes.now)) = omega (arith, ap length c.in_ok-cells.ensures.cells) in
+    let many : 1048576 < length (grid_bytes (lines_of c.args.bytes.now)) = omega (arith, ap length c.in_ok-cells.ensures.cells) in
     λ _. refused c.args.bytes.now TooLarge (large_fault (lines_of c.args.bytes.now) wide (rw c.first_width-width.ensures.width at c.in_ok-cells.ensures.right) many)
 
 pub returns-then-len-gt-MAX_CELLS-clause-exact : goal.returns-then-len-gt-MAX_CELLS-clause-exact
 returns-then-len-gt-MAX_CELLS-clause-exact c =
     let wide : 0 < width_of (lines_of c.args.bytes.now) = omega (arith, c.first_width-width.ensures.width, c.if-width-eq0.false) in
-    let many : 1048576 < length (cells_of (lines_of c.args.bytes.now)) = omega (arith, ap length c.in_ok-cells.ensures.cells) in
+    let many : 1048576 < length (grid_bytes (lines_of c.args.bytes.now)) = omega (arith, ap length c.in_ok-cells.ensures.cells) in
     inl (fault_read c.args.bytes.now TooLarge (large_fault (lines_of c.args.bytes.now) wide (rw c.first_width-width.ensures.width at c.in_ok-cells.ensures.right) many))
 
 pub invariant_of-result : goal.invariant_of-result

@@ -6,8 +6,8 @@ use Rattle.wfc_grow_command.proofs.grow_command.put_grown.Goals as goal
 use Rattle.wfc_grow_command.specs.GrowTask.{growing_view}
 use Rattle.wfc_grow_command.specs.Growing.{CanBePut, PutsGrown}
 use Rattle.wfc_reply.specs.declared.reply.Stop.{Stop}
-use Rattle.wfc_reply.specs.declared.reply.Verdict.{Verdict}
-use Rattle.wfc_reply.specs.declared.reply.Verdict.TheVariants as verdict
+use Rattle.wfc_reply.specs.declared.reply.CommandVerdict.{CommandVerdict}
+use Rattle.wfc_reply.specs.declared.reply.CommandVerdict.TheVariants as verdict
 use Rattle.wfc_words.specs.RequestView.{RequestView}
 
 pub put_map-requires : goal.put_map-requires
@@ -38,5 +38,5 @@ returns-in-Spent g c =
     let sink = g.O.Sink.seen c.args.out.now in
     record {
       puts = subst (λ (made : Grown). PutsGrown rule asked task made sink sink (Ok (verdict.Spent c.request.inside.budget))) (sym c.in-Spent.is)
-          (subst (λ (r : RequestView). let end : Result Verdict Stop = Ok (verdict.Spent r.budget) in PutsGrown rule asked task grown.Spent sink sink end) (sym c.request.view_is) (map_spent rule asked task sink));
+          (subst (λ (r : RequestView). let end : Result CommandVerdict Stop = Ok (verdict.Spent r.budget) in PutsGrown rule asked task grown.Spent sink sink end) (sym c.request.view_is) (map_spent rule asked task sink));
     }

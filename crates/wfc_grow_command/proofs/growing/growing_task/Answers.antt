@@ -7,7 +7,7 @@ use Rattle.wfc_plan.proofs.CallerLemmas.{behind_choosers, goes_done, goes_on, go
 use Rattle.wfc_plan.specs.Kinds.{HasChoosers, enough}
 use Rattle.wfc_task.proofs.CallerLemmas.{goes_by_request}
 use Rattle.wfc_task.specs.SamplePlans.{pins_plan, sample_plan}
-use Rattle.wfc_task.specs.Steps.{laid}
+use Rattle.wfc_task.specs.Steps.{sample_layout}
 use Rattle.wfc_words.specs.RequestView.{RequestView}
 
 pub returns-in_err-enough-clause-goes : goal.returns-in_err-enough-clause-goes
@@ -30,7 +30,7 @@ returns-in_err-layout-clause-goes g c =
     let asked = c.args.request.now in
     rw (p.1, p.2) (behind_choosers GROW_CHOOSERS GROW_CHOOSERS c.args.kinds.now c.request.inside.rule asked.rule (behind_enough asked) _ _ _ _ c.in_ok-enough.ensures.exact refl (ap (λ (r : RequestView). r.rule) c.request.view_is)
     (goes_on (sample_plan asked) (behind_lesson asked) _ _ _ _ _ c.in_ok-taught.ensures.goes
-    (step_out (laid c.in_ok-taught.taught.kind asked) (behind_layout asked c.in_ok-taught.taught) _ _ (inl c.in_err-layout.ensures.exact))))
+    (step_out (sample_layout c.in_ok-taught.taught.kind asked) (behind_layout asked c.in_ok-taught.taught) _ _ (inl c.in_err-layout.ensures.exact))))
 
 pub returns-in_err-lines-clause-goes : goal.returns-in_err-lines-clause-goes
 returns-in_err-lines-clause-goes g c =
@@ -39,7 +39,7 @@ returns-in_err-lines-clause-goes g c =
     let lesson = c.in_ok-taught.taught in
     rw (p.1, p.2) (behind_choosers GROW_CHOOSERS GROW_CHOOSERS c.args.kinds.now c.request.inside.rule asked.rule (behind_enough asked) _ _ _ _ c.in_ok-enough.ensures.exact refl (ap (λ (r : RequestView). r.rule) c.request.view_is)
     (goes_on (sample_plan asked) (behind_lesson asked) _ _ _ _ _ c.in_ok-taught.ensures.goes
-    (step_on (laid lesson.kind asked) (behind_layout asked lesson) _ _ _ _ (inl c.in_ok-layout.ensures.exact)
+    (step_on (sample_layout lesson.kind asked) (behind_layout asked lesson) _ _ _ _ (inl c.in_ok-layout.ensures.exact)
     (goes_out (pins_plan asked.pins) (behind_lines lesson c.in_ok-layout.layout) _ _ _ (rw c.pins.ensures.value at c.in_err-lines.ensures.goes)))))
 
 pub returns-clause-goes : goal.returns-clause-goes
@@ -48,7 +48,7 @@ returns-clause-goes g c =
     let lesson = c.in_ok-taught.taught in
     behind_choosers GROW_CHOOSERS GROW_CHOOSERS c.args.kinds.now c.request.inside.rule asked.rule (behind_enough asked) _ _ _ _ c.in_ok-enough.ensures.exact refl (ap (λ (r : RequestView). r.rule) c.request.view_is)
     (goes_on (sample_plan asked) (behind_lesson asked) _ _ _ _ _ c.in_ok-taught.ensures.goes
-    (step_on (laid lesson.kind asked) (behind_layout asked lesson) _ _ _ _ (inl c.in_ok-layout.ensures.exact)
+    (step_on (sample_layout lesson.kind asked) (behind_layout asked lesson) _ _ _ _ (inl c.in_ok-layout.ensures.exact)
     (goes_on (pins_plan asked.pins) (behind_lines lesson c.in_ok-layout.layout) _ _ _ _ _ (rw c.pins.ensures.value at c.in_ok-lines.ensures.goes) goes_done)))
 
 pub returns-clause-choosers : goal.returns-clause-choosers

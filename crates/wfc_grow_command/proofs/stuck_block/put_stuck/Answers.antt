@@ -10,7 +10,7 @@ use Rattle.wfc_grow_command.specs.GrowTask.{growing_view}
 use Rattle.wfc_grow_command.specs.Growing.{PutsGrown}
 use Rattle.wfc_grow_command.specs.StuckText.{block_writing, stuck_text}
 use Rattle.wfc_reply.specs.declared.reply.Stop.{Stop}
-use Rattle.wfc_reply.specs.declared.reply.Verdict.{Verdict}
+use Rattle.wfc_reply.specs.declared.reply.CommandVerdict.{CommandVerdict}
 use Rattle.wfc_search.specs.declared.Outcome.{Outcome}
 
 pub returns-in_err-text : goal.returns-in_err-text
@@ -69,6 +69,6 @@ returns g c =
     let put = put_as c.deref.result.now (stuck_text stuck) rule c.block_writing-writing.result (block_writing asked stuck.block) c.in_ok-problem.problem c.requires.run.P old mid ended (c.deref.ensures.value ∙ c.in_ok-text.ensures.text) made same
     c.in_ok-put_run_behind.ensures.puts in
     record {
-      puts = subst (λ (s : StuckView). let end : Result Verdict Stop = Ok (stuck_verdict s) in PutsGrown rule asked task (grown.Stuck stuck) old new end) (sym c.stuck.view_is)
+      puts = subst (λ (s : StuckView). let end : Result CommandVerdict Stop = Ok (stuck_verdict s) in PutsGrown rule asked task (grown.Stuck stuck) old new end) (sym c.stuck.view_is)
           (stuck_done rule asked task stuck c.requires.run c.in_ok-put_run_behind.field-0 old mid new put c.in_ok-finish.ensures.finished);
     }

@@ -7,4 +7,4 @@ pub returns-in-BadByte : goal.returns-in-BadByte
 returns-in-BadByte g c = record { told = rw c.in-BadByte.is c.twice_numbered.ensures.told }
 
 pub returns-in-TooLarge : goal.returns-in-TooLarge
-returns-in-TooLarge g c = record { told = rw c.in-TooLarge.is c.named-in-TooLarge.ensures.told }
+returns-in-TooLarge g c = record { told = rw c.in-TooLarge.is c.put_named-in-TooLarge.ensures.told }

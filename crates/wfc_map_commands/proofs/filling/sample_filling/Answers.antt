@@ -7,7 +7,7 @@ use Rattle.wfc_plan.proofs.CallerLemmas.{goes_done, goes_on, goes_out, step_on, 
 use Rattle.wfc_plan.specs.Plan.{Plan, done}
 use Rattle.wfc_problem.specs.Network.{Network}
 use Rattle.wfc_task.specs.SamplePlans.{problem_plan, sample_plan}
-use Rattle.wfc_task.specs.Steps.{laid}
+use Rattle.wfc_task.specs.Steps.{sample_layout}
 
 pub returns-in_err-taught-clause-goes : goal.returns-in_err-taught-clause-goes
 returns-in_err-taught-clause-goes g c =
@@ -20,7 +20,7 @@ returns-in_err-layout-clause-goes g c =
     let p = err_from_is_err_and c.from_residual-in_err-layout.result c.from_residual-in_err-layout.ensures.1 in
     let asked = c.args.request.now in
     rw (p.1, p.2) (goes_on (sample_plan asked) (behind_sample asked) _ _ _ _ _ c.in_ok-taught.ensures.goes
-    (step_out (laid c.in_ok-taught.taught.kind asked) (behind_layout asked c.in_ok-taught.taught) _ _ (inl c.in_err-layout.ensures.exact)))
+    (step_out (sample_layout c.in_ok-taught.taught.kind asked) (behind_layout asked c.in_ok-taught.taught) _ _ (inl c.in_err-layout.ensures.exact)))
 
 pub returns-in_err-problem-clause-goes : goal.returns-in_err-problem-clause-goes
 returns-in_err-problem-clause-goes g c =
@@ -28,7 +28,7 @@ returns-in_err-problem-clause-goes g c =
     let asked = c.args.request.now in
     let lesson = c.in_ok-taught.taught in
     rw (p.1, p.2) (goes_on (sample_plan asked) (behind_sample asked) _ _ _ _ _ c.in_ok-taught.ensures.goes
-    (step_on (laid lesson.kind asked) (behind_layout asked lesson) _ _ _ _ (inl c.in_ok-layout.ensures.exact)
+    (step_on (sample_layout lesson.kind asked) (behind_layout asked lesson) _ _ _ _ (inl c.in_ok-layout.ensures.exact)
     (goes_out (problem_plan asked lesson) (λ (P : Network). let end : Plan FillTask = done (fill lesson.patterns lesson.palette c.in_ok-layout.layout P) in end) _ _ _ c.in_err-problem.ensures.goes)))
 
 pub returns-clause-goes : goal.returns-clause-goes
@@ -36,5 +36,5 @@ returns-clause-goes g c =
     let asked = c.args.request.now in
     let lesson = c.in_ok-taught.taught in
     goes_on (sample_plan asked) (behind_sample asked) _ _ _ _ _ c.in_ok-taught.ensures.goes
-    (step_on (laid lesson.kind asked) (behind_layout asked lesson) _ _ _ _ (inl c.in_ok-layout.ensures.exact)
+    (step_on (sample_layout lesson.kind asked) (behind_layout asked lesson) _ _ _ _ (inl c.in_ok-layout.ensures.exact)
     (goes_on (problem_plan asked lesson) (λ (P : Network). let end : Plan FillTask = done (fill lesson.patterns lesson.palette c.in_ok-layout.layout P) in end) _ _ _ _ _ c.in_ok-problem.ensures.goes goes_done))

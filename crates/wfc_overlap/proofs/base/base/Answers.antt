@@ -4,7 +4,7 @@ use Rattle.std.proofs.lemmas.List.{take_all, length-replicate, get_or-replicate}
 use Rattle.wfc_model.specs.Window.{places, starts}
 use Rattle.wfc_overlap.specs.Flags.{IsTable}
 use Rattle.wfc_overlap.specs.Layout.{output_of}
-use Rattle.wfc_overlap.specs.Sample.{meets}
+use Rattle.wfc_overlap.specs.Sample.{window_meets_pins}
 use Rattle.wfc_overlap.proofs.FlagLemmas.{flags_are}
 use Rattle.wfc_overlap.proofs.base.base.Goals as goal
 
@@ -24,8 +24,8 @@ returns c =
     let whole : take c.loop-mark.mark-index c.args.marks.now ≡ c.args.marks.now = take_all c.loop-mark.mark-index c.args.marks.now c.loop-mark-test.false in
     record {
       value =
-          flags_are P (output_of l) old c.loop-mark.flags.items (λ place w. meets l.n (output_of l) place w (take c.loop-mark.mark-index c.args.marks.now)) table
+          flags_are P (output_of l) old c.loop-mark.flags.items (λ place w. window_meets_pins l.n (output_of l) place w (take c.loop-mark.mark-index c.args.marks.now)) table
           (λ k inside. ap (λ fs. get_or fs k false) set ∙ get_or-replicate many k true false (omega (arith, long))) c.loop-mark.invariant
-          ∙ ap (λ ms. flat_map (λ place. map (λ w. meets l.n (output_of l) place w ms) P.windows) (places l.width l.height P.n l.wrap)) whole
-          ∙ ap (λ k. flat_map (λ place. map (λ w. meets l.n (output_of l) place w c.args.marks.now) P.windows) (places l.width l.height k l.wrap)) (sym c.requires.n);
+          ∙ ap (λ ms. flat_map (λ place. map (λ w. window_meets_pins l.n (output_of l) place w ms) P.windows) (places l.width l.height P.n l.wrap)) whole
+          ∙ ap (λ k. flat_map (λ place. map (λ w. window_meets_pins l.n (output_of l) place w c.args.marks.now) P.windows) (places l.width l.height k l.wrap)) (sym c.requires.n);
     }

@@ -1,14 +1,14 @@
 use Rattle.std.proofs.Common.{◌++◌, List, ℕ, map, sym, ap, ◌∙◌, append_assoc}
 use Rattle.std.specs.List.{flat_map, range_with_len}
 use Rattle.wfc_overlap.specs.Layout.{output_of}
-use Rattle.wfc_overlap.specs.Sample.{beside}
+use Rattle.wfc_overlap.specs.Sample.{window_beside}
 use Rattle.wfc_lists.proofs.Growing.{row_more}
 use Rattle.wfc_overlap.proofs.neighbours.push_row.Goals as goal
 
 pub loop-x-preserved : goal.loop-x-preserved
 loop-x-preserved c =
     let l = c.args.layout in
-    let F : ℕ × ℕ → List ℕ = λ place. map (λ d. beside l.n (output_of l) place d) (range_with_len 0 4) in
+    let F : ℕ × ℕ → List ℕ = λ place. map (λ d. window_beside l.n (output_of l) place d) (range_with_len 0 4) in
     let g : ℕ → ℕ × ℕ = λ x. (x, c.args.y) in
     let x = c.loop-x.x in
     c.in_ok-push_place.ensures.place

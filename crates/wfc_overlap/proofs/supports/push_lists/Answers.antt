@@ -6,7 +6,7 @@ use Rattle.std.proofs.lemmas.Option.{get_or_from_slice_get}
 use Rattle.wfc_model.specs.Direction.{opposite}
 use Rattle.wfc_pattern.specs.Patterns.{window_at}
 use Rattle.wfc_overlap.specs.Sample.{agreeing}
-use Rattle.wfc_overlap.specs.Sides.{IsGrouped, members, side}
+use Rattle.wfc_overlap.specs.Sides.{IsGrouped, members, shared_part}
 use Rattle.wfc_overlap.proofs.SideLemmas.{members_agree}
 use Rattle.wfc_overlap.proofs.supports.push_lists.Goals as goal
 
@@ -21,8 +21,8 @@ loop-dir-preserved c =
     let inside : d < length c.args.groups.now = omega (arith, c.requires.grouped.four, dir) in
     let window_is : window_at P p ≡ w = get_or_from_slice_get P.windows p w [] c.window.ensures.value in
     let grouped : IsGrouped P (opposite d) r = subst (IsGrouped P (opposite d)) (sym (c.index-groups-dir.is ∙ get_or_default c.args.groups.now d r [] inside)) (c.requires.grouped.each d dir) in
-    let shared : c.in_ok-shared.shared.items ≡ side P.n (window_at P p) d =
-    c.in_ok-shared.ensures.value ∙ ap (λ n. side n w d) c.n.ensures.value ∙ ap (λ v. side P.n v d) (sym window_is) in
+    let shared : c.in_ok-shared.shared.items ≡ shared_part P.n (window_at P p) d =
+    c.in_ok-shared.ensures.value ∙ ap (λ n. shared_part n w d) c.n.ensures.value ∙ ap (λ v. shared_part P.n v d) (sym window_is) in
     let list : c.in_ok-from_slice.field-0.items ≡ agreeing P p d =
     c.in_ok-from_slice.ensures.items ∙ c.get-agreeing.ensures.value ∙ ap (members r) (c.deref.ensures.value ∙ shared) ∙ members_agree P r p d dir grouped in
     ap (map (λ list. list.items)) c.in_ok-push.ensures.items

@@ -3,7 +3,7 @@ use Rattle.std.specs.Char.{is_ascii_digit}
 use Rattle.std.specs.List.{concat}
 use Rattle.std.proofs.lemmas.List.Elements.{All-cons, All-nil}
 use Rattle.wfc_ppm.specs.Spelling.{IsField, IsSeparator}
-use Rattle.wfc_ppm.specs.declared.reading.Form.TheVariants.{Raw}
+use Rattle.wfc_ppm.specs.declared.reading.PpmForm.TheVariants.{Raw}
 use Rattle.wfc_ppm.proofs.FrontLemmas.{blank_apart, digit_field, magic_goes, open_front, some_separator}
 use Rattle.wfc_ppm.proofs.laws.heads_by_example.Goals as goal
 

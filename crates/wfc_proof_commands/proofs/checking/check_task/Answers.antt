@@ -6,7 +6,7 @@ use Rattle.wfc_plan.specs.Plan.{Plan, done}
 use Rattle.wfc_proof_commands.proofs.CheckingLemmas.{behind_checked_problem}
 use Rattle.wfc_proof_commands.proofs.checking.check_task.Goals as goal
 use Rattle.wfc_proof_commands.specs.CheckTask.{CheckTask, check}
-use Rattle.wfc_proof_commands.specs.Checking.{flat_proofs, refutation_plan, shape_of}
+use Rattle.wfc_proof_commands.specs.Checking.{flat_proofs, refutation_plan, shape_asked}
 use Rattle.wfc_task.specs.Posed.{posed_plan}
 
 pub returns-in_err-problem : goal.returns-in_err-problem
@@ -22,7 +22,7 @@ returns-in_err-found g c =
     let P = c.in_ok-problem.problem in
     record {
       goes = rw (p.1, p.2) (goes_on (posed_plan asked) (behind_checked_problem flat_proofs asked) _ _ _ _ _ c.in_ok-problem.ensures.goes
-          (goes_out (refutation_plan (shape_of asked) asked P) (λ (found : Option CheckFault). let end : Plan CheckTask = done (check found) in end) _ _ _ (rw c.shape-shape.ensures.value at c.in_err-found.ensures.goes)));
+          (goes_out (refutation_plan (shape_asked asked) asked P) (λ (found : Option CheckFault). let end : Plan CheckTask = done (check found) in end) _ _ _ (rw c.shape-shape.ensures.value at c.in_err-found.ensures.goes)));
     }
 
 pub returns : goal.returns
@@ -31,5 +31,5 @@ returns g c =
     let P = c.in_ok-problem.problem in
     record {
       goes = goes_on (posed_plan asked) (behind_checked_problem flat_proofs asked) _ _ _ _ _ c.in_ok-problem.ensures.goes
-          (goes_on (refutation_plan (shape_of asked) asked P) (λ (found : Option CheckFault). let end : Plan CheckTask = done (check found) in end) _ _ _ _ _ (rw c.shape-shape.ensures.value at c.in_ok-found.ensures.goes) goes_done);
+          (goes_on (refutation_plan (shape_asked asked) asked P) (λ (found : Option CheckFault). let end : Plan CheckTask = done (check found) in end) _ _ _ _ _ (rw c.shape-shape.ensures.value at c.in_ok-found.ensures.goes) goes_done);
     }

@@ -20,8 +20,8 @@ returns-in_err-problem g c =
     let kinds = c.deref-2.ensures.value ∙ (rw c.deref.ensures.value at c.in_ok-kinds.ensures.value) in
     record { ends = rw (p.1, p.2) (refute_none flat_proofs _ c.args.request.now _ _ _ _ c.in_err-problem.field-0.0 kinds c.in_err-problem.ensures.goes) }
 
-pub first_of-requires : goal.first_of-requires
-first_of-requires g c =
+pub first_chooser-requires : goal.first_chooser-requires
+first_chooser-requires g c =
     let kinds = c.deref-2.ensures.value ∙ (rw c.deref.ensures.value at c.in_ok-kinds.ensures.value) in
     record {
       there = subst (λ (ks : List RuleKind). HasChoosers 1 ks c.request.inside.rule) kinds

@@ -7,7 +7,7 @@ use Rattle.wfc_run_commands.proofs.ExplainGoesLemmas.{lines_spelled, mask_spelle
 use Rattle.wfc_run_commands.proofs.explain_command.explain_tiles.Goals as goal
 use Rattle.wfc_run_commands.specs.ExplainTask.{explain_tiles_plan, lines_plan, pins_of_tiles}
 use Rattle.wfc_task.specs.TilePlans.{mask_plan, tiles_plan}
-use Rattle.wfc_task.specs.Tiling.{masked}
+use Rattle.wfc_task.specs.Tiling.{mask_or_whole}
 
 pub returns-in_err-tiles : goal.returns-in_err-tiles
 returns-in_err-tiles g c =
@@ -37,7 +37,7 @@ returns-in_err-pins g c =
     let asked = c.args.request.now in
     let lines = c.in_ok-lines.lines.items in
     let goes = mask_spelled asked _ _ _ _ _ _ lines _ _ c.in_ok-tiles.ensures.goes c.in_ok-lines.ensures.goes c.in_ok-mask.ensures.goes
-    (step_out (pins_of_tiles asked c.in_ok-tiles.tiles (masked asked c.in_ok-mask.mask) lines) (behind_tiles_pins lines) _ _ (rw c.deref.ensures.value at c.in_err-pins.ensures.exact)) in
+    (step_out (pins_of_tiles asked c.in_ok-tiles.tiles (mask_or_whole asked c.in_ok-mask.mask) lines) (behind_tiles_pins lines) _ _ (rw c.deref.ensures.value at c.in_err-pins.ensures.exact)) in
     record { ends = rw (p.1, p.2) (ends_by (explain_tiles_plan asked) _ _ _ _ _ goes refl) }
 
 pub returns-in_err-answer : goal.returns-in_err-answer

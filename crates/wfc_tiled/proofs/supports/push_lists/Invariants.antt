@@ -1,7 +1,7 @@
 use Rattle.std.proofs.Common.{◌≡◌, ◌++◌, map}
 use Rattle.std.specs.List.{range_with_len}
-use Rattle.wfc_tiled.specs.Tiles.{fitting}
+use Rattle.wfc_tiled.specs.Tiles.{fitting_variants}
 use Rattle.wfc_tiled.proofs.supports.push_lists.Given as goal
 
 abbrev pub invariant-loop-dir : goal.invariant-loop-dir
-invariant-loop-dir l = map (λ list. list.items) l.lists.items ≡ map (λ list. list.items) l.initial.lists.items ++ map (fitting l.tiles l.v) (range_with_len 0 l.dir)
+invariant-loop-dir l = map (λ list. list.items) l.lists.items ≡ map (λ list. list.items) l.initial.lists.items ++ map (fitting_variants l.tiles l.v) (range_with_len 0 l.dir)

@@ -1,5 +1,5 @@
 use Rattle.std.proofs.Common.{◌≡◌, ℕ, ◌∙◌, List, Some, sym, subst, ap}
-use Rattle.wfc_tileset.specs.Tiles.{TileView, TileSetView, Spells, variant_of}
+use Rattle.wfc_tileset.specs.Tiles.{TileView, TileSetView, SpellsVariant, variant_of}
 use Rattle.wfc_tileset.specs.Numbers.{IsNamed}
 use Rattle.wfc_tileset.proofs.SpellingLemmas.{spelled, no_parts, no_tile, none_before, first_variant, no_variant}
 use Rattle.wfc_tileset.proofs.TileSet.find.Goals as goal
@@ -17,7 +17,7 @@ pub returns-clause-found : goal.returns-clause-found
 returns-clause-found c =
     let tiles_are = ap (λ (set : TileSetView). set.tiles) c.self.view_is in
     let is = spelled c.self.inside.variants c.args.word.now c.in_ok-name.name.now c.in_ok-tile.tile c.in_ok-name.index c.in_ok-tile.ensures.found c.in_ok-name.ensures.parts in
-    subst (λ (ts : List TileView). Spells ts c.args.word.now c.number.result) tiles_are (subst (Spells c.self.inside.variants c.args.word.now) (sym c.number.ensures.value) is)
+    subst (λ (ts : List TileView). SpellsVariant ts c.args.word.now c.number.result) tiles_are (subst (SpellsVariant c.self.inside.variants c.args.word.now) (sym c.number.ensures.value) is)
 
 pub returns-in_err-name-clause-exact : goal.returns-in_err-name-clause-exact
 returns-in_err-name-clause-exact c =

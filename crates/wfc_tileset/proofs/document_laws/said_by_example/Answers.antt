@@ -2,7 +2,7 @@ use Rattle.std.proofs.Common.{◌≡◌, ℕ, List, [], codes, length, get_or, i
 use Rattle.toml.specs.Data.{Data, string, integer}
 use Rattle.std.specs.Prelude.{pos}
 use Rattle.wfc_symmetry.specs.declared.class.Class.TheVariants.{F}
-use Rattle.wfc_tileset.specs.Document.{class_of}
+use Rattle.wfc_tileset.specs.Document.{symmetry_class}
 use Rattle.wfc_tileset.proofs.document_laws.said_by_example.Goals as goal
 
 -- the whole number of a value, 0 where there is none
@@ -24,7 +24,7 @@ returns-clause-weight c says = elim says.weight [
 pub returns-clause-class : goal.returns-clause-class
 returns-clause-class c says =
     let word : codes "T" ≡ says.word = ap text_of_value says.class in
-    let is : class_of (codes "T") ≡ Some F = ap class_of word ∙ says.class_is in
+    let is : symmetry_class (codes "T") ≡ Some F = ap symmetry_class word ∙ says.class_is in
     cc
 
 pub returns-clause-turn : goal.returns-clause-turn

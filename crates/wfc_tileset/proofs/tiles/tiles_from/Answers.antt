@@ -3,7 +3,7 @@ use Rattle.std.proofs.lemmas.List.Elements.{All-push}
 use Rattle.std.proofs.lemmas.Grind.{common_steps}
 use Rattle.wfc_tileset.specs.Document.{fits_first}
 use Rattle.wfc_tileset.specs.Names.{AreNames, IsNoted}
-use Rattle.wfc_tileset.specs.Tiles.{TileView, IsWeighed}
+use Rattle.wfc_tileset.specs.Tiles.{TileView, HasWeight}
 use Rattle.wfc_tileset.specs.TileSets.{AreAlike}
 use Rattle.wfc_tileset.proofs.AlikeLemmas.{alike_more}
 use Rattle.wfc_tileset.proofs.NameLemmas.{one_more_name}
@@ -20,7 +20,7 @@ loop-element-preserved c =
     record {
       so_far = grind (arith, common_steps);
       counted = grind (arith, common_steps);
-      weighed = rw c.in_ok-push.ensures.items (All-push IsWeighed _ _ c.loop-element.invariant.weighed c.in_ok-tile.ensures.weighed);
+      weighed = rw c.in_ok-push.ensures.items (All-push HasWeight _ _ c.loop-element.invariant.weighed c.in_ok-tile.ensures.weighed);
       alike = subst AreAlike (sym c.in_ok-push.ensures.items) (alike_more tiles tile c.loop-element.invariant.alike fits);
       names = subst (λ (ts : List TileView). AreNames c.note.new.names ts) (sym c.in_ok-push.ensures.items)
           (one_more_name c.loop-element.names c.note.new.names tiles tile c.len.result c.loop-element.invariant.names counted noted);

@@ -1,7 +1,7 @@
 use Rattle.std.proofs.Common.{◌<◌, ◌+◌, length, take, ap, sym, subst, arith}
 use Rattle.wfc_problem.specs.Rounds.{depth_of}
 use Rattle.wfc_domains.specs.Counters.{cost_of}
-use Rattle.wfc_domains.specs.Store.{mark_of}
+use Rattle.wfc_domains.specs.Store.{level_mark}
 use Rattle.wfc_domains.proofs.Boards.{grows-more}
 use Rattle.wfc_ac4.specs.Links.{AreLinks}
 use Rattle.wfc_ac4.proofs.Rolls.{log-depth}
@@ -14,7 +14,7 @@ work_off-requires-clause-linked g c = subst (λ p. AreLinks p.now c.args.links.n
 pub work_off-requires-clause-recent : goal.work_off-requires-clause-recent
 work_off-requires-clause-recent g c =
     let h = c.loop-self.invariant in
-    omega (arith, h.between.board.begun, ap (λ l. mark_of l.marks) h.grows.levels, c.requires.between.board.begun, c.requires.recent, h.forward)
+    omega (arith, h.between.board.begun, ap (λ l. level_mark l.marks) h.grows.levels, c.requires.between.board.begun, c.requires.recent, h.forward)
 
 pub loop-self-preserved : goal.loop-self-preserved
 loop-self-preserved g c =

@@ -2,14 +2,14 @@ use Rattle.std.proofs.Common.{take, ◌+◌, ◌-◌, ◌≡◌, ◌≤◌, []}
 use Rattle.wfc_problem.specs.Rounds.{depth_of}
 use Rattle.wfc_domains.specs.Counters.{cost_of}
 use Rattle.wfc_domains.specs.Board.{Grows}
-use Rattle.wfc_ac4.specs.State.{IsBetween}
+use Rattle.wfc_ac4.specs.State.{IsBetweenRemovals}
 use Rattle.wfc_ac4.proofs.flight.Flight.close.Given as goal
 
 abbrev pub invariant-loop-self : goal.invariant-loop-self
 invariant-loop-self g l =
     let P = l.fn.self.board.problem.now in
     record {
-      between : IsBetween l.self.board l.self.counters l.self.head;
+      between : IsBetweenRemovals l.self.board l.self.counters l.self.head;
       forward : l.fn.self.head ≤ l.self.head;
       idle : l.fn.self.board.trail.removals ≡ [] → l.self.board.trail.removals ≡ [];
       grows : Grows l.fn.self.board l.self.board;

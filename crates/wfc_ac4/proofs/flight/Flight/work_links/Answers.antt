@@ -3,7 +3,7 @@ use Rattle.std.specs.Prelude.{slice_index}
 use Rattle.std.proofs.lemmas.Bool.{true≢false}
 use Rattle.wfc_problem.specs.Network.{Network, neighbour}
 use Rattle.wfc_problem.proofs.CallerLemmas.{beside_length}
-use Rattle.wfc_domains.specs.Counters.{place}
+use Rattle.wfc_domains.specs.Counters.{counter_place}
 use Rattle.wfc_domains.proofs.Boards.{grows-more}
 use Rattle.wfc_ac4.specs.Links.{no_link, link_places}
 use Rattle.wfc_ac4.proofs.Steps.{step_lowered, working-range}
@@ -70,7 +70,7 @@ strike-requires-clause-at g c =
     let h = c.loop-link.invariant in
     let s = link_at _ c.args.self.now.board _ c.args.self.now.counters _ _ _ _ _ _ _ c.beside-beside.result.now h.goes_on.grows.problem c.requires.working.counters.fits h.working c.requires.links c.loop-link-test.true c.beside-beside.ensures.value c.row_len-row_len.ensures.value refl (omega (arith, c.if-next-cells.true, c.cells-cells.ensures.value)) in
     let P = c.loop-link.self.board.problem.now in
-    s.place_of ∙ ap (place P _ _) (sym s.back_is)
+    s.place_of ∙ ap (counter_place P _ _) (sym s.back_is)
 
 pub loop-link-preserved : goal.loop-link-preserved
 loop-link-preserved g c =

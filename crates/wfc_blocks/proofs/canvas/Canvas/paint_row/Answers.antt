@@ -1,6 +1,6 @@
 use Rattle.std.proofs.Common.{◌+◌, ap, ◌∙◌}
 use Rattle.wfc_blocks.specs.Canvas.{Canvas}
-use Rattle.wfc_blocks.specs.CanvasView.{painted, part_of_row, canvas_of, with_pixel}
+use Rattle.wfc_blocks.specs.CanvasView.{canvas_with, part_of_row, canvas_of, with_pixel}
 use Rattle.wfc_blocks.proofs.PaintLemmas.{row_step}
 use Rattle.wfc_blocks.proofs.canvas.Canvas.paint_row.Goals as goal
 
@@ -10,7 +10,7 @@ loop-i-preserved c =
     record {
       set = c.put.ensures.put
           ∙ ap (λ (canvas : Canvas). with_pixel canvas (block.x + c.loop-i.i) (block.y + c.args.j) c.at.result) c.loop-i.invariant.set
-          ∙ ap (λ number. with_pixel (painted (canvas_of c.args.self.now) block c.args.picture.now (part_of_row block c.args.j c.loop-i.i)) (block.x + c.loop-i.i) (block.y + c.args.j) number) c.at.ensures.value
+          ∙ ap (λ number. with_pixel (canvas_with (canvas_of c.args.self.now) block c.args.picture.now (part_of_row block c.args.j c.loop-i.i)) (block.x + c.loop-i.i) (block.y + c.args.j) number) c.at.ensures.value
           ∙ row_step (canvas_of c.args.self.now) block c.args.picture.now c.args.j c.loop-i.i;
       alike = record {
         width = c.put.ensures.alike.width ∙ c.loop-i.invariant.alike.width;

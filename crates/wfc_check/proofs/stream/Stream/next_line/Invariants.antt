@@ -1,6 +1,6 @@
 -- The bytes so far are a short line, and with what is left they make what was left at the entry.
 use Rattle.std.proofs.Common.{◌≡◌, ◌+◌, ◌-◌, ◌≤◌, length}
-use Rattle.wfc_check.specs.Stream.{IsShortLine, Keeps, Steps, stream_view}
+use Rattle.wfc_check.specs.Stream.{IsShortLine, HasReadFile, HasGiven, stream_view}
 use Rattle.wfc_check.proofs.stream.Stream.next_line.Given as goal
 
 abbrev pub invariant-read : goal.invariant-read
@@ -10,8 +10,8 @@ invariant-read g l = record {
   most : l.self.most ≡ l.initial.self.most;
   given : g.F.Folder.bytes_given l.folder + l.initial.self.at ≤ g.F.Folder.bytes_given l.initial.folder + l.self.at;
   line : IsShortLine l.line.items;
-  steps : Steps (g.F.Folder.seen l.initial.folder).contents (stream_view l.initial.self) (stream_view l.self) l.line.items;
-  keeps : Keeps (g.F.Folder.seen l.initial.folder).contents (stream_view l.initial.self) → Keeps (g.F.Folder.seen l.initial.folder).contents (stream_view l.self);
+  steps : HasGiven (g.F.Folder.seen l.initial.folder).contents (stream_view l.initial.self) (stream_view l.self) l.line.items;
+  keeps : HasReadFile (g.F.Folder.seen l.initial.folder).contents (stream_view l.initial.self) → HasReadFile (g.F.Folder.seen l.initial.folder).contents (stream_view l.self);
 }
 
 abbrev pub decreases-read : goal.decreases-read

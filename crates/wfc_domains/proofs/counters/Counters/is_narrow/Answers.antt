@@ -1,6 +1,6 @@
 use Rattle.std.proofs.Common.{◌≡◌, ◌<◌, length, sym, ◌∙◌, arith, inl, inr}
 use Rattle.std.proofs.lemmas.Bool.{cases_lt, eq-eqb, true≢false}
-use Rattle.wfc_domains.specs.Counters.{place_in}
+use Rattle.wfc_domains.specs.Counters.{count_place}
 use Rattle.wfc_domains.proofs.HalfLemmas.{wide-plain}
 use Rattle.wfc_domains.proofs.counters.Counters.is_narrow.Goals as goal
 
@@ -10,7 +10,7 @@ returns-clause-wide c =
     let ss = a.small.items in
     let ls = a.large.items in
     rw (← c.self.view_is) (λ wide cell v d.
-    let p = place_in a.values a.dirs cell v d in
+    let p = count_place a.values a.dirs cell v d in
     let some : 0 < length ls = elim (cases_lt 0 (length ls)) [
       | inl l ↦ l
       | inr l ↦

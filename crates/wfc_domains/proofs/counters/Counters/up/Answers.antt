@@ -1,7 +1,7 @@
 use Rattle.std.proofs.Common.{◌≡◌, ◌+◌, ◌%◌, ◌<◌, length, get_or, set, sym, ◌∙◌, ap, subst, arith, inl, inr}
 use Rattle.wfc_domains.specs.Halves.{entries_from, limit_from}
-use Rattle.wfc_domains.specs.Parts.{IsSplit}
-use Rattle.wfc_domains.specs.Counters.{place_in}
+use Rattle.wfc_domains.specs.Parts.{IsCountSplit}
+use Rattle.wfc_domains.specs.Counters.{count_place}
 use Rattle.std.proofs.lemmas.List.{get_or_read, length-set}
 use Rattle.wfc_domains.proofs.HalfLemmas.{halves-length, more-entries, carry-room, carry-entries, limit-set, split-both}
 use Rattle.wfc_domains.proofs.counters.Counters.up.Goals as goal
@@ -15,7 +15,7 @@ carry-requires-clause-large_in g c =
     let given = rw (← c.self.view_is) at c.place-place.ensures.inside in
     let inside : i < length ss = omega (arith, given, halves-length ss ls) in
     let e = rw (← c.self.view_is) at c.place-place.ensures.value in
-    let limit : get_or (entries_from ss ls) (place_in a.values a.dirs c.args.cell c.args.value c.args.dir) 0 % 32768 < limit_from ls = rw (← c.self.view_is) at c.requires.limit in
+    let limit : get_or (entries_from ss ls) (count_place a.values a.dirs c.args.cell c.args.value c.args.dir) 0 % 32768 < limit_from ls = rw (← c.self.view_is) at c.requires.limit in
     let below : get_or (entries_from ss ls) i 0 % 32768 < limit_from ls = omega (arith, limit, ap (λ k. get_or (entries_from ss ls) k 0 % 32768) e) in
     let s = c.index-small.result.now in
     let read : s ≡ get_or ss i 0 = get_or_read ss i s inside c.index-small.ensures 0 in
@@ -32,7 +32,7 @@ invariant_of-self g c =
     let given = rw (← c.self.view_is) at c.place-place.ensures.inside in
     let inside : i < length ss = omega (arith, given, halves-length ss ls) in
     let e = rw (← c.self.view_is) at c.place-place.ensures.value in
-    let limit : get_or (entries_from ss ls) (place_in a.values a.dirs c.args.cell c.args.value c.args.dir) 0 % 32768 < limit_from ls = rw (← c.self.view_is) at c.requires.limit in
+    let limit : get_or (entries_from ss ls) (count_place a.values a.dirs c.args.cell c.args.value c.args.dir) 0 % 32768 < limit_from ls = rw (← c.self.view_is) at c.requires.limit in
     let below : get_or (entries_from ss ls) i 0 % 32768 < limit_from ls = omega (arith, limit, ap (λ k. get_or (entries_from ss ls) k 0 % 32768) e) in
     let s = c.index-small.result.now in
     let read : s ≡ get_or ss i 0 = get_or_read ss i s inside c.index-small.ensures 0 in
@@ -42,12 +42,12 @@ invariant_of-self g c =
     let l = get_or ls i 0 in
     let small = c.carry.ensures.small in
     let large = c.carry.ensures.large in
-    let split : IsSplit 1 (l + 1) = record { limit = omega (arith, (h.each i).limit, full, room.1); some = λ p. omega arith } in
+    let split : IsCountSplit 1 (l + 1) = record { limit = omega (arith, (h.each i).limit, full, room.1); some = λ p. omega arith } in
     record {
       whole = ap length small ∙ length-set ss i 1 ∙ h.whole;
       both = elim h.both [ inl none ↦ absurd (omega (arith, none, room.0)) | inr same ↦ inr (ap length large ∙ length-set ls i (l + 1) ∙ same ∙ sym (length-set ss i 1) ∙ sym (ap length small)) ];
-      each = λ j. subst (λ xs. IsSplit (get_or xs j 0) (get_or c.carry.new.large.items j 0)) (sym small)
-          (subst (λ ys. IsSplit (get_or (set ss i 1) j 0) (get_or ys j 0)) (sym large) (split-both ss ls i 1 (l + 1) inside room.0 h.each split j));
+      each = λ j. subst (λ xs. IsCountSplit (get_or xs j 0) (get_or c.carry.new.large.items j 0)) (sym small)
+          (subst (λ ys. IsCountSplit (get_or (set ss i 1) j 0) (get_or ys j 0)) (sym large) (split-both ss ls i 1 (l + 1) inside room.0 h.each split j));
     }
 
 pub returns-then-small-clause-changed : goal.returns-then-small-clause-changed
@@ -59,7 +59,7 @@ returns-then-small-clause-changed g c =
     let given = rw (← c.self.view_is) at c.place-place.ensures.inside in
     let inside : i < length ss = omega (arith, given, halves-length ss ls) in
     let e = rw (← c.self.view_is) at c.place-place.ensures.value in
-    let limit : get_or (entries_from ss ls) (place_in a.values a.dirs c.args.cell c.args.value c.args.dir) 0 % 32768 < limit_from ls = rw (← c.self.view_is) at c.requires.limit in
+    let limit : get_or (entries_from ss ls) (count_place a.values a.dirs c.args.cell c.args.value c.args.dir) 0 % 32768 < limit_from ls = rw (← c.self.view_is) at c.requires.limit in
     let below : get_or (entries_from ss ls) i 0 % 32768 < limit_from ls = omega (arith, limit, ap (λ k. get_or (entries_from ss ls) k 0 % 32768) e) in
     let s = c.index-small.result.now in
     let read : s ≡ get_or ss i 0 = get_or_read ss i s inside c.index-small.ensures 0 in
@@ -81,7 +81,7 @@ returns-else-small-clause-changed g c =
     let given = rw (← c.self.view_is) at c.place-place.ensures.inside in
     let inside : i < length ss = omega (arith, given, halves-length ss ls) in
     let e = rw (← c.self.view_is) at c.place-place.ensures.value in
-    let limit : get_or (entries_from ss ls) (place_in a.values a.dirs c.args.cell c.args.value c.args.dir) 0 % 32768 < limit_from ls = rw (← c.self.view_is) at c.requires.limit in
+    let limit : get_or (entries_from ss ls) (count_place a.values a.dirs c.args.cell c.args.value c.args.dir) 0 % 32768 < limit_from ls = rw (← c.self.view_is) at c.requires.limit in
     let below : get_or (entries_from ss ls) i 0 % 32768 < limit_from ls = omega (arith, limit, ap (λ k. get_or (entries_from ss ls) k 0 % 32768) e) in
     let s = c.index-small.result.now in
     let read : s ≡ get_or ss i 0 = get_or_read ss i s inside c.index-small.ensures 0 in

@@ -2,7 +2,7 @@ use Rattle.std.proofs.Common.{◌≤◌, [], arith, subst, ap, ◌∙◌}
 use Rattle.wfc_outside.proofs.CallerLemmas.{gives_value}
 use Rattle.wfc_pins.specs.declared.fault.BuildFault.TheVariants.{NoMemory}
 use Rattle.wfc_problem.specs.declared.TheConstants.{MAX_PAIRS}
-use Rattle.wfc_tiled.specs.Built.{pairs}
+use Rattle.wfc_tiled.specs.Built.{tile_pair_count}
 use Rattle.wfc_tiled.specs.Maps.{ArePlaced}
 use Rattle.wfc_tiled.specs.Mask.{MaskView, IsMask}
 use Rattle.wfc_problem.specs.Network.{Network}
@@ -19,7 +19,7 @@ invariant_of-result c =
       record {
         tiles_are = marks.tile_set;
         mask_is = subst IsMask same marks.mask;
-        few_pairs = subst (λ (m : MaskView). pairs c.args.tiles.now m ≤ MAX_PAIRS) same marks.few_pairs;
+        few_pairs = subst (λ (m : MaskView). tile_pair_count c.args.tiles.now m ≤ MAX_PAIRS) same marks.few_pairs;
         placed = subst (λ (m : MaskView). ArePlaced m c.in_ok-marks.marks.items) same marks.placed;
         few_lines = omega (arith, many, c.requires.few_lines);
       },

@@ -1,7 +1,0 @@
-use Rattle.std.proofs.Common.{◌≡◌, filter}
-use Rattle.std.specs.List.{range_with_len}
-use Rattle.wfc_tiled.specs.Tiles.{fits}
-use Rattle.wfc_tiled.proofs.supports.fitting.Given as goal
-
-abbrev pub invariant-loop-w : goal.invariant-loop-w
-invariant-loop-w l = l.list.items ≡ filter (λ w. fits l.tiles l.dir l.v w) (range_with_len 0 l.w)
