@@ -5,6 +5,7 @@
 
 clauses   each clause that docs/theorem.md names is there
 names     no name has a second meaning in another crate, but those of docs/names.txt
+widths    no clause and no line is too wide, and above each definition stands a sentence
 layers    the drawing and the tables of docs/layers.md are those of crates.txt
 tables    each must-fail edit stands in the table of its crate's page
 pages     each file of definitions is named on its crate's page, no page has a line that is too long, and no link leads nowhere
@@ -16,7 +17,7 @@ import subprocess
 import sys
 
 HERE = os.path.dirname(os.path.abspath(__file__))
-SCRIPTS = ("clauses", "names", "layers --check", "tables --check", "pages", "help")
+SCRIPTS = ("clauses", "names", "widths", "layers --check", "tables --check", "pages", "help")
 
 
 def main():

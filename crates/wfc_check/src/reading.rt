@@ -3,7 +3,8 @@
 ghost use Rattle.std.specs.Prelude.{◌≡◌, ◌+◌, ◌-◌, ◌^◌, ◌<◌, IfOk, OnOk};
 ghost use Rattle.wfc_proof.specs.Heads.{format_of, head_numbers, shape_of};
 ghost use Rattle.wfc_check.specs.Checker.{checker_problem, point_of};
-ghost use Rattle.wfc_check.specs.Text.{after_first, after_numbers, after_shape, place_after_line, line_in, stage_answer, line_led, staged_place};
+ghost use Rattle.wfc_check.specs.Text.{after_first, after_numbers, after_shape, line_in, line_led};
+ghost use Rattle.wfc_check.specs.Text.{place_after_line, stage_answer, staged_place};
 ghost use Rattle.wfc_check.specs.Text.{IsStaged, Leads, answer_at_end, at_start};
 ghost use Rattle.wfc_check.specs.declared.reading.Stage.TheVariants.{Proving};
 

@@ -45,7 +45,8 @@ pub(crate) enum LineEnd {
 
 impl<'n> Stream<'n> {
     ghost use Rattle.std.specs.Prelude.{◌≡◌, ◌≤◌, ◌^◌, List, [], length, true, false, take, Ok, IfOk, MatchResult};
-    ghost use Rattle.wfc_check.specs.Stream.{CausesStop, EndsLine, GathersLine, HasLeft, IsLeft, HasReadFile, HasGivenKept, HasGiven, fresh_view, stream_view};
+    ghost use Rattle.wfc_check.specs.Stream.{CausesStop, EndsLine, GathersLine, HasGiven, HasGivenKept, HasLeft};
+    ghost use Rattle.wfc_check.specs.Stream.{HasReadFile, IsLeft, fresh_view, stream_view};
 
     /// The start of a file, of which at most `room` bytes may be given.
     pub(crate) fn new(alloc: Global, name: &'n str, room: u64) -> Result<Stream<'n>, AllocError>

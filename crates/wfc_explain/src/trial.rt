@@ -3,7 +3,8 @@
 ghost use Rattle.std.specs.Prelude.{◌≡◌, ◌++◌, ◌+◌, ◌∷◌, [], ◌<◌, ◌≤◌, true, IfOk, OnOk, length, map, replicate, vec_len};
 ghost use Rattle.wfc_choose.specs.Pick.{Rule};
 ghost use Rattle.wfc_explain.specs.Blame.{IsTrueExplained};
-ghost use Rattle.wfc_explain.specs.Trials.{all_lines, core_of, trial_with, explanation_of, outcome_mark, trial_after, next_trial, lines_without};
+ghost use Rattle.wfc_explain.specs.Trials.{all_lines, core_of, explanation_of, lines_without, next_trial};
+ghost use Rattle.wfc_explain.specs.Trials.{outcome_mark, trial_after, trial_with};
 ghost use Rattle.wfc_explain.specs.Outcomes.{outcome_with};
 ghost use Rattle.wfc_runs.specs.Alike.{HaveRule, PickAlike};
 ghost use Rattle.wfc_runs.specs.Words.{words_of_seed};

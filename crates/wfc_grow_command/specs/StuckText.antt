@@ -25,7 +25,9 @@ pin_text line = pin_word line.keep ++ blank_and_number line.x ++ blank_and_numbe
 
 -- the first pixel of a block, and its sides
 abbrev pub stuck_head : Block → List ℕ
-stuck_head block = codes "stuck" ++ blank_and_number block.x ++ blank_and_number block.y ++ blank_and_number block.width ++ blank_and_number block.height
+stuck_head block =
+    codes "stuck" ++ blank_and_number block.x ++ blank_and_number block.y
+    ++ blank_and_number block.width ++ blank_and_number block.height
 
 -- what stands before the refutation of a stuck block: the block, how many lines its pins have, and these lines
 abbrev pub stuck_text : StuckView → List ℕ

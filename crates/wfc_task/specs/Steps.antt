@@ -62,4 +62,5 @@ read_pin_lines text = or_refuse Pins (pins_of text)
 
 -- the problem of learned patterns and the lines of a pins file
 abbrev pub problem_of_lines : RequestView → PatternsView → List Symbol → List PinView → Result Network Refusal
-problem_of_lines asked patterns palette lines = or_refuse Build (picture_problem patterns palette (output_with asked.width asked.height asked.wrap_out) lines)
+problem_of_lines asked patterns palette lines =
+    or_refuse Build (picture_problem patterns palette (output_with asked.width asked.height asked.wrap_out) lines)

@@ -13,7 +13,8 @@ ghost use Rattle.wfc_plan.specs.declared.fault.Refusal.TheVariants.{Build, Colou
 ghost use Rattle.wfc_task.specs.Asked.{IsOutputAsked, IsSampleAsked};
 ghost use Rattle.wfc_task.specs.Lesson.{HasShownNumbers, IsPosed, IsSampled};
 ghost use Rattle.wfc_task.specs.Sampled.{sampled_view};
-ghost use Rattle.wfc_task.specs.Steps.{sample_in_numbers, grid_in, sample_layout, read_pin_lines, problem_of_lines, ppm_of_file, patterns_taught};
+ghost use Rattle.wfc_task.specs.Steps.{grid_in, patterns_taught, ppm_of_file, problem_of_lines};
+ghost use Rattle.wfc_task.specs.Steps.{read_pin_lines, sample_in_numbers, sample_layout};
 
 use crate::lesson::Taught;
 use crate::sampled::Sampled;

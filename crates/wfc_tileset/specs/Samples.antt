@@ -19,7 +19,11 @@ small_pair_end tile turn = record { tile = tile; turn = turn }
 
 -- one straight line, which may go on to the right
 abbrev pub straight_lines : TileSetView
-straight_lines = record { tiles = tile_of_class I ∷ []; pairs = record { left = small_pair_end 0 0; right = small_pair_end 0 0 } ∷ []; pictures = [] }
+straight_lines = record {
+  tiles = tile_of_class I ∷ [];
+  pairs = record { left = small_pair_end 0 0; right = small_pair_end 0 0 } ∷ [];
+  pictures = [];
+}
 
 -- a tile without symmetry after action 5, to the left of a junction after a quarter turn
 abbrev pub crossing : TileSetView
