@@ -1,8 +1,7 @@
 //! The faults of a task, each with the file that it stands in, and their statuses.
 
 ghost use Rattle.std.specs.Prelude.{◌≡◌};
-ghost use Rattle.wfc_plan.specs.Fault.{build_class, class_status, colours_class, grid_class, learn_class, mask_class};
-ghost use Rattle.wfc_plan.specs.Fault.{pins_class, ppm_class, stacks_class, steps_class, tiles_class};
+ghost use Rattle.wfc_plan.specs.Fault.{class_status};
 
 use wfc_box::StackFault;
 use wfc_choose::RuleKind;
@@ -100,114 +99,41 @@ impl Refusal {
     {
         match self {
             Refusal::Chooser { .. } => FaultClass::NoChooser,
-            Refusal::Grid { fault, .. } => grid_class(*fault),
-            Refusal::Ppm { fault, .. } => ppm_class(*fault),
-            Refusal::Colours { fault } => colours_class(*fault),
-            Refusal::Learn { fault } => learn_class(*fault),
-            Refusal::Pins { fault } => pins_class(*fault),
-            Refusal::Build { fault } => build_class(*fault),
-            Refusal::Steps { fault } => steps_class(*fault),
-            Refusal::Render { .. }
-            | Refusal::Range { .. }
-            | Refusal::TooLong { .. }
-            | Refusal::RaceTooLarge { .. }
-            | Refusal::TooManyPins { .. }
-            | Refusal::TooManyBlocks { .. } => FaultClass::Input,
-            Refusal::NoMemory => FaultClass::Memory,
-            Refusal::Tiles { fault } => tiles_class(*fault),
-            Refusal::Mask { fault } => mask_class(*fault),
-            Refusal::Stacks { fault } => stacks_class(*fault),
+            Refusal::NoMemory
+            | Refusal::Grid {
+                fault: GridFault::NoMemory,
+                ..
+            }
+            | Refusal::Ppm {
+                fault: PpmFault::NoMemory,
+                ..
+            }
+            | Refusal::Colours {
+                fault: PaletteFault::NoMemory,
+            }
+            | Refusal::Learn {
+                fault: LearnFault::NoMemory,
+            }
+            | Refusal::Pins {
+                fault: PinFault::NoMemory,
+            }
+            | Refusal::Build {
+                fault: BuildFault::NoMemory,
+            }
+            | Refusal::Steps {
+                fault: StepFault::NoMemory,
+            }
+            | Refusal::Tiles {
+                fault: TileFault::NoMemory,
+            }
+            | Refusal::Mask {
+                fault: MaskFault::NoMemory,
+            }
+            | Refusal::Stacks {
+                fault: StackFault::NoMemory,
+            } => FaultClass::Memory,
+            _ => FaultClass::Input,
         }
-    }
-}
-
-fn grid_class(fault: GridFault) -> FaultClass
-    ensures value { result ≡ grid_class fault }
-{
-    match fault {
-        GridFault::NoMemory => FaultClass::Memory,
-        _ => FaultClass::Input,
-    }
-}
-
-fn ppm_class(fault: PpmFault) -> FaultClass
-    ensures value { result ≡ ppm_class fault }
-{
-    match fault {
-        PpmFault::NoMemory => FaultClass::Memory,
-        _ => FaultClass::Input,
-    }
-}
-
-fn colours_class(fault: PaletteFault) -> FaultClass
-    ensures value { result ≡ colours_class fault }
-{
-    match fault {
-        PaletteFault::NoMemory => FaultClass::Memory,
-        _ => FaultClass::Input,
-    }
-}
-
-fn learn_class(fault: LearnFault) -> FaultClass
-    ensures value { result ≡ learn_class fault }
-{
-    match fault {
-        LearnFault::NoMemory => FaultClass::Memory,
-        _ => FaultClass::Input,
-    }
-}
-
-fn pins_class(fault: PinFault) -> FaultClass
-    ensures value { result ≡ pins_class fault }
-{
-    match fault {
-        PinFault::NoMemory => FaultClass::Memory,
-        _ => FaultClass::Input,
-    }
-}
-
-fn build_class(fault: BuildFault) -> FaultClass
-    ensures value { result ≡ build_class fault }
-{
-    match fault {
-        BuildFault::NoMemory => FaultClass::Memory,
-        _ => FaultClass::Input,
-    }
-}
-
-fn steps_class(fault: StepFault) -> FaultClass
-    ensures value { result ≡ steps_class fault }
-{
-    match fault {
-        StepFault::NoMemory => FaultClass::Memory,
-        _ => FaultClass::Input,
-    }
-}
-
-fn tiles_class(fault: TileFault) -> FaultClass
-    ensures value { result ≡ tiles_class fault }
-{
-    match fault {
-        TileFault::NoMemory => FaultClass::Memory,
-        _ => FaultClass::Input,
-    }
-}
-
-fn mask_class(fault: MaskFault) -> FaultClass
-    ensures value { result ≡ mask_class fault }
-{
-    match fault {
-        MaskFault::NoMemory => FaultClass::Memory,
-        _ => FaultClass::Input,
-    }
-}
-
-fn stacks_class(fault: StackFault) -> FaultClass
-    ensures value { result ≡ stacks_class fault }
-{
-    match fault {
-        StackFault::NoMemory => FaultClass::Memory,
-        _ => FaultClass::Input,
     }
 }
 
