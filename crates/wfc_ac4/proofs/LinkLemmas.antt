@@ -311,7 +311,7 @@ link_at b a T A head c v k n row ls entries same fits h e l table wide is inside
     let wide' : row ≡ values b.problem.now * b.problem.now.dirs = wide ∙ (λ i. fits.same_values i * fits.same_dirs i) ∙ ap (λ P. values P * P.dirs) (sym N) in
     link_step b T head c v k n row ls h e' l (named_neighbour b.problem.now h.board.traced.problem c x.dir n (working-range h).0 hd entry some) wide'
 
--- the table with the counter at a link's counter_place lowered
+-- the table with the counter at a link's place lowered
 pub lowered-at : (T T' : Table) (i n w d : ℕ) → i ≡ count_place T.values T.dirs n w d → T' ≡ record T { counts = slice_set T.counts i (slice_index T.counts i - 1) } → T' ≡ with_count T n w d (entry_of T n w d - 1)
 lowered-at T T' i n w d e is = is ∙ ap (λ j. record T { counts = slice_set T.counts j (slice_index T.counts j - 1) }) e
 

@@ -45,7 +45,7 @@ count-less_value P D c v c' v' d' e h =
 pub count-less_none : (P : Network) (D : Test) (c v c' v' d' : ℕ) → neighbour P c' d' ≡ None → support_count P (less D c v) c' v' d' ≡ support_count P D c' v' d'
 count-less_none P D c v c' v' d' e = ap (count_at P (less D c v) v' d') e ∙ sym (ap (count_at P D v' d') e)
 
--- ---- how often a counter_place is listed
+-- ---- how often a place is listed
 
 pub times-append : (i : ℕ) (xs ys : List ℕ) → times i (xs ++ ys) ≡ times i xs + times i ys
 times-append i xs ys = sum_by-append (λ x. cond (x == i) 1 0) xs ys
@@ -72,7 +72,7 @@ pub times-none : (w : ℕ) (xs : List ℕ) → (Contains xs w → ⊥) → times
 times-none w xs lacks =
     sym (count_by_but_not (λ x. x == w) w xs lacks) ∙ count_by_agree (but (λ x. x == w) w) (λ x. false) xs (λ x. let h = cases_Bool (x == w) in grind arith) ∙ never xs
 
--- the side that turns to the counter_place lists it as often as the value is supported
+-- the side that turns to the place lists it as often as the value is supported
 times-side_hit : (P : Network) → IsProblem P → (v d n v' : ℕ) → d < P.dirs → v' < values P → times (counter_place P n v' (opposite d)) (side_places P v d (Some n)) ≡ times v' (supports_of P v d)
 times-side_hit P p v d n v' hd hv =
     let xs = supports_of P v d in
@@ -102,7 +102,7 @@ times-side_miss P p v d c' v' d' (Some n) hd hv hd' other =
     ne_eqb _ _ (λ e. let s = place-same P n w (opposite d) c' v' d' hw hv (opposite-in P p d hd) hd' e in other n refl s.0 s.2))
     ∙ never xs
 
--- of all sides only the one that turns to the counter_place counts
+-- of all sides only the one that turns to the place counts
 times-upto : (P : Network) → IsProblem P → (c v c' v' d' : ℕ) → v' < values P → d' < P.dirs → (m : ℕ) → m ≤ P.dirs
     → (m ≤ opposite d' → times (counter_place P c' v' d') (places_upto P c v m) ≡ 0)
     × (opposite d' < m → times (counter_place P c' v' d') (places_upto P c v m) ≡ times (counter_place P c' v' d') (side_places P v (opposite d') (neighbour P c (opposite d'))))
@@ -126,7 +126,7 @@ times-upto P p c v c' v' d' hv hd' (suc m) hm =
       ]),
     )
 
--- the counter_place is listed as often as the side that turns to it lists it
+-- the place is listed as often as the side that turns to it lists it
 times-turned : (P : Network) → IsProblem P → (c v c' v' d' : ℕ) → v' < values P → d' < P.dirs → times (counter_place P c' v' d') (counter_places P c v) ≡ times (counter_place P c' v' d') (side_places P v (opposite d') (neighbour P c (opposite d')))
 times-turned P p c v c' v' d' hv hd' = (times-upto P p c v c' v' d' hv hd' P.dirs (omega arith)).1 (opposite-in P p d' hd')
 

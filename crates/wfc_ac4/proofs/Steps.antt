@@ -58,7 +58,7 @@ counted-in T n w d pos = in_list T.counts (count_place T.values T.dirs n w d) (e
 lowered-left : (T : Table) (n w d : ℕ) → 0 < count_of T n w d → count_of (with_count T n w d (entry_of T n w d - 1)) n w d ≡ count_of T n w d - 1
 lowered-left T n w d pos = with-same T n w d (entry_of T n w d - 1) n w d refl (counted-in T n w d pos) ∙ pred-mod (entry_of T n w d) pos
 
--- a counter_place that is not, or is, another's
+-- a place that is not, or is, another's
 flag-is : (a b : ℕ) → a ≡ b → cond {A = ℕ} (a == b) 1 0 ≡ 1
 flag-is a b e = ap (λ t. cond {A = ℕ} t 1 0) (eq-eqb a b e)
 
@@ -319,7 +319,7 @@ without_at D rs k r e = ap (λ n. without D (take n rs)) (add-one k) ∙ by_suc 
     by_suc D (x ∷ rs) zero e = let same : x ≡ r = cc in ap (λ y. less D y.cell y.value) same
     by_suc D (x ∷ rs) (suc k) e = by_suc (less D x.cell x.value) rs k e
 
--- a removal of the log stands at its counter_place in a longer one
+-- a removal of the log stands at its place in a longer one
 pub get-grown : {old new : Board} (k : ℕ) (r : Removal) → Grows old new → slice_get old.trail.removals k ≡ Some r → slice_get new.trail.removals k ≡ Some r
 get-grown {old} {new} k r h e = ap (λ xs. slice_get xs k) h.removals ∙ front old.trail.removals k e
   where

@@ -122,7 +122,7 @@ lines_meant palette width height lines pins canvas block shown apart below meant
     ∙ front_ok (λ pin. read (line pin)) (λ pin. pin) set (map read more) (pins_within block pins) each (within_meant texts width height block lines pins meant)
     ∙ ap (λ (ps : List Pin). Ok (ps ++ pins_within block pins)) (map-id set)
 
--- so what is picture_problem with them is the block's problem
+-- so what is built with them is the block's problem
 pub lines_built : (patterns : PatternsView) (palette : List Symbol) (block : Block) (lines : List PinView) (pins : List Pin) → IsRoom patterns (output_of_block block) → picture_pins (texts_of palette) block.width block.height lines ≡ Ok pins → picture_problem patterns palette (output_of_block block) lines ≡ Ok (problem_of_sample patterns (output_of_block block) pins)
 lines_built patterns palette block lines pins room meant =
     let output = output_of_block block in

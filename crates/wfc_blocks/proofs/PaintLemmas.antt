@@ -95,7 +95,7 @@ unset_in w h entries unset = λ t x y. at x y (nat_lt x w && nat_lt y h) t
 
 -- ---- parts of a block
 
--- what is canvas_with is the picture's number in the part, and what was set beside it
+-- what is painted is the picture's number in the part, and what was set beside it
 pub painted_by : (canvas : Canvas) (block : Block) (m : Raster) (part : Block) (x y : ℕ) (value : Option ℕ) → (IsIn part x y → Some (number_at m (x - block.x) (y - block.y)) ≡ value) → ((IsIn part x y → ⊥) → canvas x y ≡ value) → canvas_with canvas block m part x y ≡ value
 painted_by canvas block m part x y value here beside = by (lies_in part x y) refl
   where

@@ -50,7 +50,7 @@ corner_in n area k across step across_is step_is inside some long wide high =
       omega (arith, row, some, has_room n area.side area.height (k / blocks_across n area) long at.1 high),
     )
 
--- smaller sides have fewer window_pair_count of a place and a pattern
+-- smaller sides have fewer pairs of a place and a pattern
 pairs_fewer : (patterns : PatternsView) (w h width height : ℕ) → w ≤ width → h ≤ height → window_pair_count patterns (output_with w h false) ≤ window_pair_count patterns (output_with width height false)
 pairs_fewer patterns w h width height narrow low =
     let n = patterns.n in

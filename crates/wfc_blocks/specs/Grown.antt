@@ -54,7 +54,7 @@ shown_by_pins patterns palette area lines rule budget seed pins =
     (growth_of area (terms_with patterns rule budget seed pins))
 
 -- the pins by which an area is grown, but for a side below that of a window, for too many blocks, for too
--- many window_pair_count in the first block, and for a line at fault
+-- many pairs in the first block, and for a line at fault
 abbrev pub growable_of
     : PatternsView → List Symbol → Area → List PinView → Result (List Pin) GrowFault
 growable_of patterns palette area lines =
@@ -66,7 +66,7 @@ growable_of patterns palette area lines =
     else or_grow_fault (picture_pins (texts_of palette) area.width area.height lines)))
 
 -- how growth of an area ends by the lines of a pins file, but for a side below that of a window, for
--- too many blocks, for too many window_pair_count in the first block, and for a line at fault
+-- too many blocks, for too many pairs in the first block, and for a line at fault
 abbrev pub grown_of
     : PatternsView → List Symbol → Area → List PinView → Rule → ℕ → ℕ → Result Grown GrowFault
 grown_of patterns palette area lines rule budget seed =

@@ -87,7 +87,7 @@ abbrev pub IsStoppedAt : Area → Terms → Block → Canvas → Type 0
 IsStoppedAt area terms block canvas = growth_of area terms ≡ stopped block canvas
 
 -- the area and a block have room for a window, and the first block, which is the largest, has few
--- enough window_pair_count of a place and a pattern
+-- enough pairs of a place and a pattern
 pub record IsGrowable (patterns : PatternsView) (area : Area) : Type 0 where
   pub wide : patterns.n ≤ area.width
   pub high : patterns.n ≤ area.height

@@ -32,7 +32,7 @@ use Rattle.wfc_check.specs.declared.reading.Stage.TheVariants.{First, Numbering,
 use Rattle.wfc_check.proofs.Proved.{ended_spells, spelled_none}
 use Rattle.wfc_check.proofs.TextLemmas.{answer-feed, answer-within}
 
--- what goes on goes on from a staged_place
+-- what goes on goes on from a place
 and_read_ok : (read : Result TextPlace CheckFault) (next : TextPlace → Result (Unit {0}) CheckFault) → and_read read next ≡ Ok tt → (at : TextPlace) × (read ≡ Ok at) × (next at ≡ Ok tt)
 and_read_ok (Ok at) next is = (at, refl, is)
 and_read_ok (Err fault) next is = cc
@@ -201,7 +201,7 @@ record Behind (P : Network) (shape : Shape) (at : TextPlace) (number : ℕ) (lin
   led : stage_answer P shape number at.stage at.point line ≡ Ok after
   rest : answer_to_parts P shape false (number + 1) after others ≡ Ok tt
 
--- the parts at a staged_place where no text may end have a line
+-- the parts at a place where no text may end have a line
 record HasLine (P : Network) (shape : Shape) (at : TextPlace) (number : ℕ) (parts : List (List ℕ)) : Type 0 where
   line : List ℕ
   behind : Behind P shape at number line parts

@@ -6,20 +6,20 @@ use Rattle.wfc_problem.specs.Network.{Network, in_base}
 use Rattle.wfc_problem.specs.declared.Literal.TheVariants.{Is, Not}
 use Rattle.wfc_check.specs.declared.trail.Entry.{Entry}
 
--- the domains behind_entry an entry: without its value, unless a branch waits there
+-- the domains behind an entry: without its value, unless a branch waits there
 abbrev pub behind_entry : Test → Entry → Test
 behind_entry D e = if e.waits then D else cut D (Not e.value e.cell)
 
--- the domains behind_entry all entries
+-- the domains behind all entries
 abbrev pub domains_left : Test → List Entry → Test
 domains_left D [] = D
 domains_left D (e ∷ es) = domains_left (behind_entry D e) es
 
--- the branches that wait, with those before the entries behind_entry them: an entry's branch is without its value
+-- the branches that wait, with those before the entries behind them: an entry's branch is without its value
 abbrev pub put_off : Test → List Test → Entry → List Test
 put_off D waits e = if e.waits then cut D (Not e.value e.cell) ∷ waits else waits
 
--- the branches that wait behind_entry all entries, the innermost first
+-- the branches that wait behind all entries, the innermost first
 abbrev pub waiting_branches : Test → List Test → List Entry → List Test
 waiting_branches D waits [] = waits
 waiting_branches D waits (e ∷ es) = waiting_branches (behind_entry D e) (put_off D waits e) es

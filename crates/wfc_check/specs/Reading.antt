@@ -6,7 +6,7 @@ use Rattle.wfc_check.specs.Checker.{checker_problem, point_of}
 use Rattle.wfc_check.specs.Text.{TextPlace, staged_place, at_start}
 use Rattle.wfc_check.specs.declared.reading.Reading.{Reading}
 
--- its staged_place
+-- its place
 abbrev pub reading_place : Reading → TextPlace
 reading_place reading = staged_place reading.stage (point_of reading.checker)
 

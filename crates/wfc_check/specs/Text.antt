@@ -31,7 +31,7 @@ pub record TextPlace : Type 0 where
   pub stage : Stage
   pub point : Point
 
--- the staged_place with this stage and this point
+-- the place with this stage and this point
 abbrev pub staged_place : Stage → Point → TextPlace
 staged_place stage point = record { stage = stage; point = point }
 
@@ -105,7 +105,7 @@ line_led P shape number at line =
     if nat_lt MAX_LINE_BYTES (length line) then Err (BadLine number)
     else stage_answer P shape number at.stage at.point line
 
--- the answer is the one wanted: the staged_place where a line leads, or its fault
+-- the answer is the one wanted: the place where a line leads, or its fault
 abbrev pub Leads : {T : Type 0} → Result TextPlace CheckFault → TextPlace → Result T CheckFault → Type 0
 Leads wanted new result = MatchResult result (λ _. wanted ≡ Ok new) (λ fault. wanted ≡ Err fault)
 

@@ -55,7 +55,7 @@ pub record TellsStatus (call : Call) : Type 0 where
   pub request : (asked : RequestView) (files : List File) → IsGiven call asked files → call.status ≢ 0
       → TellsReason call asked files
 
--- there is a line, or none, that the error stream was told, and with_error_stream each other stream that is
+-- there is a line, or none, that the error stream was told, and beside each other stream that is
 -- told it, whatever its faults, the same folder, output and status are an answer
 abbrev pub IsApartFromErr : Call → Type 0
 IsApartFromErr call =

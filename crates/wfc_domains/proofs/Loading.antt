@@ -70,11 +70,11 @@ full-support P p D c v d n hd beside whole same =
     ap (count_at P (has D) v d) beside
     ∙ full-count D.values (has D n) (supports_of P v d) whole (λ k e l. omega (arith, supports-below P p v d (supports_of P v d) refl hd k e l))
 
--- where a counter_place of a row stands
+-- where a place of a row stands
 pub place_in-row : (n k c v d : ℕ) → count_place n k c v d ≡ c * (n * k) + (v * k + d)
 place_in-row n k c v d = omega arith
 
--- a counter_place before a cell's row is that of an earlier cell, or else it is in the row
+-- a place before a cell's row is that of an earlier cell, or else it is in the row
 pub place-row : (P : Network) (c v d cell : ℕ) → v < values P → d < P.dirs → counter_place P c v d < counter_place P (cell + 1) 0 0 → c ≤ cell
 place-row P c v d cell hv hd l = elim (cases_lt cell c) [
   | inl more ↦

@@ -10,14 +10,14 @@ use Rattle.wfc_problem.specs.Network.{Network, values}
 use Rattle.wfc_problem.specs.Domains.{Test, support_count}
 use Rattle.wfc_domains.specs.Counters.{Table, FitsTable, entry_of, counts_of, count_place, counter_place}
 
--- a counter_place tells its cell, value and direction
+-- a place tells its cell, value and direction
 pub place-same : (P : Network) (c v d c' v' d' : ℕ) → v < values P → v' < values P → d < P.dirs → d' < P.dirs → counter_place P c v d ≡ counter_place P c' v' d' → (c ≡ c') × (v ≡ v') × (d ≡ d')
 place-same P c v d c' v' d' hv hv' hd hd' e =
     let outer = same_from_place (c * values P + v) d (c' * values P + v') d' P.dirs hd hd' e in
     let inner = same_from_place c v c' v' (values P) hv hv' outer.0 in
     (inner.0, inner.1, outer.1)
 
--- a counter_place is in the table
+-- a place is in the table
 pub place_in-lt : (n k c v d cells : ℕ) → c < cells → v < n → d < k → count_place n k c v d < (cells * n) * k
 place_in-lt n k c v d cells hc hv hd =
     let row : c * n + v < cells * n = omega (arith, mul-add-lt c n v cells hc hv) in
@@ -34,7 +34,7 @@ row_at a n i h = elim (cases_lt 0 n) [
   | inr l ↦ let e : n ≡ 0 = omega arith in let same = ap (λ x. a * x) e in absurd (omega arith)
 ]
 
--- a table with the right count at each counter_place is the table of counts
+-- a table with the right count at each place is the table of counts
 pub counts_are : (P : Network) (D : Test) (T : Table) → FitsTable P T → ((c v d : ℕ) → c < P.cells → v < values P → d < P.dirs → entry_of T c v d ≡ support_count P D c v d) → T ≡ counts_of P D T.limit
 counts_are P D T h each = λ i. record { cells = h.same_cells i; values = h.same_values i; dirs = h.same_dirs i; limit = T.limit; counts = counts i }
   where

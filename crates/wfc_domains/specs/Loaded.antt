@@ -4,7 +4,7 @@ use Rattle.wfc_problem.specs.Network.{Network, values, supports_of}
 use Rattle.wfc_problem.specs.Domains.{Test, support_count}
 use Rattle.wfc_domains.specs.Counters.{Table, FitsTable, entry_of, counter_place}
 
--- each counter before the i-th counter_place is the number of supports that stand
+-- each counter before the i-th place is the number of supports that stand
 pub record AreLoaded (P : Network) (D : Test) (T : Table) (i : ℕ) : Type 0 where
   pub fits : FitsTable P T
   pub below : (c v d : ℕ) → c < P.cells → v < values P → d < P.dirs → counter_place P c v d < i
@@ -29,7 +29,7 @@ pub record IsCopied (old new : Table) (from to : ℕ) : Type 0 where
   pub copied : (v d : ℕ) → v < old.values → d < old.dirs → entry_of new to v d ≡ entry_of old from v d
   pub others : (c v d : ℕ) → c < to → v < old.values → d < old.dirs → entry_of new c v d ≡ entry_of old c v d
 
--- so many numbers were copied from one counter_place to another, and nothing else changed
+-- so many numbers were copied from one place to another, and nothing else changed
 pub record IsRowCopied (old new : List ℕ) (start row dest : ℕ) : Type 0 where
   pub copied : (i : ℕ) → i < row → slice_index new (dest + i) ≡ slice_index old (start + i)
   pub below : (i : ℕ) → i < dest → slice_index new i ≡ slice_index old i

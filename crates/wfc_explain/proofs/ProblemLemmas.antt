@@ -155,7 +155,7 @@ module _ (set : TileSetView) (mask : MaskView) (wrap : Bool) (lines : List PinVi
   pub tiles_found : (pins : List Pin) → tiled.built_pins set mask lines ≡ Ok pins → length pins ≡ length lines
   tiles_found pins is = tiles_as_many (tiling pins) (ap (result_map tiling) is)
 
-  -- a mask with too many window_pair_count has no pins
+  -- a mask with too many pairs has no pins
   pub crowded_fault : (fault : BuildFault) → tiled.roomy_mask set mask ≡ Err fault → tiles_pins set mask wrap lines ≡ Err fault
   crowded_fault fault is = by_case crowded refl is
     where

@@ -28,7 +28,7 @@ pub record IsGrowAsked (asked : RequestView) : Type 0 where
   pub block_limit : asked.block ≤ 4096
   pub plain : IsPlain asked.rule
 
--- an area holds a window, has not too many blocks, and the first of them not too many window_pair_count of a place and a pattern
+-- an area holds a window, has not too many blocks, and the first of them not too many pairs of a place and a pattern
 pub record IsGrowableArea (patterns : PatternsView) (area : Area) : Type 0 where
   pub wide : patterns.n ≤ area.width
   pub high : patterns.n ≤ area.height

@@ -28,7 +28,7 @@ IsBlocksFault asked files fault =
     (lesson : Taught) × Teaches asked files lesson
     × IsManyFault (block_count lesson.patterns.n (area_asked asked)) fault
 
--- the first block, which is the largest, has too many window_pair_count of a place and a pattern
+-- the first block, which is the largest, has too many pairs of a place and a pattern
 abbrev pub IsFirstBlockFault : RequestView → List File → TaskStage
 IsFirstBlockFault asked files fault =
     (lesson : Taught) × Teaches asked files lesson

@@ -69,7 +69,7 @@ all_alive : (v : StoreView) (beside : ℕ) (standing : List Literal) → IsWalk 
 all_alive v beside standing walk none alive =
     subst (λ (ls : List Literal). is_dead v.problem (greatest v.problem ls) ≡ false) (sym (all_stand v beside standing walk none)) (alive_alive v walk.sound alive)
 
--- ---- what is shown_domains
+-- ---- what is shown
 
 pub shown_dead : (v : StoreView) (beside : ℕ) (standing : List Literal) → IsWalk v beside standing → (beside ≡ 0 → v.verdict ≡ Alive → ⊥) → shown_domains v.problem standing ≡ None
 shown_dead v beside standing walk not = ap (λ b. if b then None else Some (greatest v.problem standing)) (all_dead v beside standing walk not)

@@ -1,4 +1,4 @@
--- What lies window_beside a place, step by step.
+-- What lies beside a place, step by step.
 use Rattle.std.proofs.Common.{◌≡◌, ℕ, ◌<◌, Bool, true, false, ◌&&◌, [], ◌∷◌, map, Option, None, Some, refl, sym, ap, ◌∙◌}
 use Rattle.std.specs.Prelude.{if◌then◌else◌}
 use Rattle.std.specs.List.{range_with_len}
@@ -20,7 +20,7 @@ along_there count wrap forth back at s there is = ap (λ b. if b then Some (step
 pub along_stays : (count : ℕ) (wrap : Bool) (at : ℕ) → at < count → along count wrap 0 0 at ≡ Some at
 along_stays count wrap at inside = along_there count wrap 0 0 at at (stay_there count wrap at inside) (stayed count at inside)
 
--- ---- the four cells window_beside a place
+-- ---- the four cells beside a place
 
 by_bools : (a b : Bool) (columns u v : ℕ) → (if a && b then cell_of columns u v else NO_CELL) ≡ cell_in columns (if a then Some u else None) (if b then Some v else None)
 by_bools true true columns u v = refl
@@ -29,7 +29,7 @@ by_bools false true columns u v = refl
 by_bools false false columns u v = refl
 
 module _ (n : ℕ) (output : Output) (columns rows x y : ℕ) (columns_are : columns ≡ starts output.width n output.wrap) (rows_are : rows ≡ starts output.height n output.wrap) where
-  -- the cell window_beside a place, by a step along each side
+  -- the cell beside a place, by a step along each side
   beside_is : (d : ℕ) (u v : Option ℕ) → along columns output.wrap (right_by d) (left_by d) x ≡ u → along rows output.wrap (down_by d) (up_by d) y ≡ v → cell_in columns u v ≡ window_beside n output (x, y) d
   beside_is d u v across down =
       ap (λ k. cell_in columns k v) (sym across)

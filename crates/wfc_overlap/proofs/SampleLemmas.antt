@@ -56,7 +56,7 @@ module _ (patterns : PatternsView) (output : Output) (pins : List Pin) where
   pub cell_place : (c : ℕ) → c < P.cells → IsCell columns rows c (c % columns) (c / columns)
   cell_place c inside = cell_is columns rows c (omega (arith, cells-is))
 
-  -- ---- what lies window_beside a place
+  -- ---- what lies beside a place
 
   pub entry : (x y d : ℕ) → x < columns → y < rows → d < 4 → get_or P.neighbours (cell_of columns x y * 4 + d) NO_CELL ≡ window_beside patterns.n output (x, y) d
   entry x y d column row dir =

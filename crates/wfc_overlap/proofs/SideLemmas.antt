@@ -53,7 +53,7 @@ module _ (n : ℕ) (p q : List ℕ) (d : ℕ) where
   abbrev rows : ℕ
   rows = n - (down_by d + up_by d)
 
-  -- p has on its shared_part in the direction what q has on its other shared_part
+  -- p has on its side in the direction what q has on its other side
   abbrev Shares : Type 0
   Shares = part n p (right_by d) (down_by d) columns rows ≡ part n q (left_by d) (up_by d) columns rows
 
@@ -84,7 +84,7 @@ module _ (n : ℕ) (p q : List ℕ) (d : ℕ) where
       parts_same n p q (right_by d) (down_by d) (left_by d) (up_by d) columns rows (λ c r column row.
       agree (right_by d + c) (down_by d + r) (left_by d + c) (up_by d + r) (omega arith) (omega arith) (omega arith) (omega arith) (record { across = omega arith; down = omega arith }))
 
--- the shared_part that q has towards p
+-- the side that q has towards p
 back_side : (n : ℕ) (q : List ℕ) (d : ℕ) → d < 4 → shared_part n q (opposite d) ≡ part n q (left_by d) (up_by d) (n - (right_by d + left_by d)) (n - (down_by d + up_by d))
 back_side n q zero dir = refl
 back_side n q (suc zero) dir = refl
@@ -100,7 +100,7 @@ sides_agree n p q d dir =
     (λ test. agree_from n p q d (decides.0 test ∙ back_side n q d dir))
     (λ agree. decides.1 (shared_from n p q d agree ∙ sym (back_side n q d dir)))
 
--- the members of a pattern's shared_part are the patterns that agree with it
+-- the members of a pattern's side are the patterns that agree with it
 pub members_agree : (patterns : PatternsView) (groups : List (List ℕ × List ℕ)) (p d : ℕ) → d < 4 → IsGrouped patterns (opposite d) groups → members groups (shared_part patterns.n (window_at patterns p) d) ≡ agreeing patterns p d
 members_agree patterns groups p d dir grouped =
     grouped (shared_part patterns.n (window_at patterns p) d)

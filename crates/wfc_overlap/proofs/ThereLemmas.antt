@@ -80,7 +80,7 @@ module _ (patterns : PatternsView) (output : Output) (pins : List Pin) (m : Rast
       numbered patterns (window m x y patterns.n)
       (at_place (λ (place : ℕ × ℕ). Contains patterns.windows (window m place.0 place.1 patterns.n)) output.width output.height patterns.n output.wrap learned x y column row)
 
-  -- a window window_meets_pins the pins that hold in the picture
+  -- a window meets the pins that hold in the picture
   window_meets : IsSized m output.width output.height → All (IsHeld m) pins → (x y : ℕ) → window_meets_pins patterns.n output (x, y) (window m x y patterns.n) pins ≡ true
   window_meets sized held x y =
       meets-from patterns.n output (x, y) (window m x y patterns.n) pins (λ k d l i j column row on_column on_row.

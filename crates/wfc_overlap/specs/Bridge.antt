@@ -13,12 +13,12 @@ use Rattle.wfc_problem.specs.Assignment.{IsLegalAssignment}
 use Rattle.wfc_places.specs.Steps.{cell_of}
 use Rattle.wfc_overlap.specs.Sample.{Output, problem_of_sample}
 
--- how many window_pair_count of a place and a pattern there are
+-- how many pairs of a place and a pattern there are
 abbrev pub window_pair_count : PatternsView → Output → ℕ
 window_pair_count patterns output =
     length (places output.width output.height patterns.n output.wrap) * length patterns.windows
 
--- an output that has room for a window, and few enough window_pair_count of a place and a pattern
+-- an output that has room for a window, and few enough pairs of a place and a pattern
 pub record IsRoom (patterns : PatternsView) (output : Output) : Type 0 where
   pub wide : patterns.n ≤ output.width
   pub high : patterns.n ≤ output.height

@@ -1,4 +1,4 @@
--- What is picture_problem of learned patterns, an output and the lines of a pins file: a problem, or the
+-- What is built of learned patterns, an output and the lines of a pins file: a problem, or the
 -- first fault.
 use Rattle.std.specs.Prelude.{ℕ, ◌&&◌, ◌||◌, nat_lt, List, map, position, Result, Err, if◌then◌else◌}
 use Rattle.std.specs.Option.{ok_or, option_map}
@@ -35,14 +35,14 @@ picture_pin texts width height line =
 abbrev pub picture_pins : List (List ℕ) → ℕ → ℕ → List PinView → Result (List Pin) BuildFault
 picture_pins texts width height lines = all_in_order (map (picture_pin texts width height) lines)
 
--- the pins that the lines mean, but for a side below that of a window, and for too many window_pair_count
+-- the pins that the lines mean, but for a side below that of a window, and for too many pairs
 abbrev pub checked_picture_pins : PatternsView → List Symbol → Output → List PinView → Result (List Pin) BuildFault
 checked_picture_pins patterns palette output lines =
     if nat_lt output.width patterns.n || nat_lt output.height patterns.n then Err SizeBelowN
     else (if nat_lt MAX_PAIRS (window_pair_count patterns output) then Err (TooLarge (window_pair_count patterns output))
     else picture_pins (texts_of palette) output.width output.height lines)
 
--- the problem, but for a side below that of a window, for too many window_pair_count, and for a line at fault
+-- the problem, but for a side below that of a window, for too many pairs, and for a line at fault
 abbrev pub picture_problem : PatternsView → List Symbol → Output → List PinView → Result Network BuildFault
 picture_problem patterns palette output lines =
     if nat_lt output.width patterns.n || nat_lt output.height patterns.n then Err SizeBelowN

@@ -22,7 +22,7 @@ pub record Output : Type 0 where
 abbrev pub output_with : ℕ → ℕ → Bool → Output
 output_with width height wrap = record { width = width; height = height; wrap = wrap }
 
--- the cell window_beside a place in a direction, where there is one
+-- the cell beside a place in a direction, where there is one
 abbrev pub window_beside : ℕ → Output → ℕ × ℕ → ℕ → ℕ
 window_beside n output place d =
     let columns = starts output.width n output.wrap in
@@ -33,11 +33,11 @@ window_beside n output place d =
     (stepped rows (down_by d) (up_by d) place.1)
     else NO_CELL
 
--- the cells window_beside a place, direction by direction
+-- the cells beside a place, direction by direction
 abbrev pub places_beside : ℕ → Output → ℕ × ℕ → List ℕ
 places_beside n output place = map (λ d. window_beside n output place d) (range_with_len 0 4)
 
--- the cells window_beside each place
+-- the cells beside each place
 abbrev pub window_neighbour_table : ℕ → Output → List ℕ
 window_neighbour_table n output =
     flat_map (λ place. places_beside n output place)
@@ -70,23 +70,23 @@ abbrev pub suits_in_column : ℕ → Output → ℕ × ℕ → List ℕ → Pin 
 suits_in_column n output place w pin i =
     list_all (λ j. window_suits_at n output place w pin i j) (range_with_len 0 n)
 
--- whether a window at a place window_meets_pins a pin or a ban: each of its numbers suits it
+-- whether a window at a place meets a pin or a ban: each of its numbers suits it
 abbrev pub is_met : ℕ → Output → ℕ × ℕ → List ℕ → Pin → Bool
 is_met n output place w pin =
     list_all (λ i. suits_in_column n output place w pin i) (range_with_len 0 n)
 
--- whether it window_meets_pins all of them
+-- whether it meets all of them
 abbrev pub window_meets_pins : ℕ → Output → ℕ × ℕ → List ℕ → List Pin → Bool
 window_meets_pins n output place w pins = list_all (λ pin. is_met n output place w pin) pins
 
--- for each place and window whether it window_meets_pins them there
+-- for each place and window whether it meets them there
 abbrev pub window_base_table : ℕ → Output → List (List ℕ) → List Pin → List Bool
 window_base_table n output windows pins =
     flat_map (λ place. map (λ w. window_meets_pins n output place w pins) windows)
     (places output.width output.height n output.wrap)
 
--- a cell for each place of the output, row by row, window_beside it the places one step away, the patterns
--- with their weights, window_beside each the patterns that agree with it, and at each cell those that meet
+-- a cell for each place of the output, row by row, beside it the places one step away, the patterns
+-- with their weights, beside each the patterns that agree with it, and at each cell those that meet
 -- the pins and bans
 abbrev pub problem_of_sample : PatternsView → Output → List Pin → Network
 problem_of_sample patterns output pins =

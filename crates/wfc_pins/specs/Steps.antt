@@ -18,7 +18,7 @@ use Rattle.wfc_pins.specs.declared.steps.StepFault.TheVariants.{BadLine, Nothing
 use Rattle.wfc_pins.specs.declared.steps.RangeFault.{RangeFault}
 use Rattle.wfc_pins.specs.declared.steps.RangeFault.TheVariants.{OutOfRange}
 
--- what is assumed_step of a cell and a value, if both are there: `choose` says that the cell has it,
+-- what is assumed of a cell and a value, if both are there: `choose` says that the cell has it,
 -- `forbid` that it doesn't
 abbrev pub assumed_step : List ℕ → Option ℕ → Option ℕ → Option Step
 assumed_step word (Some cell) (Some value) =
@@ -83,7 +83,7 @@ step_fits P (Assume (Is value cell)) = nat_lt cell P.cells && nat_lt value (valu
 step_fits P (Assume (Not value cell)) = nat_lt cell P.cells && nat_lt value (values P)
 step_fits P Undo = true
 
--- the same as a fact: what is assumed_step speaks of a cell and a value of the problem
+-- the same as a fact: what is assumed speaks of a cell and a value of the problem
 abbrev pub IsStepIn : Network → Step → Type 0
 IsStepIn P (Assume literal) = IsLiteralIn P literal
 IsStepIn P Undo = Unit {0}

@@ -362,7 +362,7 @@ span_cut name old new kept None left line told whole is same was going none cut 
 abbrev nothing_told : Option Taken → Option (List Line)
 nothing_told o = option_map (λ (taken : Taken). let none : List Line = [] in none) o
 
--- a journal over a bare sink has new_journal
+-- a journal over a bare sink has begun
 pub bare_spans : (name : GName) (sink : SinkView) → IsBare Two sink.told → IsSpanning sink None None × (spans_of name sink None None ≡ new_journal name sink)
 bare_spans name sink bare =
     let before = bare_before Two sink.told bare in

@@ -74,7 +74,7 @@ read_plain format before lines part (b ∷ text) plain =
     ∙ read_plain format before lines (part ++ b ∷ []) text (All-tail (λ x. nat_eq x 10 ≡ false) b text plain)
     ∙ ap (reading before lines) (append_assoc part (b ∷ []) text)
 
--- a text without a line feed and then one is a line that with_line_end
+-- a text without a line feed and then one is a line that ended
 pub read_ended : (format : Format) (before : List ℕ) (lines : List Line) (part text : List ℕ) → IsFeedless text
     → read_on format (reading before lines part) (with_line_end text) ≡ and_line (reading before lines (part ++ text)) (line_in format (part ++ text))
 read_ended format before lines part text plain =
@@ -243,7 +243,7 @@ cut_told format (Some taken) done first rest n at keep keeps less =
 
 -- ---- heads
 
--- a line that with_line_end leaves no part
+-- a line that ended leaves no part
 line_part : (read : Reading) (o : Result Line LineFault) → (and_line read o).part ≡ []
 line_part read (Ok line) = refl
 line_part read (Err fault) = refl
@@ -339,7 +339,7 @@ told_all lines more old new same =
     both None = refl
     both (Some taken) = ap Some (append_assoc (lines_at_end One taken) lines more ∙ ap (λ xs. xs ++ (lines ++ more)) (sym (append-nil (lines_at_end One taken))))
 
--- a journal over a bare sink has new_journal
+-- a journal over a bare sink has begun
 pub bare_begun : (name : GName) (sink : SinkView) → IsBare One sink.told → journal_of name sink None ≡ new_journal name sink
 bare_begun name sink bare =
     let lines : option_map (λ (taken : Taken). lines_at_end One taken ++ []) sink.told ≡ option_map (λ (taken : Taken). let none : List Line = [] in none) sink.told = no_more One sink.told ∙ bare.0 in

@@ -18,7 +18,7 @@ use Rattle.wfc_proof.specs.declared.text.LineFault.{LineFault}
 abbrev pub text_of : List Line → List ℕ
 text_of lines = flat_map (λ line. with_line_end (line_text line)) lines
 
--- what was read of a text: the bytes up to its last with_line_end line that is none of the format, the
+-- what was read of a text: the bytes up to its last ended line that is none of the format, the
 -- lines behind it, and the bytes
 -- of the line that didn't end
 pub record Reading : Type 0 where
@@ -31,7 +31,7 @@ abbrev pub line_in : Format → List ℕ → Result Line LineFault
 line_in One bytes = line_of bytes
 line_in Two bytes = line_2_of bytes
 
--- what was read after a line with_line_end: one line more, or none where it is no line of the format
+-- what was read after a line ended: one line more, or none where it is no line of the format
 abbrev pub and_line : Reading → Result Line LineFault → Reading
 and_line read (Ok line) = record { before = read.before; lines = read.lines ++ line ∷ []; part = [] }
 and_line read (Err fault) = record { before = read.before ++ (text_of read.lines ++ with_line_end read.part); lines = []; part = [] }
@@ -93,7 +93,7 @@ IsBare format told =
     (option_map (lines_at_end format) told ≡ option_map (λ (taken : Taken). let none : List Line = [] in none) told)
     × IsAt format told []
 
--- a journal of either format that was new_journal, over a sink that took all of this: it tells no line,
+-- a journal of either format that was begun, over a sink that took all of this: it tells no line,
 -- where its sink tells its bytes
 abbrev pub new_journal : GName → SinkView → JournalView
 new_journal name sink = record {

@@ -1,4 +1,4 @@
--- In which order the last turns of runners stand in left_rounds.
+-- In which order the last turns of runners stand in rounds.
 use Rattle.std.proofs.Common.{◌≡◌, ◌⊎◌, ℕ, zero, suc, ◌+◌, ◌-◌, ◌/◌, ◌<◌, ◌≤◌, min, List, [], ◌∷◌, ◌++◌, refl, sym, ◌∙◌, ap, subst, arith, inl, inr}
 use Rattle.std.specs.Prelude.{sum, replicate, slice_index}
 use Rattle.std.proofs.Math.Nat.{div-eq_of_lt, div-eq-sub-div}
@@ -48,11 +48,11 @@ count_lap (suc i) k first (n ∷ turns) at =
     let behind = count_lap i k (first + 1) turns (omega (arith, at)) in
     omega (arith, both, here, behind)
 
--- in the first lap of left_rounds
+-- in the first lap of rounds
 count_first : (quantum : ℕ) (left : List ℕ) (k : ℕ) → occurrences k (lap 0 (mins quantum left)) ≡ min quantum (slice_index left k)
 count_first quantum left k = count_lap k k 0 (mins quantum left) (omega arith) ∙ mins_at quantum left k
 
--- in left_rounds no more often than it has turns left
+-- in rounds no more often than it has turns left
 count_few : (n quantum : ℕ) (left : List ℕ) (k : ℕ) → occurrences k (left_rounds n quantum left) ≤ slice_index left k
 count_few zero quantum left k = omega arith
 count_few (suc n) quantum left k =
@@ -62,7 +62,7 @@ count_few (suc n) quantum left k =
     let rest = rests_at quantum left k in
     omega (arith, both, first, later, rest)
 
--- and as often, if these left_rounds are enough
+-- and as often, if these rounds are enough
 pub count_all : (n quantum : ℕ) (left : List ℕ) (k : ℕ) → 1 ≤ quantum → slice_index left k ≤ n → occurrences k (left_rounds n quantum left) ≡ slice_index left k
 count_all zero quantum left k some enough = (let none : slice_index left k ≡ 0 = omega (arith, enough) in sym none)
 count_all (suc n) quantum left k some enough =
@@ -136,7 +136,7 @@ lap_rises (n ∷ turns) first before w later i is more = elim (split (replicate 
   | inr s ↦ lap_rises turns (first + 1) s.front w later i s.there more
 ]
 
--- ---- left_rounds
+-- ---- rounds
 
 -- the round of a number's last turn
 abbrev round_at : ℕ → List ℕ → ℕ → ℕ
@@ -146,7 +146,7 @@ round_at quantum left k = (slice_index left k - 1) / quantum
 first_round : (quantum : ℕ) (left : List ℕ) (k : ℕ) → 1 ≤ quantum → slice_index left k ≤ quantum → round_at quantum left k ≡ 0
 first_round quantum left k some few = div-eq_of_lt (omega (arith, some, few))
 
--- and else one more than in the left_rounds behind it
+-- and else one more than in the rounds behind it
 next_round : (quantum : ℕ) (left : List ℕ) (k : ℕ) → 1 ≤ quantum → quantum < slice_index left k → round_at quantum left k ≡ round_at quantum (rests quantum left) k + 1
 next_round quantum left k some more =
     let one = div-eq-sub-div {m = quantum} {n = slice_index left k - 1} (omega (arith, some)) (omega (arith, more)) in
@@ -185,7 +185,7 @@ in_first n quantum left before w later i some all f last more =
           inl (omega (arith, first, next))
     ]
 
--- in left_rounds that hold all turns of one number, its last turn comes before the last of each number that occurs behind it
+-- in rounds that hold all turns of one number, its last turn comes before the last of each number that occurs behind it
 pub last_turns : (n quantum : ℕ) (left before : List ℕ) (w : ℕ) (later : List ℕ) (i : ℕ) → 1 ≤ quantum → occurrences w (left_rounds n quantum left) ≡ slice_index left w
     → left_rounds n quantum left ≡ before ++ w ∷ later → occurrences w later ≡ 0 → 1 ≤ occurrences i later → IsNoLater (round_at quantum left w) w (round_at quantum left i) i
 last_turns zero quantum left before w later i some all is last more = never_empty (IsNoLater (round_at quantum left w) w (round_at quantum left i) i) before later w is

@@ -142,7 +142,7 @@ spans_cut s words name other started sink kept refused ready at run = by_cut run
           fault = cut_front started sink (text_of (in_spans (take front.0 lines))) front.2;
         }
 
--- a journal that was cut off writes into the sink that it was new_journal over
+-- a journal that was cut off writes into the sink that it was begun over
 pub cut_name : (s : SearchView) (words : Stream) (name : GName) (started : SinkView) (other : GName) (journal : JournalView) → name_in name journal.target ≡ other
     → IsRunCutOff s.problem s.chooser.rule s.course.budget (state_at s.store s.course 0 words) s.store (new_journal name started) journal → other ≡ name
 cut_name s words name started other journal is run = by_cut run.cut_off

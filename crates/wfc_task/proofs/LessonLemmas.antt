@@ -72,7 +72,7 @@ learned_is sample n s wrap patterns is = by_tests (is_below_n sample n wrap) (na
     by_tests false true p q is = absurd (cc)
     by_tests false false p q is = (p, grind (arith, nat_tests, q), cc)
 
--- the problem that was picture_problem, where one was
+-- the problem that was built, where one was
 pub built_is : (patterns : PatternsView) (palette : List Symbol) (output : Output) (lines : List PinView) (P : Network) → picture_problem patterns palette output lines ≡ Ok P
     → IsRoom patterns output × ((pins : List Pin) × (picture_pins (texts_of palette) output.width output.height lines ≡ Ok pins) × (P ≡ problem_of_sample patterns output pins))
 built_is patterns palette output lines P is =

@@ -74,7 +74,7 @@ faults_lines : {X T : Type 0} (make : List X → T) (pins : Result (List X) Buil
 faults_lines make (Ok pins) fault files = (λ is. absurd (cc (is)), λ has. absurd (cc (has.1)))
 faults_lines make (Err why) fault files = (λ is. (why, refl, cc (is)), λ has. cc (has.1, has.2))
 
--- a count of window_pair_count, and then the lines
+-- a count of pairs, and then the lines
 pub faults_count : {X T : Type 0} (count : ℕ) (make : List X → T) (pins : Result (List X) BuildFault) (files : List File)
     → Faults (step (or_refuse refusals.Build (if nat_lt MAX_PAIRS count then Err (TooLarge count) else result_map make pins))) files (IsFirstFault (IsCountFault count ∷ IsRefusal refusals.Build pins ∷ []))
 faults_count {T = T} count make pins files fault = by_test (nat_lt MAX_PAIRS count) refl

@@ -56,7 +56,7 @@ pins_placed tiles mask (line ∷ lines) pins is = by_first (tile_map_pin tiles m
     by_first (Ok pin) (Err fault) head tail is = absurd (cc)
     by_first (Ok pin) (Ok more) head tail is = let same : (pin ∷ more) ≡ pins = cc in subst (ArePlaced mask) same (All-cons (IsPlaced mask) pin more (head pin refl) (tail more refl))
 
--- the problem that was tile_map_problem, where one was
+-- the problem that was built, where one was
 pub tiles_built_is : (set : TileSetView) (mask : MaskView) (wrap : Bool) (lines : List PinView) (P : Network) → tile_map_problem set mask wrap lines ≡ Ok P
     → (tile_pair_count set mask ≤ MAX_PAIRS) × ((pins : List Pin) × (tile_map_pins set.tiles mask lines ≡ Ok pins) × (P ≡ problem_of_tiles set mask wrap pins))
 tiles_built_is set mask wrap lines P is = by_tests (nat_lt MAX_PAIRS (tile_pair_count set mask)) (tile_map_pins set.tiles mask lines) refl refl is

@@ -94,12 +94,12 @@ abbrev pub IsSizeFault : RequestView → List File → TaskStage
 IsSizeFault asked files fault =
     (lesson : Taught) × Teaches asked files lesson × IsBelowFault asked lesson.patterns.n fault
 
--- there are so many window_pair_count, which are too many
+-- there are so many pairs, which are too many
 pub record IsCountFault (count : ℕ) (fault : Fault) : Type 0 where
   pub many : MAX_PAIRS < count
   pub is : fault ≡ Refused (refusals.Build (TooLarge count))
 
--- there are too many window_pair_count of a place and a pattern
+-- there are too many pairs of a place and a pattern
 abbrev pub IsPairsFault : RequestView → List File → TaskStage
 IsPairsFault asked files fault =
     (lesson : Taught) × Teaches asked files lesson

@@ -87,7 +87,7 @@ IsMaskFault asked files (Some name) fault =
 
 -- ---- problems
 
--- there are too many tile_pair_count of a place that is no hole and a variant
+-- there are too many pairs of a place that is no hole and a variant
 abbrev pub IsTilePairsFault : RequestView → List File → TaskStage
 IsTilePairsFault asked files fault =
     (set : TileSetView) × IsTileSetOf asked files set

@@ -123,7 +123,7 @@ module _ (set : TileSetView) (mask : MaskView) (wrap : Bool) (pins : List Pin) w
         let held = legal.held within.0 pin within.1 in
         pin_suits c inside pin (subst (IsHeld m) within.2 held.1))
 
-    -- what stands beside a cell variants_fit
+    -- what stands beside a cell fits
     fitting_at : (c d n : ℕ) → c < P.cells → n < P.cells → d < 4 → is_step mask wrap (place c % w) (place c / w) d ≡ true → place n ≡ step_from mask (place c % w) (place c / w) d
         → variants_fit set d (get_or a c 0) (get_or a n 0) ≡ true
     fitting_at c zero n inside other dir step at =

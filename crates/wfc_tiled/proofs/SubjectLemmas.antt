@@ -79,7 +79,7 @@ module _ (set : TileSetView) (mask : MaskView) (wrap : Bool) (pins : List Pin) w
 
   -- ---- supports
 
-  -- what variants_fit is allowed
+  -- what fits is allowed
   support_by : (v u d : ℕ) (Allowed : Type 0) → v < count → d < 4 → (variants_fit set d v u ≡ true → Allowed) → (Allowed → variants_fit set d v u ≡ true)
       → Contains (supports_of (problem_of_tiles set mask wrap pins) v d) u ↔ ((u < count) × Allowed)
   support_by v u d Allowed first dir there back = (

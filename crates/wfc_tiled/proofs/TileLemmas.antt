@@ -26,7 +26,7 @@ use Rattle.wfc_tiled.specs.Mask.{MaskView, IsMask, cell_number, plain_mask}
 use Rattle.wfc_tiled.specs.Tiles.{is_step, step_from, tile_beside, tiles_beside, variants_fit, variant_meets_pins, base_row, problem_of_tiles}
 use Rattle.wfc_tiled.proofs.MaskLemmas.{found, stands, few}
 
--- what variants_fit in a direction variants_fit the other way round in the opposite one
+-- what fits in a direction fits the other way round in the opposite one
 pub opposite_fits : (set : TileSetView) (d v w : ℕ) → d < 4 → variants_fit set d v w ≡ true → variants_fit set (opposite d) w v ≡ true
 opposite_fits set zero v w dir t = t
 opposite_fits set (suc zero) v w dir t = t
@@ -34,7 +34,7 @@ opposite_fits set (suc (suc zero)) v w dir t = t
 opposite_fits set (suc (suc (suc zero))) v w dir t = t
 opposite_fits set (suc (suc (suc (suc d)))) v w dir t = absurd (omega arith)
 
--- too many tile_pair_count of a place and a variant
+-- too many pairs of a place and a variant
 pub crowded_mask : (set : TileSetView) (mask : MaskView) → MAX_PAIRS < tile_pair_count set mask → roomy_mask set mask ≡ Err (TooLarge (tile_pair_count set mask))
 crowded_mask set mask more = cond-true (ltb MAX_PAIRS (tile_pair_count set mask)) (Err (TooLarge (tile_pair_count set mask))) (Ok mask) (lt-ltb MAX_PAIRS (tile_pair_count set mask) more)
 
@@ -48,7 +48,7 @@ too_large set w h product is more =
     let same : tile_pair_count set (plain_mask w h) ≡ product = ap (λ k. k * variant_total set.tiles) (length-range_with_len 0 (w * h)) ∙ sym is in
     crowded_mask set (plain_mask w h) (omega (arith, same)) ∙ ap (λ k. Err (TooLarge k)) same
 
--- what is tile_map_problem is the problem of the pins that are found, in a mask with few enough tile_pair_count
+-- what is built is the problem of the pins that are found, in a mask with few enough pairs
 pub built_from_pins : (set : TileSetView) (mask : MaskView) (wrap : Bool) (lines : List PinView) → tile_map_problem set mask wrap lines ≡ result_map (problem_of_tiles set mask wrap) (checked_tile_map_pins set mask lines)
 built_from_pins set mask wrap lines = by_case (nat_lt MAX_PAIRS (tile_pair_count set mask))
   where
@@ -77,7 +77,7 @@ module _ (set : TileSetView) (mask : MaskView) (wrap : Bool) (pins : List Pin) w
   pub place_is : IsMask mask → (c : ℕ) → c < P.cells → IsCell mask.width mask.height (place c) (place c % mask.width) (place c / mask.width)
   place_is is c inside = cell_is mask.width mask.height (place c) (omega (arith, is.inside c 0 inside))
 
-  -- ---- what lies tile_beside a cell
+  -- ---- what lies beside a cell
 
   pub entry : (c d : ℕ) → c < P.cells → d < 4 → get_or P.neighbours (c * 4 + d) NO_CELL ≡ tile_beside mask wrap (place c % mask.width) (place c / mask.width) d
   entry c d inside dir =

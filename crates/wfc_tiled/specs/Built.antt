@@ -1,4 +1,4 @@
--- What is tile_map_problem of a tile set, a mask and the lines of a pins file: a problem, or the first fault.
+-- What is built of a tile set, a mask and the lines of a pins file: a problem, or the first fault.
 use Rattle.std.specs.Prelude.{ℕ, ◌*◌, ◌&&◌, nat_lt, Bool, List, length, map, is_some, Result, Ok, Err, if◌then◌else◌}
 use Rattle.std.specs.Option.{ok_or, option_map}
 use Rattle.wfc_outside.specs.Gives.{result_map}
@@ -28,22 +28,22 @@ tile_map_pin tiles mask line =
 abbrev pub tile_map_pins : List TileView → MaskView → List PinView → Result (List Pin) BuildFault
 tile_map_pins tiles mask lines = all_in_order (map (tile_map_pin tiles mask) lines)
 
--- how many tile_pair_count of a place and a variant there are
+-- how many pairs of a place and a variant there are
 abbrev pub tile_pair_count : TileSetView → MaskView → ℕ
 tile_pair_count set mask = length mask.places * variant_total set.tiles
 
--- the mask, but for too many tile_pair_count
+-- the mask, but for too many pairs
 abbrev pub roomy_mask : TileSetView → MaskView → Result MaskView BuildFault
 roomy_mask set mask =
     if nat_lt MAX_PAIRS (tile_pair_count set mask) then Err (TooLarge (tile_pair_count set mask)) else Ok mask
 
--- the pins that the lines mean, but for too many tile_pair_count
+-- the pins that the lines mean, but for too many pairs
 abbrev pub checked_tile_map_pins : TileSetView → MaskView → List PinView → Result (List Pin) BuildFault
 checked_tile_map_pins set mask lines =
     if nat_lt MAX_PAIRS (tile_pair_count set mask) then Err (TooLarge (tile_pair_count set mask))
     else tile_map_pins set.tiles mask lines
 
--- the problem, but for too many tile_pair_count, and for a line at fault
+-- the problem, but for too many pairs, and for a line at fault
 abbrev pub tile_map_problem : TileSetView → MaskView → Bool → List PinView → Result Network BuildFault
 tile_map_problem set mask wrap lines =
     if nat_lt MAX_PAIRS (tile_pair_count set mask) then Err (TooLarge (tile_pair_count set mask))

@@ -4,6 +4,6 @@ use Rattle.wfc_model.specs.Legal.{Pin}
 use Rattle.wfc_tiled.specs.Mask.{MaskView}
 use Rattle.wfc_tiled.specs.Tiles.{variant_meets_pins}
 
--- whether a variant at the place of a cell variant_meets_pins all pins and bans
+-- whether a variant at the place of a cell meets all pins and bans
 abbrev pub meets_at : MaskView → List Pin → ℕ → ℕ → Bool
 meets_at mask pins c v = variant_meets_pins mask.width pins (slice_index mask.places c) v

@@ -21,26 +21,26 @@ abbrev pub step_from : MaskView → ℕ → ℕ → ℕ → ℕ
 step_from mask x y d =
     cell_of mask.width (stepped mask.width (right_by d) (left_by d) x) (stepped mask.height (down_by d) (up_by d) y)
 
--- the cell tile_beside a place in a direction, where there is one that is no hole
+-- the cell beside a place in a direction, where there is one that is no hole
 abbrev pub tile_beside : MaskView → Bool → ℕ → ℕ → ℕ → ℕ
 tile_beside mask wrap x y d =
     if is_step mask wrap x y d then unwrap_or (cell_number mask (step_from mask x y d)) NO_CELL else NO_CELL
 
--- the cells tile_beside a place by its number, direction by direction
+-- the cells beside a place by its number, direction by direction
 abbrev pub tiles_beside : MaskView → Bool → ℕ → List ℕ
 tiles_beside mask wrap n = map (λ d. tile_beside mask wrap (n % mask.width) (n / mask.width) d) (range_with_len 0 4)
 
--- the cells tile_beside each place
+-- the cells beside each place
 abbrev pub tile_neighbour_table : MaskView → Bool → List ℕ
 tile_neighbour_table mask wrap = flat_map (λ n. tiles_beside mask wrap n) mask.places
 
--- whether the variant w may stand tile_beside v in a direction
+-- whether the variant w may stand beside v in a direction
 abbrev pub variants_fit : TileSetView → ℕ → ℕ → ℕ → Bool
 variants_fit set d v w =
     if d == 0 then may_be_left set w v else if d == 1 then may_be_above set v w
     else if d == 2 then may_be_left set v w else may_be_above set w v
 
--- the variants that may stand tile_beside v in a direction, rising
+-- the variants that may stand beside v in a direction, rising
 abbrev pub fitting_variants : TileSetView → ℕ → ℕ → List ℕ
 fitting_variants set v d = filter (λ w. variants_fit set d v w) (range_with_len 0 (variant_total set.tiles))
 
@@ -64,7 +64,7 @@ variant_suits_at width n v pin = not (cell_of width pin.column pin.row == n) || 
 abbrev pub variant_meets_pins : ℕ → List Pin → ℕ → ℕ → Bool
 variant_meets_pins width pins n v = list_all (λ pin. variant_suits_at width n v pin) pins
 
--- for each variant whether it variant_meets_pins the pins and bans at a place
+-- for each variant whether it meets the pins and bans at a place
 abbrev pub base_row : TileSetView → ℕ → List Pin → ℕ → List Bool
 base_row set width pins n = map (λ v. variant_meets_pins width pins n v) (range_with_len 0 (variant_total set.tiles))
 
@@ -72,8 +72,8 @@ base_row set width pins n = map (λ v. variant_meets_pins width pins n v) (range
 abbrev pub tile_base_table : TileSetView → MaskView → List Pin → List Bool
 tile_base_table set mask pins = flat_map (λ n. base_row set mask.width pins n) mask.places
 
--- a cell for each place that is no hole, row by row, tile_beside it the places one step away that are no holes, the
--- variants with their weights, tile_beside each those that may stand there, and at each cell those that meet the pins
+-- a cell for each place that is no hole, row by row, beside it the places one step away that are no holes, the
+-- variants with their weights, beside each those that may stand there, and at each cell those that meet the pins
 -- and bans
 abbrev pub problem_of_tiles : TileSetView → MaskView → Bool → List Pin → Network
 problem_of_tiles set mask wrap pins = record {

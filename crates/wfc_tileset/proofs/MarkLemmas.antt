@@ -108,7 +108,7 @@ place_at tiles a b in_a in_b =
     ap (λ r. r * variant_total tiles + variant_number tiles (variant_at tiles b)) (number-variant tiles a in_a)
     ∙ ap (λ c. a * variant_total tiles + c) (number-variant tiles b in_b)
 
--- a table has the flag of two numbers exactly where the pair of their variants was with_flag
+-- a table has the flag of two numbers exactly where the pair of their variants was marked
 pub table_says : (tiles : List TileView) (ps : List (Variant × Variant)) (a b : ℕ) → a < variant_total tiles → b < variant_total tiles
     → ((p : Variant × Variant) → Contains ps p → AreVariants tiles p)
     → (get_or (pair_table tiles ps) (a * variant_total tiles + b) false ≡ true) ↔ Contains ps (two (variant_at tiles a) (variant_at tiles b))

@@ -1,4 +1,4 @@
--- Which variants may stand pairs_beside each other: what each declared pair allows under the eight actions, and nothing else.
+-- Which variants may stand beside each other: what each declared pair allows under the eight actions, and nothing else.
 use Rattle.std.specs.Prelude.{ℕ, ◌<◌, ◌==◌, ◌&&◌, Bool, List, [], ◌∷◌, Contains, length}
 use Rattle.std.specs.List.{All, flat_map, list_any}
 use Rattle.wfc_tileset.specs.declared.tile.End.{End}
