@@ -13,3 +13,5 @@ pub mod DrawnLemmas
 pub mod PairLemmas
 pub mod SaysPairLemmas
 pub mod SaysLemmas
+pub mod SaidPairLemmas
+pub mod SaidLemmas

@@ -75,10 +75,16 @@ pub fn words_of_tiles()
         ≡ Some X ∷ Some I ∷ Some L ∷ Some T ∷ Some F ∷ Some Slash ∷ None ∷ None ∷ None ∷ [] }
 {}
 
-/// A tile set that is read is one that the document says, key by key.
+/// A tile set is read exactly where the document says it, key by key; so a document says no two.
+/// The relation takes from the reader which words are classes, which bytes may stand in a name and
+/// which names are those of a PPM, and from `toml` what a document is and has at a key; neither an
+/// order nor a fault. What a picture's file has, it does not say.
 pub fn read_sets_are_said()
     ensures said { (bytes : List ℕ) (set : TileSetView) → set_of bytes ≡ Ok set
         → (ms : Members) × (parsed_document bytes ≡ Ok ms) × SaysSet ms set }
+    ensures read { (bytes : List ℕ) (ms : Members) (set : TileSetView)
+        → parsed_document bytes ≡ Ok ms → SaysSet ms set → set_of bytes ≡ Ok set }
+    ensures one { (ms : Members) (a b : TileSetView) → SaysSet ms a → SaysSet ms b → a ≡ b }
 {}
 
 /// What is said of a tile and of an end of a pair, and what is not: a weight that is not the table's, an action of another

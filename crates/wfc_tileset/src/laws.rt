@@ -1,13 +1,14 @@
 //! Laws of the allowed pairs, each a function with no body whose contract is the law. They run
 //! nothing.
 
-ghost use Rattle.std.specs.Prelude.{◌≡◌, ℕ, ◌<◌, List, [], ◌∷◌, length, Contains, None, map};
+ghost use Rattle.std.specs.Prelude.{◌≡◌, ℕ, ◌<◌, List, [], ◌∷◌, length, Contains, None, Some, codes, map};
 ghost use Rattle.std.specs.List.{range_with_len, All};
 ghost use Rattle.wfc_symmetry.specs.declared.class.Class.TheVariants.{X, I, L, T, F, Slash};
 ghost use Rattle.wfc_symmetry.specs.declared.class.Class.{Class};
 ghost use Rattle.wfc_tileset.specs.declared.tile.Pair.{Pair};
-ghost use Rattle.wfc_tileset.specs.Tiles.{TileView, TileSetView, Variant, variants, variant_total, variant_at, moved_variant};
+ghost use Rattle.wfc_tileset.specs.Tiles.{TileView, TileSetView, Variant, variants, variant_total, variant_at, variant_of, moved_variant, SpellsVariant};
 ghost use Rattle.wfc_tileset.specs.Allowed.{named_variant, across_pairs, down_pairs, IsAcross, IsDown, IsPair, ArePairs};
+ghost use Rattle.wfc_tileset.specs.Documents.{two_tiles};
 ghost use Rattle.wfc_tileset.specs.Samples.{straight_lines, crossing, tile_of_class};
 
 /// The variants of a junction, a cross and a straight, tile by tile, and how many there are.
@@ -17,6 +18,18 @@ pub fn variants_by_example()
     ensures fifth { variant_at (tile_of_class T ∷ tile_of_class X ∷ tile_of_class I ∷ []) 5
         ≡ (2, 0) }
     ensures total { variant_total (tile_of_class T ∷ tile_of_class X ∷ tile_of_class I ∷ []) ≡ 7 }
+{}
+
+/// A variant is spelled by the name of its tile, a slash and its number among that tile's: eight of a tile without symmetry
+/// stand before the four of a junction.
+pub fn spellings_by_example()
+    ensures found { map (variant_of two_tiles) (codes "f/0" ∷ codes "f/7" ∷ codes "t/2" ∷ [])
+        ≡ Some 0 ∷ Some 7 ∷ Some 10 ∷ [] }
+    ensures none { map (variant_of two_tiles) (codes "f/8" ∷ codes "t/4" ∷ codes "t" ∷ codes "t 2"
+        ∷ []) ≡ None ∷ None ∷ None ∷ None ∷ [] }
+    ensures spelled { SpellsVariant two_tiles (codes "t/2") 10 }
+    ensures other { SpellsVariant two_tiles (codes "t/2") 2 → ⊥ }
+    ensures past { SpellsVariant two_tiles (codes "t/4") 12 → ⊥ }
 {}
 
 /// Straight lines that may go on to the right: then they may go on below too, and nothing else may.
