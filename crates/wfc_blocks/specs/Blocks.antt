@@ -25,8 +25,8 @@ whole_of area = output_with area.width area.height false
 abbrev pub stride : ℕ → ℕ → ℕ
 stride n side = side + 1 - n
 
--- how many blocks there are along a side of an area: as many as there are strides, the last one
--- perhaps in part, in the starts of windows
+-- how many blocks there are along a side of an area: one for each stride that the starts of its
+-- windows take, where the last stride may be in part
 abbrev pub blocks_along : ℕ → ℕ → ℕ → ℕ
 blocks_along n side whole = div_ceil (starts whole n false) (stride n side)
 
@@ -38,7 +38,7 @@ blocks_across n area = blocks_along n area.side area.width
 abbrev pub blocks_down : ℕ → Area → ℕ
 blocks_down n area = blocks_along n area.side area.height
 
--- how many there are in all
+-- how many blocks of an area there are in all
 abbrev pub block_count : ℕ → Area → ℕ
 block_count n area = blocks_across n area * blocks_down n area
 

@@ -111,7 +111,7 @@ fn stacks_from(alloc: Global, tiles: &TileSet, elements: &[Value]) -> Result<Vec
     Ok(stacks)
 }
 
-/// The stack of an element.
+/// The stack that an element of `stack` declares; `stack` is its number, and stands in its fault.
 fn stack_in(
     names: &Names,
     tiles: &TileSet,

@@ -98,7 +98,7 @@ fn layer_bytes(
     tile_bytes(alloc, &layout, tiles, &picture)
 }
 
-/// The layout of a layer.
+/// The layout in which a layer's map is written.
 fn layout_of(tiles: &TileSet, form: Form, width: u32, height: u32) -> Layout
     ensures value { result ≡ layer_layout form tiles.now width height }
 {

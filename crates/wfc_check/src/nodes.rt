@@ -87,7 +87,7 @@ pub fn removal_fault(trail: &BranchTrail, cell: u32, value: u16, dir: u8) -> Opt
     }
 }
 
-/// Why a split is refused, if it is.
+/// Why a split of a cell into one value and its others is refused, if it is.
 pub fn split_fault(trail: &BranchTrail, cell: u32, value: u16) -> Option<Reject>
     ensures value { result ≡ node_fault trail.now.problem (standing trail.now) (splits cell value) }
 {
@@ -104,7 +104,7 @@ pub fn split_fault(trail: &BranchTrail, cell: u32, value: u16) -> Option<Reject>
     None
 }
 
-/// Why an empty cell is refused, if it is.
+/// Why the claim that a cell is empty is refused, if it is.
 pub fn empty_fault(trail: &BranchTrail, cell: u32) -> Option<Reject>
     ensures value { result ≡ node_fault trail.now.problem (standing trail.now) (empties cell) }
 {

@@ -138,7 +138,8 @@ fn after_first(number: u64, line: &[u8]) -> Result<Stage, CheckFault>
     }
 }
 
-/// The stage behind the numbers of a head.
+/// The stage behind the second line of a head, which has to tell how many cells and values the
+/// problem has.
 fn after_numbers(
     problem: &Problem,
     format: Format,
@@ -178,7 +179,7 @@ fn after_shape(shape: &Shape, number: u64, line: &[u8]) -> Result<Stage, CheckFa
     }
 }
 
-/// A line of the proof.
+/// Hands a line of the proof to the checker; `number` is the line's own, and stands in its fault.
 fn place_after_line(
     checker: &mut Checker<'_>,
     format: Format,

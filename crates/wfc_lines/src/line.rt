@@ -42,7 +42,8 @@ pub fn put_numbered<E: Sink>(err: &mut E, text: &str, n: u32, file: &str) -> Res
     counted(err, text, u64::from(n), file)
 }
 
-/// The same with a longer number.
+/// Puts the line of a text, a number of up to 64 bits straight behind it, and the file that it
+/// speaks of.
 pub(crate) fn counted<E: Sink>(err: &mut E, text: &str, n: u64, file: &str) -> Result<(), SinkFault>
     ensures told { IsSaid (E.seen err.old) (E.seen err.new)
         (numbered_text text.now n file.now) result }

@@ -11,7 +11,7 @@ use Rattle.wfc_reply.specs.Reply.{Answered}
 abbrev pub DomainsAnswers : DomainsTask → Answered → Type 0
 DomainsAnswers (domains P steps) answered = domains_answer P steps ≡ answered
 
--- it is no where no cell has its domains
+-- the command `domains`: its answer is no where some cell has no value before the first step
 abbrev pub domains_command : Command
 domains_command = record {
   Task = DomainsTask;

@@ -36,7 +36,7 @@ abbrev pub IsLegalMap : {maps : MapKind} {rules : List Rule} {files : List File}
     → FillWork maps rules asked files → maps.Map → Type 0
 IsLegalMap {maps = maps} {files = files} asked work m = maps.IsLegal asked files work.P work.posed m
 
--- its text
+-- the text of a map in the layout that the request asks for
 abbrev pub map_text_of : {maps : MapKind} {rules : List Rule} {files : List File} (asked : RequestView)
     → FillWork maps rules asked files → maps.Map → List ℕ
 map_text_of {maps = maps} {files = files} asked work m = maps.text_of asked files work.P work.posed work.layout m
@@ -76,8 +76,8 @@ HasNoMap maps call asked files =
     → (work : FillWork maps call.rules asked files) × ((m : maps.Map) → IsLegalMap asked work m → ⊥) × (call.after.out ≡ call.before.out)
 
 -- statuses 0, 1 and 2 of `fill`: the run of its problem by the rule, the budget and the seed asked
--- for ends in this order in a map,
--- in no map, or spent, and what is written is the map of its assignment
+-- for ends in a map, in no map, or spent, in this order, and what is written is the map of its
+-- assignment
 abbrev pub IsAsRun : MapKind → Call → RequestView → List File → Type 0
 IsAsRun maps call asked files =
     HasAnswer call.status

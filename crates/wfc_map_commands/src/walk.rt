@@ -32,7 +32,7 @@ pub(crate) struct Walk<'p> {
     pub(crate) beside: usize,
 }
 
-/// No step was made.
+/// The walk before its first step, with room for as many literals as there are steps.
 pub(crate) fn begun<'p>(alloc: Global, stepping: &'p Stepping) -> Result<Walk<'p>, NoMemory>
     ensures few { OnOk result (length stepping.now.steps.items < 2 ^ 32) }
     ensures opened { IfOk result

@@ -121,7 +121,7 @@ abbrev pub ToldEnd : {T : Type 0} → Plan T → FolderView → FolderView → L
 ToldEnd plan before after files result =
     (result ≡ outcome plan files) ⊎ (IsShort result ⊎ IsHindered plan before after result)
 
--- a result whose fault is refused
+-- a result whose fault has become a refusal
 abbrev pub or_refuse : {T E : Type 0} → (E → Refusal) → Result T E → Result T Refusal
 or_refuse refusal (Ok value) = Ok value
 or_refuse refusal (Err fault) = Err (refusal fault)

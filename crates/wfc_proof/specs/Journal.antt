@@ -8,7 +8,7 @@ use Rattle.wfc_outside.specs.Sink.{Taken}
 use Rattle.wfc_proof.specs.declared.Line.{Line}
 use Rattle.wfc_proof.specs.declared.Line.TheVariants.{Remove, Span, Try, Empty, End, Found, Out}
 
--- a span doesn't end before it begins
+-- a line that is a span doesn't end before it begins; any other line is whole
 abbrev pub IsWhole : Line → Type 0
 IsWhole (Remove cell value dir) = ⊤
 IsWhole (Span cell first last dir) = first ≤ last

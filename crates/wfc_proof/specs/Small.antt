@@ -23,7 +23,7 @@ wide = record {
   base = true ∷ true ∷ true ∷ true ∷ true ∷ true ∷ [];
 }
 
--- the same, where cell 0 has the values 0 and 1, and cell 1 has 0
+-- the first problem with another base: cell 0 has the values 0 and 1, and cell 1 has 0
 abbrev pub dead : Network
 dead = record {
   cells = 2;
@@ -62,7 +62,7 @@ greatest_shape = record {
   wrap_out = true;
 }
 
--- a text in format 1 that proves that the second problem has no legal assignment
+-- a text in format 1 that proves that the second problem, `dead`, has no legal assignment
 abbrev pub dead_text : List ℕ
 dead_text = codes "wfc-refutation 1\ncells 2 values 3\nr 0 0 2\nr 0 1 2\nx 0\nq\n"
 

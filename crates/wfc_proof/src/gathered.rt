@@ -43,7 +43,7 @@ impl Gathered {
         &self.bytes[..self.filled]
     }
 
-    /// Adds bytes.
+    /// Adds bytes, for which there has to be room.
     pub(crate) fn push(&mut self, bytes: &[u8])
         requires room { length self.old + length bytes.now ≤ ROOM }
         ensures pushed { self.new ≡ self.old ++ bytes.now }

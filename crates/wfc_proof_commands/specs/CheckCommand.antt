@@ -17,7 +17,7 @@ use Rattle.wfc_words.specs.RequestView.{RequestView}
 abbrev pub CheckAnswers : CheckTask → Answered → Type 0
 CheckAnswers (check found) answered = check_answer found ≡ answered
 
--- why it is no: the first fault of the file as a refutation
+-- the text says why the answer is no: the first fault of the file as a refutation
 abbrev pub IsNoRefutation : ProofKind → RequestView → List File → List ℕ → Type 0
 IsNoRefutation space asked files text =
     (fault : CheckFault) × IsCheckTask space asked files (Some fault)
@@ -34,6 +34,6 @@ checks space = record {
   budget = λ asked. asked.budget;
 }
 
--- of windows and of tiles
+-- the command that checks refutations of problems of windows and of tiles
 abbrev pub check_command : Command
 check_command = checks flat_proofs

@@ -65,7 +65,7 @@ fn push_cells(text: &mut Vec<u8>, picture: &Picture, y: u32) -> Result<(), NoMem
     Ok(())
 }
 
-/// Writes the number of a variant behind the text, or a hyphen for a hole.
+/// Writes what stands at a place behind the text: the number of a variant, or a hyphen for a hole.
 fn push_cell(text: &mut Vec<u8>, number: u32) -> Result<(), NoMemory>
     ensures word { OnOk result (text.new.items ≡ text.old.items ++ variant_word number) }
 {

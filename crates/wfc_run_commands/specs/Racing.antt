@@ -25,7 +25,7 @@ abbrev pub race_end : List Rule → RequestView → Network → Option (RaceEnd 
 race_end rules asked P =
     round_end_of P (entrants (runners_of rules asked) asked.budget asked.seed) asked.quantum
 
--- the retractions of a runner
+-- how many retractions a runner made; none where there is no runner
 abbrev pub retractions_in : Option Racer → ℕ
 retractions_in None = 0
 retractions_in (Some r) = r.retractions

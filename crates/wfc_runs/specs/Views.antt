@@ -9,7 +9,7 @@ use Rattle.wfc_search.specs.declared.Outcome.{Outcome}
 use Rattle.wfc_search.specs.declared.search.Search.{Search}
 use Rattle.wfc_runs.specs.Words.{words_of_seed}
 
--- such a search as contracts see it
+-- a search over the engine of counters as contracts see it: `told` says what its chooser is
 abbrev pub search_view : {D : Type 0} {V : D → Type 0} → ((v : D) → V v → Told)
     → Search StoreView D V → SearchView
 search_view told it = view_of_search (λ store. store) it (told it.chooser.vtable it.chooser.value)

@@ -13,11 +13,11 @@ use Rattle.wfc_task.specs.Steps.{sample_in_numbers, read_pin_lines, problem_of_l
 use Rattle.wfc_task.specs.declared.lesson.Taught.{Taught}
 use Rattle.wfc_words.specs.RequestView.{RequestView}
 
--- the sample is read: what its pixels show
+-- read the sample, and answer what its pixels show
 abbrev pub sampled_plan : RequestView → Plan SampledView
 sampled_plan asked = and_then (file_plan Sample asked.file) (λ bytes. step (sampled_in asked bytes))
 
--- the sample is read, and its pixels are numbered: its kind, its picture and its palette
+-- read the sample, number its pixels, and answer its kind, its picture and its palette
 abbrev pub picture_plan : RequestView → Plan (Kind × Raster × List Symbol)
 picture_plan asked =
     and_then (sampled_plan asked) (λ sampled.

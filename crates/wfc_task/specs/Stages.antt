@@ -34,7 +34,7 @@ abbrev pub IsShownFault : Bool → List ℕ → TaskStage
 IsShownFault true bytes = IsRefusal (refusals.Ppm Sample) (ppm_of bytes)
 IsShownFault false bytes = IsRefusal (refusals.Grid Sample) (grid_of bytes)
 
--- the sample's file isn't of its form
+-- the bytes of the sample's file are at fault in the form that its name tells
 abbrev pub IsFormFault : RequestView → List File → TaskStage
 IsFormFault asked files fault =
     (bytes : List ℕ) × IsFile files asked.file bytes
@@ -94,7 +94,7 @@ abbrev pub IsSizeFault : RequestView → List File → TaskStage
 IsSizeFault asked files fault =
     (lesson : Taught) × Teaches asked files lesson × IsBelowFault asked lesson.patterns.n fault
 
--- there are so many pairs, which are too many
+-- the count of pairs is over the limit, and the fault says it
 pub record IsCountFault (count : ℕ) (fault : Fault) : Type 0 where
   pub many : MAX_PAIRS < count
   pub is : fault ≡ Refused (refusals.Build (TooLarge count))

@@ -5,7 +5,7 @@ ghost use Rattle.wfc_task.specs.Sources.{is_picture_name, window_side_of};
 
 use wfc_words::SourceModel;
 
-/// Whether a file is named as a picture in colours.
+/// Whether a file is named as a picture in colours: its name ends with `.ppm` or `.PPM`.
 pub(crate) fn is_picture_name(name: &[u8]) -> bool
     ensures value { result ≡ is_picture_name name.now }
 {

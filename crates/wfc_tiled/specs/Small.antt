@@ -25,7 +25,7 @@ line_and_cross = record {
   pictures = [];
 }
 
--- a line of a pins file
+-- the line of a pins file with this number: a pin if the flag says so and else a ban, its column, its row, its symbol
 abbrev pub tile_pin_line : ℕ → Bool → ℕ → ℕ → List ℕ → PinView
 tile_pin_line number keep x y symbol = record { line = number; keep = keep; x = x; y = y; symbol = symbol }
 

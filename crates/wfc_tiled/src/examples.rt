@@ -54,8 +54,8 @@ pub fn pins_by_example()
         (build_faults.PinInHole 3) ∷ Err (build_faults.UnknownSymbol 4) ∷ [] }
 {}
 
-/// Few enough pairs of a place and a variant leave the mask, and the pins that the lines mean; too
-/// many come before a line at fault.
+/// Where there are few enough pairs of a place and a variant, the answer is the mask, and the pins
+/// that the lines mean; too many are refused before a line at fault.
 pub fn builds_by_pairs()
     ensures counted { tile_pair_count line_and_cross two_holes ≡ 12 }
     ensures roomy { roomy_mask line_and_cross two_holes ≡ Ok two_holes }

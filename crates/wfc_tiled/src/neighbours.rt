@@ -9,7 +9,8 @@ use wfc_outside::NoMemory;
 use wfc_places::{along, down_by, left_by, right_by, up_by};
 use wfc_problem::NO_CELL;
 
-/// For each place and direction the cell that lies there, or `NO_CELL`.
+/// For each place, direction by direction, the cell that lies there, or `NO_CELL`: four entries a
+/// place.
 pub(crate) fn neighbours(alloc: Global, mask: &Mask, wrap: bool) -> Result<Vec<u32>, NoMemory>
     ensures value { IfOk result (λ table. table.items ≡ tile_neighbour_table mask.now wrap) }
 {

@@ -102,7 +102,7 @@ fn first_other(bytes: &[u8]) -> Option<u32>
     }
 }
 
-/// Where it stands.
+/// Where the first byte stands that is no place and no hole, if there is one.
 fn place_of_other(bytes: &[u8]) -> Option<usize>
     ensures value { result ≡ position is_no_mask_byte bytes.now }
     ensures within { IfSome result (λ at. at < length bytes.now) }

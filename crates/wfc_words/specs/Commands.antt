@@ -53,7 +53,7 @@ sample_words = choice (word_of names.Symmetry) ∷ flag (codes "wrap-in") ∷ []
 abbrev pub edge_words : List Word
 edge_words = flag (codes "wrap-out") ∷ []
 
--- the file of pins
+-- the file of pins, which may be left out
 abbrev pub pin_words : List Word
 pin_words = choice (codes "pins") ∷ []
 
@@ -85,7 +85,7 @@ format_words = choice (word_of names.Format) ∷ []
 abbrev pub number_words : List Word
 number_words = needed (word_of names.Number) ∷ []
 
--- how many seeds race, and by how many turns
+-- how many seeds race, which must be there, and how many turns each makes in a round
 abbrev pub race_words : List Word
 race_words = demand (word_of names.Seeds) ∷ choice (word_of names.Quantum) ∷ []
 
@@ -149,7 +149,7 @@ word_name (choice name) = name
 word_name (demand name) = name
 word_name (flag name) = name
 
--- whether words without it are refused
+-- whether words that lack this word are refused
 abbrev pub is_required : Word → Bool
 is_required (needed name) = true
 is_required (choice name) = false

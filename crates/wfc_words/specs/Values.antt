@@ -35,16 +35,17 @@ abbrev pub value_in : {X : Type 0} → ValueName → (Text → Option X) → X �
 value_in name read absent None = Ok absent
 value_in name read absent (Some text) = in_range name (read text)
 
--- a number of the table
+-- the number that a row of the table names, or the fault that it is outside of its range
 abbrev pub number_value : CommandKind → List Row → NumberRange → Result ℕ CommandFault
 number_value kind rows range =
     value_in range.name (number_in range.least range.most) range.absent (word_text kind (word_of range.name) rows)
 
--- the model
+-- what the map is made from, windows of a sample or a tile set, or the fault of its word; a command without that word
+-- has windows of side 0
 abbrev pub model_value : CommandKind → List Row → Result SourceModel CommandFault
 model_value kind rows = value_in names.Model (model_asked kind) (Overlap 0) (word_text kind (word_of names.Model) rows)
 
--- the rule
+-- by which rule a cell is picked, or the fault of its word; where it is missing, that of the fewest values
 abbrev pub rule_value : CommandKind → List Row → Result RuleKind CommandFault
 rule_value kind rows = value_in names.Rule (rule_asked kind) Fewest (word_text kind (word_of names.Rule) rows)
 

@@ -79,7 +79,7 @@ pub(crate) const DEPTH: NumberRow = NumberRow {
     absent: 0,
 };
 
-/// How many seeds race, of which the first is this one: each fits 64 bits.
+/// The row of how many seeds race, of which the first is this one: each fits 64 bits.
 pub(crate) fn seeds(seed: u64) -> NumberRow
     ensures row { range_view result ≡ seeds_range seed }
     ensures limit { result.most ≤ 8 }
@@ -92,7 +92,7 @@ pub(crate) fn seeds(seed: u64) -> NumberRow
     }
 }
 
-/// The side of a block of a map of this source: a block holds a window.
+/// The row of the side of a block, in pixels, of a map of this source: a block holds a window.
 pub(crate) fn block(source: SourceModel) -> NumberRow
     ensures row { range_view result ≡ block_range source }
     ensures limit { result.most ≡ 4096 }
