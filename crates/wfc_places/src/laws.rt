@@ -1,6 +1,6 @@
 //! Laws of the definitions, each a function with no body whose contract is the law. They run nothing.
 
-ghost use Rattle.std.specs.Prelude.{◌≡◌, ◌↔◌, ℕ, ◌+◌, ◌<◌, [], ◌∷◌, true, false, map, None, Some, IsTrue};
+ghost use Rattle.std.specs.Prelude.{◌≡◌, ◌↔◌, ℕ, ◌+◌, ◌<◌, ◌==◌, [], ◌∷◌, true, false, map, None, Some, IsTrue};
 ghost use Rattle.wfc_model.specs.Direction.{left_by, down_by, right_by, up_by};
 ghost use Rattle.wfc_model.specs.Legal.{kept_pin, banned_pin};
 ghost use Rattle.wfc_places.specs.Flags.{HasFlags, IsRowCut, flag};
@@ -38,7 +38,7 @@ pub fn numbers_that_suit()
 /// Two rows of three flags, where the second is cut to its last two numbers; no row is cut that has a flag more, or where
 /// another row changed.
 pub fn cut_rows_by_example()
-    ensures here { flag 3 (true ∷ false ∷ false ∷ false ∷ true ∷ false ∷ []) 1 1 ≡ true }
+    ensures here { flag 3 (true ∷ false ∷ false ∷ false ∷ false ∷ true ∷ []) 1 2 ≡ true }
     ensures cut { IsRowCut 3 (true ∷ false ∷ true ∷ true ∷ true ∷ false ∷ [])
         (true ∷ false ∷ true ∷ false ∷ true ∷ false ∷ []) 1 (suits (banned_pin 0 0 0)) }
     ensures kept { IsRowCut 3 (true ∷ false ∷ true ∷ true ∷ true ∷ false ∷ [])
@@ -46,4 +46,14 @@ pub fn cut_rows_by_example()
     ensures other { IsRowCut 3 (true ∷ false ∷ true ∷ true ∷ true ∷ false ∷ [])
         (true ∷ false ∷ false ∷ false ∷ true ∷ false ∷ []) 1 (suits (banned_pin 0 0 0)) → ⊥ }
     ensures longer { IsRowCut 1 (true ∷ []) (true ∷ true ∷ []) 0 (suits (kept_pin 0 0 0)) → ⊥ }
+{}
+
+/// Two rows of three flags that say which numbers stay; they are no three rows of two, nor so few of longer ones.
+pub fn tables_by_example()
+    ensures rows { HasFlags 3 2 (true ∷ false ∷ false ∷ false ∷ false ∷ true ∷ [])
+        (λ c v. v == c + c) }
+    ensures turned { HasFlags 2 3 (true ∷ false ∷ false ∷ false ∷ false ∷ true ∷ [])
+        (λ c v. v == c + c) → ⊥ }
+    ensures longer { HasFlags 2 2 (true ∷ false ∷ false ∷ false ∷ false ∷ []) (λ c v. v == c + c)
+        → ⊥ }
 {}
