@@ -48,7 +48,8 @@ pub fn cut_rows_by_example()
     ensures longer { IsRowCut 1 (true ∷ []) (true ∷ true ∷ []) 0 (suits (kept_pin 0 0 0)) → ⊥ }
 {}
 
-/// Two rows of three flags that say which numbers stay; they are no three rows of two, nor so few of longer ones.
+/// Two rows of three flags that say which numbers stay. They are no three rows of two, and no table has a flag more than its
+/// rows.
 pub fn tables_by_example()
     ensures rows { HasFlags 3 2 (true ∷ false ∷ false ∷ false ∷ false ∷ true ∷ [])
         (λ c v. v == c + c) }
