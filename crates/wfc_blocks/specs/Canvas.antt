@@ -90,7 +90,7 @@ abbrev pub lines_within : Block → List PinView → List PinView
 lines_within block lines =
     map (λ line. line_in_block block line) (filter (λ (line : PinView). lies_in block line.x line.y) lines)
 
--- the lines of the pins of a block
+-- the pins of a block as lines: what is set in it, row by row, and then the lines that lie in it
 abbrev pub lines_of_block : List (List ℕ) → List PinView → Canvas → Block → List PinView
 lines_of_block texts lines canvas block =
     made_in_block (set_line texts) canvas block ++ lines_within block lines

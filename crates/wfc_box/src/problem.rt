@@ -62,7 +62,7 @@ pub fn build(
     build_in(alloc, tiles, stacks, frame, pins)
 }
 
-/// The same, of a frame.
+/// The problem of a box in a frame, as `build` answers it.
 fn build_in(
     alloc: Global,
     tiles: &TileSet,

@@ -37,7 +37,7 @@ abbrev pub command_status : CommandFault → ℕ
 command_status words.NoMemory = 6
 command_status _ = 3
 
--- the text of a file that is no grid: of a mask's by the word of masks
+-- the text of a file that is no grid; that of a mask says so in the word for masks
 abbrev pub no_grid_text : Source → GridFault → List ℕ → List ℕ
 no_grid_text source.Mask fault file = text_of_mask_grid fault file
 no_grid_text _ fault file = text_of_grid fault file

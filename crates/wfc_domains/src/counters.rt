@@ -262,12 +262,12 @@ impl Counters {
     /// One less at a place of the table, and whether none is left there and it isn't marked. It is one step.
     #[inline]
     pub fn down_at<L: Ledger>(&mut self, place: usize, steps: &mut Steps<L>) -> bool
-        requires place_in { counter_place < length self.old.counts }
-        requires some { 0 < slice_index self.old.counts counter_place % 32768 }
-        ensures bare { IsTrue result ↔ (slice_index self.old.counts counter_place ≡ 1) }
+        requires place_in { place < length self.old.counts }
+        requires some { 0 < slice_index self.old.counts place % 32768 }
+        ensures bare { IsTrue result ↔ (slice_index self.old.counts place ≡ 1) }
         ensures changed { self.new ≡ record self.old {
           counts = slice_set self.old.counts
-              counter_place (slice_index self.old.counts counter_place - 1);
+              place (slice_index self.old.counts place - 1);
         } }
         ensures steps { steps.new ≡ steps.old + 1 }
     {
@@ -354,8 +354,8 @@ impl Counters {
     /// Marks the count of a value at a cell in one direction, which stands at `place`.
     #[inline]
     fn mark_side(&mut self, place: usize, cell: u32, value: u16, dir: usize)
-        requires place { counter_place ≡ count_place self.old.values self.old.dirs cell value dir }
-        requires place_in { counter_place < length self.old.counts }
+        requires place { place ≡ count_place self.old.values self.old.dirs cell value dir }
+        requires place_in { place < length self.old.counts }
         requires narrow { self.old.limit ≡ 127 }
         ensures changed { self.new ≡ with_count self.old cell value dir
             (entry_of self.old cell value dir % 32768 + 32768) }
@@ -422,13 +422,13 @@ fn large_part(count: u16) -> u16
 /// Fills the small part of a count, which came to 0, from the large one. Whether there is nothing to fill it from.
 #[inline]
 fn refill(small: &mut Vec<u8>, large: &mut Vec<u8>, place: usize) -> bool
-    requires place_in { counter_place < vec_len small.old }
-    ensures none { IsTrue result → (slice_index large.old.items counter_place ≡ 0)
+    requires place_in { place < vec_len small.old }
+    ensures none { IsTrue result → (slice_index large.old.items place ≡ 0)
         × (small.new.items ≡ small.old.items) × (large.new.items ≡ large.old.items) }
-    ensures some { IsFalse result → 0 < slice_index large.old.items counter_place }
-    ensures small { IsFalse result → small.new.items ≡ slice_set small.old.items counter_place 255 }
+    ensures some { IsFalse result → 0 < slice_index large.old.items place }
+    ensures small { IsFalse result → small.new.items ≡ slice_set small.old.items place 255 }
     ensures large { IsFalse result → large.new.items
-        ≡ slice_set large.old.items counter_place (slice_index large.old.items counter_place - 1) }
+        ≡ slice_set large.old.items place (slice_index large.old.items place - 1) }
 {
     if large.len() == 0 {
         return true;
@@ -439,13 +439,13 @@ fn refill(small: &mut Vec<u8>, large: &mut Vec<u8>, place: usize) -> bool
 /// The same where there are large parts.
 #[inline(never)]
 fn refill_wide(small: &mut Vec<u8>, large: &mut Vec<u8>, place: usize) -> bool
-    requires place_in { counter_place < vec_len small.old }
-    ensures none { IsTrue result → (slice_index large.old.items counter_place ≡ 0)
+    requires place_in { place < vec_len small.old }
+    ensures none { IsTrue result → (slice_index large.old.items place ≡ 0)
         × (small.new.items ≡ small.old.items) × (large.new.items ≡ large.old.items) }
-    ensures some { IsFalse result → 0 < slice_index large.old.items counter_place }
-    ensures small { IsFalse result → small.new.items ≡ slice_set small.old.items counter_place 255 }
+    ensures some { IsFalse result → 0 < slice_index large.old.items place }
+    ensures small { IsFalse result → small.new.items ≡ slice_set small.old.items place 255 }
     ensures large { IsFalse result → large.new.items
-        ≡ slice_set large.old.items counter_place (slice_index large.old.items counter_place - 1) }
+        ≡ slice_set large.old.items place (slice_index large.old.items place - 1) }
 {
     let part = part_at(large, place);
     if part == 0 {
@@ -459,12 +459,12 @@ fn refill_wide(small: &mut Vec<u8>, large: &mut Vec<u8>, place: usize) -> bool
 /// One more at a place whose small part is full.
 #[inline(never)]
 fn carry(small: &mut Vec<u8>, large: &mut Vec<u8>, place: usize)
-    requires place_in { counter_place < vec_len small.old }
-    requires large_in { counter_place < vec_len large.old }
-    requires room { slice_index large.old.items counter_place < 255 }
-    ensures small { small.new.items ≡ slice_set small.old.items counter_place 1 }
+    requires place_in { place < vec_len small.old }
+    requires large_in { place < vec_len large.old }
+    requires room { slice_index large.old.items place < 255 }
+    ensures small { small.new.items ≡ slice_set small.old.items place 1 }
     ensures large { large.new.items
-        ≡ slice_set large.old.items counter_place (slice_index large.old.items counter_place + 1) }
+        ≡ slice_set large.old.items place (slice_index large.old.items place + 1) }
 {
     let part = large[place];
     small[place] = 1;
@@ -483,7 +483,7 @@ fn copy_row(parts: &mut Vec<u8>, start: usize, row: usize, dest: usize)
 /// The part at a place, 0 where there is none.
 #[inline]
 pub(crate) fn part_at(parts: &[u8], place: usize) -> u8
-    ensures value { result ≡ slice_index parts.now counter_place }
+    ensures value { result ≡ slice_index parts.now place }
 {
     match parts.get(place) {
         Some(part) => *part,

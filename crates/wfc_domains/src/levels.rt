@@ -31,7 +31,7 @@ impl Model for Levels {
 }
 
 impl Levels {
-    /// No literal, and room for so many.
+    /// Levels on which no literal stands, with room for `levels` of them.
     pub fn new(alloc: Global, levels: u32) -> Result<Levels, NoMemory>
         ensures ok { IfOk result (λ made. made
             ≡ record { standing = []; marks = []; spare = levels }) }

@@ -9,7 +9,7 @@ use Rattle.wfc_words.specs.RequestView.{RequestView}
 use Rattle.wfc_words.specs.declared.kinds.SourceModel.{SourceModel}
 use Rattle.wfc_words.specs.declared.kinds.SourceModel.TheVariants.{Overlap, Tiles}
 
--- what is looked at for `learn`: a sample and what it teaches, or a tile set and its pictures
+-- the stages of `learn`: those of a sample and what it teaches, or of a tile set and its pictures
 abbrev pub learn_order_by : SourceModel → RequestView → List File → List TaskStage
 learn_order_by (Overlap n) asked files =
     IsReadingFault Sample files asked.file
@@ -23,6 +23,6 @@ learn_order_by Tiles asked files =
     ∷ IsTilesFault asked files
     ∷ []
 
--- what is looked at for the rules of a request
+-- the stages of `learn` for a request, in the order in which their faults are looked for
 abbrev pub learn_order : RequestView → List File → List TaskStage
 learn_order asked files = learn_order_by asked.source asked files

@@ -153,11 +153,11 @@ pub(crate) fn problem_of_lines(
     taught: &Taught,
     lines: &[PinLine],
 ) -> Result<Problem, Refusal>
-    requires patterns { IsPatterns patterns_taught.now.patterns }
+    requires patterns { IsPatterns taught.now.patterns }
     requires output { IsOutputAsked request.now }
-    ensures exact { GivesStep (problem_of_lines request.now patterns_taught.now.patterns
-        patterns_taught.now.palette lines.now) result }
-    ensures posed { IfOk result (IsPosed request.now patterns_taught.now.patterns) }
+    ensures exact { GivesStep (problem_of_lines request.now taught.now.patterns
+        taught.now.palette lines.now) result }
+    ensures posed { IfOk result (IsPosed request.now taught.now.patterns) }
 {
     let output = AskedOutput {
         width: request.width,

@@ -66,8 +66,8 @@ pub fn builds_by_pairs()
         "x/0") ∷ []) ≡ Err (build_faults.PinInHole 3) }
     ensures crowded_mask { (set : TileSetView) (mask : MaskView) → MAX_PAIRS < tile_pair_count set
         mask → roomy_mask set mask ≡ Err (build_faults.TooLarge (tile_pair_count set mask)) }
-    ensures crowded_pins { (set : TileSetView) (mask : MaskView) (straight_lines : List PinView) →
-        MAX_PAIRS < tile_pair_count set mask → checked_tile_map_pins set mask straight_lines ≡ Err
+    ensures crowded_pins { (set : TileSetView) (mask : MaskView) (lines : List PinView) →
+        MAX_PAIRS < tile_pair_count set mask → checked_tile_map_pins set mask lines ≡ Err
         (build_faults.TooLarge (tile_pair_count set mask)) }
 {}
 
