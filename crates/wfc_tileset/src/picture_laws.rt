@@ -1,18 +1,26 @@
 //! Laws of the pictures of tiles, each a function with no body whose contract is the law. They run
 //! nothing.
 
-ghost use Rattle.std.specs.Prelude.{◌≡◌, List, [], ◌∷◌, ◌++◌, codes, map, Some, None, Ok, Err};
+ghost use Rattle.std.specs.Prelude.{◌≡◌, ℕ, List, [], ◌∷◌, ◌++◌, codes, length, map, true, false, Some, None, Ok, Err};
 ghost use Rattle.std.specs.List.{range_with_len};
+ghost use Rattle.wfc_grid.specs.Reading.{grid_of};
 ghost use Rattle.wfc_tileset.specs.declared.fault.TileFault.TheVariants as fault;
-ghost use Rattle.wfc_tileset.specs.Pictures.{tile_picture_of, picture_taken, pixel_at, with_picture};
+ghost use Rattle.wfc_tileset.specs.Pictures.{if_read, is_tile_size, of_grid, tile_picture_of, picture_taken, pixel_at, with_picture};
 ghost use Rattle.wfc_tileset.specs.Samples.{four_characters, four_shown, four_variants, one_colour, one_taken};
 ghost use Rattle.wfc_tileset.specs.Tiles.{PictureView};
 
 use crate::MAX_TILE_SIDE;
 
-/// The longest side.
+/// The longest side, and the longest file.
 pub fn longest_side()
     ensures side { MAX_TILE_SIDE ≡ 64 }
+    ensures sizes { map (λ side. is_tile_size side side) (1 ∷ 64 ∷ 65 ∷ [])
+        ≡ true ∷ true ∷ false ∷ [] }
+    ensures square { is_tile_size 3 4 ≡ false }
+    ensures most { (bytes : List ℕ) → length bytes ≡ 16777216
+        → tile_picture_of (codes "t.txt") bytes ≡ if_read of_grid (grid_of bytes) }
+    ensures more { (name bytes : List ℕ) → length bytes ≡ 16777217
+        → tile_picture_of name bytes ≡ None }
 {}
 
 /// The eight variants of a picture, row by row: each of the first four is a quarter turn,
