@@ -331,7 +331,7 @@ module _ (set : TileSetView) (stacked : List (ℕ × ℕ)) (frame : Frame) (pins
   layer_problem tiles is few =
       let one : 1 * A ≤ frame.depth * A = mul-le-mul_right A (omega (arith, is.some_layer)) in
       let less : A * count ≤ P.cells * count = mul-le-mul_right count (omega (arith, one)) in
-      let same : tiled.pairs set mask ≡ A * count = ap (λ k. k * count) (length-range_with_len 0 A) in
+      let same : tiled.tile_pair_count set mask ≡ A * count = ap (λ k. k * count) (length-range_with_len 0 A) in
       tiles_problem set mask frame.wrap [] tiles (layer_is frame is) (omega (arith, less, few, same))
 
   pub box_problem : IsTileSet set → IsFrame frame → P.cells * count ≤ MAX_PAIRS → IsProblem P

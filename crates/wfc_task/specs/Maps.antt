@@ -12,7 +12,7 @@ use Rattle.wfc_render.specs.Tiled.{tile_text}
 use Rattle.wfc_render.specs.declared.form.Layout.{Layout}
 use Rattle.wfc_task.specs.MapKind.{MapKind}
 use Rattle.wfc_task.specs.Posed.{Posed, PosedBy}
-use Rattle.wfc_task.specs.Sources as windows
+use Rattle.wfc_task.specs.Sources.{window_side_of}
 use Rattle.wfc_tiled.specs.Maps.{IsLegalTileMap, tile_map}
 use Rattle.wfc_tileset.specs.Pictures.{kind_of, side_of}
 use Rattle.wfc_words.specs.RequestView.{RequestView}
@@ -26,7 +26,7 @@ asked_output asked = output_with asked.width asked.height asked.wrap_out
 -- how windows are taken and compared as a request says
 abbrev pub rules_of : RequestView → Rules
 rules_of asked = record {
-  n = windows.side_of asked.source;
+  n = window_side_of asked.source;
   symmetry = asked.symmetry;
   wrap_in = asked.wrap_in;
   wrap_out = asked.wrap_out;

@@ -1,7 +1,7 @@
 use Rattle.wfc_lines.proofs.masks.mask_grid.Goals as goal
 
 pub returns-in-Ragged : goal.returns-in-Ragged
-returns-in-Ragged g c = record { told = rw c.in-Ragged.is c.numbered.ensures.told }
+returns-in-Ragged g c = record { told = rw c.in-Ragged.is c.put_numbered.ensures.told }
 
 pub returns-in-BadByte : goal.returns-in-BadByte
 returns-in-BadByte g c = record { told = rw c.in-BadByte.is c.twice_numbered.ensures.told }

@@ -9,4 +9,4 @@ pub numbered_picture-requires-clause-some_pixel : goal.numbered_picture-requires
 numbered_picture-requires-clause-some_pixel c = rw c.deref.ensures.value (sampled_some (sampled_view c.args.sampled.now) c.requires.sampled)
 
 pub returns-clause-numbered : goal.returns-clause-numbered
-returns-clause-numbered c = numbered_result (sampled_view c.args.sampled.now) _ c.requires.sampled (rw c.deref.ensures.value at c.indexed.ensures.exact)
+returns-clause-numbered c = numbered_result (sampled_view c.args.sampled.now) _ c.requires.sampled (rw c.deref.ensures.value at c.numbered_picture.ensures.exact)
