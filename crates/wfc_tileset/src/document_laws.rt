@@ -1,12 +1,12 @@
 //! Laws of documents, each a function with no body whose contract is the law. They run nothing.
 
 ghost use Rattle.std.specs.Prelude.{◌≡◌, ℕ, List, [], ◌∷◌, map, replicate, codes, pos, negsuc, true, false, Some, None, Ok, Err};
-ghost use Rattle.toml.specs.Data.{Members, array, no_members, member};
+ghost use Rattle.toml.specs.Data.{Items, Members, array, get_member, no_members, member};
 ghost use Rattle.wfc_symmetry.specs.declared.class.Class.TheVariants.{X, I, L, T, F, Slash};
 ghost use Rattle.wfc_tileset.specs.declared.fault.TileFault.TheVariants as fault;
 ghost use Rattle.wfc_tileset.specs.Tiles.{TileView, TileSetView, HasWeight, variant_total};
 ghost use Rattle.wfc_tileset.specs.Document.{parsed_document, set_from, set_of, symmetry_class, tile_weight, is_name, is_name_byte};
-ghost use Rattle.wfc_tileset.specs.Document.{same_kind, few_variants, tile_with, set_with, pair_with, pair_end_with};
+ghost use Rattle.wfc_tileset.specs.Document.{same_kind, few_variants, some_tiles, tile_with, set_with, pair_with, pair_end_with};
 ghost use Rattle.wfc_tileset.specs.Says.{AreNamedBehind, SaysEnd, SaysSet, SaysTile};
 ghost use Rattle.wfc_tileset.specs.Documents.{wrong_pairs, wrong_pair_faults, wrong_tiles, wrong_tile_faults};
 ghost use Rattle.wfc_tileset.specs.Documents.{two_tiles, table_of_tile, drawn_data, document_of, items_of};
@@ -31,10 +31,14 @@ pub fn faults_of_pairs()
     ensures first { map set_from wrong_pairs ≡ wrong_pair_faults }
 {}
 
-/// The first fault of the tiles, which come before any pair, and of the two arrays, which come
-/// before any tile.
+/// The first fault of the tiles, which come before any pair, as too many variants do, and of the two
+/// arrays, which come before any tile.
 pub fn faults_of_tiles()
     ensures first { map set_from wrong_tiles ≡ wrong_tile_faults }
+    ensures variants_before_pairs { (ms : Members) (items pairs : Items) (tiles : List TileView)
+        → get_member (codes "tile") ms ≡ Some (array items)
+        → get_member (codes "pair") ms ≡ Some (array pairs) → some_tiles items ≡ Ok tiles
+        → variant_total tiles ≡ 4097 → set_from ms ≡ Err (fault.TooManyVariants 4097) }
 {}
 
 /// The limits are these numbers: the bytes of a document, the elements of an array, and the variants
