@@ -37,7 +37,7 @@ module _ (patterns : PatternsView) (palette : List Symbol) (output : Output) (li
   large = nat_lt MAX_PAIRS (window_pair_count patterns output)
 
   abbrev read : List PinView → Result (List Pin) BuildFault
-  read some = overlap.pins_in (overlap.texts_of palette) output.width output.height some
+  read some = overlap.picture_pins (overlap.texts_of palette) output.width output.height some
 
   abbrev found : List Pin → SamplePins
   found pins = record { patterns = patterns; output = output; pins = pins }
@@ -68,19 +68,19 @@ module _ (patterns : PatternsView) (palette : List Symbol) (output : Output) (li
 
   -- the problem of the lines that are kept is built
   pub sample_kept : (s : SamplePins) → sample_pins patterns palette output lines ≡ Ok s → (keep : List Bool)
-      → overlap.built patterns palette output (kept_of keep lines) ≡ Ok ((pinned_sample s).problem_of keep)
+      → overlap.picture_problem patterns palette output (kept_of keep lines) ≡ Ok ((pinned_sample s).problem_of keep)
   sample_kept s is keep =
       let f = are_found s is in
-      let kept = kept_in_order (overlap.pin_in (overlap.texts_of palette) output.width output.height) keep lines s.pins f.pins_are in
+      let kept = kept_in_order (overlap.picture_pin (overlap.texts_of palette) output.width output.height) keep lines s.pins f.pins_are in
       (λ i. cond (f.wide i) (Err SizeBelowN) (cond (f.few i) (Err (TooLarge (window_pair_count patterns output))) (result_map (problem_of_sample patterns output) (kept i))))
       ∙ ap (λ (t : SamplePins). Ok ((pinned_sample t).problem_of keep)) (sym f.is)
 
   -- there is a pin for each line
   pub sample_as_many : (s : SamplePins) → sample_pins patterns palette output lines ≡ Ok s → length s.pins ≡ length lines
-  sample_as_many s is = as_many (overlap.pin_in (overlap.texts_of palette) output.width output.height) lines s.pins (are_found s is).pins_are
+  sample_as_many s is = as_many (overlap.picture_pin (overlap.texts_of palette) output.width output.height) lines s.pins (are_found s is).pins_are
 
   -- also where they are what a build finds
-  pub sample_found : (pins : List Pin) → overlap.built_pins patterns palette output lines ≡ Ok pins → length pins ≡ length lines
+  pub sample_found : (pins : List Pin) → overlap.checked_picture_pins patterns palette output lines ≡ Ok pins → length pins ≡ length lines
   sample_found pins is = sample_as_many (found pins) (ap (result_map found) is)
 
 -- the problems of a sample with the lines that are kept are pinned
@@ -109,10 +109,10 @@ sample_shared patterns output kept parts shared base parts_are shared_is base_is
 
 module _ (set : TileSetView) (mask : MaskView) (wrap : Bool) (lines : List PinView) where
   abbrev crowded : Bool
-  crowded = nat_lt MAX_PAIRS (tiled.pairs set mask)
+  crowded = nat_lt MAX_PAIRS (tiled.tile_pair_count set mask)
 
   abbrev placed : List PinView → Result (List Pin) BuildFault
-  placed some = tiled.pins_in set.tiles mask some
+  placed some = tiled.tile_map_pins set.tiles mask some
 
   abbrev tiling : List Pin → TilesPins
   tiling pins = record { tiles = set; mask = mask; wrap = wrap; pins = pins }
@@ -127,7 +127,7 @@ module _ (set : TileSetView) (mask : MaskView) (wrap : Bool) (lines : List PinVi
   are_placed s is = by_case crowded (placed lines) refl refl is
     where
       by_case : (c : Bool) (r : Result (List Pin) BuildFault) → crowded ≡ c → placed lines ≡ r
-          → result_map tiling (cond c (Err (TooLarge (tiled.pairs set mask))) r) ≡ Ok s → ArePlacedAt s
+          → result_map tiling (cond c (Err (TooLarge (tiled.tile_pair_count set mask))) r) ≡ Ok s → ArePlacedAt s
       by_case true r c_is r_is e = cc
       by_case false (Err fault) c_is r_is e = cc
       by_case false (Ok pins) c_is r_is e =
@@ -140,27 +140,27 @@ module _ (set : TileSetView) (mask : MaskView) (wrap : Bool) (lines : List PinVi
 
   -- the problem of the lines that are kept is built
   pub tiles_kept : (s : TilesPins) → tiles_pins set mask wrap lines ≡ Ok s → (keep : List Bool)
-      → tiled.built set mask wrap (kept_of keep lines) ≡ Ok ((pinned_tiles s).problem_of keep)
+      → tiled.tile_map_problem set mask wrap (kept_of keep lines) ≡ Ok ((pinned_tiles s).problem_of keep)
   tiles_kept s is keep =
       let f = are_placed s is in
-      let kept = kept_in_order (tiled.pin_in set.tiles mask) keep lines s.pins f.pins_are in
-      (λ i. cond (f.few i) (Err (TooLarge (tiled.pairs set mask))) (result_map (tiles.problem_of_tiles set mask wrap) (kept i)))
+      let kept = kept_in_order (tiled.tile_map_pin set.tiles mask) keep lines s.pins f.pins_are in
+      (λ i. cond (f.few i) (Err (TooLarge (tiled.tile_pair_count set mask))) (result_map (tiles.problem_of_tiles set mask wrap) (kept i)))
       ∙ ap (λ (t : TilesPins). Ok ((pinned_tiles t).problem_of keep)) (sym f.is)
 
   -- there is a pin for each line
   pub tiles_as_many : (s : TilesPins) → tiles_pins set mask wrap lines ≡ Ok s → length s.pins ≡ length lines
-  tiles_as_many s is = as_many (tiled.pin_in set.tiles mask) lines s.pins (are_placed s is).pins_are
+  tiles_as_many s is = as_many (tiled.tile_map_pin set.tiles mask) lines s.pins (are_placed s is).pins_are
 
   -- also where they are what a build finds
-  pub tiles_found : (pins : List Pin) → tiled.built_pins set mask lines ≡ Ok pins → length pins ≡ length lines
+  pub tiles_found : (pins : List Pin) → tiled.checked_tile_map_pins set mask lines ≡ Ok pins → length pins ≡ length lines
   tiles_found pins is = tiles_as_many (tiling pins) (ap (result_map tiling) is)
 
   -- a mask with too many pairs has no pins
   pub crowded_fault : (fault : BuildFault) → tiled.roomy_mask set mask ≡ Err fault → tiles_pins set mask wrap lines ≡ Err fault
   crowded_fault fault is = by_case crowded refl is
     where
-      by_case : (c : Bool) → crowded ≡ c → cond c (Err (TooLarge (tiled.pairs set mask))) (Ok mask) ≡ Err fault → tiles_pins set mask wrap lines ≡ Err fault
-      by_case true c_is e = ap (λ b. result_map tiling (cond b (Err (TooLarge (tiled.pairs set mask))) (placed lines))) c_is ∙ again (TooLarge (tiled.pairs set mask)) e
+      by_case : (c : Bool) → crowded ≡ c → cond c (Err (TooLarge (tiled.tile_pair_count set mask))) (Ok mask) ≡ Err fault → tiles_pins set mask wrap lines ≡ Err fault
+      by_case true c_is e = ap (λ b. result_map tiling (cond b (Err (TooLarge (tiled.tile_pair_count set mask))) (placed lines))) c_is ∙ again (TooLarge (tiled.tile_pair_count set mask)) e
         where
           again : (f : BuildFault) → ◌≡◌ {A = Result MaskView BuildFault} (Err f) (Err fault) → ◌≡◌ {A = Result TilesPins BuildFault} (Err f) (Err fault)
           again f same = let inner : f ≡ fault = cc in ap Err inner
@@ -176,16 +176,16 @@ tiles_are_pinned s is =
       problem = λ keep long. tiles_problem s.tiles s.mask s.wrap (kept_of keep pins) is.tiles_are is.mask_is is.few_pairs;
       alike = λ keep other long as_long. refl;
       falls = λ fewer more short long falls.
-          flags_fewer (length (tiles.weights_of s.tiles.tiles)) (tiles.base_table s.tiles s.mask (kept_of more pins)) (tiles.base_table s.tiles s.mask (kept_of fewer pins))
+          flags_fewer (length (tiles.variant_weights s.tiles.tiles)) (tiles.tile_base_table s.tiles s.mask (kept_of more pins)) (tiles.tile_base_table s.tiles s.mask (kept_of fewer pins))
           (flat_map_fewer (λ n. tiles.base_row s.tiles width (kept_of more pins) n) (λ n. tiles.base_row s.tiles width (kept_of fewer pins) n)
-          (λ n. length-map (range_with_len 0 count) (λ v. tiles.meets width (kept_of more pins) n v) ∙ sym (length-map (range_with_len 0 count) (λ v. tiles.meets width (kept_of fewer pins) n v)))
-          (λ n. map_fewer (λ v. tiles.meets width (kept_of more pins) n v) (λ v. tiles.meets width (kept_of fewer pins) n v)
-          (λ v. kept_pass (λ pin. tiles.suits_at width n v pin) fewer more pins (short ∙ sym long) falls) (range_with_len 0 count))
+          (λ n. length-map (range_with_len 0 count) (λ v. tiles.variant_meets_pins width (kept_of more pins) n v) ∙ sym (length-map (range_with_len 0 count) (λ v. tiles.variant_meets_pins width (kept_of fewer pins) n v)))
+          (λ n. map_fewer (λ v. tiles.variant_meets_pins width (kept_of more pins) n v) (λ v. tiles.variant_meets_pins width (kept_of fewer pins) n v)
+          (λ v. kept_pass (λ pin. tiles.variant_suits_at width n v pin) fewer more pins (short ∙ sym long) falls) (range_with_len 0 count))
           s.mask.places);
     }
 
 -- parts that share all but the base with the problem without pins
 pub tiles_shared : (set : TileSetView) (mask : MaskView) (wrap : Bool) (kept : List Pin) (parts shared : Network) (base : List Bool) → parts ≡ record shared { base = base }
-    → shared ≡ record (tiles.problem_of_tiles set mask wrap []) { base = [] } → base ≡ tiles.base_table set mask kept → parts ≡ tiles.problem_of_tiles set mask wrap kept
+    → shared ≡ record (tiles.problem_of_tiles set mask wrap []) { base = [] } → base ≡ tiles.tile_base_table set mask kept → parts ≡ tiles.problem_of_tiles set mask wrap kept
 tiles_shared set mask wrap kept parts shared base parts_are shared_is base_is =
     parts_are ∙ ap (λ (N : Network). record N { base = base }) shared_is ∙ ap (λ b. record (tiles.problem_of_tiles set mask wrap []) { base = b }) base_is

@@ -31,7 +31,7 @@ pub record SamplePins : Type 0 where
 abbrev pub sample_pins : PatternsView → List Symbol → Output → List PinView → Result SamplePins BuildFault
 sample_pins patterns palette output lines =
     result_map (λ pins. record { patterns = patterns; output = output; pins = pins })
-    (overlap.built_pins patterns palette output lines)
+    (overlap.checked_picture_pins patterns palette output lines)
 
 -- the problem of the lines that are kept: that of the sample with their pins
 abbrev pub pinned_sample : SamplePins → PinnedView
@@ -62,7 +62,7 @@ pub record TilesPins : Type 0 where
 abbrev pub tiles_pins : TileSetView → MaskView → Bool → List PinView → Result TilesPins BuildFault
 tiles_pins tiles mask wrap lines =
     result_map (λ pins. record { tiles = tiles; mask = mask; wrap = wrap; pins = pins })
-    (tiled.built_pins tiles mask lines)
+    (tiled.checked_tile_map_pins tiles mask lines)
 
 -- the problem of the lines that are kept: that of the tile set with their pins
 abbrev pub pinned_tiles : TilesPins → PinnedView
@@ -75,6 +75,6 @@ pinned_tiles s = record {
 pub record IsTilesPins (s : TilesPins) : Type 0 where
   pub tiles_are : IsTileSet s.tiles
   pub mask_is : IsMask s.mask
-  pub few_pairs : tiled.pairs s.tiles s.mask ≤ MAX_PAIRS
+  pub few_pairs : tiled.tile_pair_count s.tiles s.mask ≤ MAX_PAIRS
   pub placed : ArePlaced s.mask s.pins
   pub few_lines : length s.pins ≤ 4294967295

@@ -38,7 +38,7 @@ pub fn kept_sample_lines_are_built()
         sample_pins patterns palette output lines ≡ Ok s → length s.pins ≡ length lines }
     ensures built { (patterns : PatternsView) (palette : List Symbol) (output : Output)
         (lines : List PinView) (s : SamplePins) → sample_pins patterns palette output lines ≡ Ok s →
-        (keep : List Bool) → overlap.built patterns palette output (kept_of keep lines)
+        (keep : List Bool) → overlap.picture_problem patterns palette output (kept_of keep lines)
         ≡ Ok ((pinned_sample s).problem_of keep) }
 {}
 
@@ -48,5 +48,5 @@ pub fn kept_tile_lines_are_built()
         (s : TilesPins) → tiles_pins tiles mask wrap lines ≡ Ok s → length s.pins ≡ length lines }
     ensures built { (tiles : TileSetView) (mask : MaskView) (wrap : Bool) (lines : List PinView)
         (s : TilesPins) → tiles_pins tiles mask wrap lines ≡ Ok s → (keep : List Bool) →
-        tiled.built tiles mask wrap (kept_of keep lines) ≡ Ok ((pinned_tiles s).problem_of keep) }
+        tiled.tile_map_problem tiles mask wrap (kept_of keep lines) ≡ Ok ((pinned_tiles s).problem_of keep) }
 {}

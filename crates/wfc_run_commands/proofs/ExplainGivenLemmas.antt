@@ -91,18 +91,18 @@ are_read asked files lines is =
 -- what holds where the pins of a sample are found
 pub record IsFoundSample (patterns : PatternsView) (palette : List Symbol) (output : Output) (lines : List PinView) (s : SamplePins) : Type 0 where
   pub room : IsRoom patterns output
-  pub meant : overlap.pins_in (overlap.texts_of palette) output.width output.height lines ≡ Ok s.pins
+  pub meant : overlap.picture_pins (overlap.texts_of palette) output.width output.height lines ≡ Ok s.pins
   pub is : s ≡ record { patterns = patterns; output = output; pins = s.pins }
 
 pub found_sample : (patterns : PatternsView) (palette : List Symbol) (output : Output) (lines : List PinView) (s : SamplePins) → sample_pins patterns palette output lines ≡ Ok s → IsFoundSample patterns palette output lines s
 found_sample patterns palette output lines s is =
-    by_case (nat_lt output.width patterns.n || nat_lt output.height patterns.n) (nat_lt MAX_PAIRS (window_pair_count patterns output)) (overlap.pins_in (overlap.texts_of palette) output.width output.height lines) refl refl refl is
+    by_case (nat_lt output.width patterns.n || nat_lt output.height patterns.n) (nat_lt MAX_PAIRS (window_pair_count patterns output)) (overlap.picture_pins (overlap.texts_of palette) output.width output.height lines) refl refl refl is
   where
     made : List Pin → SamplePins
     made pins = record { patterns = patterns; output = output; pins = pins }
 
     by_case : (b c : Bool) (r : Result (List Pin) BuildFault) → (nat_lt output.width patterns.n || nat_lt output.height patterns.n) ≡ b → nat_lt MAX_PAIRS (window_pair_count patterns output) ≡ c
-        → overlap.pins_in (overlap.texts_of palette) output.width output.height lines ≡ r
+        → overlap.picture_pins (overlap.texts_of palette) output.width output.height lines ≡ r
         → result_map made (cond b (Err SizeBelowN) (cond c (Err (TooLarge (window_pair_count patterns output))) r)) ≡ Ok s → IsFoundSample patterns palette output lines s
     by_case true c r b_is c_is r_is e = cc
     by_case false true r b_is c_is r_is e = cc
@@ -118,24 +118,24 @@ found_sample patterns palette output lines s is =
 
 -- and of a tile set
 pub record IsFoundTiles (set : TileSetView) (mask : MaskView) (wrap : Bool) (lines : List PinView) (s : TilesPins) : Type 0 where
-  pub few_pairs : tiled.pairs set mask ≤ MAX_PAIRS
-  pub meant : tiled.pins_in set.tiles mask lines ≡ Ok s.pins
+  pub few_pairs : tiled.tile_pair_count set mask ≤ MAX_PAIRS
+  pub meant : tiled.tile_map_pins set.tiles mask lines ≡ Ok s.pins
   pub is : s ≡ record { tiles = set; mask = mask; wrap = wrap; pins = s.pins }
 
 pub found_tiles : (set : TileSetView) (mask : MaskView) (wrap : Bool) (lines : List PinView) (s : TilesPins) → tiles_pins set mask wrap lines ≡ Ok s → IsFoundTiles set mask wrap lines s
-found_tiles set mask wrap lines s is = by_case (nat_lt MAX_PAIRS (tiled.pairs set mask)) (tiled.pins_in set.tiles mask lines) refl refl is
+found_tiles set mask wrap lines s is = by_case (nat_lt MAX_PAIRS (tiled.tile_pair_count set mask)) (tiled.tile_map_pins set.tiles mask lines) refl refl is
   where
     made : List Pin → TilesPins
     made pins = record { tiles = set; mask = mask; wrap = wrap; pins = pins }
 
-    by_case : (c : Bool) (r : Result (List Pin) BuildFault) → nat_lt MAX_PAIRS (tiled.pairs set mask) ≡ c → tiled.pins_in set.tiles mask lines ≡ r
-        → result_map made (cond c (Err (TooLarge (tiled.pairs set mask))) r) ≡ Ok s → IsFoundTiles set mask wrap lines s
+    by_case : (c : Bool) (r : Result (List Pin) BuildFault) → nat_lt MAX_PAIRS (tiled.tile_pair_count set mask) ≡ c → tiled.tile_map_pins set.tiles mask lines ≡ r
+        → result_map made (cond c (Err (TooLarge (tiled.tile_pair_count set mask))) r) ≡ Ok s → IsFoundTiles set mask wrap lines s
     by_case true r c_is r_is e = cc
     by_case false (Err fault) c_is r_is e = cc
     by_case false (Ok pins) c_is r_is e =
         let same : s ≡ made pins = cc in
         record {
-          few_pairs = ltb-false MAX_PAIRS (tiled.pairs set mask) c_is;
+          few_pairs = ltb-false MAX_PAIRS (tiled.tile_pair_count set mask) c_is;
           meant = r_is ∙ ap (λ (t : TilesPins). let end : Result (List Pin) BuildFault = Ok t.pins in end) (sym same);
           is = same ∙ ap (λ (t : TilesPins). made t.pins) (sym same);
         }

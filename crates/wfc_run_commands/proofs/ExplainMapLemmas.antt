@@ -48,7 +48,7 @@ bridged_with (Overlap n) asked files P of asks output few =
     let taught : IsTaughtBy sample.picture (rules_of asked) of.patterns (asked_output asked) =
     record { same_side = ap (λ (p : PatternsView). p.n) learned.2; same_wrap = refl; windows = ap (λ (p : PatternsView). p.windows) learned.2 } in
     let inside : AreInside (asked_output asked) problem.pins = pins_inside (overlap.texts_of of.palette) asked.width asked.height problem.lines problem.pins problem.meant in
-    let many = as_many (overlap.pin_in (overlap.texts_of of.palette) asked.width asked.height) problem.lines problem.pins problem.meant in
+    let many = as_many (overlap.picture_pin (overlap.texts_of of.palette) asked.width asked.height) problem.lines problem.pins problem.meant in
     let s : SamplePins = record { patterns = of.patterns; output = asked_output asked; pins = problem.pins } in
     record {
       pinned = sample_is_pinned s (record {
@@ -73,7 +73,7 @@ bridged_with Tiles asked files P of asks output few =
     let problem = of.problem in
     let mask = held_mask asked files asked.mask of.mask output problem.masked in
     let placed = pins_placed of.set.tiles of.mask problem.lines problem.pins problem.meant in
-    let many = as_many (tiled.pin_in of.set.tiles of.mask) problem.lines problem.pins problem.meant in
+    let many = as_many (tiled.tile_map_pin of.set.tiles of.mask) problem.lines problem.pins problem.meant in
     let tiles = set_is asked files of.set of.tiles in
     let s : TilesPins = record { tiles = of.set; mask = of.mask; wrap = asked.wrap_out; pins = problem.pins } in
     let pinned = tiles_are_pinned s (record { tiles_are = tiles; mask_is = mask; few_pairs = problem.few_pairs; placed = placed; few_lines = omega (arith, many, few) }) in

@@ -96,7 +96,7 @@ same_sample : (asked : RequestView) (lesson : Taught) (lines : List PinView) (fi
     → (outcome (step (pins_of_sample asked lesson lines)) files ≡ Err fault) ↔ (outcome (step (problem_of_lines asked lesson.patterns lesson.palette lines)) files ≡ Err fault)
 same_sample asked lesson lines files fault =
     by_case (nat_lt asked.width lesson.patterns.n || nat_lt asked.height lesson.patterns.n) (nat_lt MAX_PAIRS (window_pair_count lesson.patterns (asked_output asked)))
-    (overlap.pins_in (overlap.texts_of lesson.palette) asked.width asked.height lines)
+    (overlap.picture_pins (overlap.texts_of lesson.palette) asked.width asked.height lines)
   where
     made : List Pin → SamplePins
     made pins = record { patterns = lesson.patterns; output = asked_output asked; pins = pins }
@@ -137,7 +137,7 @@ faults_sample_pins asked files lesson lines was held fault = (
 
 same_tiles : (asked : RequestView) (set : TileSetView) (mask : MaskView) (lines : List PinView) (files : List File) (fault : Fault)
     → (outcome (step (pins_of_tiles asked set mask lines)) files ≡ Err fault) ↔ (outcome (step (posed_tiles asked set mask lines)) files ≡ Err fault)
-same_tiles asked set mask lines files fault = by_case (nat_lt MAX_PAIRS (tiled.pairs set mask)) (tiled.pins_in set.tiles mask lines)
+same_tiles asked set mask lines files fault = by_case (nat_lt MAX_PAIRS (tiled.tile_pair_count set mask)) (tiled.tile_map_pins set.tiles mask lines)
   where
     made : List Pin → TilesPins
     made pins = record { tiles = set; mask = mask; wrap = asked.wrap_out; pins = pins }
@@ -146,8 +146,8 @@ same_tiles asked set mask lines files fault = by_case (nat_lt MAX_PAIRS (tiled.p
     build pins = problem_of_tiles set mask asked.wrap_out pins
 
     by_case : (c : Bool) (r : Result (List Pin) BuildFault)
-        → (outcome (step (or_refuse refusals.Build (result_map made (cond c (Err (TooLarge (tiled.pairs set mask))) r)))) files ≡ Err fault)
-        ↔ (outcome (step (or_refuse refusals.Build (cond c (Err (TooLarge (tiled.pairs set mask))) (result_map build r)))) files ≡ Err fault)
+        → (outcome (step (or_refuse refusals.Build (result_map made (cond c (Err (TooLarge (tiled.tile_pair_count set mask))) r)))) files ≡ Err fault)
+        ↔ (outcome (step (or_refuse refusals.Build (cond c (Err (TooLarge (tiled.tile_pair_count set mask))) (result_map build r)))) files ≡ Err fault)
     by_case true r = (moved _ fault, moved _ fault)
     by_case false (Err why) = (moved _ fault, moved _ fault)
     by_case false (Ok pins) = (λ is. absurd (cc (is)), λ is. absurd (cc (is)))

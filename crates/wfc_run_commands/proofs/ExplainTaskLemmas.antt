@@ -46,7 +46,7 @@ given_lines asked files lines held few =
 
 -- pins that are meant, where there is room, are those of a sample
 given_sample_pins : (patterns : PatternsView) (palette : List Symbol) (output : Output) (lines : List PinView) (pins : List Pin) → IsRoom patterns output
-    → overlap.pins_in (overlap.texts_of palette) output.width output.height lines ≡ Ok pins
+    → overlap.picture_pins (overlap.texts_of palette) output.width output.height lines ≡ Ok pins
     → sample_pins patterns palette output lines ≡ Ok (record { patterns = patterns; output = output; pins = pins })
 given_sample_pins patterns palette output lines pins room meant =
     let wide : nat_lt output.width patterns.n ≡ false = grind (arith, nat_tests, room.wide) in
@@ -55,11 +55,11 @@ given_sample_pins patterns palette output lines pins room meant =
     rw (wide, high, few, meant) refl
 
 -- and those of a tile set
-given_tile_pins : (set : TileSetView) (mask : MaskView) (wrap : Bool) (lines : List PinView) (pins : List Pin) → tiled.pairs set mask ≤ MAX_PAIRS
-    → tiled.pins_in set.tiles mask lines ≡ Ok pins
+given_tile_pins : (set : TileSetView) (mask : MaskView) (wrap : Bool) (lines : List PinView) (pins : List Pin) → tiled.tile_pair_count set mask ≤ MAX_PAIRS
+    → tiled.tile_map_pins set.tiles mask lines ≡ Ok pins
     → tiles_pins set mask wrap lines ≡ Ok (record { tiles = set; mask = mask; wrap = wrap; pins = pins })
 given_tile_pins set mask wrap lines pins room meant =
-    let few : nat_lt MAX_PAIRS (tiled.pairs set mask) ≡ false = grind (arith, nat_tests, room) in
+    let few : nat_lt MAX_PAIRS (tiled.tile_pair_count set mask) ≡ false = grind (arith, nat_tests, room) in
     rw (few, meant) refl
 
 -- so of the task over the problem of a request

@@ -9,6 +9,6 @@ loop-w-preserved c =
     let p : ℕ → Bool = λ w. variants_fit c.args.tiles.now c.args.dir c.args.v w in
     let w = c.loop-w.w in
     c.in_ok-push_if.ensures.pushed
-    ∙ ap (λ t. t ++ cond c.fits.result (w ∷ []) []) c.loop-w.invariant
-    ∙ ap (λ b. filter p (range_with_len 0 w) ++ cond b (w ∷ []) []) c.fits.ensures.value
+    ∙ ap (λ t. t ++ cond c.variants_fit.result (w ∷ []) []) c.loop-w.invariant
+    ∙ ap (λ b. filter p (range_with_len 0 w) ++ cond b (w ∷ []) []) c.variants_fit.ensures.value
     ∙ sym (kept_more p w)

@@ -11,6 +11,6 @@ returns-in-Some c =
     let name : c.as_bytes.result.now ≡ next_name set = c.as_bytes.ensures.value ∙ c.next_name-name.ensures.value in
     let found : tile_picture_of (next_name set) bytes ≡ Some c.in-Some.picture =
     sym (c.in_ok-picture.ensures.value ∙ ap (λ (n : List ℕ). tile_picture_of n bytes) name) ∙ c.in-Some.is in
-    let fits : c.fitting.result ≡ fitting_picture set.pictures c.in-Some.picture =
-    c.fitting.ensures.exact ∙ ap (λ (ps : List PictureView). fitting_picture ps c.in-Some.picture) (c.deref.ensures.value ∙ ap (λ (s : TileSetView). s.pictures) c.self.view_is) in
-    record { exact = next_is set bytes c.in-Some.picture c.fitting.result found fits; picture = c.fitting.ensures.picture }
+    let fits : c.fitting_picture.result ≡ fitting_picture set.pictures c.in-Some.picture =
+    c.fitting_picture.ensures.exact ∙ ap (λ (ps : List PictureView). fitting_picture ps c.in-Some.picture) (c.deref.ensures.value ∙ ap (λ (s : TileSetView). s.pictures) c.self.view_is) in
+    record { exact = next_is set bytes c.in-Some.picture c.fitting_picture.result found fits; picture = c.fitting_picture.ensures.picture }
