@@ -21,8 +21,8 @@ limits       each limit of docs/commands.md and docs/formats.md at its last valu
 Of commands that PROGRAM lacks it says so, and leaves their cases out.
 
 --only WORD runs the cases whose name has the word. --slow adds the refutations at the limit of their length, which take 4.3 GB of disk and
-ten minutes each at most. What needs another user is left out where the script doesn't run as root. Each case is one line; the last line counts
-them. Status 0 where all are right, else 1.
+ten minutes each at most. What needs another user is left out where the script doesn't run as root. Each case is one line; the last two
+lines say which run took longest, and count the cases. Status 0 where all are right, else 1.
 """
 import argparse
 import os
@@ -49,6 +49,7 @@ FILE_LIMIT = 16_777_216
 REFUTATION_LIMIT = 4_294_967_296
 TOWN = "".join("".join("#" if x % 4 == 0 or y % 4 == 0 else "." for x in range(16)) + "\n" for y in range(16))
 FILL_TOWN = "fill town.txt 3 48 48 --symmetry 8 --wrap-in --seed 1 --budget 0"
+GROW_MAZE = "grow maze.txt 3 20 12 --symmetry 8 --wrap-in --block 12"
 HEAD = "wfc-refutation 1\ncells 2 values 1\n"
 PROOF = HEAD + "r 0 0 2\nx 0\nq\n"
 SMALL = {
@@ -67,6 +68,18 @@ SMALL = {
     "cube.toml": "[[tile]]\nname = 't0'\nclass = 'X'\n[[pair]]\nleft = 't0'\nright = 't0'\n[[stack]]\nlower = 't0'\nupper = 't0'\n",
     "tower.pins": "pin 0 0 0 line/0\n",
     "last_clash.pins": "ban 8 8 a\nban 8 8 b\n",
+    "tree.pins": "pin 5 1 T\n",
+    "spot.ppm": "P3\n1 1\n255\n1 2 3\n",
+    "piled.toml": "[[tile]]\nname = 'corner'\nclass = 'L'\npicture = 'corner.txt'\n[[pair]]\nleft = 'corner 1'\nright = 'corner 2'\n"
+    "[[stack]]\nlower = 'corner'\nupper = 'corner'\n",
+    "free.toml": "tile = [{name = 'a', class = 'X'}, {name = 'b', class = 'X'}]\n"
+    + "".join(f"{kind} = [" + ", ".join(f"{{{one} = '{x}', {other} = '{y}'}}" for x in "ab" for y in "ab") + "]\n"
+              for kind, one, other in (("pair", "left", "right"), ("stack", "lower", "upper"))),
+    "piled.pins": "pin 0 0 0 corner/1\npin 1 0 1 corner/2\n",
+    "short.ref": "wfc-refutation 1\ncells 4 values 2\nr 0 1 2\n",
+    "a_ban.pins": "ban 0 0 a\n",
+    "first.pins": "pin 0 0 a\n",
+    "empty.pins": "# no line\n",
     "box.ref": "wfc-refutation 1\ncells 4 values 2\nr 0 1 2\nr 2 1 2\nr 0 0 4\nx 0\nq\n",
 }
 STEPS = (
@@ -87,6 +100,7 @@ class Bench:
         os.chmod(self.program, 0o755)
         os.chmod(folder, 0o755)
         self.right = self.wrong = 0
+        self.longest = 0.0, ()
         self.lacking = set()
 
     def has(self, line):
@@ -115,6 +129,7 @@ class Bench:
     def run(self, words, stdout=None, stderr=None, environment=None, before=None, hold=(), seconds=SECONDS):
         """Runs the program. The answer is its status, or why there is none, and what it wrote."""
         words = [word if isinstance(word, bytes) else word.encode() for word in words]
+        begun = time.monotonic()
         told = subprocess.Popen(
             [self.program.encode(), *words],
             cwd=self.folder,
@@ -131,6 +146,8 @@ class Bench:
             told.kill()
             told.communicate()
             return "it did not end", b"", b""
+        finally:
+            self.longest = max(self.longest, (time.monotonic() - begun, tuple(words)))
         status = told.returncode if told.returncode >= 0 else signal.Signals(-told.returncode).name
         return status, out or b"", err or b""
 
@@ -187,10 +204,11 @@ TOWER = b"layer 0\n0\nlayer 1\n1\nlayer 2\n0\n"
 
 
 class Row:
-    """A line with what it answers where nothing fails."""
+    """A line with what it answers where nothing fails, and whether it reads and writes at all."""
 
     def __init__(self, name, line, is_right, status=0, err=b"", reads=True):
         self.name, self.line, self.is_right, self.status, self.err, self.reads = name, line, is_right, status, err, reads
+        self.writes = is_right is not nothing
 
     def is_right_whole(self, got):
         return got[0] == self.status and self.is_right(got[1]) and got[2] == self.err
@@ -198,6 +216,23 @@ class Row:
 
 def exactly(text):
     return lambda out: out == text
+
+
+def nothing(out):
+    return out == b""
+
+
+def is_stuck_island(out):
+    """Whether these bytes are of the stuck block of the islands: four pins of the block before it, and the pin of the file."""
+    lines = out.split(b"\n")
+    kept = all(line.startswith(b"pin 0 %d " % y) for y, line in enumerate(lines[1:5]))
+    return lines[0] == b"stuck 4 0 4 4 pins 5" and kept and lines[5:7] == [b"pin 1 1 T", b"wfc-refutation 2"] and lines[-2:] == [b"q", b""]
+
+
+def is_stuck_maze(out):
+    """Whether these bytes are of the stuck block of the maze: two columns of the block before it, and a proof with splits."""
+    front = out.startswith(b"stuck 10 0 10 12 pins 24\npin 0 0 ") and b"\nwfc-refutation 2\n" in out
+    return front and out.endswith(b"\nq\n")
 
 
 ROWS = [
@@ -215,14 +250,25 @@ ROWS = [
     Row("a race of eight", FILL_TOWN.replace("fill", "race") + " --seeds 8", lambda out: out.startswith(b"seed ") and out.endswith(b" retractions 0 map\n")),
     Row("a race of tiles", "race corner.toml tiles 2 1 --pins corner.pins --seeds 3 --quantum 9", exactly(b"seed 0 retractions 0 map\n")),
     Row("a race without a map", "race chk.txt 2 3 2 --seeds 2", exactly(b"seed 0 retractions 0 no map\n"), 1, b"wfc: no map\n"),
+    Row("a race whose budgets are spent", "race chk.txt 2 3 3 --wrap-in --wrap-out --seeds 2 --budget 0", nothing, 2, b"wfc: budget spent budget=0\n"),
     Row("a core", "explain chk.txt 2 3 3 --wrap-in --pins three.pins", exactly(b"core 2\nneeded 2\nneeded 3\n")),
     Row("a core of tiles", "explain corner.toml tiles 2 1 --pins clash.pins", exactly(b"core 2\nneeded 1\nneeded 2\n")),
+    Row("no core", "explain chk.txt 2 2 2 --pins first.pins", nothing, 1, b"wfc: map exists\n"),
+    Row("a core whose budget is spent", "explain chk.txt 2 3 3 --wrap-in --wrap-out --budget 0 --pins empty.pins", nothing, 2, b"wfc: budget spent budget=0\n"),
     Row("a grown map", "grow chk.txt 2 4 4 --wrap-in --block 3 --seed 1", lambda out: out.split() in ([b"abab", b"baba"] * 2, [b"baba", b"abab"] * 2)),
     Row("a stuck block", "grow chk.txt 2 3 2 --block 2", exactly(STUCK), 8, b"wfc: grow stuck x=1 y=0\n"),
+    Row("a stuck block with a pin of the file", "grow islands.txt 2 8 4 --wrap-in --block 5 --pins tree.pins", is_stuck_island, 8, b"wfc: grow stuck x=4 y=0\n"),
+    Row("a stuck block of a maze", GROW_MAZE + " --seed 1", is_stuck_maze, 8, b"wfc: grow stuck x=10 y=0\n"),
+    Row("a spent block", GROW_MAZE + " --seed 4 --budget 0", nothing, 2, b"wfc: budget spent budget=0\n"),
+    Row("a grown picture", "grow spot.ppm 1 2 1 --block 1", exactly(b"P6\n2 1\n255\n\1\2\3\1\2\3")),
     Row("a grown town", FILL_TOWN.replace("fill", "grow") + " --block 20", is_town),
     Row("a box", "box-fill tower.toml 1 1 3 --pins tower.pins", exactly(TOWER)),
+    Row("a box of pictures", "box-fill piled.toml 2 1 2 --pins piled.pins", exactly(b"layer 0\n....\n#..#\nlayer 1\n....\n#..#\n")),
+    Row("no box", "box-fill tower.toml 2 1 2", nothing, 1, b"wfc: no map\n"),
+    Row("a journal of a box", "box-refute tower.toml 1 1 3 --pins tower.pins", lambda out: out.endswith(b"\ns\n"), 1, b"wfc: map exists\n"),
     Row("a refutation of a box", "box-refute tower.toml 2 1 2", lambda out: out.startswith(b"wfc-refutation 2\ncells 4 values 2\nfor 0 2 1 2 1 0 0\n") and out.endswith(b"q\n")),
     Row("a check of a box", "box-check tower.toml 2 1 2 box.ref", exactly(b"accepted\n")),
+    Row("a box's refutation without an end", "box-check tower.toml 2 1 2 short.ref", nothing, 1, b"wfc: check NotEnded file=short.ref\n"),
 ]
 PROBES = {
     "race": "race chk.txt 2 2 2 --seeds 2",
@@ -311,12 +357,14 @@ MEMORY = [
     ("grow, stuck", "grow chk.txt 2 161 161 --block 81"),
     ("box-fill", "box-fill cube.toml 60 60 60 --wrap-out"),
     ("box-refute", "box-refute tower.toml 60 60 60"),
+    ("box-check", "box-check tower.toml 60 60 60 tower.ref"),
 ]
 
 
 def memory(it):
     it.write("large.txt", "".join("".join("ab"[(x * x + y * y * 3 + x * y) % 7 % 2] for x in range(300)) + "\n" for y in range(300)))
     it.write("street.pins", "pin 20 20 #\npin 0 0 #\npin 1 0 #\npin 2 0 .\n")
+    it.write("tower.ref", it.run("box-refute tower.toml 60 60 60".split())[1])
     start = least(lambda kb: it.run(["paint"], before=limited(kb))[0] == 3, 512, 1 << 20)
     for name, line in MEMORY:
         if not it.wants(f"memory: {name}") or not it.has(line):
@@ -408,27 +456,65 @@ def devices_of_lines(it):
     for row in rows_of(it):
         if row.line.split()[0] in ("fill", "domains", "learn"):
             continue
+        status, err = (5, OUT_FAILED) if row.writes else (row.status, row.err.decode())
         with open("/dev/full", "wb") as full:
-            it.check(f"devices: /dev/full as output of {row.name}", row.line, 5, err=OUT_FAILED, stdout=full)
+            it.check(f"devices: /dev/full as output of {row.name}", row.line, status, err=err, stdout=full)
             it.check(f"devices: /dev/full as error stream of {row.name}", row.line, row.status, row.is_right, stderr=full)
         write, join = cut_pipe(0)
-        it.check(f"devices: a pipe without a reader as output of {row.name}", row.line, 5, err=OUT_FAILED, stdout=write)
+        it.check(f"devices: a pipe without a reader as output of {row.name}", row.line, status, err=err, stdout=write)
         os.close(write)
         join()
-        it.check(f"devices: a closed output of {row.name}", row.line, 5, err=OUT_FAILED, before=closing(1))
+        it.check(f"devices: a closed output of {row.name}", row.line, status, err=err, before=closing(1))
+        with open(it.path("chk.txt"), "rb") as unwritable:
+            it.check(f"devices: an output that can't be written, of {row.name}", row.line, status, err=err, stdout=unwritable)
         it.check(f"devices: a closed error stream of {row.name}", row.line, row.status, row.is_right, before=closing(2))
-    it.check("devices: a folder as pins of explain", "explain chk.txt 2 2 2 --pins folder", 5, err=failed.format("folder"))
-    it.check("devices: missing pins of explain", "explain chk.txt 2 2 2 --pins none", 5, err="wfc: device Missing file=none\n")
-    it.check("devices: /dev/zero as pins of explain", "explain chk.txt 2 2 2 --pins /dev/zero", 4, err="wfc: file TooLong file=/dev/zero\n")
+        it.check(f"devices: a closed input of {row.name}", row.line, row.status, row.is_right, row.err.decode(), before=closing(0))
+    for line in ("grow a.txt 1 4096 2048 --block 4096", "box-fill cube.toml 64 64 64", "box-refute free.toml 32 32 32"):
+        write, join = cut_pipe(1000)
+        it.check(f"devices: a pipe whose reader goes away as output of {line.split()[0]}", line, 5, err=OUT_FAILED, stdout=write)
+        os.close(write)
+        join()
+    for role, line in READERS:
+        name = f"{role} of {line.split()[0]}"
+        it.check(f"devices: a folder as {name}", line.format("folder"), 5, err=failed.format("folder"))
+        it.check(f"devices: links in a circle as {name}", line.format("loop"), 5, err=failed.format("loop"))
+        it.check(f"devices: a missing {name}", line.format("none"), 5, err="wfc: device Missing file=none\n")
+        with_writer = os.open(it.path("pipe"), os.O_RDWR)
+        it.check(f"devices: a pipe that is written, as {name}", line.format("pipe"), 5, err=failed.format("pipe"))
+        os.close(with_writer)
+        if role == "refutation":
+            it.check(f"devices: /dev/zero as {name}", line.format("/dev/zero"), 1, err="wfc: check BadLine line=1 file=/dev/zero\n")
+        else:
+            it.check(f"devices: /dev/zero as {name}", line.format("/dev/zero"), 4, err="wfc: file TooLong file=/dev/zero\n")
+        if os.geteuid() == 0:
+            it.check(f"devices: a file without permission as {name}", line.format("secret.txt"), 5, err=failed.format("secret.txt"), before=as_nobody)
+    for command in ("race {}.toml tiles 2 1 --seeds 2", "explain {}.toml tiles 2 1 --pins clash.pins", "box-fill {}.toml 1 1 1", "box-refute {}.toml 1 1 1",
+                    "box-check {}.toml 1 1 1 box.ref"):
+        name = command.split()[0]
+        it.check(f"devices: a missing picture of {name}", command.format("none"), 5, err="wfc: device Missing tile=0 file=none.toml\n")
+        it.check(f"devices: a folder as picture of {name}", command.format("folder"), 5, err="wfc: device Failed tile=0 file=folder.toml\n")
+        it.check(f"devices: /dev/zero as picture of {name}", command.format("zero"), 4, err="wfc: tiles BadPicture tile=0 file=zero.toml\n")
+    for command in ("race corner.toml tiles 2 1 --seeds 2 --mask {}", "explain corner.toml tiles 2 1 --pins clash.pins --mask {}"):
+        it.check(f"devices: a folder as mask of {command.split()[0]}", command.format("folder"), 5, err=failed.format("folder"))
+        it.check(f"devices: a missing mask of {command.split()[0]}", command.format("none"), 5, err="wfc: device Missing file=none\n")
     it.check("devices: /dev/null as pins of explain", "explain chk.txt 2 2 2 --pins /dev/null", 1, err="wfc: map exists\n")
-    it.check("devices: a folder as sample of a race", "race folder 2 2 2 --seeds 2", 5, err=failed.format("folder"))
-    it.check("devices: a budget spent, an output that is closed", "race chk.txt 2 3 3 --wrap-in --wrap-out --seeds 2 --budget 0", 2,
-             err="wfc: budget spent budget=0\n", before=closing(1))
-    it.check("devices: a map exists, an output that is closed", "explain chk.txt 2 2 2 --pins /dev/null", 1, err="wfc: map exists\n", before=closing(1))
-    it.check("devices: a folder as sample to be grown", "grow folder 2 2 2", 5, err=failed.format("folder"))
-    it.check("devices: a folder as tile set of a box", "box-fill folder 1 1 1", 5, err=failed.format("folder"))
-    it.check("devices: /dev/zero as pins of a box", "box-fill tower.toml 1 1 1 --pins /dev/zero", 4, err="wfc: file TooLong file=/dev/zero\n")
-    it.check("devices: /dev/zero as refutation of a box", "box-check tower.toml 1 1 1 /dev/zero", 1, err="wfc: check BadLine line=1 file=/dev/zero\n")
+
+
+READERS = (
+    ("sample", "race {} 2 2 2 --seeds 2"),
+    ("pins", "race chk.txt 2 2 2 --seeds 2 --pins {}"),
+    ("sample", "explain {} 2 2 2 --pins three.pins"),
+    ("pins", "explain chk.txt 2 2 2 --pins {}"),
+    ("sample", "grow {} 2 2 2"),
+    ("pins", "grow chk.txt 2 2 2 --pins {}"),
+    ("tile set", "box-fill {} 1 1 1"),
+    ("pins", "box-fill tower.toml 1 1 1 --pins {}"),
+    ("tile set", "box-refute {} 1 1 1"),
+    ("pins", "box-refute tower.toml 1 1 1 --pins {}"),
+    ("tile set", "box-check {} 1 1 1 box.ref"),
+    ("pins", "box-check tower.toml 2 1 2 box.ref --pins {}"),
+    ("refutation", "box-check tower.toml 2 1 2 {}"),
+)
 
 
 def devices_in(it):
@@ -519,6 +605,65 @@ def limits_words(it):
         it.check(f"limits: {name} 0", line, 3, err=f"wfc: command value {name}\n")
 
 
+NO_HEAD = "wfc: check HeaderDiffers cells={} values={} file={}\n"
+ALL_WORDS = (
+    ("learn", "learn six.txt {MODEL} --symmetry {symmetry}", 0, ""),
+    ("domains", "domains six.txt {MODEL} {WIDTH} {HEIGHT} --symmetry {symmetry}", 0, ""),
+    ("refute", "refute six.txt {MODEL} {WIDTH} {HEIGHT} --symmetry {symmetry} --seed {seed} --budget {budget} --format {format}", 1, "wfc: map exists\n"),
+    ("check", "check six.txt {MODEL} {WIDTH} {HEIGHT} one.ref --symmetry {symmetry}", 1, NO_HEAD.format(2, 1, "one.ref")),
+    ("upgrade", "upgrade six.txt {MODEL} {WIDTH} {HEIGHT} one.ref --symmetry {symmetry}", 1, NO_HEAD.format(2, 1, "one.ref")),
+    ("race", "race six.txt {MODEL} {WIDTH} {HEIGHT} --seeds 1 --symmetry {symmetry} --seed {seed} --budget {budget}", 0, ""),
+    ("explain", "explain six.txt {MODEL} {WIDTH} {HEIGHT} --pins a_ban.pins --symmetry {symmetry} --seed {seed} --budget {budget}", 0, ""),
+    ("grow", "grow six.txt {MODEL} {WIDTH} {HEIGHT} --symmetry {symmetry} --seed {seed} --budget {budget}", 0, ""),
+    ("box-fill", "box-fill cube.toml {WIDTH} {HEIGHT} {DEPTH} --seed {seed} --budget {budget}", 0, ""),
+    ("box-refute", "box-refute tower.toml {WIDTH} {HEIGHT} {DEPTH} --seed {seed} --budget {budget} --format {format}", 0, ""),
+    ("box-check", "box-check tower.toml {WIDTH} {HEIGHT} {DEPTH} box.ref", 1, NO_HEAD.format(4, 2, "box.ref")),
+)
+RANGES = {"MODEL": (1, 6), "WIDTH": (1, 4096), "HEIGHT": (1, 4096), "DEPTH": (1, 256), "symmetry": (1, 8), "seed": (0, (1 << 64) - 1),
+          "budget": (0, 1_000_000_000), "format": (1, 2)}
+
+
+def limits_all_words(it):
+    """The ranges of the words of each command but `fill` and `demo`, each word at its ends with the others small."""
+    for command, line, status, err in ALL_WORDS:
+        usual = {"MODEL": 6, "WIDTH": 6, "HEIGHT": 6, "DEPTH": 2, "symmetry": 1, "seed": 0, "budget": 1, "format": 2}
+        for name, (low, most) in RANGES.items():
+            if "{" + name + "}" not in line:
+                continue
+            it.check(f"limits: {name} {most} of {command}", line.format(**{**usual, name: most}), status, err=err,
+                     out=nothing if "check" in err else lambda out: len(out) > 1)
+            for value in (low - 1, most + 1):
+                if value >= 0:
+                    it.check(f"limits: {name} {value} of {command}", line.format(**{**usual, name: value}), 3, err=f"wfc: command value {name}\n")
+
+
+REFUTED = "wfc-refutation 2\ncells 1 values 1\nfor 0 1 1 1 1 0 0\nx 0\nq\n"
+
+
+def limits_all_files(it):
+    """The length of the files of these commands."""
+    cube = tile_set(["X"], pair=True) + "[[stack]]\nlower = 't0'\nupper = 't0'\n"
+    grid = "P3\n" + padded("1 1\n255\n1 2 3\n", FILE_LIMIT - 3)
+    for name, line, text, status, out, err in (
+        ("a sample of a race", "race {} 1 2 1 --seeds 2", grid, 0, "seed 0 retractions 0 map\n", ""),
+        ("pins of a race", "race chk.txt 2 2 2 --seeds 2 --pins {}", padded("pin 0 0 a\n", FILE_LIMIT), 0, "seed 0 retractions 0 map\n", ""),
+        ("a sample of explain", "explain {} 1 2 1 --pins empty.pins", grid, 1, "", "wfc: map exists\n"),
+        ("a sample to be grown", "grow {} 1 2 1 --block 1 --form p3", grid, 0, "P3\n2 1\n255\n1 2 3\n1 2 3\n", ""),
+        ("pins to be grown with", "grow chk.txt 2 2 2 --pins {}", padded("pin 0 0 a\n", FILE_LIMIT), 0, "ab\nba\n", ""),
+        ("a tile set of a box", "box-fill {} 1 1 2", padded(cube, FILE_LIMIT), 0, "layer 0\n0\nlayer 1\n0\n", ""),
+        ("pins of a box", "box-fill cube.toml 1 1 1 --pins {}", padded("pin 0 0 0 t0/0\n", FILE_LIMIT), 0, "layer 0\n0\n", ""),
+        ("pins of box-refute", "box-refute cube.toml 1 1 1 --pins {}", padded("ban 0 0 0 t0/0\n", FILE_LIMIT), 0, REFUTED, ""),
+        ("pins of box-check", "box-check cube.toml 1 1 1 short.ref --pins {}", padded("ban 0 0 0 t0/0\n", FILE_LIMIT), 1, "", NO_HEAD.format(4, 2, "short.ref")),
+        ("a tile set of box-refute", "box-refute {} 1 1 1", padded(cube, FILE_LIMIT), 1, REFUTED.replace("x 0\nq", "s"), "wfc: map exists\n"),
+        ("a tile set of box-check", "box-check {} 1 1 1 short.ref", padded(cube, FILE_LIMIT), 1, "", NO_HEAD.format(4, 2, "short.ref")),
+    ):
+        for size in (FILE_LIMIT, FILE_LIMIT + 1):
+            file = "big.ppm" if text is grid else "big"
+            it.write(file, text + "\n" * (size - FILE_LIMIT))
+            past = (4, "", f"wfc: file TooLong file={file}\n")
+            it.check(f"limits: {name} of {size:,} bytes", line.format(file), *((status, out, err) if size == FILE_LIMIT else past))
+
+
 def limits_race(it):
     """Seeds, quantum and what fits a race."""
     won = "seed {} retractions 0 map\n"
@@ -537,9 +682,10 @@ def limits_race(it):
             it.check(f"limits: a race of {product}", f"race a.txt 1 {words}", 4, err=f"wfc: race TooLarge product={product}\n")
         else:
             it.check("limits: a race of 8,388,608", f"race a.txt 1 {words}", 0, won.format(0))
-    line = "race colours.ppm 1 256 1 --seeds {} --pins end.pins"
-    it.write("end.pins", "".join(f"pin {x} 0 0,0,0\n" for x in range(256)))
-    it.check("limits: a race of eight of 1,048,576 pairs of 4,096 patterns", line.format(8), 0, won.format(0))
+    it.check("limits: a race of eight of 1,048,576 pairs of 4,096 patterns", "race windows.ppm 2 257 2 --seeds 8", 0, won.format(0))
+    it.check("limits: a race of eight of 1,052,672 pairs of 4,096 patterns", "race windows.ppm 2 258 2 --seeds 8", 4,
+             err="wfc: race TooLarge product=8421376\n")
+    it.check("limits: a race of one of 8,388,610", "race a.txt 1 2113 3970 --seeds 1", 4, err="wfc: build TooLarge product=8388610\n")
 
 
 def limits_explain(it):
@@ -576,12 +722,18 @@ def limits_grow(it):
     it.check("limits: a block of side below N", "grow six.txt 6 8 8 --block 5", 3, err="wfc: command value block\n")
     it.check("limits: 16,777,216 pixels in four blocks", line.format("4096 4096", 2048), 0, ("a" * 4096 + "\n") * 4096)
     it.check("limits: a first block of 16,777,216 pairs", line.format("4096 4096", 4096), 4, err="wfc: build TooLarge product=16777216\n")
+    it.check("limits: a first block of 8,388,610 pairs", line.format("2113 3970", 4096), 4, err="wfc: build TooLarge product=8388610\n")
+    it.check("limits: a first block of 2,048 cells of 4,096 patterns", "grow windows.ppm 2 2049 2 --block 2049", 0, lambda out: out.startswith(b"P6\n2049 2\n255\n"))
+    it.check("limits: a first block of 2,049 cells of 4,096 patterns", "grow windows.ppm 2 2050 2 --block 2050", 4, err="wfc: build TooLarge product=8392704\n")
+    for value, err in ((4_294_967_295, "build PinOutside"), (4_294_967_296, "pins BadLine")):
+        it.write("far_grown.pins", f"pin {value} 0 a\n")
+        it.check(f"limits: a pin in column {value} of growth", "grow chk.txt 2 2 2 --pins far_grown.pins", 4, err=f"wfc: {err} line=1 file=far_grown.pins\n")
     it.check("limits: a grown map of tiles", "grow corner.toml tiles 2 2", 3, err="wfc: command value MODEL\n")
     it.check("limits: rule ranked of growth", line.format("1 1", 1) + " --rule ranked", 3, err="wfc: command value rule\n")
     it.check("limits: a last seed past 64 bits of growth", line.format("4 4", 1) + f" --seed {(1 << 64) - 1}", 0, "aaaa\n" * 4)
     it.check("limits: a stuck last block of 64", "grow chk.txt 2 9 9 --wrap-in --block 2 --pins last_clash.pins", 8,
              lambda out: out.startswith(b"stuck 7 7 2 2 pins 5\n") and out.endswith(b"x 0\nq\n"), "wfc: grow stuck x=7 y=7\n")
-    it.check("limits: a stuck last block of 64, a full output", "grow chk.txt 2 9 9 --wrap-in --block 2 --pins last_clash.pins", 5, err=OUT_FAILED,
+    it.check("limits: a stuck last block of 64, a closed output", "grow chk.txt 2 9 9 --wrap-in --block 2 --pins last_clash.pins", 5, err=OUT_FAILED,
              before=closing(1))
 
 
@@ -589,6 +741,8 @@ def limits_boxes(it):
     """Depth, pairs and pixels of boxes."""
     it.write("cube64.toml", tile_set(["X"], picture="side64.txt", pair=True) + "[[stack]]\nlower = 't0'\nupper = 't0'\n")
     layers = lambda rows, depth: "".join(f"layer {z}\n{rows}" for z in range(depth))
+    for command in ("box-fill", "box-refute"):
+        it.check(f"limits: rule ranked of {command}", f"{command} cube.toml 1 1 1 --rule ranked", 7, err="wfc: chooser missing rule=ranked\n")
     it.check("limits: DEPTH 256", "box-fill cube.toml 1 1 256", 0, layers("0\n", 256))
     for depth in (0, 257):
         it.check(f"limits: DEPTH {depth}", f"box-fill cube.toml 1 1 {depth}", 3, err="wfc: command value DEPTH\n")
@@ -597,8 +751,34 @@ def limits_boxes(it):
     it.check("limits: 16,777,216 pixels of a box", "box-fill cube64.toml 16 16 16", 0, layers(("a" * 1024 + "\n") * 1024, 16))
     it.check("limits: 17,825,792 pixels of a box", "box-fill cube64.toml 17 16 16", 4, err="wfc: render TooLarge pixels=17825792\n")
     it.check("limits: a box's refutation of format 3", "box-refute tower.toml 2 1 2 --format 3", 3, err="wfc: command value format\n")
-    it.write("far_box.pins", "pin 0 0 4294967295 t0/0\n")
-    it.check("limits: a pin in layer 4294967295", "box-fill cube.toml 1 1 1 --pins far_box.pins", 4, err="wfc: build PinOutside line=1 file=far_box.pins\n")
+    for value, err in ((4_294_967_295, "build PinOutside"), (4_294_967_296, "pins BadLine")):
+        it.write("far_box.pins", f"pin 0 0 {value} t0/0\n")
+        it.check(f"limits: a pin in layer {value}", "box-fill cube.toml 1 1 1 --pins far_box.pins", 4, err=f"wfc: {err} line=1 file=far_box.pins\n")
+    for line in ("box-refute cube.toml 257 128 256", "box-check cube.toml 257 128 256 box.ref"):
+        it.check(f"limits: 8,421,376 places of {line.split()[0]}", line, 4, err="wfc: build TooLarge product=8421376\n")
+    it.check("limits: 8,388,608 places of box-refute", "box-refute cube.toml 256 128 256", 1, lambda out: out.endswith(b"\ns\n"), "wfc: map exists\n")
+    it.check("limits: 8,388,608 places of box-check", "box-check cube.toml 256 128 256 box.ref", 1, err="wfc: check HeaderDiffers cells=4 values=2 file=box.ref\n")
+    head = "wfc-refutation 1\ncells 4 values 2\n"
+    for number, text, fault in (
+        (1, head + "r 0 0 5\n", "Rejected line=3 reject=NoNeighbour"),
+        (2, head + "r 0 0 6\n", "Rejected line=3 reject=IndexRange"),
+        (3, head + "r 0 0 256\n", "BadLine line=3"),
+        (4, head + "r 4 0 0\n", "Rejected line=3 reject=IndexRange"),
+        (5, head + "r 0 65535 2\n", "Rejected line=3 reject=IndexRange"),
+        (6, head + "r 0 65536 2\n", "BadLine line=3"),
+        (7, head + "x" * 64 + "\n", "BadLine line=3"),
+        (8, head + "x" * 65 + "\n", "BadLine line=3"),
+        (9, "wfc-refutation 1\ncells 4294967295 values 4294967295\n", "HeaderDiffers cells=4294967295 values=4294967295"),
+        (10, "wfc-refutation 2\ncells 4 values 2\nfor 0 2 1 256 1 0 0\n", "OptionsDiffer n=0 width=2 height=1 depth=256 symmetry=1 wrap_in=0 wrap_out=0"),
+        (11, "wfc-refutation 2\ncells 4 values 2\nfor 0 2 1 4294967296 1 0 0\n", "BadLine line=3"),
+    ):
+        it.write(f"box_{number}.ref", text)
+        it.check(f"limits: {fault}, refutation {number} of a box", f"box-check tower.toml 2 1 2 box_{number}.ref", 1, err=f"wfc: check {fault} file=box_{number}.ref\n")
+    it.write("zeros.ref", "", size=REFUTATION_LIMIT + 1)
+    it.check("limits: a box's refutation of 4,294,967,297 zeros", "box-check tower.toml 2 1 2 zeros.ref", 1, err="wfc: check BadLine line=1 file=zeros.ref\n")
+    it.write("spot.toml", tile_set(["X"], picture="spot.ppm", pair=True))
+    for form, status, err in (("cells", 0, ""), ("grid", 4, "wfc: render FormDiffers\n"), ("p6", 4, "wfc: render FormDiffers\n")):
+        it.check(f"limits: form {form} of a box of colours", f"box-fill spot.toml 1 1 1 --form {form}", status, "" if status else "layer 0\n0\n", err)
 
 
 def limits_samples(it):
@@ -732,20 +912,12 @@ def limits_refutations(it):
     it.check("limits: 16,777,217 bytes to be upgraded", upgrade.format("longer.ref"), 4, err="wfc: file TooLong file=longer.ref\n")
 
 
-def branches(cells):
-    """The lines of a proof that splits these cells in turn, each branch closed by the empty cell 0."""
-    lines = b"x 0\n"
-    for cell in reversed(cells):
-        lines = b"t %d 0\n" % cell + lines + lines
-    return lines
-
-
 def limits_long_refutations(it):
     """A right proof with more bytes than a refutation may have: cell 0 has no value, and all others are split in turn."""
     it.write("sym.txt", "ab\n")
     it.write("both.pins", "pin 0 0 a\npin 0 0 b\n")
     line = "check sym.txt 1 40 1 {} --pins both.pins"
-    low = branches(range(18, 38))
+    low = failing.branches(range(18, 38))
     with open(it.path("whole.ref"), "wb") as file:
         file.write(b"wfc-refutation 1\ncells 40 values 2\n")
 
@@ -782,6 +954,8 @@ def main():
         it = Bench(asked.wfc, folder, asked.only)
         for name, text in SMALL.items():
             it.write(name, text)
+        for path in ("examples/islands.txt", "bench/samples/maze.txt"):
+            shutil.copy(f"{ROOT}/{path}", folder)
         it.probe()
         allocations(it)
         memory(it)
@@ -790,6 +964,8 @@ def main():
         devices_in(it)
         devices_of_lines(it)
         limits_words(it)
+        limits_all_words(it)
+        limits_all_files(it)
         limits_samples(it)
         limits_race(it)
         limits_explain(it)
@@ -803,6 +979,7 @@ def main():
         if asked.slow:
             limits_long_refutations(it)
         os.chmod(it.path("secret.txt"), stat.S_IRUSR | stat.S_IWUSR)
+    print(f"the longest run took {it.longest[0]:.1f} s: {shortened(b' '.join(it.longest[1]))}")
     print(f"{it.right} right, {it.wrong} wrong")
     sys.exit(1 if it.wrong or not it.right else 0)
 
