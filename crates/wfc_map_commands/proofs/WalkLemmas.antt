@@ -231,5 +231,5 @@ walk_begun v P levels beside opened none = record {
 }
 
 -- the answer with its verdict
-pub steps_answer : (P Q : Network) (lines : List StepLine) (v : verdict_type.Verdict) → Q ≡ P → v ≡ root_verdict Q → domains_answer P lines ≡ record { verdict = v; text = Some (steps_text P lines); whole = true }
+pub steps_answer : (P Q : Network) (lines : List StepLine) (v : verdict_type.CommandVerdict) → Q ≡ P → v ≡ root_verdict Q → domains_answer P lines ≡ record { verdict = v; text = Some (steps_text P lines); whole = true }
 steps_answer P Q lines v same is = ap (λ w. let answer : Answered = record { verdict = w; text = Some (steps_text P lines); whole = true } in answer) (sym (is ∙ ap root_verdict same))
