@@ -69,6 +69,7 @@ SMALL = {
     "tower.pins": "pin 0 0 0 line/0\n",
     "last_clash.pins": "ban 8 8 a\nban 8 8 b\n",
     "tree.pins": "pin 5 1 T\n",
+    "turns.txt": "aaaa\naaab\nbbcc\ncbab\nccba\n",
     "spot.ppm": "P3\n1 1\n255\n1 2 3\n",
     "piled.toml": "[[tile]]\nname = 'corner'\nclass = 'L'\npicture = 'corner.txt'\n[[pair]]\nleft = 'corner 1'\nright = 'corner 2'\n"
     "[[stack]]\nlower = 'corner'\nupper = 'corner'\n",
@@ -260,6 +261,7 @@ ROWS = [
     Row("a stuck block with a pin of the file", "grow islands.txt 2 8 4 --wrap-in --block 5 --pins tree.pins", is_stuck_island, 8, b"wfc: grow stuck x=4 y=0\n"),
     Row("a stuck block of a maze", GROW_MAZE + " --seed 1", is_stuck_maze, 8, b"wfc: grow stuck x=10 y=0\n"),
     Row("a spent block", GROW_MAZE + " --seed 4 --budget 0", nothing, 2, b"wfc: budget spent budget=0\n"),
+    Row("a last block that is spent", "grow turns.txt 2 15 8 --wrap-in --seed 1 --block 8 --budget 0", nothing, 2, b"wfc: budget spent budget=0\n"),
     Row("a grown picture", "grow spot.ppm 1 2 1 --block 1", exactly(b"P6\n2 1\n255\n\1\2\3\1\2\3")),
     Row("a grown town", FILL_TOWN.replace("fill", "grow") + " --block 20", is_town),
     Row("a box", "box-fill tower.toml 1 1 3 --pins tower.pins", exactly(TOWER)),

@@ -13,6 +13,14 @@ STUBBORN = [
     ["..#", ".##", "#.."], ["ab.", "ba.", "..."], ["a.b", ".a.", "b.a"],
 ]
 
+# Samples whose blocks take choices back though their maps don't wrap, each with its N, its other words and the side of a block.
+WANDERING = [
+    (["aaaa", "aaab", "bbcc", "cbab", "ccba"], 2, ["--wrap-in"], 8),
+    (["..a##a#", "bb.b...", "#####a."], 2, ["--wrap-in"], 6),
+    (["abcab", "abbca", "ababc", "abaac", "cbbbc", "cabab"], 2, [], 7),
+    (["##..#.#", "..#.###", "#......", "##.....", "#####.#"], 3, ["--symmetry", "8"], 6),
+]
+
 
 def lines(r, made):
     """A text of lines, some with other blanks, ends, comments and empty lines."""
@@ -211,6 +219,19 @@ def map_words(r, command, folder):
     return said, options
 
 
+def wandering_words(r, folder):
+    """The words of `grow` on a sample whose blocks take choices back."""
+    rows, n, options, side = r.choice(WANDERING)
+    folder["s.txt"] = "".join(row + "\n" for row in rows).encode()
+    sides = [side + r.choice([0, 1, 2, 4, 6, 8]), side - r.choice([0, 0, 1])]
+    options = [*options, "--block", str(side)]
+    if r.random() < 0.3:
+        folder["p.txt"] = pins_of(r, sorted({c for row in rows for c in row}), sides, r.choice([1, 2]))
+        options += valued(r, "pins", "p.txt")
+    r.shuffle(sides)
+    return ["s.txt", str(n), *map(str, sides)], options
+
+
 def box_words(r, folder):
     name, symbols = tile_set(r, folder, True)
     sides = [r.randint(1, 3) for _ in range(3)]
@@ -278,8 +299,8 @@ def wrong_words(r, said):
     return said
 
 
-def extra(r, command):
-    """The options that one command has beside those of a run."""
+def extra(r, command, options):
+    """The options that one command has beside those of a run, but for these ones."""
     said = []
     if command in ("fill", "grow", "box-fill") and r.random() < 0.4:
         said += valued(r, "form", r.choice(["grid", "cells", "cells", "cells", "cells", "p3", "p6"]))
@@ -287,7 +308,7 @@ def extra(r, command):
         said += valued(r, "format", r.choice([1, 2]))
     if command == "race":
         said += valued(r, "seeds", r.randint(1, 8)) + (valued(r, "quantum", r.choice([1, 2, 3, 10, 1_000_000])) if r.random() < 0.6 else [])
-    if command == "grow" and r.random() < 0.9:
+    if command == "grow" and "--block" not in options and r.random() < 0.9:
         said += valued(r, "block", r.choice([1, 2, 3, 4, 5, 6]))
     return said
 
@@ -312,6 +333,8 @@ def case(r, commands):
         said, options = [str(r.choice([r.randrange(30), r.randrange(1_000_001)]))], []
     elif command.startswith("box"):
         said, options = box_words(r, folder)
+    elif command == "grow" and r.random() < 0.3:
+        said, options = wandering_words(r, folder)
     else:
         said, options = map_words(r, command, folder)
     if command in ("check", "upgrade", "box-check"):
@@ -325,7 +348,7 @@ def case(r, commands):
         said.append("r.ref")
     elif command not in ("learn", "domains", "demo"):
         options += run_options(r)
-    options += extra(r, command)
+    options += extra(r, command, options)
     if command == "domains" and r.random() < 0.8:
         folder["x.txt"] = steps_of(r, r.choice([1, 2, 4, 6, 9]), r.choice([1, 2, 2, 3, 4]))
         options += valued(r, "steps", "x.txt")
