@@ -34,10 +34,11 @@ pub fn rules_by_example()
 /// none, or nothing where the budget is spent.
 pub fn ends_by_example(values: &Vec<u16>)
     ensures map { values.now.items ≡ 1 ∷ 0 ∷ [] →
-        HoldsOutcome pair (Is 1 0 ∷ []) outcome.Map (End.Map values.now) }
+        HoldsOutcome pair (Is 1 0 ∷ []) outcome.Map (RunEnd.Map values.now) }
     ensures other_map { values.now.items ≡ 0 ∷ 1 ∷ [] →
-        HoldsOutcome pair (Is 1 0 ∷ []) outcome.Map (End.Map values.now) → ⊥ }
-    ensures no_map { HoldsOutcome pair [] outcome.NoMap End.NoMap × IsLegalEnd pair End.NoMap }
-    ensures spent { HoldsOutcome pair [] outcome.Spent End.NoMap → ⊥ }
-    ensures short { values.now.items ≡ 1 ∷ [] → IsLegalEnd pair (End.Map values.now) → ⊥ }
+        HoldsOutcome pair (Is 1 0 ∷ []) outcome.Map (RunEnd.Map values.now) → ⊥ }
+    ensures no_map { HoldsOutcome pair [] outcome.NoMap RunEnd.NoMap
+        × IsLegalEnd pair RunEnd.NoMap }
+    ensures spent { HoldsOutcome pair [] outcome.Spent RunEnd.NoMap → ⊥ }
+    ensures short { values.now.items ≡ 1 ∷ [] → IsLegalEnd pair (RunEnd.Map values.now) → ⊥ }
 {}
