@@ -7,7 +7,8 @@ PROGRAM is crates/wfc_app/out/wfc_app if it isn't given. The second implementati
 docs/commands.md and docs/formats.md, and shares nothing with the program. It makes the defined run, so that a map, the words of a
 race, a core or a grown map must be the same byte by byte. Beside that a map is held to the definition of a legal one, 'no map' to a
 search that tries all maps where that takes few steps, and the text of a refutation to a checker and to the choices and dead ends of the
-run. A refutation that the program wrote is then given to `check` and `upgrade`, that of a box to `box-check`.
+run. A refutation that the program wrote is then given to `check` and `upgrade`, that of a box to `box-check`, and that of a stuck block,
+with the block's pins, to `check`.
 
 Case K of a seed is the same at each call, whatever the count. Each difference is printed with its words and its files. The table
 counts the cases by command and status; 'long' are those whose run takes the judge too many turns, which are not compared. What PROGRAM
@@ -100,6 +101,17 @@ def follow(said, folder, written):
     return [([command, *kept, "made.ref"], folder) for command in followers]
 
 
+def follow_stuck(said, folder, written):
+    """The case that the text of a stuck block makes: its refutation is checked with its pins."""
+    asked = cases.words.request(said)
+    head, _, rest = written.partition(b"\n")
+    width, height, count = head.split()[3], head.split()[4], int(head.split()[6])
+    lines = rest.split(b"\n", count)
+    folder = {**folder, "made.pins": b"".join(line + b"\n" for line in lines[:count]), "made.ref": lines[count]}
+    made = ["check", "--pins", "made.pins", "--symmetry", str(asked["symmetry"]), *["--wrap-in"] * asked.get("wrap-in", False), "--"]
+    return made + [asked["file"], str(asked["MODEL"]), width.decode(), height.decode(), "made.ref"], folder
+
+
 def work(program, seed, first, step, count, commands, lacks, queue):
     table, reports = {}, []
     with tempfile.TemporaryDirectory(prefix="wfc-differ-") as place:
@@ -113,6 +125,8 @@ def work(program, seed, first, step, count, commands, lacks, queue):
                 reports += [fault] if fault else []
                 if got and got[0] == 0 and said[0] in ("refute", "box-refute"):
                     waiting += [(f"{at} behind it", *made) for made in follow(said, folder, got[1])]
+                if got and got[0] == 8:
+                    waiting.append((f"{at} behind it", *follow_stuck(said, folder, got[1])))
     queue.put((table, reports))
 
 
