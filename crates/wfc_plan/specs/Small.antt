@@ -1,13 +1,72 @@
--- A plan of two files, and folders, that the laws speak of.
+-- A plan of two files with its order, folders, and refusals of each kind, that the laws speak of.
 use Rattle.std.specs.Prelude.{List, Some, [], ℕ, ◌∷◌}
+use Rattle.wfc_box.specs.declared.fault.StackFault.TheVariants as stacks
+use Rattle.wfc_grid.specs.declared.reading.GridFault.TheVariants as grids
 use Rattle.wfc_outside.specs.Folder.{File, FolderView}
+use Rattle.wfc_pattern.specs.declared.learning.LearnFault.TheVariants as learning
+use Rattle.wfc_picture.specs.declared.palette.PaletteFault.TheVariants as palettes
+use Rattle.wfc_pins.specs.declared.fault.BuildFault.TheVariants as builds
+use Rattle.wfc_pins.specs.declared.pins.PinFault.TheVariants as pins
+use Rattle.wfc_pins.specs.declared.steps.StepFault.TheVariants as steps
 use Rattle.wfc_plan.specs.Plan.{Plan, done, most_bytes, read}
-use Rattle.wfc_plan.specs.declared.fault.Source.TheVariants.{Pins, Sample}
+use Rattle.wfc_plan.specs.Stages.{IsReadingFault, TaskStage}
+use Rattle.wfc_plan.specs.declared.fault.Refusal.{Refusal}
+use Rattle.wfc_plan.specs.declared.fault.Refusal.TheVariants as refusals
+use Rattle.wfc_plan.specs.declared.fault.Source.TheVariants.{Mask, Pins, Sample}
+use Rattle.wfc_ppm.specs.declared.reading.PpmFault.TheVariants as ppms
+use Rattle.wfc_render.specs.declared.form.RenderFault.TheVariants as renders
+use Rattle.wfc_tiled.specs.declared.reading.MaskFault.TheVariants as masks
+use Rattle.wfc_tileset.specs.declared.fault.TileFault.TheVariants as tiles
 
 -- the sample `a` is read, and then the pins file `b`
 abbrev pub two_files_plan : Plan ℕ
 two_files_plan = read Sample (97 ∷ []) most_bytes (λ a. read Pins (98 ∷ []) most_bytes (λ b. done 0))
 
+-- what is looked at for it: the one file, and then the other
+abbrev pub two_files_order : List File → List TaskStage
+two_files_order files = IsReadingFault Sample files (97 ∷ []) ∷ IsReadingFault Pins files (98 ∷ []) ∷ []
+
+-- the file `a`, of one byte
+abbrev pub first_file : File
+first_file = record { name = 97 ∷ []; bytes = 7 ∷ [] }
+
+-- the file `b`, which is empty
+abbrev pub second_file : File
+second_file = record { name = 98 ∷ []; bytes = [] }
+
 -- the folder that tells these files, and has counted no fault
 abbrev pub folder_telling : List File → FolderView
 folder_telling files = record { contents = Some files; faults = λ name. 0 }
+
+-- that memory ran out, as each kind of step says it
+abbrev pub short_refusals : List Refusal
+short_refusals =
+    refusals.NoMemory
+    ∷ refusals.Grid Mask grids.NoMemory
+    ∷ refusals.Ppm Sample ppms.NoMemory
+    ∷ refusals.Colours palettes.NoMemory
+    ∷ refusals.Learn learning.NoMemory
+    ∷ refusals.Pins pins.NoMemory
+    ∷ refusals.Build builds.NoMemory
+    ∷ refusals.Steps steps.NoMemory
+    ∷ refusals.Tiles tiles.NoMemory
+    ∷ refusals.Mask masks.NoMemory
+    ∷ refusals.Stacks stacks.NoMemory
+    ∷ []
+
+-- that what was given is at fault, as each kind of step says it
+abbrev pub wrong_refusals : List Refusal
+wrong_refusals =
+    refusals.Grid Mask grids.Empty
+    ∷ refusals.Ppm Sample ppms.Magic
+    ∷ refusals.Colours (palettes.TooManyColours 7)
+    ∷ refusals.Learn learning.SampleBelowN
+    ∷ refusals.Render renders.FormDiffers
+    ∷ refusals.Pins (pins.BadLine 7)
+    ∷ refusals.Build builds.SizeBelowN
+    ∷ refusals.Steps (steps.NothingToUndo 7)
+    ∷ refusals.TooLong Pins
+    ∷ refusals.Tiles tiles.NoTiles
+    ∷ refusals.Mask masks.AllHoles
+    ∷ refusals.Stacks stacks.NotArray
+    ∷ []

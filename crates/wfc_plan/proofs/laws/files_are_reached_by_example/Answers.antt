@@ -10,3 +10,7 @@ returns-clause-second c = inr (7 ∷ [], record { told = refl; within = refl }, 
 pub returns-clause-hidden : goal.returns-clause-hidden
 returns-clause-hidden c (inl same) = absurd (cc (same.0))
 returns-clause-hidden c (inr goes_on) = absurd (cc (goes_on.1.told))
+
+pub returns-clause-role : goal.returns-clause-role
+returns-clause-role c (inl same) = absurd (cc (same.0))
+returns-clause-role c (inr goes_on) = absurd (cc (goes_on.1.told))

@@ -11,6 +11,10 @@ returns-clause-first c fault (inr (none, later)) = absurd (none (Unread Pins Mis
 pub returns-clause-second : goal.returns-clause-second
 returns-clause-second c = inr (λ f has. has, inl refl)
 
+pub returns-clause-past : goal.returns-clause-past
+returns-clause-past c fault (inl has) = has
+returns-clause-past c fault (inr (none, later)) = later
+
 pub returns-clause-none : goal.returns-clause-none
 returns-clause-none c = (λ f has. has, (λ f has. has, tt))
 
