@@ -13,7 +13,9 @@ ghost use Rattle.wfc_plan.specs.declared.fault.Refusal.TheVariants as refusals;
 ghost use Rattle.wfc_plan.specs.declared.fault.Source.TheVariants.{Refutation};
 ghost use Rattle.wfc_problem.specs.Network.{Network};
 ghost use Rattle.wfc_proof.specs.declared.Line.TheVariants.{Empty, End, Remove, Span, Try};
+ghost use Rattle.wfc_proof.specs.declared.Reject.{Reject};
 ghost use Rattle.wfc_proof.specs.declared.heads.Format.TheVariants.{One, Two};
+ghost use Rattle.wfc_proof.specs.declared.heads.Shape.{Shape};
 ghost use Rattle.wfc_proof_commands.specs.Checking.{flat_proofs, found_in, verdict_in};
 ghost use Rattle.wfc_proof_commands.specs.CheckGiven.{IsCheckTask};
 ghost use Rattle.wfc_proof_commands.specs.CheckTask.{check, check_made, check_plan};
@@ -72,6 +74,13 @@ pub fn refutations_by_example()
 pub fn faults_of_checks_by_example()
     ensures none { found_in (Ok tt) ≡ Ok None }
     ensures text { found_in (Err (faults.BadLine 3)) ≡ Ok (Some (faults.BadLine 3)) }
+    ensures step { (line : ℕ) (reject : Reject) → found_in (Err (faults.Rejected line reject))
+        ≡ Ok (Some (faults.Rejected line reject)) }
+    ensures numbers { found_in (Err (faults.HeaderDiffers 4 3))
+        ≡ Ok (Some (faults.HeaderDiffers 4 3)) }
+    ensures shape { (other : Shape) → found_in (Err (faults.OptionsDiffer other))
+        ≡ Ok (Some (faults.OptionsDiffer other)) }
+    ensures not_ended { found_in (Err faults.NotEnded) ≡ Ok (Some faults.NotEnded) }
     ensures length { found_in (Err faults.TooLong) ≡ Err (Refused (refusals.TooLong Refutation)) }
     ensures file { found_in (Err faults.Missing) ≡ Err (Unread Refutation Missing) }
     ensures device { found_in (Err faults.Failed) ≡ Err (Unread Refutation Failed) }
