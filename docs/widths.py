@@ -3,11 +3,11 @@
 
     docs/widths.py [--list] [--wrap]
 
-In crates/*/src no line of a clause ('ensures' or 'requires' with its braces) has more than CLAUSE columns, and no line more than MOST;
-in crates/*/specs no line has more than MOST columns, and above each definition stands a sentence. A clause that names a trait's methods
-at a type, between double brackets, is laid out on one line, and isn't looked at. Clauses of more than two lines are
-counted, and listed with --list: where their parts have a name of their own, they are shorter. With --wrap each clause that is too wide is
-broken anew between its words. Status 0 where nothing is too wide and each definition has its sentence, else 1 with a line for each.
+In crates/*/src no line of a clause ('ensures' or 'requires' with its braces) has more than CLAUSE columns, and no line but an import
+more than MOST; in crates/*/specs no line has more than MOST columns, and above each definition stands a sentence. A clause that names
+a trait's methods at a type, between double brackets, is laid out on one line, and isn't looked at. Clauses of more than two
+lines are counted, and listed with --list: where their parts have a name of their own, they are shorter. With --wrap each clause that
+is too wide is broken anew between its words. Status 0 where nothing is too wide and each definition has its sentence, else 1 with a line for each.
 """
 import glob
 import os
@@ -20,8 +20,8 @@ CLAUSE, BREAK, MOST = 102, 100, 140
 HEAD = re.compile(r"\s*(?:ensures|requires)\b")
 TEXT = re.compile(r'"(?:\\.|[^"\\])*"')
 DEFINITION = re.compile(r"(?:(?:abbrev |unfoldable )+(?:pub )?|pub |record |data )(?!use\b|mod\b)(?:abbrev |unfoldable |record |data )*\S")
-# A use of lemmas in an attribute, and a string of a test, stand on one line.
-WHOLE = re.compile(r'\s*(?:#\[tactic|")')
+# Imports, lemmas in an attribute, and a string of a test, stand on one line.
+WHOLE = re.compile(r'\s*(?:(?:pub )?(?:ghost )?use |#\[tactic|")')
 
 
 def clauses(lines):
@@ -65,7 +65,7 @@ def wrap(path, lines):
     changed = False
     for first, last in reversed(list(clauses(lines))):
         part = lines[first : last + 1]
-        if max(map(len, part)) > CLAUSE and not any("//" in it for it in part):
+        if max(map(len, part)) > CLAUSE and not any("//" in it or "⟦" in it for it in part):
             lines[first : last + 1] = wrapped(part)
             changed = True
     if changed:

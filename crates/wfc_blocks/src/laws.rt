@@ -21,6 +21,13 @@ ghost use Rattle.wfc_blocks.specs.Grown.{growable_of, grown_of, shown_by_pins};
 ghost use Rattle.wfc_blocks.specs.Growth.{HasBlockOutcome, IsGrowable, IsStoppedAt, Terms, full, growth_of, problem_of_block, spent};
 ghost use Rattle.wfc_blocks.specs.declared.block.Block.{Block};
 
+use crate::MAX_BLOCKS;
+
+/// The limit as a plain number.
+pub fn limit_is()
+    ensures blocks { MAX_BLOCKS ≡ 64 }
+{}
+
 /// Each place of an area at which a window begins has its window in a block, and in no other.
 pub fn windows_lie_in_one_block()
     ensures some { (n : ℕ) (area : Area) (x y : ℕ) → n ≤ area.side →

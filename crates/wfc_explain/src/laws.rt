@@ -46,7 +46,8 @@ pub fn kept_sample_lines_are_built()
 pub fn kept_tile_lines_are_built()
     ensures as_many { (tiles : TileSetView) (mask : MaskView) (wrap : Bool) (lines : List PinView)
         (s : TilesPins) → tiles_pins tiles mask wrap lines ≡ Ok s → length s.pins ≡ length lines }
-    ensures built { (tiles : TileSetView) (mask : MaskView) (wrap : Bool) (lines : List PinView)
-        (s : TilesPins) → tiles_pins tiles mask wrap lines ≡ Ok s → (keep : List Bool) →
-        tiled.tile_map_problem tiles mask wrap (kept_of keep lines) ≡ Ok ((pinned_tiles s).problem_of keep) }
+    ensures built { (tiles : TileSetView) (mask : MaskView) (wrap : Bool) (lines : List PinView) (s
+        : TilesPins) → tiles_pins tiles mask wrap lines ≡ Ok s → (keep : List Bool) →
+        tiled.tile_map_problem tiles mask wrap (kept_of keep lines) ≡ Ok ((pinned_tiles
+        s).problem_of keep) }
 {}
