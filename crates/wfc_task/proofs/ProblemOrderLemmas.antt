@@ -25,8 +25,9 @@ use Rattle.wfc_problem.specs.declared.TheConstants.{MAX_PAIRS}
 use Rattle.wfc_task.proofs.GivenLemmas.{given_pins, pins_given}
 use Rattle.wfc_task.proofs.SampleOrderLemmas.{same_lesson}
 use Rattle.wfc_task.specs.Given.{HoldsPins}
+use Rattle.wfc_task.specs.Maps.{asked_output}
 use Rattle.wfc_task.specs.SamplePlans.{pins_plan, problem_plan, sample_plan}
-use Rattle.wfc_task.specs.Stages.{IsBelowFault, IsCountFault, IsPairsFault, IsPinFault, IsPinsFault, IsSizeFault, output_asked}
+use Rattle.wfc_task.specs.Stages.{IsBelowFault, IsCountFault, IsPairsFault, IsPinFault, IsPinsFault, IsSizeFault}
 use Rattle.wfc_task.specs.Steps.{read_pin_lines as lines_in, problem_of_lines}
 use Rattle.wfc_task.specs.declared.lesson.Taught.{Taught}
 use Rattle.wfc_words.specs.RequestView.{RequestView}
@@ -64,7 +65,7 @@ same_lines files name lines stage was =
 abbrev pub built_stages : RequestView → Taught → List PinView → List TaskStage
 built_stages asked lesson lines =
     IsBelowFault asked lesson.patterns.n
-    ∷ IsCountFault (window_pair_count lesson.patterns (output_asked asked))
+    ∷ IsCountFault (window_pair_count lesson.patterns (asked_output asked))
     ∷ IsRefusal refusals.Build (picture_pins (texts_of lesson.palette) asked.width asked.height lines)
     ∷ []
 
@@ -99,8 +100,8 @@ faults_built asked lesson lines files fault = by_tests (nat_lt asked.width lesso
   where
     rest : Result Network BuildFault
     rest =
-        if nat_lt MAX_PAIRS (window_pair_count lesson.patterns (output_asked asked)) then Err (TooLarge (window_pair_count lesson.patterns (output_asked asked)))
-        else result_map (problem_of_sample lesson.patterns (output_asked asked)) (picture_pins (texts_of lesson.palette) asked.width asked.height lines)
+        if nat_lt MAX_PAIRS (window_pair_count lesson.patterns (asked_output asked)) then Err (TooLarge (window_pair_count lesson.patterns (asked_output asked)))
+        else result_map (problem_of_sample lesson.patterns (asked_output asked)) (picture_pins (texts_of lesson.palette) asked.width asked.height lines)
 
     below : (asked.width < lesson.patterns.n) ⊎ (asked.height < lesson.patterns.n)
         → (outcome (step (or_refuse refusals.Build (let end : Result Network BuildFault = Err SizeBelowN in end))) files ≡ Err fault) ↔ IsFirstFault (built_stages asked lesson lines) fault
@@ -120,9 +121,9 @@ faults_built asked lesson lines files fault = by_tests (nat_lt asked.width lesso
         fits f has = elim has.below [ inl narrow ↦ grind (arith, nat_tests, w, narrow) | inr low ↦ grind (arith, nat_tests, h, low) ]
 
         counted : Faults (step (or_refuse refusals.Build rest)) files
-            (IsFirstFault (IsCountFault (window_pair_count lesson.patterns (output_asked asked)) ∷ IsRefusal refusals.Build (picture_pins (texts_of lesson.palette) asked.width asked.height lines) ∷ []))
+            (IsFirstFault (IsCountFault (window_pair_count lesson.patterns (asked_output asked)) ∷ IsRefusal refusals.Build (picture_pins (texts_of lesson.palette) asked.width asked.height lines) ∷ []))
         counted =
-            faults_count (window_pair_count lesson.patterns (output_asked asked)) (problem_of_sample lesson.patterns (output_asked asked)) (picture_pins (texts_of lesson.palette) asked.width asked.height lines) files
+            faults_count (window_pair_count lesson.patterns (asked_output asked)) (problem_of_sample lesson.patterns (asked_output asked)) (picture_pins (texts_of lesson.palette) asked.width asked.height lines) files
 
         to : outcome (step (or_refuse refusals.Build rest)) files ≡ Err fault → IsFirstFault (built_stages asked lesson lines) fault
         to is = inr (fits, (counted fault).0 is)
@@ -140,7 +141,7 @@ same_built : (asked : RequestView) (files : List File) (lesson : Taught) (lines 
 same_built asked files lesson lines was held =
     let meant : Taught → List PinView → TaskStage = λ other lines. IsRefusal refusals.Build (picture_pins (texts_of other.palette) asked.width asked.height lines) in
     let of_lines : Taught → TaskStage = λ other fault. (lines : List PinView) × HoldsPins files asked.pins lines × meant other lines fault in
-    let counted : Taught → TaskStage = λ other. IsCountFault (window_pair_count other.patterns (output_asked asked)) in
+    let counted : Taught → TaskStage = λ other. IsCountFault (window_pair_count other.patterns (asked_output asked)) in
     same_first (IsBelowFault asked lesson.patterns.n) (IsSizeFault asked files) (counted lesson ∷ meant lesson lines ∷ []) (IsPairsFault asked files ∷ IsPinFault asked files ∷ [])
     (same_lesson asked files lesson (λ other. IsBelowFault asked other.patterns.n) was)
     (same_first (counted lesson) (IsPairsFault asked files) (meant lesson lines ∷ []) (IsPinFault asked files ∷ []) (same_lesson asked files lesson counted was)

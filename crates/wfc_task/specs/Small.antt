@@ -1,10 +1,13 @@
 -- Small requests, whose files have several faults at once.
-use Rattle.std.specs.Prelude.{List, None, Ok, Option, Some, [], codes, length, ℕ, ◌∷◌, ◌≡◌}
+use Rattle.std.specs.Prelude.{List, None, Ok, Option, Some, [], codes, length, true, ℕ, ◌∷◌, ◌≡◌}
 use Rattle.wfc_outside.specs.Folder.{File, file_of}
+use Rattle.wfc_picture.specs.declared.symbol.Kind.TheVariants as kinds
+use Rattle.wfc_picture.specs.declared.symbol.Symbol.TheVariants.{Char}
 use Rattle.wfc_render.specs.Layout.{layout_of}
 use Rattle.wfc_render.specs.declared.form.Form.{Form}
 use Rattle.wfc_render.specs.declared.form.Layout.{Layout}
 use Rattle.wfc_task.specs.TileGiven.{IsTileSetOf}
+use Rattle.wfc_task.specs.declared.lesson.Taught.{Taught}
 use Rattle.wfc_tileset.specs.Pictures.{kind_of, side_of}
 use Rattle.wfc_tileset.specs.Tiles.{TileSetView}
 use Rattle.wfc_words.specs.RequestView.{RequestView, default_request}
@@ -40,6 +43,29 @@ with_sample others = file (codes "a") (codes "xyx\nyyx\n") ∷ others
 abbrev pub with_pins : List ℕ → List File
 with_pins text = with_sample (file (codes "p") text ∷ [])
 
+-- what a sample teaches that begins with an `x` and has a `y`: these windows of two by two of their numbers, so often each
+abbrev pub small_lesson : List (List ℕ) → List ℕ → Taught
+small_lesson windows weights = record {
+  kind = kinds.Grid;
+  palette = Char 120 ∷ Char 121 ∷ [];
+  patterns = record { n = 2; windows = windows; weights = weights };
+}
+
+-- the windows that lie in the sample of three by two
+abbrev pub inner_windows : List (List ℕ)
+inner_windows = (0 ∷ 1 ∷ 1 ∷ 1 ∷ []) ∷ (1 ∷ 0 ∷ 1 ∷ 0 ∷ []) ∷ []
+
+-- those that begin at each of its pixels where it wraps, the second of which comes twice
+abbrev pub wrapped_windows : List (List ℕ)
+wrapped_windows =
+    (0 ∷ 1 ∷ 1 ∷ 1 ∷ []) ∷ (1 ∷ 0 ∷ 1 ∷ 0 ∷ []) ∷ (0 ∷ 0 ∷ 0 ∷ 1 ∷ [])
+    ∷ (1 ∷ 1 ∷ 0 ∷ 1 ∷ []) ∷ (0 ∷ 1 ∷ 0 ∷ 0 ∷ []) ∷ []
+
+-- those that lie in it, each with its reflection behind it
+abbrev pub reflected_windows : List (List ℕ)
+reflected_windows =
+    (0 ∷ 1 ∷ 1 ∷ 1 ∷ []) ∷ (1 ∷ 0 ∷ 1 ∷ 1 ∷ []) ∷ (1 ∷ 0 ∷ 1 ∷ 0 ∷ []) ∷ (0 ∷ 1 ∷ 0 ∷ 1 ∷ []) ∷ []
+
 -- the file asked for spells this tile set, and its maps have this layout
 pub record IsLaid (asked : RequestView) (files : List File) (set : TileSetView) : Type 0 where
   pub tiles : IsTileSetOf asked files set
@@ -60,6 +86,20 @@ sample_asked n form = asked_of (Overlap n) (Some form)
 -- a map of a tile set, in the form of its kind
 abbrev pub tiles_asked : RequestView
 tiles_asked = asked_of Tiles None
+
+-- a map of seven by four that doesn't wrap, of windows of side 3 in five images of a sample that wraps
+abbrev pub windows_asked : RequestView
+windows_asked = record (default_request Fill) {
+  source = Overlap 3;
+  width = 7;
+  height = 4;
+  symmetry = 5;
+  wrap_in = true;
+}
+
+-- a map of three by two of a tile set
+abbrev pub wide_asked : RequestView
+wide_asked = record tiles_asked { width = 3; height = 2 }
 
 -- the file of this name has a byte more than a file may have
 pub record IsLong (files : List File) (name : List ℕ) : Type 0 where

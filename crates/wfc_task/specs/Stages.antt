@@ -5,7 +5,6 @@ use Rattle.wfc_model.specs.Raster.{Raster}
 use Rattle.wfc_outside.specs.Folder.{File}
 use Rattle.wfc_overlap.specs.Bridge.{window_pair_count}
 use Rattle.wfc_overlap.specs.Built.{picture_pins, texts_of}
-use Rattle.wfc_overlap.specs.Sample.{Output, output_with}
 use Rattle.wfc_pattern.specs.Learning.{patterns_of}
 use Rattle.wfc_picture.specs.Palette.{indexed}
 use Rattle.wfc_picture.specs.declared.symbol.Symbol.{Symbol}
@@ -22,6 +21,7 @@ use Rattle.wfc_ppm.specs.Reading.{ppm_of}
 use Rattle.wfc_problem.specs.declared.TheConstants.{MAX_PAIRS}
 use Rattle.wfc_render.specs.Layout.{layout_of}
 use Rattle.wfc_task.specs.Given.{HoldsPins, IsSample, IsSampleFile}
+use Rattle.wfc_task.specs.Maps.{asked_output}
 use Rattle.wfc_task.specs.Sampled.{SampledView}
 use Rattle.wfc_task.specs.Sources.{is_picture_name, window_side_of}
 use Rattle.wfc_task.specs.declared.lesson.Taught.{Taught}
@@ -80,10 +80,6 @@ IsPinsFault files (Some name) fault =
 
 -- ---- problems of samples
 
--- the map that is asked for
-abbrev pub output_asked : RequestView → Output
-output_asked asked = output_with asked.width asked.height asked.wrap_out
-
 -- a side of the map is below that of a window
 pub record IsBelowFault (asked : RequestView) (side : ℕ) (fault : Fault) : Type 0 where
   pub below : (asked.width < side) ⊎ (asked.height < side)
@@ -103,7 +99,7 @@ pub record IsCountFault (count : ℕ) (fault : Fault) : Type 0 where
 abbrev pub IsPairsFault : RequestView → List File → TaskStage
 IsPairsFault asked files fault =
     (lesson : Taught) × Teaches asked files lesson
-    × IsCountFault (window_pair_count lesson.patterns (output_asked asked)) fault
+    × IsCountFault (window_pair_count lesson.patterns (asked_output asked)) fault
 
 -- a line of pins means none of what was learned
 abbrev pub IsPinFault : RequestView → List File → TaskStage
