@@ -11,4 +11,5 @@ pub mod Reply
 pub mod ReplyView
 pub mod RunEnds
 pub mod RunText
+pub mod Small
 pub mod Putting
