@@ -5,17 +5,23 @@ ghost use Rattle.std.specs.Prelude.{Err, List, Ok, [], codes, false, true, ◌�
 ghost use Rattle.wfc_choose.specs.Pick.{Rule};
 ghost use Rattle.wfc_choose.specs.declared.RuleKind.{RuleKind};
 ghost use Rattle.wfc_choose.specs.declared.RuleKind.TheVariants.{Fewest};
-ghost use Rattle.wfc_map_commands.specs.DemoAnswer.{demo_text};
-ghost use Rattle.wfc_map_commands.specs.DemoTask.{demo, demo_plan};
-ghost use Rattle.wfc_map_commands.specs.Demonstration.{demo_patterns, demo_problem, demo_symbol};
+ghost use Rattle.wfc_map_commands.specs.DemoAnswer.{demo_budget, demo_text};
+ghost use Rattle.wfc_map_commands.specs.DemoTask.{demo, demo_made, demo_plan};
+ghost use Rattle.wfc_map_commands.specs.Demonstration.{demo_output, demo_patterns, demo_problem, demo_side, demo_symbol};
 ghost use Rattle.wfc_map_commands.specs.DomainsAnswer.{standings};
 ghost use Rattle.wfc_map_commands.specs.DomainsGiven.{IsDomainsTask};
-ghost use Rattle.wfc_map_commands.specs.DomainsTask.{domains, domains_plan};
+ghost use Rattle.wfc_map_commands.specs.DomainsTask.{domains, domains_made, domains_plan};
 ghost use Rattle.wfc_map_commands.specs.FillClaims.{FillWork, IsFoundMap};
 ghost use Rattle.wfc_map_commands.specs.FillGiven.{IsFillTask, IsTileFillTask};
-ghost use Rattle.wfc_map_commands.specs.FillTask.{fill, fill_plan, fill_tiles};
-ghost use Rattle.wfc_map_commands.specs.LearnTask.{learn, learn_plan, learn_tiles};
+ghost use Rattle.wfc_map_commands.specs.FillTask.{fill, fill_made, fill_plan, fill_tiles};
+ghost use Rattle.wfc_map_commands.specs.LearnTask.{learn, learn_made, learn_plan, learn_tiles};
 ghost use Rattle.wfc_map_commands.specs.Small.{step_line};
+ghost use Rattle.wfc_map_commands.specs.declared.demonstration.Demonstration.{Demonstration};
+ghost use Rattle.wfc_map_commands.specs.declared.filling.Filled.TheVariants as filled;
+ghost use Rattle.wfc_map_commands.specs.declared.filling.Filling.{Filling};
+ghost use Rattle.wfc_map_commands.specs.declared.filling.TileFilling.{TileFilling};
+ghost use Rattle.wfc_map_commands.specs.declared.learning.Learned.TheVariants as learned;
+ghost use Rattle.wfc_map_commands.specs.declared.stepping.Stepping.{Stepping};
 ghost use Rattle.wfc_model.specs.Raster.{Raster};
 ghost use Rattle.wfc_outside.specs.Folder.{File};
 ghost use Rattle.wfc_outside.specs.declared.whole.ReadFault.TheVariants.{Missing};
@@ -26,6 +32,7 @@ ghost use Rattle.wfc_pins.specs.declared.steps.Step.TheVariants.{Assume, Undo};
 ghost use Rattle.wfc_pins.specs.declared.steps.StepLine.{StepLine};
 ghost use Rattle.wfc_plan.specs.Plan.{outcome};
 ghost use Rattle.wfc_plan.specs.declared.fault.Fault.TheVariants.{Refused, Unread};
+ghost use Rattle.wfc_plan.specs.declared.fault.Fault.{Fault};
 ghost use Rattle.wfc_plan.specs.declared.fault.Refusal.TheVariants.{Chooser};
 ghost use Rattle.wfc_plan.specs.declared.fault.Source.TheVariants.{Sample};
 ghost use Rattle.wfc_problem.specs.Network.{Network};
@@ -35,6 +42,7 @@ ghost use Rattle.wfc_task.specs.Given.{IsTaught};
 ghost use Rattle.wfc_task.specs.Maps.{flat_maps};
 ghost use Rattle.wfc_task.specs.Sources.{is_of_windows};
 ghost use Rattle.wfc_task.specs.TileGiven.{IsTileSetOf};
+ghost use Rattle.wfc_task.specs.Tiling.{mask_or_whole};
 ghost use Rattle.wfc_tiled.specs.Mask.{MaskView};
 ghost use Rattle.wfc_tileset.specs.Tiles.{TileSetView};
 ghost use Rattle.wfc_words.specs.RequestView.{RequestView};
@@ -128,4 +136,32 @@ pub fn first_faults()
         outcome (learn_plan asked) [] ≡ Err (Unread Sample Missing) }
     ensures steps { (asked : RequestView) →
         outcome (domains_plan asked) [] ≡ Err (Unread Sample Missing) }
+{}
+
+/// A task is made of what its call answers, and a fault is the call's.
+pub fn tasks_are_made_of_answers()
+    ensures learn { (set : TileSetView) →
+        learn_made (Ok (learned.Tiles set)) ≡ Ok (learn_tiles set) }
+    ensures learn_fault { (fault : Fault) → learn_made (Err fault) ≡ Err fault }
+    ensures fill { (asked : RequestView) (made : Filling) →
+        fill_made asked (Ok (filled.Windows made))
+        ≡ Ok (fill made.patterns made.palette made.layout made.problem) }
+    ensures fill_tiles { (asked : RequestView) (made : TileFilling) →
+        fill_made asked (Ok (filled.Tiles made))
+        ≡ Ok (fill_tiles made.tiles (mask_or_whole asked made.mask) made.layout made.problem) }
+    ensures fill_fault { (asked : RequestView) (fault : Fault) →
+        fill_made asked (Err fault) ≡ Err fault }
+    ensures domains { (made : Stepping) →
+        domains_made (Ok made) ≡ Ok (domains made.problem made.steps.items) }
+    ensures domains_fault { (fault : Fault) → domains_made (Err fault) ≡ Err fault }
+    ensures demo { (made : Demonstration) →
+        demo_made (Ok made) ≡ Ok (demo made.patterns made.problem) }
+    ensures demo_fault { (fault : Fault) → demo_made (Err fault) ≡ Err fault }
+{}
+
+/// The sides of the grid that a demonstration learns from and of the map that it makes, and the budget of its run.
+pub fn demonstrations_have_sides()
+    ensures grid { demo_side ≡ 24 }
+    ensures map { demo_output ≡ 48 }
+    ensures budget { demo_budget ≡ 1000 }
 {}

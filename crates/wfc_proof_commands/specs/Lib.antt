@@ -19,3 +19,4 @@ pub mod UpgradeClaims
 pub mod UpgradeCommand
 pub mod Upgrading
 pub mod ProofKind
+pub mod Small

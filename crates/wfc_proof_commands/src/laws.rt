@@ -1,6 +1,6 @@
 //! Laws of the definitions, each a function with no body whose contract is the law. They run nothing.
 
-ghost use Rattle.std.specs.Prelude.{Err, List, None, Ok, Option, Some, [], ℕ, ◌↔◌, ◌∷◌, ◌≡◌};
+ghost use Rattle.std.specs.Prelude.{Err, List, None, Ok, Option, Some, [], codes, false, true, ℕ, ◌↔◌, ◌∷◌, ◌≡◌};
 ghost use Rattle.wfc_check.specs.declared.fault.CheckFault.{CheckFault};
 ghost use Rattle.wfc_check.specs.declared.fault.CheckFault.TheVariants as faults;
 ghost use Rattle.wfc_choose.specs.declared.RuleKind.{RuleKind};
@@ -16,7 +16,8 @@ ghost use Rattle.wfc_proof.specs.declared.Line.TheVariants.{Empty, End, Remove, 
 ghost use Rattle.wfc_proof.specs.declared.Reject.{Reject};
 ghost use Rattle.wfc_proof.specs.declared.heads.Format.TheVariants.{One, Two};
 ghost use Rattle.wfc_proof.specs.declared.heads.Shape.{Shape};
-ghost use Rattle.wfc_proof_commands.specs.Checking.{flat_proofs, found_in, verdict_in};
+ghost use Rattle.wfc_proof_commands.specs.CheckAnswer.{check_answer};
+ghost use Rattle.wfc_proof_commands.specs.Checking.{flat_proofs, found_in, shape_asked, verdict_in};
 ghost use Rattle.wfc_proof_commands.specs.CheckGiven.{IsCheckTask};
 ghost use Rattle.wfc_proof_commands.specs.CheckTask.{check, check_made, check_plan};
 ghost use Rattle.wfc_reply.specs.Outcomes.{refute_status};
@@ -24,12 +25,15 @@ ghost use Rattle.wfc_proof_commands.specs.RefuteGiven.{IsRefuteTask};
 ghost use Rattle.wfc_proof_commands.specs.RefuteTask.{refute, refute_made, refute_plan};
 ghost use Rattle.wfc_reply.specs.Outcomes.{refute_verdict};
 ghost use Rattle.wfc_reply.specs.RunText.{format_lines, written_format};
+ghost use Rattle.wfc_proof_commands.specs.Small.{five_by_seven, five_by_seven_shape};
 ghost use Rattle.wfc_proof_commands.specs.UpgradeGiven.{IsUpgradeTask};
-ghost use Rattle.wfc_proof_commands.specs.UpgradeTask.{upgrade, upgrade_plan};
-ghost use Rattle.wfc_reply.specs.Reply.{verdict_status};
+ghost use Rattle.wfc_proof_commands.specs.UpgradeTask.{upgrade, upgrade_made, upgrade_plan};
+ghost use Rattle.wfc_proof_commands.specs.declared.upgrading.Upgrading.{Upgrading};
+ghost use Rattle.wfc_reply.specs.Reply.{done_with, verdict_status};
 ghost use Rattle.wfc_reply.specs.declared.reply.CommandVerdict.TheVariants as verdicts;
 ghost use Rattle.wfc_search.specs.declared.Outcome.TheVariants as outcomes;
 ghost use Rattle.wfc_words.specs.RequestView.{RequestView};
+ghost use Rattle.wfc_words.specs.declared.kinds.SourceModel.TheVariants.{Overlap, Tiles};
 
 /// `refute` comes to this task exactly where a chooser is there and the problem is that of the request.
 pub fn refute_tasks_are_given()
@@ -95,4 +99,22 @@ pub fn tasks_are_made_of_answers()
     ensures check_fault { (fault : Fault) → check_made (Err fault) ≡ Err fault }
     ensures refute { (P : Network) → refute_made (Ok P) ≡ Ok (refute P) }
     ensures refute_fault { (fault : Fault) → refute_made (Err fault) ≡ Err fault }
+    ensures upgrade { (made : Upgrading) → upgrade_made (Ok made)
+        ≡ Ok (upgrade made.problem made.refutation.items) }
+    ensures upgrade_fault { (fault : Fault) → upgrade_made (Err fault) ≡ Err fault }
+{}
+
+/// The shape that a refutation of a request tells, by example: its numbers in their order, and of a tile set no windows, one image and
+/// no edges of a sample, whatever the words say.
+pub fn shapes_by_example()
+    ensures windows { shape_asked (five_by_seven (Overlap 3) false)
+        ≡ five_by_seven_shape 3 8 true false }
+    ensures tiles { shape_asked (five_by_seven Tiles true) ≡ five_by_seven_shape 0 1 false true }
+{}
+
+/// What `check` answers, by example: that a file is accepted where it has no fault, and nothing but the fault where it has one.
+pub fn checks_are_answered_by_example()
+    ensures accepted { check_answer None ≡ done_with (codes "accepted\n") }
+    ensures fault { check_answer (Some (faults.BadLine 3))
+        ≡ record { verdict = verdicts.Unaccepted (faults.BadLine 3); text = None; whole = true } }
 {}
