@@ -8,7 +8,7 @@ ghost use Rattle.wfc_choose.specs.Pick.{Rule};
 ghost use Rattle.wfc_grow_command.specs.GrowAnswer.{GrowsBy};
 ghost use Rattle.wfc_grow_command.specs.GrowCommand.{GrowAnswers, grow_command};
 ghost use Rattle.wfc_grow_command.specs.GrowGiven.{IsGrowAsked};
-ghost use Rattle.wfc_grow_command.specs.GrowTask.{area_asked, grow_refusal, growing_plan};
+ghost use Rattle.wfc_grow_command.specs.GrowTask.{area_asked, grow_refusal, growing_plan, growing_view};
 ghost use Rattle.wfc_grow_command.specs.Growing.{CanBePut, IsGrowing, PutsGrown};
 ghost use Rattle.wfc_grow_command.specs.declared.growing.TheConstants.{GROW_CHOOSERS};
 ghost use Rattle.wfc_outside.specs.Folder.{FolderView};
