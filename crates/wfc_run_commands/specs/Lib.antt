@@ -11,3 +11,4 @@ pub mod ExplainGiven
 pub mod ExplainAnswer
 pub mod ExplainCommand
 pub mod ExplainClaims
+pub mod Small

@@ -1,9 +1,10 @@
 //! Laws of the definitions, each a function with no body whose contract is the law. They run nothing.
 
-ghost use Rattle.std.specs.Prelude.{Err, List, Ok, [], codes, length, ◌↔◌, ◌∷◌, ◌≡◌};
+ghost use Rattle.std.specs.Prelude.{Err, List, Ok, Some, [], codes, length, ◌↔◌, ◌∷◌, ◌≡◌};
 ghost use Rattle.wfc_choose.specs.Pick.{Rule};
 ghost use Rattle.wfc_choose.specs.declared.RuleKind.{RuleKind};
 ghost use Rattle.wfc_choose.specs.declared.RuleKind.TheVariants.{Ranked, Scanline};
+ghost use Rattle.wfc_explain.specs.declared.explained.Explained.TheVariants as said;
 ghost use Rattle.wfc_explain.specs.declared.explained.Mark.TheVariants.{Needed, Undecided};
 ghost use Rattle.wfc_lines.specs.Explain.{text_of_many_pins};
 ghost use Rattle.wfc_outside.specs.Folder.{File};
@@ -12,14 +13,17 @@ ghost use Rattle.wfc_plan.specs.Plan.{outcome};
 ghost use Rattle.wfc_plan.specs.declared.fault.Refusal.TheVariants.{RaceTooLarge, TooManyPins};
 ghost use Rattle.wfc_problem.specs.Network.{Network, values};
 ghost use Rattle.wfc_race.specs.Racers.{new_racer};
+ghost use Rattle.wfc_race.specs.declared.RaceEnd.TheVariants as ends;
 ghost use Rattle.wfc_render.specs.declared.form.Form.TheVariants.{P6};
-ghost use Rattle.wfc_run_commands.specs.ExplainAnswer.{core_text};
+ghost use Rattle.wfc_reply.specs.declared.reply.CommandVerdict.TheVariants.{Done, MapExists, NoMap, Spent};
+ghost use Rattle.wfc_run_commands.specs.ExplainAnswer.{answer_to, core_text};
 ghost use Rattle.wfc_run_commands.specs.ExplainGiven.{IsExplainAsked, IsExplainTask};
 ghost use Rattle.wfc_run_commands.specs.ExplainTask.{ExplainTask, explain_plan, few_lines};
 ghost use Rattle.wfc_run_commands.specs.RaceGiven.{IsRaceTask};
 ghost use Rattle.wfc_run_commands.specs.RaceTask.{race, race_fits, race_plan};
 ghost use Rattle.wfc_run_commands.specs.Races.{entrants};
-ghost use Rattle.wfc_run_commands.specs.Racing.{IsRaceAsked, race_line};
+ghost use Rattle.wfc_run_commands.specs.Racing.{IsRaceAsked, race_answer, race_line};
+ghost use Rattle.wfc_run_commands.specs.Small.{answer_with, answer_without, small_race, small_racers};
 ghost use Rattle.wfc_run_commands.specs.declared.explaining.TheConstants.{EXPLAIN_CHOOSERS, MAX_LINES};
 ghost use Rattle.wfc_run_commands.specs.declared.racing.TheConstants.{MAX_RACE};
 ghost use Rattle.wfc_runs.specs.Words.{words_of_seed};
@@ -73,6 +77,26 @@ pub fn answers_by_example()
     ensures core { core_text (3 ∷ 4 ∷ 9 ∷ []) (record { index = 0; mark = Undecided }
         ∷ record { index = 2; mark = Needed } ∷ []) ≡ codes "core 2\nundecided 3\nneeded 9\n" }
     ensures none { core_text (3 ∷ []) [] ≡ codes "core 0\n" }
+{}
+
+/// What is answered to the end of a race, by example: the runner that it names is told by its own seed and retractions.
+pub fn race_ends_are_answered_by_example()
+    ensures map { (rule : Rule) → race_answer small_race (Some (ends.Map 1, small_racers rule))
+        ≡ Some (answer_with Done (codes "seed 8 retractions 12 map\n")) }
+    ensures no_map { (rule : Rule) → race_answer small_race (Some (ends.NoMap 1, small_racers rule))
+        ≡ Some (answer_with NoMap (codes "seed 8 retractions 12 no map\n")) }
+    ensures spent { (rule : Rule) → race_answer small_race (Some (ends.AllSpent, small_racers rule))
+        ≡ Some (answer_without (Spent 50)) }
+{}
+
+/// So of an explanation: a core alone has a text.
+pub fn explanations_are_answered_by_example()
+    ensures core { answer_to small_race (3 ∷ 4 ∷ []) (said.Core (record {
+      index = 1;
+      mark = Needed;
+    } ∷ [])) ≡ answer_with Done (codes "core 1\nneeded 4\n") }
+    ensures map_exists { answer_to small_race (3 ∷ []) said.MapExists ≡ answer_without MapExists }
+    ensures spent { answer_to small_race (3 ∷ []) said.Spent ≡ answer_without (Spent 50) }
 {}
 
 /// Which requests make a race, by example: of at most eight runners, whose seeds fit 64 bits, and which make some turns.
