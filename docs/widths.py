@@ -20,8 +20,8 @@ CLAUSE, BREAK, MOST = 102, 100, 140
 HEAD = re.compile(r"\s*(?:ensures|requires)\b")
 TEXT = re.compile(r'"(?:\\.|[^"\\])*"')
 DEFINITION = re.compile(r"(?:(?:abbrev |unfoldable )+(?:pub )?|pub |record |data )(?!use\b|mod\b)(?:abbrev |unfoldable |record |data )*\S")
-# Imports, lemmas in an attribute, and a string of a test, stand on one line.
-WHOLE = re.compile(r'\s*(?:(?:pub )?(?:ghost )?use |#\[tactic|")')
+# An import, and a string of a test, stand on one line.
+WHOLE = re.compile(r'\s*(?:(?:pub )?(?:ghost )?use |")')
 
 
 def clauses(lines):

@@ -1,5 +1,7 @@
 //! The parts of a picture's text: whitespace, comments and numbers.
 
+#![tactic(auto, using(crate::proofs::FieldLemmas::no_digit_fault, crate::proofs::FaultLemmas::first_side))]
+
 ghost use Rattle.std.specs.Prelude.{◌≡◌, ◌+◌, ◌*◌, ◌≤◌, true, false, min, None, Some, length, IfOk, IfErr};
 ghost use Rattle.std.specs.Char.{digit_value, is_ascii_digit};
 ghost use Rattle.wfc_ppm.specs.Fault.{ends_token, field_fault, side_fault};
@@ -81,7 +83,7 @@ pub fn place(total: u32, rest: &[u8]) -> u32
 }
 
 /// The number behind a separator, and what stands behind it.
-#[tactic(auto, using(crate::proofs::FieldLemmas::right_field, crate::proofs::FieldLemmas::no_gap_fault, crate::proofs::FieldLemmas::no_digit_fault))]
+#[tactic(auto, using(crate::proofs::FieldLemmas::right_field, crate::proofs::FieldLemmas::no_gap_fault))]
 pub fn field(total: u32, text: &[u8]) -> Result<(u32, &[u8]), PpmFault>
     requires part { length text.now ≤ total }
     ensures right { IfOk result (λ _. field_fault total text.now ≡ None) }
@@ -106,7 +108,7 @@ pub fn field(total: u32, text: &[u8]) -> Result<(u32, &[u8]), PpmFault>
 }
 
 /// A side behind a separator, which is not 0, and what stands behind it.
-#[tactic(auto, using(crate::proofs::FaultLemmas::right_side, crate::proofs::FaultLemmas::zero_side, crate::proofs::FaultLemmas::first_side))]
+#[tactic(auto, using(crate::proofs::FaultLemmas::right_side, crate::proofs::FaultLemmas::zero_side))]
 pub fn side(total: u32, text: &[u8]) -> Result<(u32, &[u8]), PpmFault>
     requires part { length text.now ≤ total }
     ensures right { IfOk result (λ _. side_fault total text.now ≡ None) }

@@ -6,8 +6,10 @@ ghost use Rattle.wfc_ppm.specs.Ppm.{IsPpm};
 
 mod field;
 pub mod laws;
+#[tactic(auto, using(crate::proofs::FaultLemmas::green_fault, crate::proofs::FaultLemmas::blue_fault))]
 mod plain;
 mod raw;
+#[tactic(auto, using(crate::proofs::FaultLemmas::height_fault))]
 mod reading;
 mod writing;
 

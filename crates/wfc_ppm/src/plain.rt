@@ -1,5 +1,7 @@
 //! Samples in decimal.
 
+#![tactic(auto, using(crate::proofs::FaultLemmas::bad_sample, crate::proofs::FaultLemmas::above_sample))]
+
 ghost use Rattle.std.specs.Prelude.{◌≡◌, ◌⊎◌, ◌+◌, ◌*◌, ◌≤◌, None, Some, length, IfOk, IfErr};
 ghost use Rattle.wfc_ppm.specs.Fault.{behind_pixel, ends_token, pixel_fault, plain_fault, sample_fault, tail_fault};
 ghost use Rattle.wfc_ppm.specs.Field.{behind_field, field_value};
@@ -40,7 +42,7 @@ pub fn plain_pixels(
 }
 
 /// The pixel of three samples, and what stands behind it.
-#[tactic(auto, using(crate::proofs::FaultLemmas::right_pixel, crate::proofs::FaultLemmas::red_fault, crate::proofs::FaultLemmas::green_fault, crate::proofs::FaultLemmas::blue_fault))]
+#[tactic(auto, using(crate::proofs::FaultLemmas::right_pixel, crate::proofs::FaultLemmas::red_fault))]
 fn pixel(
     total: u32,
     maxval: u32,
@@ -65,7 +67,7 @@ fn pixel(
 }
 
 /// A sample, and what stands behind it.
-#[tactic(auto, using(crate::proofs::FaultLemmas::right_sample, crate::proofs::FaultLemmas::no_sample, crate::proofs::FaultLemmas::bad_sample, crate::proofs::FaultLemmas::above_sample))]
+#[tactic(auto, using(crate::proofs::FaultLemmas::right_sample, crate::proofs::FaultLemmas::no_sample))]
 fn sample(
     total: u32,
     maxval: u32,

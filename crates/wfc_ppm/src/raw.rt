@@ -1,5 +1,7 @@
 //! Raw samples: one or two bytes each.
 
+#![tactic(auto, using(crate::proofs::FaultLemmas::few_raw, crate::proofs::FaultLemmas::above_raw))]
+
 ghost use Rattle.std.specs.Prelude.{◌≡◌, ◌⊎◌, ◌+◌, ◌*◌, ◌%◌, ◌<◌, ◌≤◌, nat_lt, None, Some, length, position};
 ghost use Rattle.std.specs.Prelude.{slice_index, take, IfOk, IfErr, IfSome};
 ghost use Rattle.wfc_ppm.specs.Fault.{pairs_of, raw_fault, raw_samples, sample_size};
@@ -11,7 +13,7 @@ use std::alloc::{AllocError, Global};
 use wfc_picture::Colour;
 
 /// The pixels of raw samples: `bytes` is the rest of a text of `total` bytes, and should have `wanted` bytes.
-#[tactic(auto, using(crate::proofs::FaultLemmas::few_raw, crate::proofs::FaultLemmas::above_raw, crate::proofs::FaultLemmas::more_raw, crate::proofs::FaultLemmas::right_raw))]
+#[tactic(auto, using(crate::proofs::FaultLemmas::more_raw, crate::proofs::FaultLemmas::right_raw))]
 pub fn raw_pixels(
     alloc: Global,
     total: u32,

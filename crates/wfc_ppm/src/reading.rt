@@ -1,5 +1,7 @@
 //! Reading a picture.
 
+#![tactic(auto, using(crate::proofs::FaultLemmas::maxval_field_fault, crate::proofs::FaultLemmas::end_fault_last))]
+
 ghost use Rattle.std.specs.Prelude.{◌≡◌, ◌≢◌, ◌⊎◌, ◌*◌, ◌≤◌, None, Some, drop, length, IfOk, IfErr, IfSome};
 ghost use Rattle.wfc_outside.specs.Gives.{Gives};
 ghost use Rattle.wfc_ppm.specs.Fault.{end_fault, form_of, gap_fault, head_of, header_fault, maxval_fault};
@@ -136,7 +138,7 @@ pub struct Header<'a> {
 }
 
 /// The header behind the first two bytes.
-#[tactic(auto, using(crate::proofs::FaultLemmas::right_header, crate::proofs::FaultLemmas::width_fault, crate::proofs::FaultLemmas::height_fault, crate::proofs::FaultLemmas::maxval_field_fault, crate::proofs::FaultLemmas::end_fault_last))]
+#[tactic(auto, using(crate::proofs::FaultLemmas::right_header, crate::proofs::FaultLemmas::width_fault))]
 fn read_header(form: PpmForm, total: u32, bytes: &[u8]) -> Result<Header<'_>, PpmFault>
     requires front { 2 ≤ length bytes.now }
     requires part { length bytes.now ≤ total }
