@@ -20,7 +20,7 @@ ROOT = os.path.dirname(os.path.dirname(os.path.abspath(__file__)))
 PAGE = f"{ROOT}/docs/layers.md"
 BEGIN, END = "<!-- from crates.txt -->", "<!-- to here -->"
 TESTS = "tests"
-WIDTH = 78
+WIDTH = 82
 # Modules of tests that are named after a topic, and not after the library of that name.
 TOPICS = {"wfc_box_tests": ("pins",)}
 # Modules of tests whose name is another form of the library's.
