@@ -13,6 +13,7 @@ ghost use Rattle.wfc_app.specs.Unread.{unread_fault};
 mod tests;
 
 use std::alloc::Global;
+use std::io::BufWriter;
 use std::process::ExitCode;
 use std::rt::Env;
 use std::{env, io};
@@ -77,8 +78,11 @@ fn push_both(
 fn main(rt: HostRuntime) -> ExitCode {
     let alloc = rt.alloc();
     let mut folder = DiskFolder::new(&rt);
-    let mut out = StdoutSink::new(rt.stdout());
     let mut err = StderrSink::new(rt.stderr());
+    let Ok(writer) = BufWriter::new(alloc, rt.stdout()) else {
+        return ExitCode::from(refuse(&mut err, CommandFault::NoMemory));
+    };
+    let mut out = StdoutSink::new(writer);
     let mut choosers: Vec<Box<dyn Chooser>> = Vec::new(alloc);
     for _made in 0..CHOOSERS {
         let Ok(scanline) = Box::new(alloc, Scanning::scanline(alloc)) else {
