@@ -3,22 +3,21 @@
 ghost use Rattle.std.specs.Prelude.{IfOk, Some, map, ◌≡◌};
 ghost use Rattle.wfc_box.specs.Boxes.{IsFrame};
 ghost use Rattle.wfc_box_commands.specs.BoxFillAnswer.{layers_text};
-ghost use Rattle.wfc_box_commands.specs.BoxFillCommand.{BoxFillAnswers, box_fill_command};
-ghost use Rattle.wfc_box_commands.specs.BoxFillTask.{box_filled};
+ghost use Rattle.wfc_box_commands.specs.BoxFillCommand.{box_fill_command};
 ghost use Rattle.wfc_box_commands.specs.BoxFilling.{IsBoxFilling};
 ghost use Rattle.wfc_box_commands.specs.BoxSteps.{frame_asked};
 ghost use Rattle.wfc_map_commands.specs.FillAnswer.{fill_by};
 ghost use Rattle.wfc_plan.specs.Kinds.{HasChoosers};
 ghost use Rattle.wfc_problem.specs.Assignment.{IsLegalAssignment};
 ghost use Rattle.wfc_reply.specs.Choosers.{kinds_of};
-ghost use Rattle.wfc_reply.specs.Ends.{EndsBy, Replies};
+ghost use Rattle.wfc_reply.specs.Ends.{EndsBy};
 ghost use Rattle.wfc_reply.specs.Reply.{done_with};
 ghost use Rattle.wfc_reply.specs.ReplyView.{answer_view, reply_view};
 
 use crate::filling::{BoxFilling, box_fill_task};
 use std::alloc::Global;
 use wfc_box::box_bytes;
-use wfc_choose::{Chooser, RuleKind};
+use wfc_choose::Chooser;
 use wfc_outside::{Folder, NoMemory};
 use wfc_plan::Fault;
 use wfc_reply::{Answer, CommandVerdict, first_chooser, kinds};
@@ -37,41 +36,8 @@ pub fn box_fill<F: Folder>(
         request.now (F.seen folder.old) (F.seen folder.new) (reply_view result) }
 {
     let kinds = kinds(alloc, &choosers)?;
-    box_filled_with(alloc, request, choosers, &kinds, folder)
-}
-
-/// The same with the kinds of the choosers.
-fn box_filled_with<F: Folder>(
-    alloc: Global,
-    request: &Request,
-    choosers: Vec<Box<dyn Chooser>>,
-    kinds: &[RuleKind],
-    folder: &mut F,
-) -> Result<Answer, Fault>
-    requires frame { IsFrame (frame_asked request.now) }
-    requires kinds { kinds.now ≡ kinds_of (map (λ chooser. (told chooser).rule) choosers.items) }
-    ensures ends { EndsBy box_fill_command (map (λ chooser. (told chooser).rule) choosers.items)
-        request.now (F.seen folder.old) (F.seen folder.new) (reply_view result) }
-{
-    let filling = box_fill_task(alloc, request, kinds, folder)?;
-    replied(alloc, request, choosers, &filling)
-}
-
-/// The reply with the text of the box in which the run ends.
-fn replied(
-    alloc: Global,
-    request: &Request,
-    choosers: Vec<Box<dyn Chooser>>,
-    filling: &BoxFilling,
-) -> Result<Answer, Fault>
-    requires chooser { HasChoosers 1
-        (kinds_of (map (λ chooser. (told chooser).rule) choosers.items)) request.now.rule }
-    requires frame { IsFrame (frame_asked request.now) }
-    requires filling { IsBoxFilling request.now filling.now }
-    ensures replies { Replies (BoxFillAnswers (map (λ chooser. (told chooser).rule) choosers.items)
-        request.now) (box_filled filling.now) (reply_view result) }
-{
-    let answer = answer(alloc, request, choosers, filling)?;
+    let filling = box_fill_task(alloc, request, &kinds, folder)?;
+    let answer = answer(alloc, request, choosers, &filling)?;
     Ok(answer)
 }
 

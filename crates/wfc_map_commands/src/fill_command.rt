@@ -3,13 +3,12 @@
 ghost use Rattle.wfc_plan.specs.Kinds.{HasChoosers};
 ghost use Rattle.std.specs.Prelude.{IfOk, Some, map, ◌≡◌};
 ghost use Rattle.wfc_map_commands.specs.FillAnswer.{fill_by, picture_text, tiles_text};
-ghost use Rattle.wfc_map_commands.specs.FillCommand.{FillAnswers, fill_command};
-ghost use Rattle.wfc_map_commands.specs.FillTask.{filled_by};
+ghost use Rattle.wfc_map_commands.specs.FillCommand.{fill_command};
 ghost use Rattle.wfc_map_commands.specs.Filling.{IsFilling, IsFillingBy, IsTileFilling};
 ghost use Rattle.wfc_map_commands.specs.Held.{problem_in, text_of_assignment};
 ghost use Rattle.wfc_problem.specs.Assignment.{IsLegalAssignment};
 ghost use Rattle.wfc_reply.specs.Choosers.{kinds_of};
-ghost use Rattle.wfc_reply.specs.Ends.{EndsBy, Replies};
+ghost use Rattle.wfc_reply.specs.Ends.{EndsBy};
 ghost use Rattle.wfc_reply.specs.Reply.{done_with};
 ghost use Rattle.wfc_reply.specs.ReplyView.{answer_view, reply_view};
 ghost use Rattle.wfc_task.specs.Asked.{IsOutputAsked, IsSourceAsked};
@@ -18,7 +17,7 @@ ghost use Rattle.wfc_tiled.specs.Maps.{tile_map};
 
 use crate::filling::{Filled, Filling, TileFilling, fill_task};
 use std::alloc::Global;
-use wfc_choose::{Chooser, RuleKind};
+use wfc_choose::Chooser;
 use wfc_outside::{Folder, NoMemory};
 use wfc_overlap::picture_of;
 use wfc_picture::Picture;
@@ -43,42 +42,8 @@ pub fn fill<F: Folder>(
         request.now (F.seen folder.old) (F.seen folder.new) (reply_view result) }
 {
     let kinds = kinds(alloc, &choosers)?;
-    filled_with(alloc, request, choosers, &kinds, folder)
-}
-
-/// The same with the kinds of the choosers.
-fn filled_with<F: Folder>(
-    alloc: Global,
-    request: &Request,
-    choosers: Vec<Box<dyn Chooser>>,
-    kinds: &[RuleKind],
-    folder: &mut F,
-) -> Result<Answer, Fault>
-    requires source { IsSourceAsked request.now }
-    requires output { IsOutputAsked request.now }
-    requires kinds { kinds.now ≡ kinds_of (map (λ chooser. (told chooser).rule) choosers.items) }
-    ensures ends { EndsBy fill_command (map (λ chooser. (told chooser).rule) choosers.items)
-        request.now (F.seen folder.old) (F.seen folder.new) (reply_view result) }
-{
-    let filled = fill_task(alloc, request, kinds, folder)?;
-    replied(alloc, request, choosers, &filled)
-}
-
-/// The reply with the text of the map in which the run ends.
-fn replied(
-    alloc: Global,
-    request: &Request,
-    choosers: Vec<Box<dyn Chooser>>,
-    filled: &Filled,
-) -> Result<Answer, Fault>
-    requires chooser { HasChoosers 1
-        (kinds_of (map (λ chooser. (told chooser).rule) choosers.items)) request.now.rule }
-    requires output { IsOutputAsked request.now }
-    requires filling { IsFillingBy request.now filled.now }
-    ensures replies { Replies (FillAnswers (map (λ chooser. (told chooser).rule) choosers.items)
-        request.now) (filled_by request.now filled.now) (reply_view result) }
-{
-    let answer = answer(alloc, request, choosers, filled)?;
+    let filled = fill_task(alloc, request, &kinds, folder)?;
+    let answer = answer(alloc, request, choosers, &filled)?;
     Ok(answer)
 }
 

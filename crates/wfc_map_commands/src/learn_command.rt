@@ -3,8 +3,8 @@
 ghost use Rattle.std.specs.Prelude.{IfOk, ◌≡◌};
 ghost use Rattle.wfc_map_commands.specs.Held.{rules_text};
 ghost use Rattle.wfc_map_commands.specs.LearnCommand.{LearnAnswers};
-ghost use Rattle.wfc_map_commands.specs.LearnTask.{learn_plan, learned_by};
-ghost use Rattle.wfc_reply.specs.Ends.{MayReply, Replies};
+ghost use Rattle.wfc_map_commands.specs.LearnTask.{learn_plan};
+ghost use Rattle.wfc_reply.specs.Ends.{MayReply};
 ghost use Rattle.wfc_reply.specs.Reply.{done_with};
 ghost use Rattle.wfc_reply.specs.ReplyView.{answer_view, reply_view};
 ghost use Rattle.wfc_task.specs.Asked.{IsSourceAsked};
@@ -24,14 +24,7 @@ pub fn learn<F: Folder>(alloc: Global, request: &Request, folder: &mut F) -> Res
         (F.seen folder.old) (F.seen folder.new) (reply_view result) }
 {
     let learned = learn_task(alloc, request, folder)?;
-    replied(alloc, &learned)
-}
-
-/// The reply with the text of the rules.
-fn replied(alloc: Global, learned: &Learned) -> Result<Answer, Fault>
-    ensures replies { Replies LearnAnswers (learned_by learned.now) (reply_view result) }
-{
-    let answer = answer(alloc, learned)?;
+    let answer = answer(alloc, &learned)?;
     Ok(answer)
 }
 

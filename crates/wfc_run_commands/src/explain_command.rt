@@ -1,17 +1,14 @@
 //! The command `explain`: which lines of the pins file are to blame.
 
-ghost use Rattle.std.specs.List.{flat_map};
-ghost use Rattle.std.specs.Prelude.{All, IfOk, OnOk, Some, length, map, ◌++◌, ◌+◌, ◌<◌, ◌≡◌, ◌≤◌};
+ghost use Rattle.std.specs.Prelude.{IfOk, Some, length, map, ◌+◌, ◌<◌, ◌≡◌, ◌≤◌};
 ghost use Rattle.wfc_choose.specs.Pick.{Rule};
 ghost use Rattle.wfc_explain.specs.Blame.{IsTrueExplained};
 ghost use Rattle.wfc_explain.specs.Trials.{explanation_of};
-ghost use Rattle.wfc_explain.specs.declared.explained.Kept.{Kept};
 ghost use Rattle.wfc_plan.specs.Kinds.{HasChoosers};
 ghost use Rattle.wfc_reply.specs.Choosers.{first_rule, kinds_of};
 ghost use Rattle.wfc_reply.specs.Ends.{MayReply, EndsBy};
 ghost use Rattle.wfc_reply.specs.ReplyView.{answer_view, reply_view};
-ghost use Rattle.wfc_run_commands.specs.ExplainAnswer.{AreLines, answer_to, core_text, explain_answer};
-ghost use Rattle.wfc_run_commands.specs.ExplainAnswer.{asked_explanation, kept_line, mark_word};
+ghost use Rattle.wfc_run_commands.specs.ExplainAnswer.{AreLines, answer_to, asked_explanation, explain_answer};
 ghost use Rattle.wfc_run_commands.specs.ExplainCommand.{ExplainAnswers, explain_command};
 ghost use Rattle.wfc_run_commands.specs.ExplainGiven.{IsExplainAsked};
 ghost use Rattle.wfc_run_commands.specs.ExplainTask.{explain_plan_by, explain_sample_plan, explain_tiles_plan, line_numbers};
@@ -20,19 +17,19 @@ ghost use Rattle.wfc_runs.specs.Words.{words_of_seed};
 ghost use Rattle.wfc_search.specs.declared.TheConstants.{MAX_BUDGET};
 ghost use Rattle.wfc_task.specs.Asked.{AskedBy, IsOutputAsked, IsSampleAsked, IsSourceAsked};
 
+use crate::cores::core_text;
 use crate::explaining::{EXPLAIN_CHOOSERS, lines, sample_pins, tile_pins};
 use std::alloc::Global;
 use std::marker::Brand;
 use std::sync::ledger::{Blank, Ledger};
 use wfc_choose::Chooser;
 use wfc_domains::Steps;
-use wfc_explain::{Explained, Kept, Mark, PinnedProblem, explain as explanation};
+use wfc_explain::{Explained, PinnedProblem, explain as explanation};
 use wfc_outside::{Folder, NoMemory};
 use wfc_pins::PinLine;
 use wfc_plan::{Fault, enough};
 use wfc_reply::{Answer, CommandVerdict, first_many, kinds};
 use wfc_task::{mask, sample, tile_set};
-use wfc_text::push_number;
 use wfc_words::{Request, SourceModel};
 
 /// Reads the files, leaves out the lines of the pins file in turn, and answers those that stay.
@@ -201,54 +198,5 @@ fn told_in(
             },
             text: None,
         }),
-    }
-}
-
-/// The text of a core: how many lines are kept, and a line for each.
-fn core_text(alloc: Global, lines: &[PinLine], core: &[Kept]) -> Result<Vec<u8>, NoMemory>
-    requires inside { All (λ (kept : Kept). kept.index < length lines.now) core.now }
-    ensures text { IfOk result (λ text. text.items ≡ core_text (line_numbers lines.now) core.now) }
-{
-    let mut text = Vec::new(alloc);
-    text.extend_from_slice(b"core ")?;
-    push_number(&mut text, core.len() as u64)?;
-    text.push(b'\n')?;
-    push_all(&mut text, lines, core)?;
-    Ok(text)
-}
-
-/// Writes the lines of all kept lines behind the text.
-fn push_all(text: &mut Vec<u8>, lines: &[PinLine], core: &[Kept]) -> Result<(), NoMemory>
-    requires inside { All (λ (kept : Kept). kept.index < length lines.now) core.now }
-    ensures pushed { OnOk result (text.new.items
-        ≡ text.old.items ++ flat_map (kept_line (line_numbers lines.now)) core.now) }
-{
-    for kept in core {
-        push_kept(text, lines, kept)?;
-    }
-    Ok(())
-}
-
-/// Writes the line of a kept line behind the text.
-fn push_kept(text: &mut Vec<u8>, lines: &[PinLine], kept: &Kept) -> Result<(), NoMemory>
-    requires inside { kept.now.index < length lines.now }
-    ensures pushed { OnOk result (text.new.items
-        ≡ text.old.items ++ kept_line (line_numbers lines.now) kept.now) }
-{
-    let pinned = &lines[kept.index as usize];
-    text.extend_from_slice(mark_word(kept.mark))?;
-    text.push(b' ')?;
-    push_number(text, u64::from(pinned.line))?;
-    text.push(b'\n')?;
-    Ok(())
-}
-
-/// The word for a mark.
-fn mark_word(mark: Mark) -> &'static [u8]
-    ensures value { result.now ≡ mark_word mark }
-{
-    match mark {
-        Mark::Needed => b"needed",
-        Mark::Undecided => b"undecided",
     }
 }

@@ -1,6 +1,7 @@
 //! The commands that make several runs of one problem: `race`, and of problems that differ in their pins: `explain`.
 #![tactic(auto)]
 
+mod cores;
 mod explain_command;
 mod explaining;
 pub mod laws;
