@@ -1,7 +1,8 @@
 -- What the head and the lines of a run leave in the sink.
 use Rattle.rand_core.specs.Stream.{Stream}
-use Rattle.std.proofs.Common.{Err, List, Ok, Result, [], ap, arith, inl, inr, length, length-append, refl, subst, sym, take, take_at, ℕ, ◌++◌, ◌+◌, ◌<◌, ◌≤◌, ◌∙◌, ◌≡◌, ◌≢◌}
+use Rattle.std.proofs.Common.{Bool, Err, List, Ok, Result, [], ap, arith, false, if◌then◌else◌, inl, inr, length, length-append, refl, subst, sym, take, take_at, true, ℕ, ◌++◌, ◌+◌, ◌==◌, ◌∙◌, ◌≡◌, ◌≢◌}
 use Rattle.std.proofs.Math.Seq.{take-append-add}
+use Rattle.std.proofs.lemmas.Bool.Decides.{nat_tests}
 use Rattle.wfc_choose.specs.Pick.{Rule}
 use Rattle.wfc_outside.proofs.CallerLemmas.{after_bytes-append, fault_on}
 use Rattle.wfc_outside.specs.Sink.{IsFaultAfterFront, SinkView, after_bytes}
@@ -22,6 +23,14 @@ use Rattle.wfc_search.specs.Run.{State, start}
 use Rattle.wfc_search.specs.Search.{IsReady, SearchView, state_at}
 use Rattle.wfc_search.specs.Telling.{opening_lines}
 use Rattle.wfc_search.specs.declared.Outcome.{Outcome}
+
+-- a format whose number isn't 1 is that of spans
+pub spanned_format : (number : ℕ) → (number ≡ 1 → ⊥) → written_format number ≡ Two
+spanned_format number other = by_test (number == 1) refl
+  where
+    by_test : (is : Bool) → (number == 1) ≡ is → (if is then One else Two) ≡ Two
+    by_test true test = absurd (other (grind (arith, nat_tests, test)))
+    by_test false test = refl
 
 -- a search that was just begun, of which this is to be written
 pub record IsBegunFor (rule : Rule) (writing : RunWriting) (P : Network) (s : SearchView) (words : Stream) : Type 0 where

@@ -3,7 +3,6 @@
 ghost use Rattle.std.specs.Prelude.{Err, IfOk, OnErr, OnOk, [], ◌<◌, ◌≡◌, ◌≢◌, ◌≤◌};
 ghost use Rattle.wfc_outside.specs.Sink.{Puts};
 ghost use Rattle.wfc_plan.specs.declared.fault.Fault.{Fault};
-ghost use Rattle.wfc_proof.specs.Heads.{head_2_text, head_text};
 ghost use Rattle.wfc_proof.specs.Telling.{IsBare};
 ghost use Rattle.wfc_proof.specs.declared.heads.Format.TheVariants.{One, Two};
 ghost use Rattle.wfc_reply.specs.Putting.{CutsFrom, PutsFrom, PutsOrStops};
@@ -99,40 +98,15 @@ fn put_head<O: Sink>(out: &mut O, writing: RunWriting, problem: &Problem) -> Res
 {
     let cells = problem.cells();
     let values = problem.values();
-    if writing.format == 1 {
-        put_plain_head(out, cells, values)
-    } else {
-        put_shaped_head(out, writing.shape, cells, values)
-    }
-}
-
-/// Puts the head of format 1.
-fn put_plain_head<O: Sink>(out: &mut O, cells: u32, values: u16) -> Result<(), SinkFault>
-    ensures put { Puts (O.seen out.old) (O.seen out.new) (head_text cells values) result }
-    ensures bare { OnOk result (IsBare One (O.seen out.new).told) }
-{
-    match write_header(out, cells, values) {
-        Ok(()) => Ok(()),
-        Err(fault) => Err(fault),
-    }
-}
-
-/// Puts the head of format 2.
-fn put_shaped_head<O: Sink>(
-    out: &mut O,
-    shape: Shape,
-    cells: u32,
-    values: u16,
-) -> Result<(), SinkFault>
-    requires limit { shape.n ≤ 6 }
-    ensures put { Puts (O.seen out.old) (O.seen out.new) (head_2_text shape cells values) result }
-    ensures bare { OnOk result (IsBare Two (O.seen out.new).told) }
-{
+    let shape = writing.shape;
+    // The proof knows how large the sides are where they are read.
     let _limits = (shape.width, shape.height, shape.depth, shape.symmetry);
-    match write_header_2(out, &shape, cells, values) {
-        Ok(()) => Ok(()),
-        Err(fault) => Err(fault),
+    if writing.format == 1 {
+        write_header(out, cells, values)?;
+    } else {
+        write_header_2(out, &shape, cells, values)?;
     }
+    Ok(())
 }
 
 /// Makes the run with the words that a seed gives, and puts its lines in the format of this number.
