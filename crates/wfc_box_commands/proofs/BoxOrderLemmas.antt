@@ -14,7 +14,7 @@ use Rattle.wfc_box_commands.specs.BoxGiven.{HoldsBoxPins, IsStackedSetOf}
 use Rattle.wfc_box_commands.specs.BoxOrder.{box_fill_order, box_order}
 use Rattle.wfc_box_commands.specs.BoxPlans.{StackedSet, box_pins_plan, box_plan, box_problem_plan, stacked_plan}
 use Rattle.wfc_box_commands.specs.BoxStages.{IsBoxLayoutFault, IsBoxPairsFault, IsBoxPinFault, IsBoxPinsFault, IsStacksFault}
-use Rattle.wfc_box_commands.specs.BoxSteps.{box_lines_in, frame_asked, laid_box, posed_box, stacked_in}
+use Rattle.wfc_box_commands.specs.BoxSteps.{box_lines_in, frame_asked, box_form, posed_box, stacked_in}
 use Rattle.wfc_choose.specs.declared.RuleKind.{RuleKind}
 use Rattle.wfc_outside.specs.Folder.{File}
 use Rattle.wfc_outside.specs.Gives.{result_map}
@@ -106,10 +106,10 @@ same_stacked asked files made stage was =
 
 -- ---- the layout
 
-faults_box_layout : (asked : RequestView) (files : List File) (made : StackedSet) → outcome (stacked_plan asked) files ≡ Ok made → Faults (step (laid_box made.0 asked)) files (IsBoxLayoutFault asked files)
+faults_box_layout : (asked : RequestView) (files : List File) (made : StackedSet) → outcome (stacked_plan asked) files ≡ Ok made → Faults (step (box_form made.0 asked)) files (IsBoxLayoutFault asked files)
 faults_box_layout asked files made was =
     let stage : StackedSet → TaskStage = λ other. IsRefusal refusals.Render (box_layout_of (kind_of other.0.pictures) asked.form asked.width asked.height asked.depth (side_of other.0.pictures)) in
-    faults_as (step (laid_box made.0 asked)) files (stage made) (IsBoxLayoutFault asked files) (same_stacked asked files made stage was)
+    faults_as (step (box_form made.0 asked)) files (stage made) (IsBoxLayoutFault asked files) (same_stacked asked files made stage was)
     (faults_step refusals.Render (box_layout_of (kind_of made.0.pictures) asked.form asked.width asked.height asked.depth (side_of made.0.pictures)) files)
 
 -- ---- pins
@@ -174,7 +174,7 @@ faults_box asked files =
 faults_box_filling : (asked : RequestView) (files : List File) → Faults (box_filling_plan asked) files (IsFirstFault (IsReadingFault Sample files asked.file ∷ IsDocumentFault asked files ∷ IsTilesFault asked files ∷ IsStacksFault asked files ∷ IsBoxLayoutFault asked files ∷ box_problem_stages asked files))
 faults_box_filling asked files =
     faults_group (stacked_plan asked) (behind_stacked_set asked) files (stacked_stages asked files) (IsBoxLayoutFault asked files ∷ box_problem_stages asked files) (faults_stacked asked files)
-    (λ made was. faults_first (step (laid_box made.0 asked)) (behind_box_layout asked made) files (IsBoxLayoutFault asked files) (box_problem_stages asked files) (faults_box_layout asked files made was)
+    (λ made was. faults_first (step (box_form made.0 asked)) (behind_box_layout asked made) files (IsBoxLayoutFault asked files) (box_problem_stages asked files) (faults_box_layout asked files made was)
     (λ form written. faults_group (box_problem_plan asked made) (behind_box_problem made form) files (box_problem_stages asked files) [] (faults_box_problem asked files made was) (λ P posed. faults_none (box_fill made.0 form P) files)))
 
 -- the first fault of `box-fill`

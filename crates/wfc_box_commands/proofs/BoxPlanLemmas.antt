@@ -3,7 +3,7 @@ use Rattle.std.proofs.Common.{List, length, ℕ}
 use Rattle.wfc_box.specs.BoxPinView.{BoxPinView}
 use Rattle.wfc_box_commands.specs.BoxFillTask.{BoxFillTask, box_fill}
 use Rattle.wfc_box_commands.specs.BoxPlans.{StackedSet, box_problem_plan}
-use Rattle.wfc_box_commands.specs.BoxSteps.{box_lines_in, laid_box, posed_box, stacked_in}
+use Rattle.wfc_box_commands.specs.BoxSteps.{box_lines_in, box_form, posed_box, stacked_in}
 use Rattle.wfc_plan.specs.Plan.{Plan, and_then, done, step}
 use Rattle.wfc_problem.specs.Network.{Network}
 use Rattle.wfc_render.specs.declared.form.Form.{Form}
@@ -40,4 +40,4 @@ abbrev pub behind_box_layout : RequestView → StackedSet → Form → Plan BoxF
 behind_box_layout asked made form = and_then (box_problem_plan asked made) (behind_box_problem made form)
 
 abbrev pub behind_stacked_set : RequestView → StackedSet → Plan BoxFillTask
-behind_stacked_set asked made = and_then (step (laid_box made.0 asked)) (behind_box_layout asked made)
+behind_stacked_set asked made = and_then (step (box_form made.0 asked)) (behind_box_layout asked made)

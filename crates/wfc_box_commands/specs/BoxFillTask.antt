@@ -1,7 +1,7 @@
 -- The task of `box-fill`: what is read and refused, in order, and what it comes to.
 use Rattle.std.specs.Prelude.{Err, List, Ok, Result}
 use Rattle.wfc_box_commands.specs.BoxPlans.{StackedSet, box_problem_plan, stacked_plan}
-use Rattle.wfc_box_commands.specs.BoxSteps.{laid_box}
+use Rattle.wfc_box_commands.specs.BoxSteps.{box_form}
 use Rattle.wfc_box_commands.specs.declared.filling.BoxFilling.{BoxFilling}
 use Rattle.wfc_choose.specs.declared.RuleKind.{RuleKind}
 use Rattle.wfc_plan.specs.Kinds.{enough}
@@ -20,7 +20,7 @@ pub data BoxFillTask : Type 0 where
 abbrev pub box_filling_plan : RequestView → Plan BoxFillTask
 box_filling_plan asked =
     and_then (stacked_plan asked) (λ (made : StackedSet).
-    and_then (step (laid_box made.0 asked)) (λ form.
+    and_then (step (box_form made.0 asked)) (λ form.
     and_then (box_problem_plan asked made) (λ P.
     done (box_fill made.0 form P))))
 

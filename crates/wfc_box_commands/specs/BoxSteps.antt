@@ -27,8 +27,8 @@ abbrev pub stacked_in : TileSetView → List ℕ → Result (List (ℕ × ℕ)) 
 stacked_in set text = or_refuse Stacks (result_map (stacked_pairs set.tiles) (stacks_of set.tiles text))
 
 -- the form in which a box of a tile set is written
-abbrev pub laid_box : TileSetView → RequestView → Result Form Refusal
-laid_box set asked =
+abbrev pub box_form : TileSetView → RequestView → Result Form Refusal
+box_form set asked =
     or_refuse Render
     (box_layout_of (kind_of set.pictures) asked.form asked.width asked.height asked.depth (side_of set.pictures))
 

@@ -65,7 +65,7 @@ fn answer(
         request.seed,
     )?;
     match ran.end {
-        RunEnd::Map { assignment } => found(alloc, request, filling, &assignment),
+        RunEnd::Map { assignment } => box_answer(alloc, request, filling, &assignment),
         RunEnd::NoMap => Ok(Answer {
             verdict: CommandVerdict::NoMap,
             text: None,
@@ -80,7 +80,7 @@ fn answer(
 }
 
 /// The answer with the box that an assignment makes.
-fn found(
+fn box_answer(
     alloc: Global,
     request: &Request,
     filling: &BoxFilling,

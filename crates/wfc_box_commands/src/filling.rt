@@ -9,7 +9,7 @@ ghost use Rattle.wfc_plan.specs.Kinds.{HasChoosers};
 ghost use Rattle.wfc_plan.specs.Plan.{Goes};
 
 use crate::files::{box_problem, stacked_set};
-use crate::steps::laid_box;
+use crate::steps::box_form;
 use std::alloc::Global;
 use wfc_choose::RuleKind;
 use wfc_outside::Folder;
@@ -58,7 +58,7 @@ fn box_filling<F: Folder>(
     ensures filling { IfOk result (IsBoxFilling request.now) }
 {
     let (tiles, stacks) = stacked_set(alloc, request, folder)?;
-    let form = laid_box(&tiles, request)?;
+    let form = box_form(&tiles, request)?;
     let problem = box_problem(alloc, request, &tiles, &stacks, folder)?;
     Ok(BoxFilling {
         tiles,

@@ -5,7 +5,7 @@ ghost use Rattle.wfc_cli.specs.Commands.{asked_command};
 ghost use Rattle.wfc_reply.specs.Ending.{EndsAs};
 ghost use Rattle.wfc_words.specs.InRange.{IsInRange};
 
-use crate::deliver::put;
+use crate::deliver::put_answer;
 use std::alloc::Global;
 use wfc_box_commands::{box_check, box_fill, box_refute};
 use wfc_choose::Chooser;
@@ -31,18 +31,18 @@ pub(crate) fn run<F: Folder, O: Sink>(
         (F.seen folder.old) (F.seen folder.new) (O.seen out.old) (O.seen out.new) result }
 {
     match request.command {
-        CommandKind::Learn => put(out, learn(alloc, request, folder)),
-        CommandKind::Fill => put(out, fill(alloc, request, choosers, folder)),
-        CommandKind::Demo => put(out, demo(alloc, request, choosers, folder)),
+        CommandKind::Learn => put_answer(out, learn(alloc, request, folder)),
+        CommandKind::Fill => put_answer(out, fill(alloc, request, choosers, folder)),
+        CommandKind::Demo => put_answer(out, demo(alloc, request, choosers, folder)),
         CommandKind::Domains => domains(alloc, request, folder, out),
         CommandKind::Refute => refute(alloc, request, choosers, folder, out),
-        CommandKind::Check => put(out, check(alloc, request, folder)),
+        CommandKind::Check => put_answer(out, check(alloc, request, folder)),
         CommandKind::Upgrade => upgrade(alloc, request, folder, out),
-        CommandKind::Race => put(out, race(alloc, request, choosers, folder)),
-        CommandKind::Explain => put(out, explain(alloc, request, choosers, folder)),
+        CommandKind::Race => put_answer(out, race(alloc, request, choosers, folder)),
+        CommandKind::Explain => put_answer(out, explain(alloc, request, choosers, folder)),
         CommandKind::Grow => grow(alloc, request, choosers, folder, out),
-        CommandKind::BoxFill => put(out, box_fill(alloc, request, choosers, folder)),
+        CommandKind::BoxFill => put_answer(out, box_fill(alloc, request, choosers, folder)),
         CommandKind::BoxRefute => box_refute(alloc, request, choosers, folder, out),
-        CommandKind::BoxCheck => put(out, box_check(alloc, request, folder)),
+        CommandKind::BoxCheck => put_answer(out, box_check(alloc, request, folder)),
     }
 }

@@ -50,7 +50,7 @@ pub(crate) fn refuse_words<E: Sink>(err: &mut E, fault: CommandFault) -> u8
 }
 
 /// Puts the whole text of an answer into its sink, if there is one, and finishes it.
-pub(crate) fn put<O: Sink>(
+pub(crate) fn put_answer<O: Sink>(
     out: &mut O,
     reply: Result<Answer, Fault>,
 ) -> Result<CommandVerdict, Stop>

@@ -26,13 +26,13 @@ pub(crate) fn tell_fault<E: Sink>(
         result }
 {
     match fault {
-        Fault::Unread { source, fault } => unread(err, source, fault, name(request, source)),
+        Fault::Unread { source, fault } => tell_unread(err, source, fault, name(request, source)),
         Fault::Refused { refusal } => tell_refusal(err, request, refusal),
     }
 }
 
 /// Tells why a file isn't read.
-fn unread<E: Sink>(
+fn tell_unread<E: Sink>(
     err: &mut E,
     source: Source,
     fault: ReadFault,
@@ -42,13 +42,18 @@ fn unread<E: Sink>(
         (line (unread_text source fault file.now)) result }
 {
     match source {
-        Source::Picture { tile } => picture(err, tile, fault, file),
+        Source::Picture { tile } => tell_picture(err, tile, fault, file),
         _ => reading(err, fault, file),
     }
 }
 
 /// Tells why the picture of a tile isn't read.
-fn picture<E: Sink>(err: &mut E, tile: u32, fault: ReadFault, file: &str) -> Result<(), SinkFault>
+fn tell_picture<E: Sink>(
+    err: &mut E,
+    tile: u32,
+    fault: ReadFault,
+    file: &str,
+) -> Result<(), SinkFault>
     ensures told { Puts (E.seen err.old) (E.seen err.new)
         (line (tile_picture_text tile fault file.now)) result }
 {
@@ -61,7 +66,7 @@ fn picture<E: Sink>(err: &mut E, tile: u32, fault: ReadFault, file: &str) -> Res
 }
 
 /// Tells why a file is no grid.
-fn not_grid<E: Sink>(
+fn tell_no_grid<E: Sink>(
     err: &mut E,
     source: Source,
     fault: GridFault,
@@ -96,7 +101,7 @@ fn tell_refusal<E: Sink>(err: &mut E, request: &Request, refusal: Refusal) -> Re
 {
     match refusal {
         Refusal::Chooser { rule } => chooser(err, rule),
-        Refusal::Grid { source, fault } => not_grid(err, source, fault, name(request, source)),
+        Refusal::Grid { source, fault } => tell_no_grid(err, source, fault, name(request, source)),
         Refusal::Ppm { source, fault } => ppm(err, fault, name(request, source)),
         Refusal::Colours { fault } => palette(err, fault, name(request, Source::Sample)),
         Refusal::Learn { fault } => learn(err, fault, name(request, Source::Sample)),

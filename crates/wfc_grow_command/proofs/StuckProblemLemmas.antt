@@ -4,13 +4,13 @@ use Rattle.wfc_choose.specs.Pick.{Rule}
 use Rattle.wfc_grow_command.specs.Growing.{GivesProblem}
 use Rattle.wfc_outside.specs.Sink.{SinkView}
 use Rattle.wfc_pins.specs.declared.fault.BuildFault.{BuildFault}
-use Rattle.wfc_plan.proofs.CallerLemmas.{step_is}
-use Rattle.wfc_plan.specs.Fault.{class_of, class_status, status_of}
-use Rattle.wfc_plan.specs.Plan.{GivesStep, or_refuse}
+use Rattle.wfc_plan.proofs.CallerLemmas.{IsStepEnd, step_is}
+use Rattle.wfc_plan.specs.Fault.{status_of}
+use Rattle.wfc_plan.specs.Plan.{or_refuse}
 use Rattle.wfc_plan.specs.declared.fault.Fault.{Fault}
 use Rattle.wfc_plan.specs.declared.fault.Fault.TheVariants.{Refused}
 use Rattle.wfc_plan.specs.declared.fault.Refusal.{Refusal}
-use Rattle.wfc_plan.specs.declared.fault.Refusal.TheVariants.{Build}
+use Rattle.wfc_plan.specs.declared.fault.Refusal.TheVariants.{Build, NoMemory}
 use Rattle.wfc_problem.specs.Network.{Network}
 use Rattle.wfc_reply.specs.Putting.{PutsBehind}
 use Rattle.wfc_reply.specs.declared.putting.RunWriting.{RunWriting}
@@ -27,15 +27,14 @@ problem_short (Ok Q) P fault is six = six
 problem_short (Err why) P fault is six = absurd (cc (is))
 
 -- what a step gives of it
-pub step_gives : (wanted : Result Network BuildFault) (made : Network) → GivesStep (or_refuse Build wanted) (Ok made) → GivesProblem wanted (Ok made)
+pub step_gives : (wanted : Result Network BuildFault) (made : Network) → IsStepEnd (or_refuse Build wanted) (Ok made) → GivesProblem wanted (Ok made)
 step_gives (Ok P) made gives = let is : P ≡ made = cc (step_is (or_refuse Build (Ok P)) made gives) in sym is
 step_gives (Err why) made gives = tt
 
-pub step_fails : (wanted : Result Network BuildFault) (refusal : Refusal) → GivesStep (or_refuse Build wanted) (Err refusal) → GivesProblem wanted (Err (Refused refusal))
+pub step_fails : (wanted : Result Network BuildFault) (refusal : Refusal) → IsStepEnd (or_refuse Build wanted) (Err refusal) → GivesProblem wanted (Err (Refused refusal))
 step_fails (Err why) refusal gives = tt
 step_fails (Ok P) refusal (inl is) = absurd (cc (is))
-step_fails (Ok P) refusal (inr (short, memory, is)) =
-    let same : refusal ≡ short = cc (is) in ap (λ (r : Refusal). class_status (class_of r)) same ∙ ap class_status memory
+step_fails (Ok P) refusal (inr short) = let same : refusal ≡ NoMemory = cc (short) in ap (λ (r : Refusal). status_of (Refused r)) same
 
 -- what was put, of what it is
 pub put_as : (bytes text : List ℕ) (rule : Rule) (made writing : RunWriting) (Q P : Network) (old new : SinkView) (ended : Result Outcome Stop) → bytes ≡ text → made ≡ writing → Q ≡ P → PutsBehind bytes rule made Q old new ended

@@ -149,17 +149,17 @@ fn grow_refusal(fault: GrowFault) -> Refusal
     ensures value { result ≡ grow_refusal fault }
 {
     match fault {
-        GrowFault::SizeBelowN => built(BuildFault::SizeBelowN),
+        GrowFault::SizeBelowN => build_refusal(BuildFault::SizeBelowN),
         GrowFault::TooManyBlocks { count } => Refusal::TooManyBlocks { count },
-        GrowFault::TooLarge { product } => built(BuildFault::TooLarge { product }),
-        GrowFault::PinOutside { line } => built(BuildFault::PinOutside { line }),
-        GrowFault::UnknownSymbol { line } => built(BuildFault::UnknownSymbol { line }),
+        GrowFault::TooLarge { product } => build_refusal(BuildFault::TooLarge { product }),
+        GrowFault::PinOutside { line } => build_refusal(BuildFault::PinOutside { line }),
+        GrowFault::UnknownSymbol { line } => build_refusal(BuildFault::UnknownSymbol { line }),
         GrowFault::NoMemory => Refusal::NoMemory,
     }
 }
 
 /// A fault of a problem as a refusal.
-fn built(fault: BuildFault) -> Refusal
+fn build_refusal(fault: BuildFault) -> Refusal
     ensures value { result ≡ Refusal.Build fault }
 {
     Refusal::Build { fault }

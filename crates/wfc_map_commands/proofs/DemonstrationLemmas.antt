@@ -26,11 +26,10 @@ use Rattle.wfc_picture.specs.Symbol.{same_symbol}
 use Rattle.wfc_picture.specs.declared.palette.PaletteFault.{PaletteFault}
 use Rattle.wfc_picture.specs.declared.palette.TheConstants.{MAX_COLOURS}
 use Rattle.wfc_picture.specs.declared.symbol.Symbol.{Symbol}
-use Rattle.wfc_plan.specs.Fault.{class_of}
-use Rattle.wfc_plan.specs.Plan.{GivesStep, or_refuse}
-use Rattle.wfc_plan.specs.declared.fault.FaultClass.TheVariants.{Memory}
+use Rattle.wfc_plan.proofs.CallerLemmas.{IsStepEnd}
+use Rattle.wfc_plan.specs.Plan.{or_refuse}
 use Rattle.wfc_plan.specs.declared.fault.Refusal.{Refusal}
-use Rattle.wfc_plan.specs.declared.fault.Refusal.TheVariants.{Build, Colours, Learn}
+use Rattle.wfc_plan.specs.declared.fault.Refusal.TheVariants.{Build, Colours, Learn, NoMemory}
 
 -- so few symbols make a picture and a palette
 few_symbols : (symbols : List Symbol) (width : ℕ) → length symbols ≤ MAX_COLOURS → indexed symbols width ≡ Ok (raster_of width (length symbols / width) (numbered symbols), palette_of symbols)
@@ -99,13 +98,13 @@ symbols_more n side k before after symbol so_far pushed is =
     ∙ sym (ap (map f) (ap (range_with_len 0) (add-one k) ∙ range_more 0 k) ∙ map-append f (range_with_len 0 k) ((0 + k) ∷ []) ∙ ap (λ j. map f (range_with_len 0 k) ++ f j ∷ []) (zero-add k))
 
 -- a step that is wanted to come to something comes to that, or memory ran out
-pub given : {T : Type 0} (wanted : Result T Refusal) (value result : T) → wanted ≡ Ok value → GivesStep wanted (Ok result) → result ≡ value
+pub given : {T : Type 0} (wanted : Result T Refusal) (value result : T) → wanted ≡ Ok value → IsStepEnd wanted (Ok result) → result ≡ value
 given wanted value result is (inl gives) = cc
-given wanted value result is (inr short) = absurd (cc (short.2))
+given wanted value result is (inr short) = absurd (cc (short))
 
-pub short_of_memory : {T : Type 0} (wanted : Result T Refusal) (value : T) (refusal : Refusal) → wanted ≡ Ok value → GivesStep wanted (Err refusal) → class_of refusal ≡ Memory
+pub short_of_memory : {T : Type 0} (wanted : Result T Refusal) (value : T) (refusal : Refusal) → wanted ≡ Ok value → IsStepEnd wanted (Err refusal) → refusal ≡ NoMemory
 short_of_memory wanted value refusal is (inl gives) = absurd (cc)
-short_of_memory wanted value refusal is (inr (other, memory, gives)) = let same : refusal ≡ other = cc in ap class_of same ∙ memory
+short_of_memory wanted value refusal is (inr short) = cc (short)
 
 -- the steps of a demonstration, each with what it is wanted to come to
 pub demo_coloured : (n : ℕ) (symbols : List Symbol) → symbols ≡ demo_symbols n demo_side → or_refuse Colours (indexed symbols demo_side) ≡ Ok (demo_picture n demo_side, palette_of (demo_symbols n demo_side))

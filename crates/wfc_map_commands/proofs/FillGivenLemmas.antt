@@ -18,7 +18,7 @@ use Rattle.wfc_task.specs.SamplePlans.{problem_plan, sample_plan}
 use Rattle.wfc_task.specs.Sources.{is_of_windows}
 use Rattle.wfc_task.specs.Steps.{sample_layout}
 use Rattle.wfc_task.specs.TilePlans.{tiled_plan, tiles_plan}
-use Rattle.wfc_task.specs.TileSteps.{laid_tiles}
+use Rattle.wfc_task.specs.TileSteps.{tile_layout}
 use Rattle.wfc_task.specs.declared.lesson.Taught.{Taught}
 use Rattle.wfc_tiled.specs.Mask.{MaskView}
 use Rattle.wfc_tileset.specs.Pictures.{kind_of, side_of}
@@ -89,13 +89,13 @@ abbrev pub behind_tile_layout : RequestView → TileSetView → Layout → Plan 
 behind_tile_layout asked set layout = and_then (tiled_plan asked set) (fill_made_tiles set layout)
 
 abbrev pub behind_set : RequestView → TileSetView → Plan FillTask
-behind_set asked set = and_then (step (laid_tiles set asked)) (behind_tile_layout asked set)
+behind_set asked set = and_then (step (tile_layout set asked)) (behind_tile_layout asked set)
 
 tiles_filled : (asked : RequestView) (files : List File) (task : FillTask) → outcome (fill_tiles_plan asked) files ≡ Ok task → TilesFilled asked files task
 tiles_filled asked files task is =
     let known = outcome_parts (tiles_plan asked) (behind_set asked) files task is in
     let set = known.0 in
-    let written = outcome_parts (step (laid_tiles set asked)) (behind_tile_layout asked set) files task known.2 in
+    let written = outcome_parts (step (tile_layout set asked)) (behind_tile_layout asked set) files task known.2 in
     let made = outcome_parts (tiled_plan asked set) (fill_made_tiles set written.0) files task written.2 in
     record {
       set = set;
@@ -106,7 +106,7 @@ tiles_filled asked files task is =
       given = λ kinds there. record {
         chooser = there;
         tiles = tiles_given asked files set known.1;
-        written = unrefused refusals.Render (layout_of (kind_of set.pictures) asked.form asked.width asked.height (side_of set.pictures)) written.0 (step_ok (laid_tiles set asked) files written.0 written.1);
+        written = unrefused refusals.Render (layout_of (kind_of set.pictures) asked.form asked.width asked.height (side_of set.pictures)) written.0 (step_ok (tile_layout set asked) files written.0 written.1);
         problem = tiled_given asked files set made.0.0 made.0.1 made.1;
       };
     }
@@ -115,8 +115,8 @@ filled_of_tiles : (kinds : List RuleKind) (asked : RequestView) (files : List Fi
     → IsTileFillTask kinds asked files set mask layout P → outcome (fill_tiles_plan asked) files ≡ Ok (fill_tiles set mask layout P)
 filled_of_tiles kinds asked files set mask layout P task =
     outcome_on (tiles_plan asked) (behind_set asked) files set (given_tiles asked files set task.tiles)
-    ∙ outcome_on (step (laid_tiles set asked)) (behind_tile_layout asked set) files layout
-    (ok_step (laid_tiles set asked) files layout (ok_refused refusals.Render (layout_of (kind_of set.pictures) asked.form asked.width asked.height (side_of set.pictures)) layout task.written))
+    ∙ outcome_on (step (tile_layout set asked)) (behind_tile_layout asked set) files layout
+    (ok_step (tile_layout set asked) files layout (ok_refused refusals.Render (layout_of (kind_of set.pictures) asked.form asked.width asked.height (side_of set.pictures)) layout task.written))
     ∙ outcome_on (tiled_plan asked set) (fill_made_tiles set layout) files (mask, P) (given_tiled asked files set mask P task.problem)
 
 windows_fill : (source : SourceModel) (asked : RequestView) → is_of_windows source ≡ true → fill_plan_by source asked ≡ fill_sample_plan asked

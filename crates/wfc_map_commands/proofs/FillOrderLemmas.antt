@@ -17,7 +17,7 @@ use Rattle.wfc_task.specs.Stages.{IsFormFault, IsLayoutFault, IsLearnFault, IsPa
 use Rattle.wfc_task.specs.Steps.{sample_layout}
 use Rattle.wfc_task.specs.TilePlans.{tiled_plan, tiles_plan}
 use Rattle.wfc_task.specs.TileStages.{IsDocumentFault, IsTileLayoutFault, IsTilesFault}
-use Rattle.wfc_task.specs.TileSteps.{laid_tiles}
+use Rattle.wfc_task.specs.TileSteps.{tile_layout}
 use Rattle.wfc_words.specs.RequestView.{RequestView}
 use Rattle.wfc_words.specs.declared.kinds.SourceModel.{SourceModel}
 use Rattle.wfc_words.specs.declared.kinds.SourceModel.TheVariants.{Overlap, Tiles}
@@ -49,7 +49,7 @@ pub faults_fill_tiles : (asked : RequestView) (files : List File)
     → Faults (fill_tiles_plan asked) files (IsFirstFault (fill_tiles_stages asked files))
 faults_fill_tiles asked files =
     faults_group (tiles_plan asked) (behind_set asked) files (tiles_stages asked files) (IsTileLayoutFault asked files ∷ tiled_stages asked files) (faults_tiles asked files)
-    (λ set was. faults_first (step (laid_tiles set asked)) (behind_tile_layout asked set) files (IsTileLayoutFault asked files) (tiled_stages asked files) (faults_tile_layout asked files set was)
+    (λ set was. faults_first (step (tile_layout set asked)) (behind_tile_layout asked set) files (IsTileLayoutFault asked files) (tiled_stages asked files) (faults_tile_layout asked files set was)
     (λ layout written. faults_group (tiled_plan asked set) (fill_made_tiles set layout) files (tiled_stages asked files) [] (faults_tiled asked files set was)
     (λ made given. faults_none (fill_tiles set made.0 layout made.1) files)))
 

@@ -5,12 +5,11 @@ use Rattle.wfc_choose.specs.declared.RuleKind.TheVariants as rules
 use Rattle.wfc_map_commands.specs.Demonstration.{demo_patterns, demo_problem}
 use Rattle.wfc_map_commands.specs.declared.demonstration.Demonstration.{Demonstration}
 use Rattle.wfc_pattern.specs.Patterns.{PatternsView}
-use Rattle.wfc_plan.specs.Fault.{class_of}
 use Rattle.wfc_plan.specs.Kinds.{enough}
 use Rattle.wfc_plan.specs.Plan.{Plan, and_then, done, step}
-use Rattle.wfc_plan.specs.declared.fault.FaultClass.TheVariants.{Memory}
 use Rattle.wfc_plan.specs.declared.fault.Fault.{Fault}
 use Rattle.wfc_plan.specs.declared.fault.Refusal.{Refusal}
+use Rattle.wfc_plan.specs.declared.fault.Refusal.TheVariants.{NoMemory}
 use Rattle.wfc_problem.specs.Network.{Network}
 use Rattle.wfc_words.specs.RequestView.{RequestView}
 
@@ -32,4 +31,4 @@ demo_made (Err fault) = Err fault
 -- a demonstration is made as its number says, or memory ran out
 abbrev pub IsDemoMade : ℕ → Result Demonstration Refusal → Type 0
 IsDemoMade number (Ok made) = (made.patterns ≡ demo_patterns number) × (made.problem ≡ demo_problem number)
-IsDemoMade number (Err refusal) = class_of refusal ≡ Memory
+IsDemoMade number (Err refusal) = refusal ≡ NoMemory

@@ -13,7 +13,7 @@ use Rattle.wfc_render.specs.declared.form.Layout.{Layout}
 use Rattle.wfc_task.specs.SamplePlans.{problem_plan, sample_plan}
 use Rattle.wfc_task.specs.Steps.{sample_layout}
 use Rattle.wfc_task.specs.TilePlans.{tiled_plan, tiles_plan}
-use Rattle.wfc_task.specs.TileSteps.{laid_tiles}
+use Rattle.wfc_task.specs.TileSteps.{tile_layout}
 use Rattle.wfc_task.specs.Tiling.{mask_or_whole}
 use Rattle.wfc_tiled.specs.Mask.{MaskView}
 use Rattle.wfc_tileset.specs.Tiles.{TileSetView}
@@ -38,7 +38,7 @@ fill_sample_plan asked =
 abbrev pub fill_tiles_plan : RequestView → Plan FillTask
 fill_tiles_plan asked =
     and_then (tiles_plan asked) (λ set.
-    and_then (step (laid_tiles set asked)) (λ layout.
+    and_then (step (tile_layout set asked)) (λ layout.
     and_then (tiled_plan asked set) (λ made.
     done (fill_tiles set made.0 layout made.1))))
 

@@ -11,7 +11,7 @@ use Rattle.wfc_picture.specs.declared.symbol.Kind.{Kind}
 use Rattle.wfc_problem.specs.Network.{IsProblem}
 use Rattle.wfc_task.specs.Lesson.{IsShown}
 use Rattle.wfc_task.specs.Steps.{sample_layout}
-use Rattle.wfc_task.specs.TileSteps.{laid_tiles}
+use Rattle.wfc_task.specs.TileSteps.{tile_layout}
 use Rattle.wfc_task.specs.Tiling.{IsTilingTask, mask_or_whole}
 use Rattle.wfc_tileset.specs.Pictures.{picture_name}
 use Rattle.wfc_words.specs.RequestView.{RequestView}
@@ -32,7 +32,7 @@ pub record IsFilling (asked : RequestView) (task : Filling) : Type 0 where
 -- what `fill` works on for a tile set: the layout, and the problem of the tile set, whose pictures
 -- are all taken, on the mask
 pub record IsTileFilling (asked : RequestView) (task : TileFilling) : Type 0 where
-  pub layout : laid_tiles task.tiles asked ≡ Ok task.layout
+  pub layout : tile_layout task.tiles asked ≡ Ok task.layout
   pub tiled : IsTilingTask asked task.tiles (mask_or_whole asked task.mask) task.problem
   pub pictured : picture_name task.tiles (length task.tiles.pictures) ≡ None
 

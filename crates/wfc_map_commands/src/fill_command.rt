@@ -66,7 +66,7 @@ fn answer(
     let problem = problem_in(filled);
     let ran = run(alloc, problem, chooser, request.budget, request.seed)?;
     match ran.end {
-        RunEnd::Map { assignment } => found(alloc, request, filled, &assignment),
+        RunEnd::Map { assignment } => map_answer(alloc, request, filled, &assignment),
         RunEnd::NoMap => Ok(Answer {
             verdict: CommandVerdict::NoMap,
             text: None,
@@ -91,7 +91,7 @@ fn problem_in(filled: &Filled) -> &Problem
 }
 
 /// The answer with the map that an assignment makes.
-fn found(
+fn map_answer(
     alloc: Global,
     request: &Request,
     filled: &Filled,

@@ -17,7 +17,7 @@ use wfc_picture::Palette;
 use wfc_plan::{Fault, enough};
 use wfc_problem::Problem;
 use wfc_render::Layout;
-use wfc_task::{laid_tiles, problem, sample, sample_layout, tile_set, tiled_problem};
+use wfc_task::{problem, sample, sample_layout, tile_layout, tile_set, tiled_problem};
 use wfc_tiled::Mask;
 use wfc_tileset::TileSet;
 use wfc_words::{Request, SourceModel};
@@ -123,7 +123,7 @@ fn tile_filling<F: Folder>(
     ensures filling { IfOk result (IsTileFilling request.now) }
 {
     let tiles = tile_set(alloc, request, folder)?;
-    let layout = laid_tiles(&tiles, request)?;
+    let layout = tile_layout(&tiles, request)?;
     let (mask, problem) = tiled_problem(alloc, request, &tiles, folder)?;
     Ok(TileFilling {
         tiles,

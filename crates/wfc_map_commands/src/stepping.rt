@@ -5,10 +5,10 @@ ghost use Rattle.std.specs.Prelude.{All, IfOk, length, ◌+◌, ◌<◌, ◌≡�
 ghost use Rattle.wfc_map_commands.specs.DomainsTask.{domains_made, domains_plan};
 ghost use Rattle.wfc_map_commands.specs.StepPlans.{steps_file_plan, steps_plan};
 ghost use Rattle.wfc_map_commands.specs.Stepping.{fitting_steps, steps_in};
-ghost use Rattle.wfc_outside.specs.Gives.{result_map};
+ghost use Rattle.wfc_outside.specs.Gives.{Gives, result_map};
 ghost use Rattle.wfc_pins.specs.Steps.{IsStepIn};
 ghost use Rattle.wfc_pins.specs.declared.steps.StepLine.{StepLine};
-ghost use Rattle.wfc_plan.specs.Plan.{GivesStep, Goes};
+ghost use Rattle.wfc_plan.specs.Plan.{Goes};
 ghost use Rattle.wfc_task.specs.Asked.{IsOutputAsked, IsSourceAsked};
 
 use std::alloc::Global;
@@ -60,13 +60,10 @@ fn steps<F: Folder>(
 /// The steps of the bytes of a steps file.
 fn steps_in(alloc: Global, bytes: &[u8]) -> Result<Vec<StepLine>, Refusal>
     requires short { length bytes.now ≤ MAX_FILE_BYTES }
-    ensures exact { GivesStep (steps_in bytes.now) (result_map (λ steps. steps.items) result) }
+    ensures exact { Gives Refusal.NoMemory (λ steps. steps.items) result (steps_in bytes.now) }
     ensures few { IfOk result (λ steps. length steps.items ≤ length bytes.now + 1) }
 {
-    match read_steps(alloc, bytes) {
-        Ok(steps) => Ok(steps),
-        Err(fault) => Err(Refusal::Steps { fault }),
-    }
+    Ok(read_steps(alloc, bytes)?)
 }
 
 /// The steps, if they are all in the problem.
@@ -76,10 +73,8 @@ fn fitting_steps(problem: &Problem, steps: Vec<StepLine>) -> Result<Vec<StepLine
         (line : StepLine). IsStepIn problem.now line.step) steps.items) }
     ensures few { IfOk result (λ kept. length kept.items ≡ length steps.items) }
 {
-    match steps_fit(&steps, problem) {
-        Ok(()) => Ok(steps),
-        Err(fault) => Err(Refusal::Range { fault }),
-    }
+    steps_fit(&steps, problem)?;
+    Ok(steps)
 }
 
 /// What `domains` works on.

@@ -7,12 +7,13 @@ use Rattle.wfc_outside.specs.Folder.{File, FolderView, IsFaultOf, IsMissing, IsT
 use Rattle.wfc_outside.specs.declared.whole.ReadFault.{ReadFault}
 use Rattle.wfc_outside.specs.declared.whole.ReadFault.TheVariants as reading
 use Rattle.wfc_plan.specs.Fault.{class_of, class_status, status_of}
-use Rattle.wfc_plan.specs.Plan.{Asks, CausesUnread, Follows, GivesStep, Goes, IsRead, IsShort, Plan, ToldEnd, after_reading, and_then, done, outcome, read, reading_of, refuse, step}
+use Rattle.wfc_plan.specs.Plan.{Asks, CausesUnread, Follows, Goes, IsRead, IsShort, Plan, ToldEnd, after_reading, and_then, done, outcome, read, reading_of, refuse, step}
 use Rattle.wfc_plan.specs.declared.fault.FaultClass.{FaultClass}
 use Rattle.wfc_plan.specs.declared.fault.FaultClass.TheVariants.{Input, Memory, NoChooser}
 use Rattle.wfc_plan.specs.declared.fault.Fault.{Fault}
 use Rattle.wfc_plan.specs.declared.fault.Fault.TheVariants.{Refused, Unread}
 use Rattle.wfc_plan.specs.declared.fault.Refusal.{Refusal}
+use Rattle.wfc_plan.specs.declared.fault.Refusal.TheVariants.{NoMemory}
 use Rattle.wfc_plan.specs.declared.fault.Source.{Source}
 
 -- a result of what isn't there
@@ -24,11 +25,15 @@ abbrev pub refused : {T : Type 0} → Result T Refusal → Result T Fault
 refused (Ok value) = Ok value
 refused (Err refusal) = Err (Refused refusal)
 
--- a step that reads nothing
-pub goes_step : {T : Type 0} (wanted result : Result T Refusal) (folder : FolderView) → GivesStep wanted result → Goes (step wanted) folder folder (refused result)
+-- a step that reads nothing may end so, of which this is wanted: as it is wanted, or for want of memory
+abbrev pub IsStepEnd : {T : Type 0} → Result T Refusal → Result T Refusal → Type 0
+IsStepEnd wanted result = (result ≡ wanted) ⊎ (result ≡ Err NoMemory)
+
+-- such a step
+pub goes_step : {T : Type 0} (wanted result : Result T Refusal) (folder : FolderView) → IsStepEnd wanted result → Goes (step wanted) folder folder (refused result)
 goes_step (Ok value) result folder (inl is) = inl (refl, ap refused is)
 goes_step (Err refusal) result folder (inl is) = inl (refl, ap refused is)
-goes_step wanted result folder (inr (refusal, memory, is)) = inr (refl, (Refused refusal, ap class_status memory, ap refused is))
+goes_step wanted result folder (inr is) = inr (refl, (Refused NoMemory, refl, ap refused is))
 
 -- the folder is as before where a plan came to something
 follows_same : {T : Type 0} (plan : Plan T) (before after : FolderView) (value : T) → Follows plan before after (Ok value) → after ≡ before

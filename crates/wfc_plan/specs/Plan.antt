@@ -5,8 +5,7 @@ use Rattle.wfc_outside.specs.Folder.{File, FolderView, IsFaultOf, IsMissing, IsT
 use Rattle.wfc_outside.specs.Whole.{IsLongerThan}
 use Rattle.wfc_outside.specs.declared.whole.ReadFault.{ReadFault}
 use Rattle.wfc_outside.specs.declared.whole.ReadFault.TheVariants as reading
-use Rattle.wfc_plan.specs.Fault.{class_of, status_of}
-use Rattle.wfc_plan.specs.declared.fault.FaultClass.TheVariants.{Memory}
+use Rattle.wfc_plan.specs.Fault.{status_of}
 use Rattle.wfc_plan.specs.declared.fault.Fault.{Fault}
 use Rattle.wfc_plan.specs.declared.fault.Fault.TheVariants.{Refused, Unread}
 use Rattle.wfc_plan.specs.declared.fault.Refusal.{Refusal}
@@ -76,11 +75,6 @@ IsShort result = (fault : Fault) × (status_of fault ≡ 6) × (result ≡ Err f
 -- a call that goes by the plan may have this result; memory may run out at any point
 abbrev pub Goes : {T : Type 0} → Plan T → FolderView → FolderView → Result T Fault → Type 0
 Goes plan before after result = Follows plan before after result ⊎ ((after ≡ before) × IsShort result)
-
--- a step that reads nothing may have this result: the one wanted, or memory ran out
-abbrev pub GivesStep : {T : Type 0} → Result T Refusal → Result T Refusal → Type 0
-GivesStep wanted result =
-    (result ≡ wanted) ⊎ ((refusal : Refusal) × (class_of refusal ≡ Memory) × (result ≡ Err refusal))
 
 -- the reading of a file that is told
 abbrev pub reading_of : Option ℕ → Option (List ℕ) → Result (List ℕ) ReadFault

@@ -1,4 +1,4 @@
--- A plan of two files with its order, folders, and refusals of each kind, that the laws speak of.
+-- A plan of two files with its order, folders, and a refusal of each kind of step, that the laws speak of.
 use Rattle.std.specs.Prelude.{List, Some, [], ℕ, ◌∷◌}
 use Rattle.wfc_box.specs.declared.fault.StackFault.TheVariants as stacks
 use Rattle.wfc_grid.specs.declared.reading.GridFault.TheVariants as grids
@@ -37,22 +37,6 @@ second_file = record { name = 98 ∷ []; bytes = [] }
 -- the folder that tells these files, and has counted no fault
 abbrev pub folder_telling : List File → FolderView
 folder_telling files = record { contents = Some files; faults = λ name. 0 }
-
--- that memory ran out, as each kind of step says it
-abbrev pub short_refusals : List Refusal
-short_refusals =
-    refusals.NoMemory
-    ∷ refusals.Grid Mask grids.NoMemory
-    ∷ refusals.Ppm Sample ppms.NoMemory
-    ∷ refusals.Colours palettes.NoMemory
-    ∷ refusals.Learn learning.NoMemory
-    ∷ refusals.Pins pins.NoMemory
-    ∷ refusals.Build builds.NoMemory
-    ∷ refusals.Steps steps.NoMemory
-    ∷ refusals.Tiles tiles.NoMemory
-    ∷ refusals.Mask masks.NoMemory
-    ∷ refusals.Stacks stacks.NoMemory
-    ∷ []
 
 -- that what was given is at fault, as each kind of step says it
 abbrev pub wrong_refusals : List Refusal

@@ -99,39 +99,7 @@ impl Refusal {
     {
         match self {
             Refusal::Chooser { .. } => FaultClass::NoChooser,
-            Refusal::NoMemory
-            | Refusal::Grid {
-                fault: GridFault::NoMemory,
-                ..
-            }
-            | Refusal::Ppm {
-                fault: PpmFault::NoMemory,
-                ..
-            }
-            | Refusal::Colours {
-                fault: PaletteFault::NoMemory,
-            }
-            | Refusal::Learn {
-                fault: LearnFault::NoMemory,
-            }
-            | Refusal::Pins {
-                fault: PinFault::NoMemory,
-            }
-            | Refusal::Build {
-                fault: BuildFault::NoMemory,
-            }
-            | Refusal::Steps {
-                fault: StepFault::NoMemory,
-            }
-            | Refusal::Tiles {
-                fault: TileFault::NoMemory,
-            }
-            | Refusal::Mask {
-                fault: MaskFault::NoMemory,
-            }
-            | Refusal::Stacks {
-                fault: StackFault::NoMemory,
-            } => FaultClass::Memory,
+            Refusal::NoMemory => FaultClass::Memory,
             _ => FaultClass::Input,
         }
     }

@@ -5,19 +5,20 @@ ghost use Rattle.wfc_choose.specs.declared.RuleKind.TheVariants.{Fewest, Ranked,
 ghost use Rattle.wfc_outside.specs.Folder.{File, file_of};
 ghost use Rattle.wfc_outside.specs.declared.whole.ReadFault.TheVariants.{Failed, Missing, TooLong};
 ghost use Rattle.wfc_outside.specs.declared.whole.ReadFault.TheVariants as reading;
+ghost use Rattle.wfc_pattern.specs.declared.learning.LearnFault.TheVariants as learning;
 ghost use Rattle.wfc_pattern.specs.declared.learning.LearnFault.TheVariants.{SampleBelowN};
-ghost use Rattle.wfc_plan.specs.Fault.{class_of, status_of};
+ghost use Rattle.wfc_plan.specs.Fault.{IsRefusedAs, class_of, status_of};
 ghost use Rattle.wfc_plan.specs.Files.{file_plan};
 ghost use Rattle.wfc_plan.specs.Kinds.{HasChoosers, enough};
 ghost use Rattle.wfc_plan.specs.Order.{AreInOrder, IsFirstFault};
-ghost use Rattle.wfc_plan.specs.Plan.{GivesStep, Goes, most_bytes, outcome};
+ghost use Rattle.wfc_plan.specs.Plan.{Goes, most_bytes, outcome};
 ghost use Rattle.wfc_plan.specs.Reaching.{Reaches};
 ghost use Rattle.wfc_plan.specs.Refusing.{IsMadeInOrder, IsRefusedInOrder};
 ghost use Rattle.wfc_plan.specs.Small.{first_file, folder_telling, second_file, two_files_order, two_files_plan};
-ghost use Rattle.wfc_plan.specs.Small.{short_refusals, wrong_refusals};
+ghost use Rattle.wfc_plan.specs.Small.{wrong_refusals};
 ghost use Rattle.wfc_plan.specs.declared.fault.Fault.{Fault};
 ghost use Rattle.wfc_plan.specs.declared.fault.Fault.TheVariants.{Refused, Unread};
-ghost use Rattle.wfc_plan.specs.declared.fault.FaultClass.TheVariants.{Input, Memory};
+ghost use Rattle.wfc_plan.specs.declared.fault.FaultClass.TheVariants.{Input};
 ghost use Rattle.wfc_plan.specs.declared.fault.Refusal.TheVariants as refusals;
 ghost use Rattle.wfc_plan.specs.declared.fault.Source.{Source};
 ghost use Rattle.wfc_plan.specs.declared.fault.Source.TheVariants.{Pins, Sample};
@@ -46,19 +47,19 @@ pub fn faults_have_statuses()
     ensures blocks { status_of (Refused (refusals.TooManyBlocks 65)) ≡ 4 }
 {}
 
-/// Want of memory has one class, whatever step found it, and so has a fault of what was given.
+/// A fault of what was given has one class, whatever step found it.
 pub fn refusals_have_classes()
-    ensures short { map class_of short_refusals ≡ map (λ refusal. Memory) short_refusals }
     ensures wrong { map class_of wrong_refusals ≡ map (λ refusal. Input) wrong_refusals }
 {}
 
-/// What a step may give, by example: what is wanted of it, or that memory ran out.
-pub fn steps_give_by_example()
-    ensures wanted { GivesStep {T = ℕ} (Ok 3) (Ok 3) }
-    ensures other { GivesStep {T = ℕ} (Ok 3) (Ok 4) → ⊥ }
-    ensures short { GivesStep {T = ℕ} (Ok 3) (Err refusals.NoMemory) }
-    ensures refused { GivesStep {T = ℕ} (Ok 3) (Err (refusals.Learn SampleBelowN)) → ⊥ }
-    ensures not_refused { GivesStep {T = ℕ} (Err (refusals.Learn SampleBelowN)) (Ok 3) → ⊥ }
+/// What the fault of a step becomes, by example: want of memory is told alike of all steps, and any other fault as its own.
+pub fn faults_become_refusals_by_example()
+    ensures short { IsRefusedAs refusals.Learn learning.NoMemory learning.NoMemory refusals.NoMemory }
+    ensures kept { IsRefusedAs refusals.Learn learning.NoMemory learning.NoMemory
+        (refusals.Learn learning.NoMemory) → ⊥ }
+    ensures own { IsRefusedAs refusals.Learn learning.NoMemory SampleBelowN
+        (refusals.Learn SampleBelowN) }
+    ensures hidden { IsRefusedAs refusals.Learn learning.NoMemory SampleBelowN refusals.NoMemory → ⊥ }
 {}
 
 /// How a call goes by a plan, by example: where neither of two files is there, the first is the one that is missing.

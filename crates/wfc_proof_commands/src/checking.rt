@@ -99,8 +99,8 @@ fn found_in(answer: Result<(), CheckFault>) -> Result<Option<CheckFault>, Fault>
 {
     match answer {
         Ok(()) => Ok(None),
-        Err(CheckFault::Missing) => Err(unread(ReadFault::Missing)),
-        Err(CheckFault::Failed) => Err(unread(ReadFault::Failed)),
+        Err(CheckFault::Missing) => Err(unread_refutation(ReadFault::Missing)),
+        Err(CheckFault::Failed) => Err(unread_refutation(ReadFault::Failed)),
         Err(CheckFault::TooLong) => Err(Fault::Refused {
             refusal: Refusal::TooLong {
                 source: Source::Refutation,
@@ -114,7 +114,7 @@ fn found_in(answer: Result<(), CheckFault>) -> Result<Option<CheckFault>, Fault>
 }
 
 /// The fault of a refutation that isn't read.
-fn unread(fault: ReadFault) -> Fault
+fn unread_refutation(fault: ReadFault) -> Fault
     ensures value { result ≡ Unread Refutation fault }
 {
     Fault::Unread {

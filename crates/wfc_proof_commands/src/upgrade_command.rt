@@ -35,11 +35,11 @@ pub fn upgrade<F: Folder, O: Sink>(
         (F.seen folder.old) (F.seen folder.new) (O.seen out.old) (O.seen out.new) result }
 {
     let upgrading = upgrade_task(alloc, request, folder)?;
-    upgraded(alloc, request, &upgrading, out)
+    answer(alloc, request, &upgrading, out)
 }
 
 /// Puts the proof of the text, if it is a refutation.
-fn upgraded<O: Sink>(
+fn answer<O: Sink>(
     alloc: Global,
     request: &Request,
     upgrading: &Upgrading,

@@ -16,9 +16,9 @@ use Rattle.wfc_picture.specs.declared.symbol.Symbol.{Symbol}
 use Rattle.wfc_pins.specs.PinView.{PinView}
 use Rattle.wfc_pins.specs.declared.fault.BuildFault.{BuildFault}
 use Rattle.wfc_pins.specs.declared.fault.BuildFault.TheVariants.{NoMemory, SizeBelowN, TooLarge}
-use Rattle.wfc_plan.proofs.CallerLemmas.{choosers_given, done_is, outcome_parts, step_is, step_ok, unless_above, unrefused}
+use Rattle.wfc_plan.proofs.CallerLemmas.{IsStepEnd, choosers_given, done_is, outcome_parts, step_is, step_ok, unless_above, unrefused}
 use Rattle.wfc_plan.specs.Kinds.{enough}
-use Rattle.wfc_plan.specs.Plan.{GivesStep, Plan, and_then, done, outcome, step}
+use Rattle.wfc_plan.specs.Plan.{Plan, and_then, done, outcome, step}
 use Rattle.wfc_plan.specs.declared.fault.Refusal.{Refusal}
 use Rattle.wfc_plan.specs.declared.fault.Refusal.TheVariants.{Build}
 use Rattle.wfc_problem.specs.Network.{Network}
@@ -146,13 +146,13 @@ given_pins wanted value (inl same) = sym same
 given_pins wanted value (inr short) = absurd (cc (short))
 
 -- there is a pin for each line
-pub sample_many : (asked : RequestView) (lesson : Taught) (lines : List PinView) (result : Result SamplePins Refusal) → GivesStep (pins_of_sample asked lesson lines) result → IfOk result (λ (s : SamplePins). length s.pins ≡ length lines)
+pub sample_many : (asked : RequestView) (lesson : Taught) (lines : List PinView) (result : Result SamplePins Refusal) → IsStepEnd (pins_of_sample asked lesson lines) result → IfOk result (λ (s : SamplePins). length s.pins ≡ length lines)
 sample_many asked lesson lines (Err why) gives = tt
 sample_many asked lesson lines (Ok s) gives =
     sample_as_many lesson.patterns lesson.palette (asked_output asked) lines s
     (unrefused Build (sample_pins lesson.patterns lesson.palette (asked_output asked) lines) s (step_is (pins_of_sample asked lesson lines) s gives))
 
-pub tiles_many : (asked : RequestView) (set : TileSetView) (mask : MaskView) (lines : List PinView) (result : Result TilesPins Refusal) → GivesStep (pins_of_tiles asked set mask lines) result → IfOk result (λ (s : TilesPins). length s.pins ≡ length lines)
+pub tiles_many : (asked : RequestView) (set : TileSetView) (mask : MaskView) (lines : List PinView) (result : Result TilesPins Refusal) → IsStepEnd (pins_of_tiles asked set mask lines) result → IfOk result (λ (s : TilesPins). length s.pins ≡ length lines)
 tiles_many asked set mask lines (Err why) gives = tt
 tiles_many asked set mask lines (Ok s) gives =
     tiles_as_many set mask asked.wrap_out lines s

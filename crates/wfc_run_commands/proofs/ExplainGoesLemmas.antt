@@ -3,8 +3,8 @@ use Rattle.std.proofs.Common.{List, Ok, Result}
 use Rattle.wfc_explain.specs.Problems.{SamplePins, TilesPins, pinned_sample, pinned_tiles}
 use Rattle.wfc_outside.specs.Folder.{FolderView}
 use Rattle.wfc_pins.specs.PinView.{PinView}
-use Rattle.wfc_plan.proofs.CallerLemmas.{goes_done, goes_on, step_on}
-use Rattle.wfc_plan.specs.Plan.{GivesStep, Goes}
+use Rattle.wfc_plan.proofs.CallerLemmas.{IsStepEnd, goes_done, goes_on, step_on}
+use Rattle.wfc_plan.specs.Plan.{Goes}
 use Rattle.wfc_plan.specs.declared.fault.Fault.{Fault}
 use Rattle.wfc_run_commands.proofs.ExplainGivenLemmas.{behind_lesson, behind_lines, behind_mask_of, behind_sample_pins, behind_set, behind_tile_lines, behind_tiles_pins}
 use Rattle.wfc_run_commands.specs.ExplainTask.{ExplainTask, explain, explain_sample_plan, explain_tiles_plan, line_numbers, lines_plan, pins_of_sample, pins_of_tiles}
@@ -24,7 +24,7 @@ lines_learned asked before taught middle after lesson lines end first read rest 
 
 -- and with these it comes to the task
 pub sample_explained : (asked : RequestView) (before taught after : FolderView) (lesson : Taught) (lines : List PinView) (s : SamplePins) → Goes (sample_plan asked) before taught (Ok lesson)
-    → Goes (lines_plan asked) taught after (Ok lines) → GivesStep (pins_of_sample asked lesson lines) (Ok s)
+    → Goes (lines_plan asked) taught after (Ok lines) → IsStepEnd (pins_of_sample asked lesson lines) (Ok s)
     → Goes (explain_sample_plan asked) before after (Ok (explain (pinned_sample s) (line_numbers lines)))
 sample_explained asked before taught after lesson lines s first read gives =
     lines_learned asked before taught after after lesson lines (Ok (explain (pinned_sample s) (line_numbers lines))) first read
@@ -46,7 +46,7 @@ mask_spelled asked before spelled middle masked after set lines mask end first r
 
 -- and with these it comes to the task
 pub tiles_explained : (asked : RequestView) (before spelled middle after : FolderView) (set : TileSetView) (lines : List PinView) (mask : MaskView) (s : TilesPins) → Goes (tiles_plan asked) before spelled (Ok set)
-    → Goes (lines_plan asked) spelled middle (Ok lines) → Goes (mask_plan asked) middle after (Ok mask) → GivesStep (pins_of_tiles asked set mask lines) (Ok s)
+    → Goes (lines_plan asked) spelled middle (Ok lines) → Goes (mask_plan asked) middle after (Ok mask) → IsStepEnd (pins_of_tiles asked set mask lines) (Ok s)
     → Goes (explain_tiles_plan asked) before after (Ok (explain (pinned_tiles s) (line_numbers lines)))
 tiles_explained asked before spelled middle after set lines mask s first read held gives =
     mask_spelled asked before spelled middle after after set lines mask (Ok (explain (pinned_tiles s) (line_numbers lines))) first read held

@@ -138,12 +138,12 @@ fn answer<M: PinnedProblem>(
 {
     let many = pinned.lines() + 1;
     let taken = first_many(alloc, choosers, request.rule, many)?;
-    let said = said::<M, Brand>(alloc, request, pinned, taken, Blank::new(1))?;
+    let said = run_explanation::<M, Brand>(alloc, request, pinned, taken, Blank::new(1))?;
     told_in(alloc, request, lines, &said)
 }
 
 /// Leaves the lines out in turn, with these choosers; the steps are counted in a ledger of its own.
-fn said<M: PinnedProblem, L: Ledger>(
+fn run_explanation<M: PinnedProblem, L: Ledger>(
     alloc: Global,
     request: &Request,
     pinned: &M,

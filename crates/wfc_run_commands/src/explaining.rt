@@ -3,7 +3,7 @@
 ghost use Rattle.std.specs.Prelude.{IfOk, OnOk, length, ◌≡◌, ◌≤◌};
 ghost use Rattle.wfc_explain.specs.Problems.{tiles_pins};
 ghost use Rattle.wfc_outside.specs.Gives.{Gives, result_map};
-ghost use Rattle.wfc_plan.specs.Plan.{GivesStep, Goes};
+ghost use Rattle.wfc_plan.specs.Plan.{Goes};
 ghost use Rattle.wfc_run_commands.specs.ExplainTask.{few_lines, lines_plan, pins_of_sample, pins_of_tiles};
 ghost use Rattle.wfc_task.specs.Asked.{IsOutputAsked};
 ghost use Rattle.wfc_task.specs.Tiling.{HasSides, mask_or_whole};
@@ -61,11 +61,12 @@ pub(crate) fn sample_pins<'a>(
 ) -> Result<OverlapPins<'a>, Refusal>
     requires output { IsOutputAsked request.now }
     requires few { length lines.now ≤ MAX_LINES }
-    ensures exact { GivesStep (pins_of_sample request.now taught.now lines.now) result }
+    ensures exact { Gives Refusal.NoMemory (λ made. made) result
+        (pins_of_sample request.now taught.now lines.now) }
     ensures each_line { IfOk result (λ pins. length pins.pins ≡ length lines.now) }
 {
     let (width, height, wrap) = (request.width, request.height, request.wrap_out);
-    match OverlapPins::new(
+    Ok(OverlapPins::new(
         alloc,
         &taught.patterns,
         &taught.palette,
@@ -73,10 +74,7 @@ pub(crate) fn sample_pins<'a>(
         height,
         wrap,
         lines,
-    ) {
-        Ok(pins) => Ok(pins),
-        Err(fault) => Err(Refusal::Build { fault }),
-    }
+    )?)
 }
 
 /// A tile set with the pins of these lines, on a mask, if there is one.
@@ -90,14 +88,11 @@ pub(crate) fn tile_pins<'a>(
     requires output { IsOutputAsked request.now }
     requires sides { HasSides request.now (mask_or_whole request.now mask.now) }
     requires few { length lines.now ≤ MAX_LINES }
-    ensures exact { GivesStep (pins_of_tiles request.now tiles.now (mask_or_whole request.now
-        mask.now) lines.now) result }
+    ensures exact { Gives Refusal.NoMemory (λ made. made) result
+        (pins_of_tiles request.now tiles.now (mask_or_whole request.now mask.now) lines.now) }
     ensures each_line { IfOk result (λ pins. length pins.pins ≡ length lines.now) }
 {
-    match masked_pins(alloc, request, tiles, mask, lines) {
-        Ok(pins) => Ok(pins),
-        Err(fault) => Err(Refusal::Build { fault }),
-    }
+    Ok(masked_pins(alloc, request, tiles, mask, lines)?)
 }
 
 /// The same, or the fault of the problem of all lines.

@@ -60,12 +60,12 @@ fn answer(
         ≡ Some (answer_view answer)) }
 {
     let runners = first_many(alloc, choosers, request.rule, request.seeds)?;
-    let raced = raced::<Brand>(alloc, request, problem, runners, Blank::new(1))?;
+    let raced = run_race::<Brand>(alloc, request, problem, runners, Blank::new(1))?;
     told_in(alloc, request, raced)
 }
 
 /// The race of these choosers, with its steps counted in a ledger of its own.
-fn raced<L: Ledger>(
+fn run_race<L: Ledger>(
     alloc: Global,
     request: &Request,
     problem: &Problem,

@@ -39,8 +39,8 @@ use Rattle.wfc_pins.specs.PinView.{PinView}
 use Rattle.wfc_pins.specs.declared.fault.BuildFault.{BuildFault}
 use Rattle.wfc_pins.specs.declared.fault.BuildFault.TheVariants.{SizeBelowN, TooLarge}
 use Rattle.wfc_plan.proofs.CallerLemmas.{step_is, unrefused}
-use Rattle.wfc_plan.specs.Plan.{GivesStep}
 use Rattle.wfc_plan.specs.declared.fault.Refusal.{Refusal}
+use Rattle.wfc_plan.specs.declared.fault.Refusal.TheVariants as refusals
 use Rattle.wfc_ppm.specs.Ppm.{IsPpm, PpmView}
 use Rattle.wfc_problem.specs.Network.{IsProblem, Network}
 use Rattle.wfc_problem.specs.declared.TheConstants.{MAX_PAIRS}
@@ -178,11 +178,11 @@ posed_of asked patterns palette lines P are is =
     }
 
 -- the same of results
-pub numbered_result : (sampled : SampledView) (result : Result (Raster × List Symbol) Refusal) → IsSampled sampled → GivesStep (sample_in_numbers sampled) result → IfOk result (λ made. HasShownNumbers sampled.kind made.0 made.1)
+pub numbered_result : (sampled : SampledView) (result : Result (Raster × List Symbol) Refusal) → IsSampled sampled → Gives refusals.NoMemory (λ made. made) result (sample_in_numbers sampled) → IfOk result (λ made. HasShownNumbers sampled.kind made.0 made.1)
 numbered_result sampled (Err refusal) shows gives = tt
 numbered_result sampled (Ok made) shows gives = numbered_sample sampled made shows (step_is (sample_in_numbers sampled) made gives)
 
-pub posed_result : (asked : RequestView) (patterns : PatternsView) (palette : List Symbol) (lines : List PinView) (result : Result Network Refusal) → IsPatterns patterns → GivesStep (problem_of_lines asked patterns palette lines) result
+pub posed_result : (asked : RequestView) (patterns : PatternsView) (palette : List Symbol) (lines : List PinView) (result : Result Network Refusal) → IsPatterns patterns → Gives refusals.NoMemory (λ made. made) result (problem_of_lines asked patterns palette lines)
     → IfOk result (IsPosed asked patterns)
 posed_result asked patterns palette lines (Err refusal) are gives = tt
 posed_result asked patterns palette lines (Ok P) are gives = posed_of asked patterns palette lines P are (step_is (problem_of_lines asked patterns palette lines) P gives)

@@ -24,7 +24,7 @@ use Rattle.wfc_task.specs.Steps.{grid_in}
 use Rattle.wfc_task.specs.TileGiven.{HoldsMask, IsTileSetOf}
 use Rattle.wfc_task.specs.TilePlans.{document_plan, mask_plan, mask_plan_by, next_plan, picture_plan, pictures_plan, tiled_plan, tiles_plan}
 use Rattle.wfc_task.specs.TileStages.{IsDocumentFault, IsDocumentOf, IsGridOf, IsMaskFault, IsMaskFormFault, IsPictureFault, IsPicturesFault, IsTileLayoutFault, IsTilePairsFault, IsTilePinFault, IsTilesFault}
-use Rattle.wfc_task.specs.TileSteps.{document_in, laid_tiles, mask_in, with_next_picture, posed_tiles}
+use Rattle.wfc_task.specs.TileSteps.{document_in, tile_layout, mask_in, with_next_picture, posed_tiles}
 use Rattle.wfc_tiled.specs.Built.{tile_pair_count, tile_map_pins}
 use Rattle.wfc_tiled.specs.Mask.{MaskView, mask_of}
 use Rattle.wfc_tiled.specs.Tiles.{problem_of_tiles}
@@ -127,10 +127,10 @@ pub same_set : (asked : RequestView) (files : List File) (set : TileSetView) (st
 same_set asked files set stage was =
     same_known (λ other. IsTileSetOf asked files other) stage set (tiles_given asked files set was) (λ other also. one_value (tiles_plan asked) files set other was (given_tiles asked files other also))
 
-pub faults_tile_layout : (asked : RequestView) (files : List File) (set : TileSetView) → outcome (tiles_plan asked) files ≡ Ok set → Faults (step (laid_tiles set asked)) files (IsTileLayoutFault asked files)
+pub faults_tile_layout : (asked : RequestView) (files : List File) (set : TileSetView) → outcome (tiles_plan asked) files ≡ Ok set → Faults (step (tile_layout set asked)) files (IsTileLayoutFault asked files)
 faults_tile_layout asked files set was =
     let stage : TileSetView → TaskStage = λ other. IsRefusal refusals.Render (layout_of (kind_of other.pictures) asked.form asked.width asked.height (side_of other.pictures)) in
-    faults_as (step (laid_tiles set asked)) files (stage set) (IsTileLayoutFault asked files) (same_set asked files set stage was)
+    faults_as (step (tile_layout set asked)) files (stage set) (IsTileLayoutFault asked files) (same_set asked files set stage was)
     (faults_step refusals.Render (layout_of (kind_of set.pictures) asked.form asked.width asked.height (side_of set.pictures)) files)
 
 -- ---- masks

@@ -24,8 +24,8 @@ abbrev pub with_next_picture : TileSetView → List ℕ → Result TileSetView R
 with_next_picture set text = or_refuse Tiles (picture_taken set text)
 
 -- how a map of a tile set is written
-abbrev pub laid_tiles : TileSetView → RequestView → Result Layout Refusal
-laid_tiles set asked = or_refuse Render (layout_of (kind_of set.pictures) asked.form asked.width asked.height (side_of set.pictures))
+abbrev pub tile_layout : TileSetView → RequestView → Result Layout Refusal
+tile_layout set asked = or_refuse Render (layout_of (kind_of set.pictures) asked.form asked.width asked.height (side_of set.pictures))
 
 -- the mask that a grid spells for the map asked for
 abbrev pub mask_in : RequestView → GridView → Result MaskView Refusal

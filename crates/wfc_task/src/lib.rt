@@ -19,4 +19,4 @@ pub use posing::posed_problem;
 pub use sources::window_side_of;
 pub use steps::{AskedOutput, numbered_picture, patterns_of_picture, posed_for, sample_layout};
 pub use tile_files::{mask, pictures, tile_set, tiled_problem};
-pub use tile_steps::{laid_tiles, tile_document};
+pub use tile_steps::{tile_document, tile_layout};

@@ -1,8 +1,7 @@
 //! What a sample shows, whatever the format of its file.
 
 ghost use Rattle.std.specs.Prelude.{IfOk, Ok, length, ◌*◌, ◌≡◌, ◌≤◌};
-ghost use Rattle.wfc_outside.specs.Gives.{result_map};
-ghost use Rattle.wfc_plan.specs.Plan.{GivesStep};
+ghost use Rattle.wfc_outside.specs.Gives.{Gives};
 ghost use Rattle.wfc_task.specs.Lesson.{IsSampled};
 ghost use Rattle.wfc_task.specs.Sampled.{shown_colours, shown_by_grid, shown_by_ppm, sampled_view, symbols_of};
 ghost use Rattle.wfc_task.specs.Steps.{sampled_in};
@@ -28,7 +27,7 @@ pub(crate) struct Sampled {
 /// What the bytes of a sample show.
 pub(crate) fn shown(alloc: Global, request: &Request, bytes: &[u8]) -> Result<Sampled, Refusal>
     requires short { length bytes.now ≤ MAX_FILE_BYTES }
-    ensures exact { GivesStep (sampled_in request.now bytes.now) (result_map sampled_view result) }
+    ensures exact { Gives Refusal.NoMemory sampled_view result (sampled_in request.now bytes.now) }
     ensures sampled { IfOk result (λ sampled. IsSampled (sampled_view sampled)) }
 {
     if is_picture_name(request.file().as_bytes()) {
@@ -43,7 +42,7 @@ pub(crate) fn shown(alloc: Global, request: &Request, bytes: &[u8]) -> Result<Sa
 /// What a picture of colours shows. The picture is let go.
 fn shown_by_ppm(alloc: Global, ppm: Ppm) -> Result<Sampled, Refusal>
     requires small { ppm.width * ppm.height ≤ MAX_PIXELS }
-    ensures exact { GivesStep (Ok (shown_by_ppm ppm)) (result_map sampled_view result) }
+    ensures exact { Gives Refusal.NoMemory sampled_view result (Ok (shown_by_ppm ppm)) }
     ensures sampled { IfOk result (λ sampled. IsSampled (sampled_view sampled)) }
 {
     let width = ppm.width;
@@ -71,7 +70,7 @@ fn colours(alloc: Global, ppm: Ppm) -> Result<Vec<Symbol>, NoMemory>
 /// What a grid shows. The grid is let go.
 fn shown_by_grid(alloc: Global, grid: Grid) -> Result<Sampled, Refusal>
     requires small { grid.width * grid.height ≤ MAX_CELLS }
-    ensures exact { GivesStep (Ok (shown_by_grid grid)) (result_map sampled_view result) }
+    ensures exact { Gives Refusal.NoMemory sampled_view result (Ok (shown_by_grid grid)) }
     ensures sampled { IfOk result (λ sampled. IsSampled (sampled_view sampled)) }
 {
     let width = grid.width;

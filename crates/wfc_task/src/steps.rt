@@ -2,13 +2,13 @@
 
 ghost use Rattle.std.specs.Prelude.{IfOk, length, ◌%◌, ◌*◌, ◌<◌, ◌≡◌, ◌≤◌};
 ghost use Rattle.wfc_model.specs.Raster.{height_of};
-ghost use Rattle.wfc_outside.specs.Gives.{result_map};
+ghost use Rattle.wfc_outside.specs.Gives.{Gives};
 ghost use Rattle.wfc_overlap.specs.Built.{picture_problem};
 ghost use Rattle.wfc_overlap.specs.Sample.{output_with};
 ghost use Rattle.wfc_pattern.specs.Learning.{patterns_of};
 ghost use Rattle.wfc_pattern.specs.Patterns.{IsPatterns};
 ghost use Rattle.wfc_picture.specs.Palette.{indexed};
-ghost use Rattle.wfc_plan.specs.Plan.{GivesStep, or_refuse};
+ghost use Rattle.wfc_plan.specs.Plan.{or_refuse};
 ghost use Rattle.wfc_plan.specs.declared.fault.Refusal.TheVariants.{Build, Colours, Learn};
 ghost use Rattle.wfc_task.specs.Asked.{IsOutputAsked, IsSampleAsked};
 ghost use Rattle.wfc_task.specs.Lesson.{HasShownNumbers, IsPosed, IsSampled};
@@ -35,26 +35,20 @@ use wfc_words::Request;
 /// The grid that the bytes of a file spell.
 pub(crate) fn grid(alloc: Global, source: Source, bytes: &[u8]) -> Result<Grid, Refusal>
     requires short { length bytes.now ≤ MAX_FILE_BYTES }
-    ensures exact { GivesStep (grid_in source bytes.now) result }
+    ensures exact { Gives Refusal.NoMemory (λ made. made) result (grid_in source bytes.now) }
     ensures small { IfOk result (λ grid. grid.width * grid.height ≤ MAX_CELLS) }
     ensures few { IfOk result (λ grid. length grid.bytes ≤ MAX_CELLS) }
 {
-    match wfc_grid::read(alloc, bytes) {
-        Ok(grid) => Ok(grid),
-        Err(fault) => Err(Refusal::Grid { source, fault }),
-    }
+    wfc_grid::read(alloc, bytes).map_err(|fault| Refusal::of_grid(source, fault))
 }
 
 /// The picture of colours that the bytes of a file spell.
 pub(crate) fn ppm(alloc: Global, source: Source, bytes: &[u8]) -> Result<Ppm, Refusal>
     requires short { length bytes.now ≤ MAX_FILE_BYTES }
-    ensures exact { GivesStep (ppm_of_file source bytes.now) result }
+    ensures exact { Gives Refusal.NoMemory (λ made. made) result (ppm_of_file source bytes.now) }
     ensures small { IfOk result (λ ppm. ppm.width * ppm.height ≤ MAX_PIXELS) }
 {
-    match wfc_ppm::read(alloc, bytes) {
-        Ok(ppm) => Ok(ppm),
-        Err(fault) => Err(Refusal::Ppm { source, fault }),
-    }
+    wfc_ppm::read(alloc, bytes).map_err(|fault| Refusal::of_ppm(source, fault))
 }
 
 /// The picture of a sample in numbers, and its palette.
@@ -63,7 +57,8 @@ pub(crate) fn sample_in_numbers(
     sampled: &Sampled,
 ) -> Result<(Picture, Palette), Refusal>
     requires sampled { IsSampled (sampled_view sampled.now) }
-    ensures exact { GivesStep (sample_in_numbers (sampled_view sampled.now)) result }
+    ensures exact { Gives Refusal.NoMemory (λ made. made) result
+        (sample_in_numbers (sampled_view sampled.now)) }
     ensures numbered { IfOk result (λ made. HasShownNumbers sampled.now.kind made.0 made.1) }
     ensures small { IfOk result (λ made. made.0.width * height_of made.0 ≤ MAX_PIXELS) }
 {
@@ -80,13 +75,11 @@ pub fn numbered_picture(
     requires rows { length symbols.now % width ≡ 0 }
     requires some_pixel { 0 < length symbols.now }
     requires limit { length symbols.now ≤ MAX_PIXELS }
-    ensures exact { GivesStep (or_refuse Colours (indexed symbols.now width)) result }
+    ensures exact { Gives Refusal.NoMemory (λ made. made) result
+        (or_refuse Colours (indexed symbols.now width)) }
     ensures small { IfOk result (λ made. made.0.width * height_of made.0 ≤ MAX_PIXELS) }
 {
-    match Palette::index(alloc, symbols, width) {
-        Ok(made) => Ok(made),
-        Err(fault) => Err(Refusal::Colours { fault }),
-    }
+    Ok(Palette::index(alloc, symbols, width)?)
 }
 
 /// What a picture teaches by the request.
@@ -97,7 +90,8 @@ pub(crate) fn patterns_taught(
 ) -> Result<Patterns, Refusal>
     requires sample { IsSampleAsked request.now }
     requires small { picture.now.width * height_of picture.now ≤ MAX_PIXELS }
-    ensures exact { GivesStep (patterns_taught request.now picture.now) result }
+    ensures exact { Gives Refusal.NoMemory (λ made. made) result
+        (patterns_taught request.now picture.now) }
 {
     let n = window_side_of(request.source);
     patterns_of_picture(alloc, picture, n, request.symmetry, request.wrap_in)
@@ -116,12 +110,10 @@ pub fn patterns_of_picture(
     requires some_image { 0 < symmetry }
     requires eight_images { symmetry ≤ 8 }
     requires small { picture.now.width * height_of picture.now ≤ MAX_PIXELS }
-    ensures exact { GivesStep (or_refuse Learn (patterns_of picture.now n symmetry wrap)) result }
+    ensures exact { Gives Refusal.NoMemory (λ made. made) result
+        (or_refuse Learn (patterns_of picture.now n symmetry wrap)) }
 {
-    match learn(alloc, picture, n, symmetry, wrap) {
-        Ok(patterns) => Ok(patterns),
-        Err(fault) => Err(Refusal::Learn { fault }),
-    }
+    Ok(learn(alloc, picture, n, symmetry, wrap)?)
 }
 
 /// How the map of a sample of this kind is written.
@@ -129,21 +121,15 @@ pub fn sample_layout(kind: Kind, request: &Request) -> Result<Layout, Refusal>
     requires output { IsOutputAsked request.now }
     ensures exact { result ≡ sample_layout kind request.now }
 {
-    match layout(kind, request.form, request.width, request.height, 1) {
-        Ok(layout) => Ok(layout),
-        Err(fault) => Err(Refusal::Render { fault }),
-    }
+    Ok(layout(kind, request.form, request.width, request.height, 1)?)
 }
 
 /// The pins and bans of the bytes of a pins file.
 pub(crate) fn read_pin_lines(alloc: Global, bytes: &[u8]) -> Result<Vec<PinLine>, Refusal>
     requires short { length bytes.now ≤ MAX_FILE_BYTES }
-    ensures exact { GivesStep (read_pin_lines bytes.now) (result_map (λ lines. lines.items) result) }
+    ensures exact { Gives Refusal.NoMemory (λ lines. lines.items) result (read_pin_lines bytes.now) }
 {
-    match read_pins(alloc, bytes) {
-        Ok(lines) => Ok(lines),
-        Err(fault) => Err(Refusal::Pins { fault }),
-    }
+    Ok(read_pins(alloc, bytes)?)
 }
 
 /// The problem of what a sample teaches and the lines of a pins file.
@@ -155,8 +141,8 @@ pub(crate) fn problem_of_lines(
 ) -> Result<Problem, Refusal>
     requires patterns { IsPatterns taught.now.patterns }
     requires output { IsOutputAsked request.now }
-    ensures exact { GivesStep (problem_of_lines request.now taught.now.patterns
-        taught.now.palette lines.now) result }
+    ensures exact { Gives Refusal.NoMemory (λ made. made) result
+        (problem_of_lines request.now taught.now.patterns taught.now.palette lines.now) }
     ensures posed { IfOk result (IsPosed request.now taught.now.patterns) }
 {
     let output = AskedOutput {
@@ -187,16 +173,14 @@ pub fn posed_for(
     requires some_height { 0 < output.height }
     requires width_limit { output.width ≤ 4096 }
     requires height_limit { output.height ≤ 4096 }
-    ensures exact { GivesStep (or_refuse Build (picture_problem patterns.now palette.now
-        (output_with output.width output.height output.wrap) lines.now)) result }
+    ensures exact { Gives Refusal.NoMemory (λ made. made) result
+        (or_refuse Build (picture_problem patterns.now palette.now
+        (output_with output.width output.height output.wrap) lines.now)) }
 {
     let AskedOutput {
         width,
         height,
         wrap,
     } = output;
-    match build(alloc, patterns, palette, width, height, wrap, lines) {
-        Ok(problem) => Ok(problem),
-        Err(fault) => Err(Refusal::Build { fault }),
-    }
+    Ok(build(alloc, patterns, palette, width, height, wrap, lines)?)
 }

@@ -1,10 +1,9 @@
 //! The steps of tasks on tile sets that read no file.
 
 ghost use Rattle.std.specs.Prelude.{IfOk, IsSome, length, ◌≡◌, ◌≤◌};
-ghost use Rattle.wfc_outside.specs.Gives.{Gives, result_map};
-ghost use Rattle.wfc_plan.specs.Plan.{GivesStep};
+ghost use Rattle.wfc_outside.specs.Gives.{Gives};
 ghost use Rattle.wfc_task.specs.Asked.{IsOutputAsked};
-ghost use Rattle.wfc_task.specs.TileSteps.{document_in, laid_tiles, mask_in, with_next_picture, posed_tiles};
+ghost use Rattle.wfc_task.specs.TileSteps.{document_in, tile_layout, mask_in, with_next_picture, posed_tiles};
 ghost use Rattle.wfc_task.specs.Tiling.{HasSides, IsTilingTask, mask_or_whole};
 ghost use Rattle.wfc_tiled.specs.Built.{tile_map_problem};
 ghost use Rattle.wfc_tileset.specs.Pictures.{picture_name};
@@ -23,50 +22,38 @@ use wfc_words::Request;
 /// The tile set that a document spells, whose pictures are named and not read.
 pub fn tile_document(alloc: Global, bytes: &[u8]) -> Result<TileSet, Refusal>
     requires short { length bytes.now ≤ MAX_FILE_BYTES }
-    ensures exact { GivesStep (document_in bytes.now) result }
+    ensures exact { Gives Refusal.NoMemory (λ made. made) result (document_in bytes.now) }
 {
-    match read(alloc, bytes) {
-        Ok(tiles) => Ok(tiles),
-        Err(fault) => Err(Refusal::Tiles { fault }),
-    }
+    Ok(read(alloc, bytes)?)
 }
 
 /// Takes the picture of the next tile.
 pub(crate) fn take_picture(alloc: Global, tiles: &mut TileSet, bytes: &[u8]) -> Result<(), Refusal>
     requires named { IsSome (picture_name tiles.old (length tiles.old.pictures)) }
-    ensures exact { GivesStep (with_next_picture tiles.old bytes.now) (result_map (λ _. tiles.new)
-        result) }
+    ensures exact { Gives Refusal.NoMemory (λ _. tiles.new) result
+        (with_next_picture tiles.old bytes.now) }
 {
-    match tiles.take_picture(alloc, bytes) {
-        Ok(()) => Ok(()),
-        Err(fault) => Err(Refusal::Tiles { fault }),
-    }
+    Ok(tiles.take_picture(alloc, bytes)?)
 }
 
 /// How the map of a tile set is written.
-pub fn laid_tiles(tiles: &TileSet, request: &Request) -> Result<Layout, Refusal>
+pub fn tile_layout(tiles: &TileSet, request: &Request) -> Result<Layout, Refusal>
     requires output { IsOutputAsked request.now }
-    ensures exact { result ≡ laid_tiles tiles.now request.now }
+    ensures exact { result ≡ tile_layout tiles.now request.now }
 {
     let kind = tiles.kind();
     let side = tiles.side();
-    match layout(kind, request.form, request.width, request.height, side) {
-        Ok(layout) => Ok(layout),
-        Err(fault) => Err(Refusal::Render { fault }),
-    }
+    Ok(layout(kind, request.form, request.width, request.height, side)?)
 }
 
 /// The mask that a grid spells for the map asked for.
 pub(crate) fn mask_in(alloc: Global, request: &Request, grid: &Grid) -> Result<Mask, Refusal>
     requires output { IsOutputAsked request.now }
     requires few { length grid.now.bytes ≤ MAX_CELLS }
-    ensures exact { GivesStep (mask_in request.now grid.now) result }
+    ensures exact { Gives Refusal.NoMemory (λ made. made) result (mask_in request.now grid.now) }
     ensures sides { IfOk result (HasSides request.now) }
 {
-    match mask(alloc, grid, request.width, request.height) {
-        Ok(mask) => Ok(mask),
-        Err(fault) => Err(Refusal::Mask { fault }),
-    }
+    Ok(mask(alloc, grid, request.width, request.height)?)
 }
 
 /// The problem of a tile set, a mask, if there is one, and the lines of a pins file.
@@ -79,19 +66,16 @@ pub(crate) fn posed_tiles(
 ) -> Result<Problem, Refusal>
     requires output { IsOutputAsked request.now }
     requires sides { HasSides request.now (mask_or_whole request.now mask.now) }
-    ensures exact { GivesStep
-        (posed_tiles request.now tiles.now (mask_or_whole request.now mask.now) lines.now) result }
+    ensures exact { Gives Refusal.NoMemory (λ made. made) result
+        (posed_tiles request.now tiles.now (mask_or_whole request.now mask.now) lines.now) }
     ensures tiled { IfOk result (IsTilingTask request.now tiles.now (mask_or_whole request.now
         mask.now)) }
 {
-    match built(alloc, request, tiles, mask, lines) {
-        Ok(problem) => Ok(problem),
-        Err(fault) => Err(Refusal::Build { fault }),
-    }
+    Ok(masked_problem(alloc, request, tiles, mask, lines)?)
 }
 
 /// The same, with the faults as they are.
-fn built(
+fn masked_problem(
     alloc: Global,
     request: &Request,
     tiles: &TileSet,

@@ -1,11 +1,11 @@
 use Rattle.std.proofs.lemmas.Result.{err_from_is_err_and}
 use Rattle.wfc_box_commands.proofs.files.box_pins_file.Goals as goal
 use Rattle.wfc_box_commands.specs.BoxSteps.{box_lines_in}
-use Rattle.wfc_plan.proofs.CallerLemmas.{then_step}
+use Rattle.wfc_plan.proofs.CallerLemmas.{seen_refusal, then_step}
 use Rattle.wfc_plan.specs.Files.{file_plan}
 use Rattle.wfc_plan.specs.declared.fault.Source.TheVariants.{Pins}
 
 pub returns-in_err-lines : goal.returns-in_err-lines
 returns-in_err-lines g c =
     let p = err_from_is_err_and c.from_residual-in_err-lines.result c.from_residual-in_err-lines.ensures.1 in
-    record { goes = rw (p.1, p.2) (then_step (file_plan Pins c.args.name.now) box_lines_in _ _ _ _ c.in_ok-bytes.ensures.goes (rw c.deref.ensures.value at c.in_err-lines.ensures.exact)) }
+    record { goes = rw (p.1, p.2) (then_step (file_plan Pins c.args.name.now) box_lines_in _ _ _ _ c.in_ok-bytes.ensures.goes (seen_refusal _ _ (rw c.deref.ensures.value at c.in_err-lines.ensures.exact))) }

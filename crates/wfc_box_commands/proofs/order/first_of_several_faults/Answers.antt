@@ -5,7 +5,7 @@ use Rattle.wfc_box_commands.proofs.order.first_of_several_faults.Goals as goal
 use Rattle.wfc_box_commands.specs.BoxGiven.{IsStackedSetOf}
 use Rattle.wfc_box_commands.specs.BoxPlans.{StackedSet, box_plan, box_problem_plan, stacked_plan}
 use Rattle.wfc_box_commands.specs.BoxProofs.{box_proofs}
-use Rattle.wfc_box_commands.specs.BoxSteps.{laid_box}
+use Rattle.wfc_box_commands.specs.BoxSteps.{box_form}
 use Rattle.wfc_box_commands.specs.Small.{IsStackedAnd, box_filled_by_one, box_laid, small_box}
 use Rattle.wfc_outside.specs.Folder.{File}
 use Rattle.wfc_plan.proofs.CallerLemmas.{ok_refused, ok_step, outcome_on, outcome_out}
@@ -20,7 +20,7 @@ use Rattle.wfc_render.specs.declared.form.Form.{Form}
 behind_laid : (files : List File) (made : StackedSet) (form : Form) (laid : IsStackedAnd small_box files made (Ok form)) (fault : Fault) → outcome (box_problem_plan small_box made) files ≡ Err fault → box_filled_by_one small_box files ≡ Err fault
 behind_laid files made form laid fault is =
     outcome_on (stacked_plan small_box) (behind_stacked_set small_box) files made (given_box_set small_box files made laid.tiles)
-    ∙ outcome_on (step (laid_box made.0 small_box)) (behind_box_layout small_box made) files form (ok_step (laid_box made.0 small_box) files form (ok_refused refusals.Render (box_laid small_box made) form laid.layout))
+    ∙ outcome_on (step (box_form made.0 small_box)) (behind_box_layout small_box made) files form (ok_step (box_form made.0 small_box) files form (ok_refused refusals.Render (box_laid small_box made) form laid.layout))
     ∙ outcome_out (box_problem_plan small_box made) (behind_box_problem made form) files fault is
 
 -- and where no box is written that of the pins and the problem alone
@@ -30,7 +30,7 @@ behind_stacks files made tiles fault is = outcome_on (stacked_plan small_box) (b
 pub returns-clause-layout_and_pins : goal.returns-clause-layout_and_pins
 returns-clause-layout_and_pins c = λ files made why laid beside.
     outcome_on (stacked_plan small_box) (behind_stacked_set small_box) files made (given_box_set small_box files made laid.tiles)
-    ∙ outcome_out (step (laid_box made.0 small_box)) (behind_box_layout small_box made) files (Refused (refusals.Render why)) (ap (λ r. outcome (step (or_refuse refusals.Render r)) files) laid.layout)
+    ∙ outcome_out (step (box_form made.0 small_box)) (behind_box_layout small_box made) files (Refused (refusals.Render why)) (ap (λ r. outcome (step (or_refuse refusals.Render r)) files) laid.layout)
 
 pub returns-clause-pins : goal.returns-clause-pins
 returns-clause-pins c = λ files made form laid beside. behind_laid files made form laid _ (rw beside.pins_file refl)

@@ -10,13 +10,13 @@ use Rattle.wfc_pins.specs.declared.fault.BuildFault.TheVariants as builds
 use Rattle.wfc_problem.specs.Network.{Network}
 use Rattle.wfc_words.specs.RequestView.{RequestView}
 
-pub returns-in-Ok-clause-boxed : goal.returns-in-Ok-clause-boxed
-returns-in-Ok-clause-boxed c =
+pub returns-clause-boxed : goal.returns-clause-boxed
+returns-clause-boxed c =
     let set = c.args.tiles.now in
     let stacked = c.args.stacks.now in
     let lines = c.args.lines.now in
-    boxed_result c.args.request.now set stacked lines c.in-Ok.problem
-    (subst (λ (r : RequestView). Gives builds.NoMemory (λ problem. problem) (let made : Result Network BuildFault = Ok c.in-Ok.problem in made) (box_built set stacked (frame_asked r) lines)) c.request.view_is c.in-Ok.ensures.exact)
+    boxed_result c.args.request.now set stacked lines c.in_ok-build.field-0
+    (subst (λ (r : RequestView). Gives builds.NoMemory (λ problem. problem) (let made : Result Network BuildFault = Ok c.in_ok-build.field-0 in made) (box_built set stacked (frame_asked r) lines)) c.request.view_is c.in_ok-build.ensures.exact)
 
 pub build-requires : goal.build-requires
 build-requires c =

@@ -13,7 +13,7 @@ pub learn-requires : goal.learn-requires
 learn-requires g c = record { source = command_source c.args.request.now Learn c.requires.in_range (sym (ap (λ (r : RequestView). r.command) c.request.view_is) ∙ c.in-Learn.is) refl }
 
 pub returns-in-Learn : goal.returns-in-Learn
-returns-in-Learn g c = record { ends = ends_of _ c.args.request.now Learn _ _ _ _ _ (sym (ap (λ (r : RequestView). r.command) c.request.view_is) ∙ c.in-Learn.is) (put_reply _ _ _ _ _ _ _ _ c.learn.ensures.ends c.put.ensures.leaves) }
+returns-in-Learn g c = record { ends = ends_of _ c.args.request.now Learn _ _ _ _ _ (sym (ap (λ (r : RequestView). r.command) c.request.view_is) ∙ c.in-Learn.is) (put_reply _ _ _ _ _ _ _ _ c.learn.ensures.ends c.put_answer.ensures.leaves) }
 
 pub fill-requires-clause-source : goal.fill-requires-clause-source
 fill-requires-clause-source g c = command_source c.args.request.now Fill c.requires.in_range (sym (ap (λ (r : RequestView). r.command) c.request.view_is) ∙ c.in-Fill.is) refl
@@ -22,7 +22,7 @@ pub fill-requires-clause-output : goal.fill-requires-clause-output
 fill-requires-clause-output g c = command_output c.args.request.now Fill c.requires.in_range (sym (ap (λ (r : RequestView). r.command) c.request.view_is) ∙ c.in-Fill.is) refl refl
 
 pub returns-in-Fill : goal.returns-in-Fill
-returns-in-Fill g c = record { ends = ends_of _ c.args.request.now Fill _ _ _ _ _ (sym (ap (λ (r : RequestView). r.command) c.request.view_is) ∙ c.in-Fill.is) (put_reply _ _ _ _ _ _ _ _ c.fill.ensures.ends c.put-in-Fill.ensures.leaves) }
+returns-in-Fill g c = record { ends = ends_of _ c.args.request.now Fill _ _ _ _ _ (sym (ap (λ (r : RequestView). r.command) c.request.view_is) ∙ c.in-Fill.is) (put_reply _ _ _ _ _ _ _ _ c.fill.ensures.ends c.put_answer-in-Fill.ensures.leaves) }
 
 pub domains-requires-clause-source : goal.domains-requires-clause-source
 domains-requires-clause-source g c = command_source c.args.request.now Domains c.requires.in_range (sym (ap (λ (r : RequestView). r.command) c.request.view_is) ∙ c.in-Domains.is) refl
@@ -34,7 +34,7 @@ pub returns-in-Domains : goal.returns-in-Domains
 returns-in-Domains g c = record { ends = ends_of _ c.args.request.now Domains _ _ _ _ _ (sym (ap (λ (r : RequestView). r.command) c.request.view_is) ∙ c.in-Domains.is) c.domains.ensures.ends }
 
 pub returns-in-Demo : goal.returns-in-Demo
-returns-in-Demo g c = record { ends = ends_of _ c.args.request.now Demo _ _ _ _ _ (sym (ap (λ (r : RequestView). r.command) c.request.view_is) ∙ c.in-Demo.is) (put_reply _ _ _ _ _ _ _ _ c.demo.ensures.ends c.put-in-Demo.ensures.leaves) }
+returns-in-Demo g c = record { ends = ends_of _ c.args.request.now Demo _ _ _ _ _ (sym (ap (λ (r : RequestView). r.command) c.request.view_is) ∙ c.in-Demo.is) (put_reply _ _ _ _ _ _ _ _ c.demo.ensures.ends c.put_answer-in-Demo.ensures.leaves) }
 
 pub refute-requires-clause-source : goal.refute-requires-clause-source
 refute-requires-clause-source g c = command_source c.args.request.now Refute c.requires.in_range (sym (ap (λ (r : RequestView). r.command) c.request.view_is) ∙ c.in-Refute.is) refl
@@ -52,7 +52,7 @@ pub check-requires-clause-output : goal.check-requires-clause-output
 check-requires-clause-output g c = command_output c.args.request.now Check c.requires.in_range (sym (ap (λ (r : RequestView). r.command) c.request.view_is) ∙ c.in-Check.is) refl refl
 
 pub returns-in-Check : goal.returns-in-Check
-returns-in-Check g c = record { ends = ends_of _ c.args.request.now Check _ _ _ _ _ (sym (ap (λ (r : RequestView). r.command) c.request.view_is) ∙ c.in-Check.is) (put_reply _ _ _ _ _ _ _ _ c.check.ensures.ends c.put-in-Check.ensures.leaves) }
+returns-in-Check g c = record { ends = ends_of _ c.args.request.now Check _ _ _ _ _ (sym (ap (λ (r : RequestView). r.command) c.request.view_is) ∙ c.in-Check.is) (put_reply _ _ _ _ _ _ _ _ c.check.ensures.ends c.put_answer-in-Check.ensures.leaves) }
 
 pub upgrade-requires-clause-source : goal.upgrade-requires-clause-source
 upgrade-requires-clause-source g c = command_source c.args.request.now Upgrade c.requires.in_range (sym (ap (λ (r : RequestView). r.command) c.request.view_is) ∙ c.in-Upgrade.is) refl
@@ -73,7 +73,7 @@ pub race-requires-clause-runners : goal.race-requires-clause-runners
 race-requires-clause-runners g c = runners_asked c.args.request.now c.requires.in_range (sym (ap (λ (r : RequestView). r.command) c.request.view_is) ∙ c.in-Race.is)
 
 pub returns-in-Race : goal.returns-in-Race
-returns-in-Race g c = record { ends = ends_of _ c.args.request.now Race _ _ _ _ _ (sym (ap (λ (r : RequestView). r.command) c.request.view_is) ∙ c.in-Race.is) (put_reply _ _ _ _ _ _ _ _ c.race.ensures.ends c.put-in-Race.ensures.leaves) }
+returns-in-Race g c = record { ends = ends_of _ c.args.request.now Race _ _ _ _ _ (sym (ap (λ (r : RequestView). r.command) c.request.view_is) ∙ c.in-Race.is) (put_reply _ _ _ _ _ _ _ _ c.race.ensures.ends c.put_answer-in-Race.ensures.leaves) }
 
 pub explain-requires-clause-source : goal.explain-requires-clause-source
 explain-requires-clause-source g c = command_source c.args.request.now Explain c.requires.in_range (sym (ap (λ (r : RequestView). r.command) c.request.view_is) ∙ c.in-Explain.is) refl
@@ -85,7 +85,7 @@ pub explain-requires-clause-asked : goal.explain-requires-clause-asked
 explain-requires-clause-asked g c = explain_asked c.args.request.now c.requires.in_range (sym (ap (λ (r : RequestView). r.command) c.request.view_is) ∙ c.in-Explain.is)
 
 pub returns-in-Explain : goal.returns-in-Explain
-returns-in-Explain g c = record { ends = ends_of _ c.args.request.now Explain _ _ _ _ _ (sym (ap (λ (r : RequestView). r.command) c.request.view_is) ∙ c.in-Explain.is) (put_reply _ _ _ _ _ _ _ _ c.explain.ensures.ends c.put-in-Explain.ensures.leaves) }
+returns-in-Explain g c = record { ends = ends_of _ c.args.request.now Explain _ _ _ _ _ (sym (ap (λ (r : RequestView). r.command) c.request.view_is) ∙ c.in-Explain.is) (put_reply _ _ _ _ _ _ _ _ c.explain.ensures.ends c.put_answer-in-Explain.ensures.leaves) }
 
 pub grow-requires-clause-output : goal.grow-requires-clause-output
 grow-requires-clause-output g c = command_output c.args.request.now Grow c.requires.in_range (sym (ap (λ (r : RequestView). r.command) c.request.view_is) ∙ c.in-Grow.is) refl refl
@@ -102,7 +102,7 @@ box_fill-requires g c = record {
 }
 
 pub returns-in-BoxFill : goal.returns-in-BoxFill
-returns-in-BoxFill g c = record { ends = ends_of _ c.args.request.now BoxFill _ _ _ _ _ (sym (ap (λ (r : RequestView). r.command) c.request.view_is) ∙ c.in-BoxFill.is) (put_reply _ _ _ _ _ _ _ _ c.box_fill.ensures.ends c.put-in-BoxFill.ensures.leaves) }
+returns-in-BoxFill g c = record { ends = ends_of _ c.args.request.now BoxFill _ _ _ _ _ (sym (ap (λ (r : RequestView). r.command) c.request.view_is) ∙ c.in-BoxFill.is) (put_reply _ _ _ _ _ _ _ _ c.box_fill.ensures.ends c.put_answer-in-BoxFill.ensures.leaves) }
 
 pub box_refute-requires : goal.box_refute-requires
 box_refute-requires g c = record {
@@ -118,4 +118,4 @@ box_check-requires g c = record {
 }
 
 pub returns-in-BoxCheck : goal.returns-in-BoxCheck
-returns-in-BoxCheck g c = record { ends = ends_of _ c.args.request.now BoxCheck _ _ _ _ _ (sym (ap (λ (r : RequestView). r.command) c.request.view_is) ∙ c.in-BoxCheck.is) (put_reply _ _ _ _ _ _ _ _ c.box_check.ensures.ends c.put-in-BoxCheck.ensures.leaves) }
+returns-in-BoxCheck g c = record { ends = ends_of _ c.args.request.now BoxCheck _ _ _ _ _ (sym (ap (λ (r : RequestView). r.command) c.request.view_is) ∙ c.in-BoxCheck.is) (put_reply _ _ _ _ _ _ _ _ c.box_check.ensures.ends c.put_answer-in-BoxCheck.ensures.leaves) }

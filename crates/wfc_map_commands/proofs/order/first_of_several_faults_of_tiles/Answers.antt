@@ -12,7 +12,7 @@ use Rattle.wfc_render.specs.Layout.{layout_of}
 use Rattle.wfc_task.proofs.CallerLemmas.{given_tiles}
 use Rattle.wfc_task.specs.Small.{IsLaid, tiles_asked}
 use Rattle.wfc_task.specs.TilePlans.{tiled_plan, tiles_plan}
-use Rattle.wfc_task.specs.TileSteps.{laid_tiles}
+use Rattle.wfc_task.specs.TileSteps.{tile_layout}
 use Rattle.wfc_tileset.specs.Pictures.{kind_of, side_of}
 use Rattle.wfc_tileset.specs.Tiles.{TileSetView}
 
@@ -21,8 +21,8 @@ behind_layout : (files : List File) (set : TileSetView) (laid : IsLaid tiles_ask
     → outcome (fill_plan (Fewest ∷ []) tiles_asked) files ≡ Err fault
 behind_layout files set laid fault is =
     outcome_on (tiles_plan tiles_asked) (behind_set tiles_asked) files set (given_tiles tiles_asked files set laid.tiles)
-    ∙ outcome_on (step (laid_tiles set tiles_asked)) (behind_tile_layout tiles_asked set) files laid.layout
-    (ok_step (laid_tiles set tiles_asked) files laid.layout
+    ∙ outcome_on (step (tile_layout set tiles_asked)) (behind_tile_layout tiles_asked set) files laid.layout
+    (ok_step (tile_layout set tiles_asked) files laid.layout
     (ok_refused refusals.Render (layout_of (kind_of set.pictures) tiles_asked.form tiles_asked.width tiles_asked.height (side_of set.pictures)) laid.layout laid.written))
     ∙ outcome_out (tiled_plan tiles_asked set) (fill_made_tiles set laid.layout) files fault is
 

@@ -12,6 +12,6 @@ returns-in_err-upgrading g c =
 
 pub returns : goal.returns
 returns g c = record {
-  ends = upgrade_ended c.args.request.now _ _ _ _ c.in_ok-upgrading.upgrading.problem c.in_ok-upgrading.upgrading.refutation.items c.upgraded.result
-      c.in_ok-upgrading.ensures.goes c.upgraded.ensures.upgrades;
+  ends = upgrade_ended c.args.request.now _ _ _ _ c.in_ok-upgrading.upgrading.problem c.in_ok-upgrading.upgrading.refutation.items c.answer.result
+      c.in_ok-upgrading.ensures.goes c.answer.ensures.upgrades;
 }

@@ -9,8 +9,8 @@ use Rattle.wfc_run_commands.specs.declared.explaining.TheConstants.{EXPLAIN_CHOO
 use Rattle.wfc_runs.specs.Alike.{HaveRule}
 use Rattle.wfc_words.specs.RequestView.{RequestView}
 
-pub said-requires-clause-choosers : goal.said-requires-clause-choosers
-said-requires-clause-choosers g c =
+pub run_explanation-requires-clause-choosers : goal.run_explanation-requires-clause-choosers
+run_explanation-requires-clause-choosers g c =
     let rules = map (λ chooser. ((goal.Chooser-dyn g (chooser.vtable, chooser.value)).told chooser.value).rule) c.args.choosers.items in
     let asked = c.args.request.now in
     let many = c.lines-many.result + 1 in
@@ -19,8 +19,8 @@ said-requires-clause-choosers g c =
     let long = many_taken (λ chooser. ((goal.Chooser-dyn g (chooser.vtable, chooser.value)).told chooser.value).rule) many asked.rule c.args.choosers.items c.in_ok-taken.taken.items first (fewer_choosers many EXPLAIN_CHOOSERS asked.rule rules low c.requires.choosers) in
     omega (arith, long, c.lines-many.ensures.value)
 
-pub said-requires-clause-alike : goal.said-requires-clause-alike
-said-requires-clause-alike g c =
+pub run_explanation-requires-clause-alike : goal.run_explanation-requires-clause-alike
+run_explanation-requires-clause-alike g c =
     let rules = map (λ chooser. ((goal.Chooser-dyn g (chooser.vtable, chooser.value)).told chooser.value).rule) c.args.choosers.items in
     let asked = c.args.request.now in
     let many = c.lines-many.result + 1 in

@@ -6,8 +6,8 @@ use Rattle.wfc_run_commands.proofs.race_command.answer.Goals as goal
 use Rattle.wfc_run_commands.specs.Racing.{runners_of}
 use Rattle.wfc_words.specs.RequestView.{RequestView}
 
-pub raced-requires-clause-some : goal.raced-requires-clause-some
-raced-requires-clause-some g c =
+pub run_race-requires-clause-some : goal.run_race-requires-clause-some
+run_race-requires-clause-some g c =
     let first = c.in_ok-runners.ensures.first ∙ ap (λ (r : RequestView). runners_of (map (λ chooser. ((goal.Chooser-dyn g (chooser.vtable, chooser.value)).told chooser.value).rule) c.args.choosers.items) r) c.request.view_is in
     let many = many_taken (λ chooser. ((goal.Chooser-dyn g (chooser.vtable, chooser.value)).told chooser.value).rule) c.args.request.now.seeds c.args.request.now.rule c.args.choosers.items c.in_ok-runners.runners.items first c.requires.choosers in
     omega (arith, many, c.requires.runners.some)

@@ -1,5 +1,5 @@
 use Rattle.wfc_run_commands.proofs.race_command.answer.Given as goal
 
 -- the ledger is that of the blank
-abbrev pub ghosts-raced : goal.ghosts-raced
-ghosts-raced g a = record { name = a.blank.name; parts = a.blank.parts }
+abbrev pub ghosts-run_race : goal.ghosts-run_race
+ghosts-run_race g a = record { name = a.blank.name; parts = a.blank.parts }

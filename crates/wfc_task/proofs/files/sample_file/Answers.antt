@@ -1,5 +1,5 @@
 use Rattle.std.proofs.lemmas.Result.{err_from_is_err_and}
-use Rattle.wfc_plan.proofs.CallerLemmas.{goes_out, then_step}
+use Rattle.wfc_plan.proofs.CallerLemmas.{goes_out, seen_refusal, seen_value, then_step}
 use Rattle.wfc_plan.specs.Files.{file_plan}
 use Rattle.wfc_plan.specs.Plan.{step}
 use Rattle.wfc_plan.specs.declared.fault.Source.TheVariants.{Sample}
@@ -14,8 +14,8 @@ returns-in_err-bytes-clause-goes g c =
 pub returns-in_err-sampled-clause-goes : goal.returns-in_err-sampled-clause-goes
 returns-in_err-sampled-clause-goes g c =
     let p = err_from_is_err_and c.from_residual-in_err-sampled.result c.from_residual-in_err-sampled.ensures.1 in
-    rw (p.1, p.2) (then_step (file_plan Sample c.args.request.now.file) (sampled_in c.args.request.now) _ _ _ _ (rw c.file.ensures.value at c.in_ok-bytes.ensures.goes) (rw c.deref.ensures.value at c.in_err-sampled.ensures.exact))
+    rw (p.1, p.2) (then_step (file_plan Sample c.args.request.now.file) (sampled_in c.args.request.now) _ _ _ _ (rw c.file.ensures.value at c.in_ok-bytes.ensures.goes) (seen_refusal _ _ (rw c.deref.ensures.value at c.in_err-sampled.ensures.exact)))
 
 pub returns-clause-goes : goal.returns-clause-goes
 returns-clause-goes g c =
-    then_step (file_plan Sample c.args.request.now.file) (sampled_in c.args.request.now) _ _ _ _ (rw c.file.ensures.value at c.in_ok-bytes.ensures.goes) (rw c.deref.ensures.value at c.in_ok-sampled.ensures.exact)
+    then_step (file_plan Sample c.args.request.now.file) (sampled_in c.args.request.now) _ _ _ _ (rw c.file.ensures.value at c.in_ok-bytes.ensures.goes) (seen_value _ _ _ (rw c.deref.ensures.value at c.in_ok-sampled.ensures.exact))

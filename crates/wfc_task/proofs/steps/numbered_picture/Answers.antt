@@ -1,5 +1,5 @@
 use Rattle.wfc_task.proofs.LessonLemmas.{made_small}
 use Rattle.wfc_task.proofs.steps.numbered_picture.Goals as goal
 
-pub returns-in-Ok-clause-small : goal.returns-in-Ok-clause-small
-returns-in-Ok-clause-small c = made_small c.args.symbols.now c.args.width c.in-Ok.made c.in-Ok.ensures.exact c.requires.limit
+pub returns-clause-small : goal.returns-clause-small
+returns-clause-small c = made_small c.args.symbols.now c.args.width c.in_ok-index.field-0 c.in_ok-index.ensures.exact c.requires.limit

@@ -1,6 +1,6 @@
 use Rattle.std.proofs.Common.{arith, subst, sym}
 use Rattle.wfc_box.specs.Boxes.{IsFrame}
-use Rattle.wfc_box_commands.proofs.steps.laid_box.Goals as goal
+use Rattle.wfc_box_commands.proofs.steps.box_form.Goals as goal
 use Rattle.wfc_box_commands.specs.BoxSteps.{frame_asked}
 use Rattle.wfc_words.specs.RequestView.{RequestView}
 

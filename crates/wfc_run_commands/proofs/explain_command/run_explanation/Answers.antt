@@ -1,7 +1,7 @@
 use Rattle.std.proofs.Common.{subst, ◌≡◌}
 use Rattle.std.specs.Prelude.{IfOk}
 use Rattle.wfc_explain.specs.Trials.{explanation_of}
-use Rattle.wfc_run_commands.proofs.explain_command.said.Goals as goal
+use Rattle.wfc_run_commands.proofs.explain_command.run_explanation.Goals as goal
 use Rattle.wfc_runs.specs.Words.{words_of_seed}
 use Rattle.wfc_words.specs.RequestView.{RequestView}
 
