@@ -68,7 +68,7 @@ fn steps_in(alloc: Global, bytes: &[u8]) -> Result<Vec<StepLine>, Refusal>
 
 /// The steps, if they are all in the problem.
 fn fitting_steps(problem: &Problem, steps: Vec<StepLine>) -> Result<Vec<StepLine>, Refusal>
-    ensures exact { result_map (λ steps. steps.items) result ≡ fitting_steps problem.now steps.items }
+    ensures exact { result_map (λ kept. kept.items) result ≡ fitting_steps problem.now steps.items }
     ensures inside { IfOk result (λ steps. All (λ
         (line : StepLine). IsStepIn problem.now line.step) steps.items) }
     ensures few { IfOk result (λ kept. length kept.items ≡ length steps.items) }

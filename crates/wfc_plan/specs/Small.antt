@@ -3,11 +3,13 @@ use Rattle.std.specs.Prelude.{List, Some, [], ℕ, ◌∷◌}
 use Rattle.wfc_box.specs.declared.fault.StackFault.TheVariants as stacks
 use Rattle.wfc_grid.specs.declared.reading.GridFault.TheVariants as grids
 use Rattle.wfc_outside.specs.Folder.{File, FolderView}
+use Rattle.wfc_pattern.specs.declared.learning.LearnFault.{LearnFault}
 use Rattle.wfc_pattern.specs.declared.learning.LearnFault.TheVariants as learning
 use Rattle.wfc_picture.specs.declared.palette.PaletteFault.TheVariants as palettes
 use Rattle.wfc_pins.specs.declared.fault.BuildFault.TheVariants as builds
 use Rattle.wfc_pins.specs.declared.pins.PinFault.TheVariants as pins
 use Rattle.wfc_pins.specs.declared.steps.StepFault.TheVariants as steps
+use Rattle.wfc_plan.specs.Fault.{IsRefusedAs}
 use Rattle.wfc_plan.specs.Plan.{Plan, done, most_bytes, read}
 use Rattle.wfc_plan.specs.Stages.{IsReadingFault, TaskStage}
 use Rattle.wfc_plan.specs.declared.fault.Refusal.{Refusal}
@@ -37,6 +39,10 @@ second_file = record { name = 98 ∷ []; bytes = [] }
 -- the folder that tells these files, and has counted no fault
 abbrev pub folder_telling : List File → FolderView
 folder_telling files = record { contents = Some files; faults = λ name. 0 }
+
+-- what a fault of learning becomes
+abbrev pub IsLearnRefusal : LearnFault → Refusal → Type 0
+IsLearnRefusal fault refusal = IsRefusedAs refusals.Learn learning.NoMemory fault refusal
 
 -- that what was given is at fault, as each kind of step says it
 abbrev pub wrong_refusals : List Refusal

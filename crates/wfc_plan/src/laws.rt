@@ -7,7 +7,7 @@ ghost use Rattle.wfc_outside.specs.declared.whole.ReadFault.TheVariants.{Failed,
 ghost use Rattle.wfc_outside.specs.declared.whole.ReadFault.TheVariants as reading;
 ghost use Rattle.wfc_pattern.specs.declared.learning.LearnFault.TheVariants as learning;
 ghost use Rattle.wfc_pattern.specs.declared.learning.LearnFault.TheVariants.{SampleBelowN};
-ghost use Rattle.wfc_plan.specs.Fault.{IsRefusedAs, class_of, status_of};
+ghost use Rattle.wfc_plan.specs.Fault.{class_of, status_of};
 ghost use Rattle.wfc_plan.specs.Files.{file_plan};
 ghost use Rattle.wfc_plan.specs.Kinds.{HasChoosers, enough};
 ghost use Rattle.wfc_plan.specs.Order.{AreInOrder, IsFirstFault};
@@ -15,7 +15,7 @@ ghost use Rattle.wfc_plan.specs.Plan.{Goes, most_bytes, outcome};
 ghost use Rattle.wfc_plan.specs.Reaching.{Reaches};
 ghost use Rattle.wfc_plan.specs.Refusing.{IsMadeInOrder, IsRefusedInOrder};
 ghost use Rattle.wfc_plan.specs.Small.{first_file, folder_telling, second_file, two_files_order, two_files_plan};
-ghost use Rattle.wfc_plan.specs.Small.{wrong_refusals};
+ghost use Rattle.wfc_plan.specs.Small.{IsLearnRefusal, wrong_refusals};
 ghost use Rattle.wfc_plan.specs.declared.fault.Fault.{Fault};
 ghost use Rattle.wfc_plan.specs.declared.fault.Fault.TheVariants.{Refused, Unread};
 ghost use Rattle.wfc_plan.specs.declared.fault.FaultClass.TheVariants.{Input};
@@ -54,12 +54,10 @@ pub fn refusals_have_classes()
 
 /// What the fault of a step becomes, by example: want of memory is told alike of all steps, and any other fault as its own.
 pub fn faults_become_refusals_by_example()
-    ensures short { IsRefusedAs refusals.Learn learning.NoMemory learning.NoMemory refusals.NoMemory }
-    ensures kept { IsRefusedAs refusals.Learn learning.NoMemory learning.NoMemory
-        (refusals.Learn learning.NoMemory) → ⊥ }
-    ensures own { IsRefusedAs refusals.Learn learning.NoMemory SampleBelowN
-        (refusals.Learn SampleBelowN) }
-    ensures hidden { IsRefusedAs refusals.Learn learning.NoMemory SampleBelowN refusals.NoMemory → ⊥ }
+    ensures short { IsLearnRefusal learning.NoMemory refusals.NoMemory }
+    ensures kept { IsLearnRefusal learning.NoMemory (refusals.Learn learning.NoMemory) → ⊥ }
+    ensures own { IsLearnRefusal SampleBelowN (refusals.Learn SampleBelowN) }
+    ensures hidden { IsLearnRefusal SampleBelowN refusals.NoMemory → ⊥ }
 {}
 
 /// How a call goes by a plan, by example: where neither of two files is there, the first is the one that is missing.

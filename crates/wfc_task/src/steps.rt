@@ -127,7 +127,7 @@ pub fn sample_layout(kind: Kind, request: &Request) -> Result<Layout, Refusal>
 /// The pins and bans of the bytes of a pins file.
 pub(crate) fn read_pin_lines(alloc: Global, bytes: &[u8]) -> Result<Vec<PinLine>, Refusal>
     requires short { length bytes.now ≤ MAX_FILE_BYTES }
-    ensures exact { Gives Refusal.NoMemory (λ lines. lines.items) result (read_pin_lines bytes.now) }
+    ensures exact { Gives Refusal.NoMemory (λ pins. pins.items) result (read_pin_lines bytes.now) }
 {
     Ok(read_pins(alloc, bytes)?)
 }
