@@ -12,6 +12,7 @@ use crate::UNSET;
 use crate::block::Block;
 use std::alloc::Global;
 use std::marker::Model;
+use wfc_model::MAX_OUTPUT_SIDE;
 use wfc_outside::NoMemory;
 use wfc_picture::Picture;
 
@@ -100,8 +101,8 @@ impl Canvas {
 
     /// Sets row `j` of a block to that of a picture.
     fn paint_row(&mut self, block: Block, picture: &Picture, j: u32)
-        requires width_limit { self.old.width ≤ 4096 }
-        requires height_limit { self.old.height ≤ 4096 }
+        requires width_limit { self.old.width ≤ MAX_OUTPUT_SIDE }
+        requires height_limit { self.old.height ≤ MAX_OUTPUT_SIDE }
         requires within { LiesWithin self.old.width self.old.height block }
         requires sized { IsSized picture.now block.width block.height }
         requires small { HasNumbersBelow UNSET picture.now }
@@ -117,8 +118,8 @@ impl Canvas {
 
     /// Sets the pixels of a block to those of a picture.
     pub(crate) fn paint(&mut self, block: Block, picture: &Picture)
-        requires width_limit { self.old.width ≤ 4096 }
-        requires height_limit { self.old.height ≤ 4096 }
+        requires width_limit { self.old.width ≤ MAX_OUTPUT_SIDE }
+        requires height_limit { self.old.height ≤ MAX_OUTPUT_SIDE }
         requires within { LiesWithin self.old.width self.old.height block }
         requires sized { IsSized picture.now block.width block.height }
         requires small { HasNumbersBelow UNSET picture.now }

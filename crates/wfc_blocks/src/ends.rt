@@ -14,6 +14,7 @@ use std::mem::replace;
 use std::sync::ledger::Ledger;
 use wfc_choose::Chooser;
 use wfc_domains::Steps;
+use wfc_model::MAX_OUTPUT_SIDE;
 use wfc_outside::NoMemory;
 use wfc_overlap::{PinMark, picture_of, problem_of_marks};
 use wfc_pattern::Patterns;
@@ -48,8 +49,8 @@ pub(crate) fn run_block<L: Ledger>(
     requires small { AreNumbersBelow UNSET patterns.now }
     requires supports { AreSupportsOf patterns.now (map (λ list. list.items) supports.old.items) }
     requires room { IsRoom patterns.now (output_of_block block) }
-    requires width_limit { block.width ≤ 4096 }
-    requires height_limit { block.height ≤ 4096 }
+    requires width_limit { block.width ≤ MAX_OUTPUT_SIDE }
+    requires height_limit { block.height ≤ MAX_OUTPUT_SIDE }
     requires inside { AreInside (output_of_block block) marks.now }
     ensures ends { IfOk result
         (IsBlockEnd patterns.now marks.now block (told chooser).rule budget seed) }
@@ -82,8 +83,8 @@ fn shown(
     requires taught { IsPatterns patterns.now }
     requires small { AreNumbersBelow UNSET patterns.now }
     requires room { IsRoom patterns.now (output_of_block block) }
-    requires width_limit { block.width ≤ 4096 }
-    requires height_limit { block.height ≤ 4096 }
+    requires width_limit { block.width ≤ MAX_OUTPUT_SIDE }
+    requires height_limit { block.height ≤ MAX_OUTPUT_SIDE }
     requires legal { IsLegalFor patterns.now block end }
     ensures shown { IfOk result (IsShownAs patterns.now block end) }
     ensures fits { IfOk result (FitsBlock block) }

@@ -23,6 +23,7 @@ use std::alloc::Global;
 use std::sync::ledger::Ledger;
 use wfc_choose::Chooser;
 use wfc_domains::Steps;
+use wfc_model::MAX_OUTPUT_SIDE;
 use wfc_outside::NoMemory;
 use wfc_overlap::{PinMark, support_lists};
 use wfc_pattern::Patterns;
@@ -41,8 +42,8 @@ pub(crate) enum Halt {
 
 /// Sets a block to the picture that its run ended in, if it ended in one.
 fn set_block(canvas: &mut Canvas, block: Block, end: BlockEnd) -> Outcome
-    requires width_limit { canvas.old.width ≤ 4096 }
-    requires height_limit { canvas.old.height ≤ 4096 }
+    requires width_limit { canvas.old.width ≤ MAX_OUTPUT_SIDE }
+    requires height_limit { canvas.old.height ≤ MAX_OUTPUT_SIDE }
     requires within { LiesWithin canvas.old.width canvas.old.height block }
     requires fits { FitsBlock block end }
     ensures set { IsSetBy (canvas_of canvas.old) block end result (canvas_of canvas.new) }
@@ -75,8 +76,8 @@ fn fill_block<L: Ledger>(
     requires small { AreNumbersBelow UNSET patterns.now }
     requires supports { AreSupportsOf patterns.now (map (λ list. list.items) supports.old.items) }
     requires room { IsRoom patterns.now (output_of_block block) }
-    requires width_limit { canvas.old.width ≤ 4096 }
-    requires height_limit { canvas.old.height ≤ 4096 }
+    requires width_limit { canvas.old.width ≤ MAX_OUTPUT_SIDE }
+    requires height_limit { canvas.old.height ≤ MAX_OUTPUT_SIDE }
     requires within { LiesWithin canvas.old.width canvas.old.height block }
     ensures step { IfOk result (λ outcome. IsBlockStep
         (terms_with patterns.now (told chooser).rule budget seed marks.now) (canvas_of canvas.old)

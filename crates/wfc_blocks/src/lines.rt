@@ -8,6 +8,7 @@ use crate::block::Block;
 use crate::canvas::Canvas;
 use crate::pins::set_marks;
 use std::alloc::Global;
+use wfc_model::MAX_OUTPUT_SIDE;
 use wfc_outside::NoMemory;
 use wfc_overlap::PinMark;
 use wfc_pins::PinLine;
@@ -21,8 +22,8 @@ pub(crate) fn block_lines(
     block: Block,
     pins: &[PinLine],
 ) -> Result<Vec<PinLine>, NoMemory>
-    requires width_limit { canvas.now.width ≤ 4096 }
-    requires height_limit { canvas.now.height ≤ 4096 }
+    requires width_limit { canvas.now.width ≤ MAX_OUTPUT_SIDE }
+    requires height_limit { canvas.now.height ≤ MAX_OUTPUT_SIDE }
     requires within { LiesWithin canvas.now.width canvas.now.height block }
     ensures value { IfOk result (λ lines. lines.items ≡ lines_of_block
         (map (λ text. text.items) texts.now) pins.now (canvas_of canvas.now) block) }

@@ -8,6 +8,7 @@ ghost use Rattle.wfc_blocks.specs.CanvasView.{LiesWithin, canvas_of};
 use crate::block::Block;
 use crate::canvas::Canvas;
 use std::alloc::Global;
+use wfc_model::MAX_OUTPUT_SIDE;
 use wfc_outside::NoMemory;
 use wfc_overlap::PinMark;
 
@@ -19,8 +20,8 @@ pub(crate) fn block_marks(
     block: Block,
     marks: &[PinMark],
 ) -> Result<Vec<PinMark>, NoMemory>
-    requires width_limit { canvas.now.width ≤ 4096 }
-    requires height_limit { canvas.now.height ≤ 4096 }
+    requires width_limit { canvas.now.width ≤ MAX_OUTPUT_SIDE }
+    requires height_limit { canvas.now.height ≤ MAX_OUTPUT_SIDE }
     requires within { LiesWithin canvas.now.width canvas.now.height block }
     ensures value { IfOk result (λ found. found.items
         ≡ pins_of_block marks.now (canvas_of canvas.now) block) }
@@ -36,8 +37,8 @@ pub(crate) fn set_marks(
     canvas: &Canvas,
     block: Block,
 ) -> Result<Vec<PinMark>, NoMemory>
-    requires width_limit { canvas.now.width ≤ 4096 }
-    requires height_limit { canvas.now.height ≤ 4096 }
+    requires width_limit { canvas.now.width ≤ MAX_OUTPUT_SIDE }
+    requires height_limit { canvas.now.height ≤ MAX_OUTPUT_SIDE }
     requires within { LiesWithin canvas.now.width canvas.now.height block }
     ensures value { IfOk result (λ found. found.items
         ≡ made_in_block kept_pin (canvas_of canvas.now) block) }
@@ -56,8 +57,8 @@ fn push_row(
     block: Block,
     row: u32,
 ) -> Result<(), NoMemory>
-    requires width_limit { canvas.now.width ≤ 4096 }
-    requires height_limit { canvas.now.height ≤ 4096 }
+    requires width_limit { canvas.now.width ≤ MAX_OUTPUT_SIDE }
+    requires height_limit { canvas.now.height ≤ MAX_OUTPUT_SIDE }
     requires within { LiesWithin canvas.now.width canvas.now.height block }
     requires row_in { row < block.height }
     ensures row { OnOk result (found.new.items

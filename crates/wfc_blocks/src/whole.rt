@@ -29,6 +29,7 @@ use std::alloc::Global;
 use std::sync::ledger::Ledger;
 use wfc_choose::Chooser;
 use wfc_domains::Steps;
+use wfc_model::MAX_OUTPUT_SIDE;
 use wfc_outside::NoMemory;
 use wfc_overlap::{PinMark, marks, symbol_texts};
 use wfc_pattern::Patterns;
@@ -58,10 +59,10 @@ pub fn grow<L: Ledger>(
 ) -> Result<Grown, GrowFault>
     requires some_width { 0 < width }
     requires some_height { 0 < height }
-    requires width_limit { width ≤ 4096 }
-    requires height_limit { height ≤ 4096 }
+    requires width_limit { width ≤ MAX_OUTPUT_SIDE }
+    requires height_limit { height ≤ MAX_OUTPUT_SIDE }
     requires side_least { patterns.now.n ≤ side }
-    requires side_limit { side ≤ 4096 }
+    requires side_limit { side ≤ MAX_OUTPUT_SIDE }
     requires small { AreNumbersBelow MAX_COLOURS patterns.now }
     requires choosers { MAX_BLOCKS ≤ length choosers.items }
     requires alike { PickAlike (map (λ chooser. (told chooser).rule) choosers.items) }
@@ -98,8 +99,8 @@ pub fn grow<L: Ledger>(
 fn pairs(patterns: &Patterns, block: Block) -> u64
     requires wide { patterns.now.n ≤ block.width }
     requires high { patterns.now.n ≤ block.height }
-    requires width_limit { block.width ≤ 4096 }
-    requires height_limit { block.height ≤ 4096 }
+    requires width_limit { block.width ≤ MAX_OUTPUT_SIDE }
+    requires height_limit { block.height ≤ MAX_OUTPUT_SIDE }
     ensures value { result ≡ window_pair_count patterns.now (output_of_block block) }
 {
     let n = patterns.n();
@@ -186,8 +187,8 @@ fn shown(
     pins: &[PinLine],
     halt: Halt,
 ) -> Result<Grown, NoMemory>
-    requires width_limit { canvas.now.width ≤ 4096 }
-    requires height_limit { canvas.now.height ≤ 4096 }
+    requires width_limit { canvas.now.width ≤ MAX_OUTPUT_SIDE }
+    requires height_limit { canvas.now.height ≤ MAX_OUTPUT_SIDE }
     requires within { HaltsWithin canvas.now.width canvas.now.height halt }
     ensures value { IfOk result (λ grown. grown ≡ shown_growth (texts_of palette.now) pins.now
         (area_with canvas.now.width canvas.now.height 0) (growth_at halt (canvas_of canvas.now))) }
@@ -207,8 +208,8 @@ fn stuck(
     block: Block,
     pins: &[PinLine],
 ) -> Result<Stuck, NoMemory>
-    requires width_limit { canvas.now.width ≤ 4096 }
-    requires height_limit { canvas.now.height ≤ 4096 }
+    requires width_limit { canvas.now.width ≤ MAX_OUTPUT_SIDE }
+    requires height_limit { canvas.now.height ≤ MAX_OUTPUT_SIDE }
     requires within { LiesWithin canvas.now.width canvas.now.height block }
     ensures value { IfOk result (λ stuck. stuck ≡ record {
       block = block;

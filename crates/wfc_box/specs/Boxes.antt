@@ -3,6 +3,7 @@ use Rattle.std.specs.Prelude.{◌≡◌, ℕ, ◌+◌, ◌*◌, ◌/◌, ◌%◌
 use Rattle.std.specs.List.{range_with_len}
 use Rattle.wfc_model.specs.Legal.{Pin, IsHeld}
 use Rattle.wfc_model.specs.Raster.{Raster, number_at, raster_of}
+use Rattle.wfc_model.specs.declared.TheConstants.{MAX_OUTPUT_SIDE}
 use Rattle.wfc_places.specs.Steps.{cell_of}
 use Rattle.wfc_tileset.specs.Tiles.{TileSetView}
 use Rattle.wfc_tiled.specs.Mask.{MaskView, plain_mask}
@@ -19,8 +20,8 @@ pub record IsFrame (frame : Frame) : Type 0 where
   pub some_column : 0 < frame.width
   pub some_row : 0 < frame.height
   pub some_layer : 0 < frame.depth
-  pub width_limit : frame.width ≤ 4096
-  pub height_limit : frame.height ≤ 4096
+  pub width_limit : frame.width ≤ MAX_OUTPUT_SIDE
+  pub height_limit : frame.height ≤ MAX_OUTPUT_SIDE
   pub depth_limit : frame.depth ≤ 256
 
 -- how many places a layer has

@@ -1,5 +1,6 @@
 -- Which boxes are written.
 use Rattle.std.specs.Prelude.{◌≡◌, ◌⊎◌, ℕ, ◌*◌, ◌<◌, ◌≤◌, List, length, All, Ok, Some}
+use Rattle.wfc_model.specs.declared.TheConstants.{MAX_OUTPUT_SIDE}
 use Rattle.wfc_picture.specs.declared.symbol.Kind.TheVariants as kinds
 use Rattle.wfc_render.specs.declared.form.Form.{Form}
 use Rattle.wfc_render.specs.declared.form.Layout.{Layout}
@@ -13,8 +14,8 @@ pub record IsWrittenBox (form : Form) (set : TileSetView) (width height depth : 
   pub some_width : 0 < width
   pub some_height : 0 < height
   pub some_depth : 0 < depth
-  pub width_limit : width ≤ 4096
-  pub height_limit : height ≤ 4096
+  pub width_limit : width ≤ MAX_OUTPUT_SIDE
+  pub height_limit : height ≤ MAX_OUTPUT_SIDE
   pub depth_limit : depth ≤ 256
   pub answered : box_layout_of (kind_of set.pictures) (Some form) width height depth (side_of set.pictures) ≡ Ok form
   pub pictured : (kind_of set.pictures ≡ kinds.Plain) ⊎ IsPictured set

@@ -3,8 +3,9 @@
 ghost use Rattle.std.specs.Prelude.{◌≡◌, ◌*◌, ◌≤◌};
 ghost use Rattle.wfc_box.specs.BoxText.{box_form_for, box_layout_of, box_pixels_of};
 
+use wfc_model::MAX_OUTPUT_SIDE;
 use wfc_picture::Kind;
-use wfc_render::{Form, MAX_MAP_PIXELS, MAX_OUTPUT_SIDE, RenderFault};
+use wfc_render::{Form, MAX_MAP_PIXELS, RenderFault};
 use wfc_tileset::MAX_TILE_SIDE;
 
 /// The most layers of a box.

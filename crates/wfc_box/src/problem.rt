@@ -18,6 +18,7 @@ use crate::neighbours::neighbours;
 use crate::pins::BoxPin;
 use crate::supports::supports;
 use std::alloc::Global;
+use wfc_model::MAX_OUTPUT_SIDE;
 use wfc_outside::NoMemory;
 use wfc_pins::BuildFault;
 use wfc_places::problem_with;
@@ -45,8 +46,8 @@ pub fn build(
     requires some_width { 0 < width }
     requires some_height { 0 < height }
     requires some_depth { 0 < depth }
-    requires width_limit { width ≤ 4096 }
-    requires height_limit { height ≤ 4096 }
+    requires width_limit { width ≤ MAX_OUTPUT_SIDE }
+    requires height_limit { height ≤ MAX_OUTPUT_SIDE }
     requires depth_limit { depth ≤ 256 }
     ensures exact { Gives BuildFault.NoMemory (λ problem. problem) result
         (box_built tiles.now stacks.now (frame_of width height depth wrap) pins.now) }

@@ -8,6 +8,7 @@ ghost use Rattle.wfc_box.specs.Boxes.{box_of, frame_of};
 ghost use Rattle.wfc_box.specs.Written.{IsWrittenBox, layer_layout};
 
 use std::alloc::Global;
+use wfc_model::MAX_OUTPUT_SIDE;
 use wfc_outside::NoMemory;
 use wfc_picture::Picture;
 use wfc_render::{Form, Layout, push_head, tile_bytes};
@@ -40,8 +41,8 @@ pub fn box_bytes(
 
 /// How many places a layer has.
 fn area(width: u32, height: u32) -> usize
-    requires width_limit { width ≤ 4096 }
-    requires height_limit { height ≤ 4096 }
+    requires width_limit { width ≤ MAX_OUTPUT_SIDE }
+    requires height_limit { height ≤ MAX_OUTPUT_SIDE }
     ensures value { result ≡ width * height }
     ensures limit { result ≤ 16777216 }
 {
@@ -115,8 +116,8 @@ fn layout_of(tiles: &TileSet, form: Form, width: u32, height: u32) -> Layout
 fn layer_map(alloc: Global, width: u32, height: u32, cells: &[u16]) -> Result<Picture, NoMemory>
     requires some_width { 0 < width }
     requires some_height { 0 < height }
-    requires width_limit { width ≤ 4096 }
-    requires height_limit { height ≤ 4096 }
+    requires width_limit { width ≤ MAX_OUTPUT_SIDE }
+    requires height_limit { height ≤ MAX_OUTPUT_SIDE }
     requires each_cell { length cells.now ≡ width * height }
     ensures value { IfOk result (λ picture. picture ≡ raster_of width height cells.now) }
 {

@@ -1,6 +1,7 @@
 -- The two pinned problems: that of a sample and that of a tile set.
 use Rattle.std.specs.Prelude.{◌≤◌, Bool, List, length, Result}
 use Rattle.wfc_model.specs.Legal.{Pin}
+use Rattle.wfc_model.specs.declared.TheConstants.{MAX_OUTPUT_SIDE}
 use Rattle.wfc_outside.specs.Gives.{result_map}
 use Rattle.wfc_overlap.specs.Bridge.{AreInside, IsRoom}
 use Rattle.wfc_overlap.specs.Built as overlap
@@ -44,8 +45,8 @@ pinned_sample s = record {
 pub record IsSamplePins (s : SamplePins) : Type 0 where
   pub patterns_are : IsPatterns s.patterns
   pub room : IsRoom s.patterns s.output
-  pub width_limit : s.output.width ≤ 4096
-  pub height_limit : s.output.height ≤ 4096
+  pub width_limit : s.output.width ≤ MAX_OUTPUT_SIDE
+  pub height_limit : s.output.height ≤ MAX_OUTPUT_SIDE
   pub inside : AreInside s.output s.pins
   pub few_lines : length s.pins ≤ 4294967295
 

@@ -9,6 +9,7 @@ use crate::PinnedProblem;
 use crate::kept::{kept_marks, with_base, without_base};
 use std::alloc::Global;
 use std::marker::Model;
+use wfc_model::MAX_OUTPUT_SIDE;
 use wfc_outside::NoMemory;
 use wfc_overlap::{
     PinMark, checked_window_marks, problem_with, support_lists, window_base_of_marks,
@@ -67,8 +68,8 @@ impl<'a> OverlapPins<'a> {
     ) -> Result<OverlapPins<'a>, BuildFault>
         requires some_width { 0 < width }
         requires some_height { 0 < height }
-        requires width_limit { width ≤ 4096 }
-        requires height_limit { height ≤ 4096 }
+        requires width_limit { width ≤ MAX_OUTPUT_SIDE }
+        requires height_limit { height ≤ MAX_OUTPUT_SIDE }
         requires few_lines { length pins.now ≤ 4294967295 }
         ensures exact { Gives BuildFault.NoMemory (λ pinned. pinned) result
             (sample_pins patterns.now palette.now (output_with width height wrap) pins.now) }

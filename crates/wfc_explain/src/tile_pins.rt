@@ -10,6 +10,7 @@ use crate::PinnedProblem;
 use crate::kept::{kept_marks, with_base, without_base};
 use std::alloc::Global;
 use std::marker::Model;
+use wfc_model::MAX_OUTPUT_SIDE;
 use wfc_outside::NoMemory;
 use wfc_overlap::{PinMark, problem_with};
 use wfc_pins::{BuildFault, PinLine};
@@ -88,8 +89,8 @@ impl<'a> TilePins<'a> {
     ) -> Result<TilePins<'a>, BuildFault>
         requires some_width { 0 < width }
         requires some_height { 0 < height }
-        requires width_limit { width ≤ 4096 }
-        requires height_limit { height ≤ 4096 }
+        requires width_limit { width ≤ MAX_OUTPUT_SIDE }
+        requires height_limit { height ≤ MAX_OUTPUT_SIDE }
         requires mask_width { ForSome mask (λ mask. mask.now.width ≡ width) }
         requires mask_height { ForSome mask (λ mask. mask.now.height ≡ height) }
         requires few_lines { length pins.now ≤ 4294967295 }

@@ -6,6 +6,7 @@ use Rattle.wfc_choose.specs.declared.RuleKind.{RuleKind}
 use Rattle.wfc_grow_command.specs.GrowTask.{GrowTask, area_asked}
 use Rattle.wfc_grow_command.specs.declared.growing.TheConstants.{GROW_CHOOSERS}
 use Rattle.wfc_model.specs.Legal.{Pin}
+use Rattle.wfc_model.specs.declared.TheConstants.{MAX_OUTPUT_SIDE}
 use Rattle.wfc_outside.specs.Folder.{File}
 use Rattle.wfc_overlap.specs.Bridge.{window_pair_count}
 use Rattle.wfc_overlap.specs.Built.{picture_pins, texts_of}
@@ -25,7 +26,7 @@ use Rattle.wfc_words.specs.RequestView.{RequestView}
 pub record IsGrowAsked (asked : RequestView) : Type 0 where
   pub sample : IsSampleAsked asked
   pub some_block : window_side_of asked.source ≤ asked.block
-  pub block_limit : asked.block ≤ 4096
+  pub block_limit : asked.block ≤ MAX_OUTPUT_SIDE
   pub plain : IsPlain asked.rule
 
 -- an area holds a window, has not too many blocks, and the first of them not too many pairs of a place and a pattern

@@ -9,6 +9,7 @@ use Rattle.wfc_choose.specs.Pick.{Rule}
 use Rattle.wfc_grow_command.specs.GrowAnswer.{AnswersGrown, IsProblemOfStuck}
 use Rattle.wfc_grow_command.specs.GrowTask.{GrowTask}
 use Rattle.wfc_grow_command.specs.declared.growing.Growing.{Growing}
+use Rattle.wfc_model.specs.declared.TheConstants.{MAX_OUTPUT_SIDE}
 use Rattle.wfc_outside.specs.Sink.{SinkView}
 use Rattle.wfc_picture.specs.Symbol.{same_symbol}
 use Rattle.wfc_pins.specs.declared.fault.BuildFault.{BuildFault}
@@ -43,8 +44,8 @@ pub record IsStuckRun (rule : Rule) (asked : RequestView) (task : GrowTask) (stu
   pub ends : EndsIn P rule asked.budget (words_of_seed (seed_of_block asked.seed stuck.block)) outcome.NoMap
   pub some_width : 0 < stuck.block.width
   pub some_height : 0 < stuck.block.height
-  pub width_limit : stuck.block.width ≤ 4096
-  pub height_limit : stuck.block.height ≤ 4096
+  pub width_limit : stuck.block.width ≤ MAX_OUTPUT_SIDE
+  pub height_limit : stuck.block.height ≤ MAX_OUTPUT_SIDE
 
 -- what is known of an end of growth, so that its text can be put: a map can be written, and a stuck block's run has no map
 abbrev pub CanBePut : Rule → RequestView → GrowTask → Grown → Type 0

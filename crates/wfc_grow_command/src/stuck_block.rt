@@ -16,6 +16,7 @@ use std::marker::Brand;
 use std::sync::ledger::Blank;
 use wfc_blocks::{Block, Stuck};
 use wfc_choose::Chooser;
+use wfc_model::MAX_OUTPUT_SIDE;
 use wfc_outside::{NoMemory, Sink};
 use wfc_pins::PinLine;
 use wfc_plan::Fault;
@@ -55,8 +56,8 @@ pub(crate) fn put_stuck<O: Sink>(
 fn stuck_problem(alloc: Global, growing: &Growing, stuck: &Stuck) -> Result<Problem, Fault>
     requires some_width { 1 ≤ stuck.now.block.width }
     requires some_height { 1 ≤ stuck.now.block.height }
-    requires width_limit { stuck.now.block.width ≤ 4096 }
-    requires height_limit { stuck.now.block.height ≤ 4096 }
+    requires width_limit { stuck.now.block.width ≤ MAX_OUTPUT_SIDE }
+    requires height_limit { stuck.now.block.height ≤ MAX_OUTPUT_SIDE }
     ensures exact { GivesProblem (picture_problem growing.now.taught.patterns
         growing.now.taught.palette (output_of_block stuck.now.block) stuck.now.pins) result }
 {

@@ -4,3 +4,6 @@
 #![tactic(auto)]
 
 pub mod laws;
+
+/// The most columns, and the most rows, that a map may have.
+pub const MAX_OUTPUT_SIDE: u32 = 4096;

@@ -12,6 +12,7 @@ ghost use Rattle.wfc_places.specs.Marks.{suits};
 
 use crate::layout::Layout;
 use std::alloc::Global;
+use wfc_model::MAX_OUTPUT_SIDE;
 use wfc_outside::NoMemory;
 use wfc_pattern::Patterns;
 use wfc_places::{PinMark, all_set};
@@ -115,7 +116,7 @@ fn start_of(at: u32, i: u32, n: u32, side: u32, wrap: bool) -> Option<u32>
     requires at_in { at < side }
     requires i_in { i < n }
     requires n_in { n ≤ side }
-    requires limit { side ≤ 4096 }
+    requires limit { side ≤ MAX_OUTPUT_SIDE }
     ensures found { IfSome result (λ u. (u < starts side n wrap) × ((u + i) % side ≡ at)) }
     ensures only { (u : ℕ) → u < starts side n wrap → (u + i) % side ≡ at → result ≡ Some u }
 {

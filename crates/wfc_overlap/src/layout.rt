@@ -3,6 +3,8 @@
 ghost use Rattle.std.specs.Prelude.{◌≡◌, ◌*◌, ◌<◌, ◌≤◌};
 ghost use Rattle.wfc_model.specs.Window.{starts};
 
+use wfc_model::MAX_OUTPUT_SIDE;
+
 /// An output that has room for a window of side `n`, and at how many columns and rows a window
 /// begins.
 #[derive(Clone, Copy)]
@@ -16,14 +18,14 @@ pub(crate) struct Layout {
     ghost some_side: { 0 < n },
     ghost wide: { n ≤ width },
     ghost high: { n ≤ height },
-    ghost small_width: { width ≤ 4096 },
-    ghost small_height: { height ≤ 4096 },
+    ghost small_width: { width ≤ MAX_OUTPUT_SIDE },
+    ghost small_height: { height ≤ MAX_OUTPUT_SIDE },
     ghost columns_are: { columns ≡ starts width n wrap },
     ghost rows_are: { rows ≡ starts height n wrap },
     ghost some_column: { 0 < columns },
     ghost some_row: { 0 < rows },
-    ghost few_columns: { columns ≤ 4096 },
-    ghost few_rows: { rows ≤ 4096 },
+    ghost few_columns: { columns ≤ MAX_OUTPUT_SIDE },
+    ghost few_rows: { rows ≤ MAX_OUTPUT_SIDE },
 }
 
 impl Layout {
@@ -36,8 +38,8 @@ impl Layout {
         requires some_side { 0 < n }
         requires wide { n ≤ width }
         requires high { n ≤ height }
-        requires width_limit { width ≤ 4096 }
-        requires height_limit { height ≤ 4096 }
+        requires width_limit { width ≤ MAX_OUTPUT_SIDE }
+        requires height_limit { height ≤ MAX_OUTPUT_SIDE }
         ensures n { result.n ≡ n }
         ensures output { output_of result ≡ record { width = width; height = height; wrap = wrap } }
     {
@@ -65,7 +67,7 @@ impl Layout {
 fn starts(side: u32, n: u32, wrap: bool) -> u32
     requires some { 0 < n }
     requires within { n ≤ side }
-    requires limit { side ≤ 4096 }
+    requires limit { side ≤ MAX_OUTPUT_SIDE }
     ensures value { result ≡ starts side n wrap }
     ensures within { result ≤ side }
     ensures some { 0 < result }

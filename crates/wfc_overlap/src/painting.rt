@@ -9,6 +9,7 @@ ghost use Rattle.wfc_overlap.specs.Sample.{output_with};
 
 use crate::layout::Layout;
 use std::alloc::Global;
+use wfc_model::MAX_OUTPUT_SIDE;
 use wfc_outside::NoMemory;
 use wfc_pattern::Patterns;
 use wfc_picture::Picture;
@@ -25,8 +26,8 @@ pub fn picture_of(
 ) -> Result<Picture, NoMemory>
     requires wide { patterns.now.n ≤ width }
     requires high { patterns.now.n ≤ height }
-    requires width_limit { width ≤ 4096 }
-    requires height_limit { height ≤ 4096 }
+    requires width_limit { width ≤ MAX_OUTPUT_SIDE }
+    requires height_limit { height ≤ MAX_OUTPUT_SIDE }
     requires each_place { length assignment.now ≡ length (places width height patterns.now.n wrap) }
     requires values { All (λ v. v < length patterns.now.windows) assignment.now }
     ensures exact { IfOk result (λ picture. picture

@@ -9,7 +9,7 @@ ghost use Rattle.wfc_overlap.specs.Built.{picture_pin, picture_pins, texts_of};
 
 use std::alloc::Global;
 use wfc_outside::NoMemory;
-use wfc_picture::{Palette, Symbol};
+use wfc_picture::{MAX_COLOURS, Palette, Symbol};
 use wfc_pins::{BuildFault, PinLine};
 use wfc_places::PinMark;
 use wfc_text::push_number;
@@ -37,7 +37,7 @@ pub fn marks(
 
 /// What one line means.
 fn mark(texts: &[Vec<u8>], width: u32, height: u32, line: &PinLine) -> Result<PinMark, BuildFault>
-    requires few { length texts.now ≤ 4096 }
+    requires few { length texts.now ≤ MAX_COLOURS }
     ensures exact { result ≡ picture_pin (map (λ text. text.items) texts.now) width height line.now }
     ensures inside { IfOk result (λ mark. (mark.column < width) × (mark.row < height)) }
 {
@@ -57,7 +57,7 @@ fn mark(texts: &[Vec<u8>], width: u32, height: u32, line: &PinLine) -> Result<Pi
 
 /// The number of the symbol with this text.
 fn number_of(texts: &[Vec<u8>], word: &[u8]) -> Option<u32>
-    requires few { length texts.now ≤ 4096 }
+    requires few { length texts.now ≤ MAX_COLOURS }
     ensures value { result
         ≡ position (λ text. bytes_eq text word.now) (map (λ text. text.items) texts.now) }
 {
@@ -76,7 +76,7 @@ fn place_of(texts: &[Vec<u8>], word: &[u8]) -> Option<usize>
 pub fn symbol_texts(alloc: Global, palette: &Palette) -> Result<Vec<Vec<u8>>, NoMemory>
     ensures value { IfOk result (λ texts.
         map (λ text. text.items) texts.items ≡ texts_of palette.now) }
-    ensures few { IfOk result (λ texts. vec_len texts ≤ 4096) }
+    ensures few { IfOk result (λ texts. vec_len texts ≤ MAX_COLOURS) }
 {
     let mut texts = Vec::with_capacity(alloc, palette.len() as usize)?;
     for number in 0..palette.len() {

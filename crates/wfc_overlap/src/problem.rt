@@ -14,6 +14,7 @@ use crate::neighbours::neighbours;
 use crate::pins::marks;
 use crate::supports::support_lists;
 use std::alloc::Global;
+use wfc_model::MAX_OUTPUT_SIDE;
 use wfc_outside::NoMemory;
 use wfc_pattern::Patterns;
 use wfc_picture::Palette;
@@ -39,8 +40,8 @@ pub fn build(
 ) -> Result<Problem, BuildFault>
     requires some_width { 0 < width }
     requires some_height { 0 < height }
-    requires width_limit { width ≤ 4096 }
-    requires height_limit { height ≤ 4096 }
+    requires width_limit { width ≤ MAX_OUTPUT_SIDE }
+    requires height_limit { height ≤ MAX_OUTPUT_SIDE }
     ensures exact { Gives BuildFault.NoMemory (λ problem. problem) result
         (picture_problem patterns.now palette.now (output_with width height wrap) pins.now) }
 {
@@ -63,8 +64,8 @@ pub fn checked_window_marks(
 ) -> Result<Vec<PinMark>, BuildFault>
     requires some_width { 0 < width }
     requires some_height { 0 < height }
-    requires width_limit { width ≤ 4096 }
-    requires height_limit { height ≤ 4096 }
+    requires width_limit { width ≤ MAX_OUTPUT_SIDE }
+    requires height_limit { height ≤ MAX_OUTPUT_SIDE }
     ensures exact { Gives BuildFault.NoMemory (λ marks. marks.items) result
         (checked_picture_pins patterns.now palette.now (output_with width height wrap) pins.now) }
     ensures room { IfOk result (λ marks. IsRoom patterns.now (output_with width height wrap)) }
@@ -96,8 +97,8 @@ pub fn problem_of_marks(
     marks: &[PinMark],
 ) -> Result<Problem, NoMemory>
     requires room { IsRoom patterns.now (output_with width height wrap) }
-    requires width_limit { width ≤ 4096 }
-    requires height_limit { height ≤ 4096 }
+    requires width_limit { width ≤ MAX_OUTPUT_SIDE }
+    requires height_limit { height ≤ MAX_OUTPUT_SIDE }
     requires inside { AreInside (output_with width height wrap) marks.now }
     requires supports { map (λ list. list.items) supports.items ≡ agreement_table patterns.now }
     ensures value { IfOk result (λ problem. problem
@@ -118,8 +119,8 @@ pub fn window_parts_of_marks(
     marks: &[PinMark],
 ) -> Result<Parts, NoMemory>
     requires room { IsRoom patterns.now (output_with width height wrap) }
-    requires width_limit { width ≤ 4096 }
-    requires height_limit { height ≤ 4096 }
+    requires width_limit { width ≤ MAX_OUTPUT_SIDE }
+    requires height_limit { height ≤ MAX_OUTPUT_SIDE }
     requires inside { AreInside (output_with width height wrap) marks.now }
     requires supports { map (λ list. list.items) supports.items ≡ agreement_table patterns.now }
     ensures value { IfOk result (λ parts. parts
@@ -141,8 +142,8 @@ pub fn window_base_of_marks(
     marks: &[PinMark],
 ) -> Result<Vec<bool>, NoMemory>
     requires room { IsRoom patterns.now (output_with width height wrap) }
-    requires width_limit { width ≤ 4096 }
-    requires height_limit { height ≤ 4096 }
+    requires width_limit { width ≤ MAX_OUTPUT_SIDE }
+    requires height_limit { height ≤ MAX_OUTPUT_SIDE }
     requires inside { AreInside (output_with width height wrap) marks.now }
     ensures value { IfOk result (λ flags. flags.items ≡ window_base_table patterns.now.n
         (output_with width height wrap) patterns.now.windows marks.now) }

@@ -4,12 +4,14 @@ ghost use Rattle.std.specs.Prelude.{◌≡◌, ◌+◌, ◌<◌, ◌≤◌, IfSo
 ghost use Rattle.wfc_model.specs.Direction.{left_by, down_by, right_by, up_by};
 ghost use Rattle.wfc_places.specs.Steps.{along};
 
+use wfc_model::MAX_OUTPUT_SIDE;
+
 /// The column or row that a step leads to, if there is one.
 #[inline]
 pub fn along(at: u32, forth: u32, back: u32, count: u32, wrap: bool) -> Option<u32>
     requires at_in { at < count }
     requires one { forth + back ≤ 1 }
-    requires limit { count ≤ 4096 }
+    requires limit { count ≤ MAX_OUTPUT_SIDE }
     ensures value { result ≡ along count wrap forth back at }
     ensures within { IfSome result (λ s. s < count) }
 {

@@ -9,7 +9,7 @@ use Rattle.wfc_tileset.specs.Tiles.{TileSetView}
 use Rattle.wfc_render.specs.Layout.{IsLayout}
 use Rattle.wfc_render.specs.Tiled.{IsTiled, IsVariantOrHole}
 use Rattle.wfc_render.specs.declared.form.Layout.{Layout}
-use Rattle.wfc_render.specs.declared.layouts.TheConstants.{MAX_OUTPUT_SIDE}
+use Rattle.wfc_model.specs.declared.TheConstants.{MAX_OUTPUT_SIDE}
 
 -- numbers of variants and holes make a map that is written in a layout of its sides
 pub written_tiles : (set : TileSetView) (w h : ℕ) (numbers : List ℕ) (l : Layout) → IsFilled w h numbers → w ≤ MAX_OUTPUT_SIDE → h ≤ MAX_OUTPUT_SIDE → All (IsVariantOrHole set) numbers

@@ -15,7 +15,7 @@ use Rattle.wfc_render.specs.Map.{byte_of, colour_of, maxval_of}
 use Rattle.wfc_render.specs.declared.form.Form.{Form}
 use Rattle.wfc_render.specs.declared.form.Form.TheVariants.{P6, P3, Grid, Cells}
 use Rattle.wfc_render.specs.declared.form.Layout.{Layout}
-use Rattle.wfc_render.specs.declared.layouts.TheConstants.{MAX_OUTPUT_SIDE}
+use Rattle.wfc_model.specs.declared.TheConstants.{MAX_OUTPUT_SIDE}
 
 -- what a variant, by its number, shows in column i of row j, and a blank, which is black among colours, for a hole
 abbrev pub shown_at : TileSetView → ℕ → ℕ → ℕ → Symbol

@@ -22,7 +22,7 @@ ghost use Rattle.wfc_render.specs.declared.form.Form.TheVariants.{P6, P3, Grid, 
 ghost use Rattle.wfc_render.specs.declared.form.Layout.{Layout};
 ghost use Rattle.wfc_render.specs.declared.form.RenderFault.TheVariants.{FormDiffers, TooLarge};
 
-use crate::layouts::{MAX_MAP_PIXELS, MAX_OUTPUT_SIDE};
+use crate::layouts::MAX_MAP_PIXELS;
 
 /// The limits as plain numbers.
 pub fn limits_are()

@@ -4,11 +4,9 @@ ghost use Rattle.std.specs.Prelude.{◌≡◌, ◌<◌, ◌≤◌};
 ghost use Rattle.wfc_render.specs.Layout.{form_for, layout_of, pixel_count};
 
 use crate::form::{Form, Layout, RenderFault};
+use wfc_model::MAX_OUTPUT_SIDE;
 use wfc_picture::Kind;
 use wfc_tileset::MAX_TILE_SIDE;
-
-/// The longest side of a map, in pixels or tiles.
-pub const MAX_OUTPUT_SIDE: u32 = 4096;
 
 /// The most pixels of a map that is written.
 pub const MAX_MAP_PIXELS: u64 = 16_777_216;

@@ -14,7 +14,7 @@ mod tiled;
 
 pub use blocks::write_block;
 pub use form::{Form, Layout, RenderFault};
-pub use layouts::{MAX_MAP_PIXELS, MAX_OUTPUT_SIDE, layout};
+pub use layouts::{MAX_MAP_PIXELS, layout};
 pub use learned::{learned_overlap, push_head};
 pub use maps::picture_bytes;
 pub use tile_texts::learned_tiles;

@@ -11,9 +11,9 @@ ghost use Rattle.wfc_render.specs.Tiled.{IsVariantOrHole, IsTiled, variant_word,
 
 use crate::colours::{colour_of, maxval_of, push_head, push_pixel, room};
 use crate::form::{Form, Layout};
-use crate::layouts::MAX_OUTPUT_SIDE;
 use crate::maps::byte_of;
 use std::alloc::Global;
+use wfc_model::MAX_OUTPUT_SIDE;
 use wfc_outside::NoMemory;
 use wfc_picture::{Picture, Symbol};
 use wfc_text::push_number;

@@ -1,5 +1,6 @@
 -- What a request has to say, so that a sample can be learned from and a map made.
 use Rattle.std.specs.Prelude.{◌<◌, ◌≤◌}
+use Rattle.wfc_model.specs.declared.TheConstants.{MAX_OUTPUT_SIDE}
 use Rattle.wfc_task.specs.Sources.{window_side_of}
 use Rattle.wfc_words.specs.RequestView.{RequestView}
 use Rattle.wfc_words.specs.declared.kinds.SourceModel.{SourceModel}
@@ -25,5 +26,5 @@ IsSourceAsked asked = AskedBy asked.source asked
 pub record IsOutputAsked (asked : RequestView) : Type 0 where
   pub some_width : 0 < asked.width
   pub some_height : 0 < asked.height
-  pub width_limit : asked.width ≤ 4096
-  pub height_limit : asked.height ≤ 4096
+  pub width_limit : asked.width ≤ MAX_OUTPUT_SIDE
+  pub height_limit : asked.height ≤ MAX_OUTPUT_SIDE

@@ -21,6 +21,7 @@ use crate::sampled::Sampled;
 use crate::sources::window_side_of;
 use std::alloc::Global;
 use wfc_grid::{Grid, MAX_CELLS};
+use wfc_model::MAX_OUTPUT_SIDE;
 use wfc_outside::MAX_FILE_BYTES;
 use wfc_overlap::build;
 use wfc_pattern::{Patterns, learn};
@@ -171,8 +172,8 @@ pub fn posed_for(
 ) -> Result<Problem, Refusal>
     requires some_width { 0 < output.width }
     requires some_height { 0 < output.height }
-    requires width_limit { output.width ≤ 4096 }
-    requires height_limit { output.height ≤ 4096 }
+    requires width_limit { output.width ≤ MAX_OUTPUT_SIDE }
+    requires height_limit { output.height ≤ MAX_OUTPUT_SIDE }
     ensures exact { Gives Refusal.NoMemory (λ made. made) result
         (or_refuse Build (picture_problem patterns.now palette.now
         (output_with output.width output.height output.wrap) lines.now)) }

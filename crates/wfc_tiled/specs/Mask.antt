@@ -4,6 +4,7 @@ use Rattle.std.specs.Prelude.{position, slice_index, Option, None, Some, Result,
 use Rattle.std.specs.List.{range_with_len}
 use Rattle.std.specs.List.Sorted.{IsStrictlyIncreasing}
 use Rattle.wfc_grid.specs.Grid.{GridView}
+use Rattle.wfc_model.specs.declared.TheConstants.{MAX_OUTPUT_SIDE}
 use Rattle.wfc_places.specs.Steps.{cell_of}
 use Rattle.wfc_tiled.specs.declared.reading.MaskFault.{MaskFault}
 use Rattle.wfc_tiled.specs.declared.reading.MaskFault.TheVariants.{SizeDiffers, BadSymbol, AllHoles}
@@ -19,8 +20,8 @@ pub record MaskView : Type 0 where
 pub record IsMask (mask : MaskView) : Type 0 where
   pub some_column : 0 < mask.width
   pub some_row : 0 < mask.height
-  pub width_limit : mask.width ≤ 4096
-  pub height_limit : mask.height ≤ 4096
+  pub width_limit : mask.width ≤ MAX_OUTPUT_SIDE
+  pub height_limit : mask.height ≤ MAX_OUTPUT_SIDE
   pub some_place : 0 < length mask.places
   pub few_places : length mask.places ≤ mask.width * mask.height
   pub inside : All (λ n. n < mask.width * mask.height) mask.places

@@ -8,6 +8,7 @@ ghost use Rattle.wfc_tiled.specs.Mask.{IsMask, cell_number, plain_mask};
 
 use std::alloc::Global;
 use std::marker::Model;
+use wfc_model::MAX_OUTPUT_SIDE;
 use wfc_outside::NoMemory;
 
 /// Which places of a map have a tile. It is seen as its sides and the numbers of these places, row
@@ -46,8 +47,8 @@ impl Mask {
     pub(crate) fn plain(alloc: Global, width: u32, height: u32) -> Result<Mask, NoMemory>
         requires some_width { 0 < width }
         requires some_height { 0 < height }
-        requires width_limit { width ≤ 4096 }
-        requires height_limit { height ≤ 4096 }
+        requires width_limit { width ≤ MAX_OUTPUT_SIDE }
+        requires height_limit { height ≤ MAX_OUTPUT_SIDE }
         ensures value { IfOk result (λ mask. mask ≡ plain_mask width height) }
     {
         let places = all_places(alloc, width * height)?;

@@ -7,6 +7,7 @@ ghost use Rattle.wfc_tiled.specs.Maps.{IsLegalMapWith, number_of_cell, numbers_o
 
 use crate::holes::Mask;
 use std::alloc::Global;
+use wfc_model::MAX_OUTPUT_SIDE;
 use wfc_outside::NoMemory;
 use wfc_picture::Picture;
 use wfc_tileset::HOLE;
@@ -20,8 +21,8 @@ pub fn tiles_of(
 ) -> Result<Picture, NoMemory>
     requires some_width { 0 < width }
     requires some_height { 0 < height }
-    requires width_limit { width ≤ 4096 }
-    requires height_limit { height ≤ 4096 }
+    requires width_limit { width ≤ MAX_OUTPUT_SIDE }
+    requires height_limit { height ≤ MAX_OUTPUT_SIDE }
     requires each_cell { length assignment.now ≡ width * height }
     ensures value { IfOk result (λ picture. picture
         ≡ tile_map (plain_mask width height) assignment.now) }

@@ -14,6 +14,7 @@ use crate::neighbours::neighbours;
 use crate::pins::marks;
 use crate::supports::{supports, weights};
 use std::alloc::Global;
+use wfc_model::MAX_OUTPUT_SIDE;
 use wfc_outside::NoMemory;
 use wfc_pins::{BuildFault, PinLine};
 use wfc_places::{PinMark, problem_with};
@@ -36,8 +37,8 @@ pub fn build(
 ) -> Result<Problem, BuildFault>
     requires some_width { 0 < width }
     requires some_height { 0 < height }
-    requires width_limit { width ≤ 4096 }
-    requires height_limit { height ≤ 4096 }
+    requires width_limit { width ≤ MAX_OUTPUT_SIDE }
+    requires height_limit { height ≤ MAX_OUTPUT_SIDE }
     ensures exact { Gives BuildFault.NoMemory (λ problem. problem) result
         (tile_map_problem tiles.now (plain_mask width height) wrap pins.now) }
 {
@@ -55,8 +56,8 @@ pub fn checked_plain(
 ) -> Result<Mask, BuildFault>
     requires some_width { 0 < width }
     requires some_height { 0 < height }
-    requires width_limit { width ≤ 4096 }
-    requires height_limit { height ≤ 4096 }
+    requires width_limit { width ≤ MAX_OUTPUT_SIDE }
+    requires height_limit { height ≤ MAX_OUTPUT_SIDE }
     ensures exact { Gives BuildFault.NoMemory (λ mask. mask) result
         (roomy_mask tiles.now (plain_mask width height)) }
 {

@@ -8,6 +8,7 @@ use crate::holes::Mask;
 use std::alloc::{AllocError, AllocFailed, Global};
 use thiserror::Error;
 use wfc_grid::Grid;
+use wfc_model::MAX_OUTPUT_SIDE;
 use wfc_outside::NoMemory;
 
 /// The most bytes of a mask's grid.
@@ -65,8 +66,8 @@ impl From<NoMemory> for MaskFault {
 pub fn mask(alloc: Global, grid: &Grid, width: u32, height: u32) -> Result<Mask, MaskFault>
     requires some_width { 0 < width }
     requires some_height { 0 < height }
-    requires width_limit { width ≤ 4096 }
-    requires height_limit { height ≤ 4096 }
+    requires width_limit { width ≤ MAX_OUTPUT_SIDE }
+    requires height_limit { height ≤ MAX_OUTPUT_SIDE }
     requires limit { length grid.now.bytes ≤ MAX_MASK_BYTES }
     ensures exact { Gives MaskFault.NoMemory (λ mask. mask) result
         (mask_of grid.now width height) }

@@ -1,6 +1,7 @@
 -- The ranges of a request's values, by groups.
 use Rattle.std.specs.Prelude.{◌≡◌, ◌≢◌, ◌+◌, ◌≤◌, true, false, codes, IsSome}
 use Rattle.wfc_choose.specs.declared.RuleKind.TheVariants.{Ranked}
+use Rattle.wfc_model.specs.declared.TheConstants.{MAX_OUTPUT_SIDE}
 use Rattle.wfc_words.specs.Commands.{requires_word}
 use Rattle.wfc_words.specs.Named.{is_rankable, takes_tiles}
 use Rattle.wfc_words.specs.Numbers.{least_block}
@@ -21,9 +22,9 @@ pub record IsMapInRange (asked : RequestView) : Type 0 where
   pub model : requires_word asked.command (word_of names.Model) ≡ true → IsModel asked.source
   pub untiled : takes_tiles asked.command ≡ false → asked.source ≢ Tiles
   pub some_width : requires_word asked.command (word_of names.Width) ≡ true → 1 ≤ asked.width
-  pub width_limit : asked.width ≤ 4096
+  pub width_limit : asked.width ≤ MAX_OUTPUT_SIDE
   pub some_height : requires_word asked.command (word_of names.Height) ≡ true → 1 ≤ asked.height
-  pub height_limit : asked.height ≤ 4096
+  pub height_limit : asked.height ≤ MAX_OUTPUT_SIDE
   pub some_image : 1 ≤ asked.symmetry
   pub eight_images : asked.symmetry ≤ 8
 
@@ -50,7 +51,7 @@ pub record IsRaceInRange (asked : RequestView) : Type 0 where
 -- a block holds a window, and a box has a layer
 pub record IsSpaceInRange (asked : RequestView) : Type 0 where
   pub some_block : requires_word asked.command (word_of names.Model) ≡ true → least_block asked.source ≤ asked.block
-  pub block_limit : asked.block ≤ 4096
+  pub block_limit : asked.block ≤ MAX_OUTPUT_SIDE
   pub some_depth : requires_word asked.command (word_of names.Depth) ≡ true → 1 ≤ asked.depth
   pub depth_limit : asked.depth ≤ 256
 
