@@ -17,7 +17,7 @@ use Rattle.wfc_model.proofs.CallerLemmas.{opposite_below, cell_is}
 use Rattle.wfc_problem.specs.Network.{Network, IsProblem, neighbour, supports_of, in_base, has_flag}
 use Rattle.wfc_problem.specs.declared.TheConstants.{NO_CELL, MAX_PAIRS}
 use Rattle.wfc_problem.proofs.CallerLemmas.{neighbour_read, neighbour_not_none, neighbour_is, supports_at, supports_past, supports_inside, flag_at}
-use Rattle.wfc_places.specs.Steps.{cell_of}
+use Rattle.wfc_places.specs.Steps.{place_number}
 use Rattle.wfc_places.proofs.CallerLemmas as shared
 use Rattle.wfc_places.proofs.CallerLemmas.{IsFitting, length-supports, supports_rise, stepped-is, one_across, one_down}
 use Rattle.wfc_tileset.specs.Tiles.{TileSetView, variant_total, variant_at, tile_at}
@@ -64,7 +64,7 @@ cell_of_layer frame z n layer place = record {
 
 -- a pin that lies inside has a cell
 pub pin_inside : (frame : Frame) (p : LayerPin) → IsInBox frame p → pin_cell frame p < places_in frame
-pin_inside frame p is = (cell_of_layer frame p.layer (cell_of frame.width p.pin.column p.pin.row) is.layer_in (cell_below frame.width frame.height _ _ is.column_in is.row_in)).inside
+pin_inside frame p is = (cell_of_layer frame p.layer (place_number frame.width p.pin.column p.pin.row) is.layer_in (cell_below frame.width frame.height _ _ is.column_in is.row_in)).inside
 
 -- and its row lies in a table
 pub row_inside : (frame : Frame) (n : ℕ) (p : LayerPin) → IsInBox frame p → pin_cell frame p * n + n ≤ places_in frame * n

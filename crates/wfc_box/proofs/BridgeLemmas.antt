@@ -14,7 +14,7 @@ use Rattle.wfc_problem.specs.Network.{Network, IsProblem, in_base, neighbour, ok
 use Rattle.wfc_problem.specs.declared.TheConstants.{MAX_PAIRS}
 use Rattle.wfc_problem.proofs.CallerLemmas.{base_inside}
 use Rattle.wfc_places.specs.Marks.{suits}
-use Rattle.wfc_places.specs.Steps.{cell_of}
+use Rattle.wfc_places.specs.Steps.{place_number}
 use Rattle.wfc_places.proofs.CallerLemmas as shared
 use Rattle.wfc_places.proofs.CallerLemmas.{suits-from, held-from_suits}
 use Rattle.wfc_tileset.specs.Tiles.{TileSetView, variant_total}
@@ -118,7 +118,7 @@ module _ (set : TileSetView) (stacked : List (ℕ × ℕ)) (frame : Frame) (pins
             let sized = (layer_legal p.layer layer).sized in
             let column : p.pin.column < w = omega (arith, is_held.held.column_in, sized.same_width) in
             let row : p.pin.row < h = omega (arith, is_held.held.row_in, sized.same_height) in
-            let n = cell_of w p.pin.column p.pin.row in
+            let n = place_number w p.pin.column p.pin.row in
             let there : get_or a c 0 ≡ number_in_box box p.pin.column p.pin.row p.layer =
             ap (λ k. get_or a k 0) (sym same)
             ∙ number_of_layer p.layer n layer (cell_below w h _ _ column row)
@@ -275,15 +275,15 @@ module _ (set : TileSetView) (stacked : List (ℕ × ℕ)) (frame : Frame) (pins
     layer_there : (z : ℕ) → z < frame.depth → layer_at box z ≡ layer_map z
     layer_there z layer = get_or-map-range_with_len layer_map 0 frame.depth z z (raster_of 0 0 []) layer (zero-add z)
 
-    tile_there : (x y z : ℕ) → x < w → y < h → z < frame.depth → number_in_box box x y z ≡ get_or a (z * A + cell_of w x y) 0
+    tile_there : (x y z : ℕ) → x < w → y < h → z < frame.depth → number_in_box box x y z ≡ get_or a (z * A + place_number w x y) 0
     tile_there x y z column row layer =
         ap (λ (m : Raster). number_at m x y) (layer_there z layer)
         ∙ number_at-raster_of w h (layer_of frame a z) x y column row
-        ∙ layer_entry a z (cell_of w x y) (cell_below w h x y column row)
+        ∙ layer_entry a z (place_number w x y) (cell_below w h x y column row)
 
     stacked_there : (x y z : ℕ) → x < w → y < h → z + 1 < frame.depth → IsStacked stacked (number_in_box box x y z) (number_in_box box x y (z + 1))
     stacked_there x y z column row layer =
-        let n = cell_of w x y in
+        let n = place_number w x y in
         let place = cell_below w h x y column row in
         let test = legal.beside (z * A + n) 4 ((z + 1) * A + n) (above-neighbour set stacked frame pins problem.sized.few_cells z n layer place) in
         let fit = (support-fits set stacked frame pins _ _ 4 (has_Contains _ (get_or a ((z + 1) * A + n) 0) test)).fit in
@@ -292,7 +292,7 @@ module _ (set : TileSetView) (stacked : List (ℕ × ℕ)) (frame : Frame) (pins
 
     held : (p : LayerPin) → Contains pins p → IsInBox frame p → IsHeldIn box p
     held p within at =
-        let n = cell_of w p.pin.column p.pin.row in
+        let n = place_number w p.pin.column p.pin.row in
         let c = pin_cell frame p in
         let c_in = (cell_of_layer frame p.layer n at.layer_in (cell_below w h _ _ at.column_in at.row_in)).inside in
         let v = get_or a c 0 in

@@ -4,7 +4,7 @@ use Rattle.std.specs.List.{range_with_len}
 use Rattle.wfc_model.specs.Legal.{Pin, IsHeld}
 use Rattle.wfc_model.specs.Raster.{Raster, number_at, raster_of}
 use Rattle.wfc_model.specs.declared.TheConstants.{MAX_OUTPUT_SIDE}
-use Rattle.wfc_places.specs.Steps.{cell_of}
+use Rattle.wfc_places.specs.Steps.{place_number}
 use Rattle.wfc_tileset.specs.Tiles.{TileSetView}
 use Rattle.wfc_tiled.specs.Mask.{MaskView, plain_mask}
 use Rattle.wfc_tiled.specs.Maps.{IsLegalTileMap}
@@ -66,7 +66,7 @@ pub record IsLegalBox (set : TileSetView) (stacked : List (ℕ × ℕ)) (frame :
 
 -- the number of a place, counted layer by layer, and within a layer row by row
 abbrev pub box_cell : Frame → ℕ → ℕ → ℕ → ℕ
-box_cell frame x y z = z * area frame + cell_of frame.width x y
+box_cell frame x y z = z * area frame + place_number frame.width x y
 
 -- the pin's place lies in the box
 pub record IsInBox (frame : Frame) (p : LayerPin) : Type 0 where

@@ -19,7 +19,7 @@ fn reads_grids(rt: HostRuntime) -> Result<(), Fail> {
         assert!(rt; text.len() < 16);
         let grid = read(rt.alloc(), text)?;
         assert_eq!(rt; (grid.width, grid.height), (width, height), "of {text:?}");
-        assert_eq!(rt; grid.cells(), wanted);
+        assert_eq!(rt; grid.as_bytes(), wanted);
     }
     Ok(())
 }
@@ -91,7 +91,7 @@ fn reads_and_writes_the_largest_grids(rt: HostRuntime) -> Result<(), Fail> {
             (grid.width as usize, grid.height as usize),
             (width, height)
         );
-        assert_eq!(rt; grid.cells().len(), 1_048_576);
+        assert_eq!(rt; grid.as_bytes().len(), 1_048_576);
         assert!(rt; write(rt.alloc(), &grid)? == text);
     }
     Ok(())

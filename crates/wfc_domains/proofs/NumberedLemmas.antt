@@ -9,7 +9,7 @@ use Rattle.wfc_domains.specs.declared.Cause.{Cause}
 use Rattle.wfc_domains.specs.declared.Cause.TheVariants.{Assumed, Arc}
 use Rattle.wfc_domains.specs.declared.Removal.{Removal}
 use Rattle.wfc_domains.specs.Log.{IsCauseBelow, cells_of, fewer_at, sizes_after}
-use Rattle.wfc_domains.specs.Numbered.{cause_number, numbered_cause, place_count, place_number, placed_cell, placed_removal, placed_removals, number_from, numbers_from}
+use Rattle.wfc_domains.specs.Numbered.{cause_number, numbered_cause, removal_count, removal_number, placed_cell, placed_removal, placed_removals, number_from, numbers_from}
 
 -- a cause's number is one of those of causes
 pub cause-few : (k : ℕ) (c : Cause) → IsCauseBelow k c → cause_number k c < k + 1
@@ -22,19 +22,19 @@ cause-back k Assumed h = cond-true _ _ _ (eq-eqb k k refl)
 cause-back k (Arc d) h = let ne : d ≢ k = omega arith in cond-false _ _ _ (ne_eqb d k ne)
 
 -- the number of a removal's cell, value and cause is one of those that there are
-pub place-few : (cells values dirs : ℕ) (r : Removal) → r.cell < cells → r.value < values → IsCauseBelow dirs r.cause → place_number values dirs r < place_count cells values dirs
+pub place-few : (cells values dirs : ℕ) (r : Removal) → r.cell < cells → r.value < values → IsCauseBelow dirs r.cause → removal_number values dirs r < removal_count cells values dirs
 place-few cells values dirs r hc hv hd =
     let pair : r.cell * values + r.value < cells * values = omega (arith, mul-add-lt r.cell values r.value cells hc hv) in
     omega (arith, mul-add-lt (r.cell * values + r.value) (dirs + 1) (cause_number dirs r.cause) (cells * values) pair (cause-few dirs r.cause hd))
 
 -- and tells the cell
-pub place-cell : (values dirs : ℕ) (r : Removal) → r.value < values → IsCauseBelow dirs r.cause → placed_cell values dirs (place_number values dirs r) ≡ r.cell
+pub place-cell : (values dirs : ℕ) (r : Removal) → r.value < values → IsCauseBelow dirs r.cause → placed_cell values dirs (removal_number values dirs r) ≡ r.cell
 place-cell values dirs r hv hd =
     ap (λ n. n / values) (div-mul-add (r.cell * values + r.value) (dirs + 1) (cause_number dirs r.cause) (cause-few dirs r.cause hd))
     ∙ div-mul-add r.cell values r.value hv
 
 -- and the removal
-pub place-back : (values dirs : ℕ) (r : Removal) → r.value < values → IsCauseBelow dirs r.cause → placed_removal values dirs (place_number values dirs r) r.before ≡ r
+pub place-back : (values dirs : ℕ) (r : Removal) → r.value < values → IsCauseBelow dirs r.cause → placed_removal values dirs (removal_number values dirs r) r.before ≡ r
 place-back values dirs r hv hd = λ i. record { cell = place-cell values dirs r hv hd i; value = value i; before = r.before; cause = cause i }
   where
     k : ℕ
@@ -46,14 +46,14 @@ place-back values dirs r hv hd = λ i. record { cell = place-cell values dirs r 
     p : ℕ
     p = r.cell * values + r.value
 
-    value : place_number values dirs r / k % values ≡ r.value
+    value : removal_number values dirs r / k % values ≡ r.value
     value = ap (λ n. n % values) (div-mul-add p k x (cause-few dirs r.cause hd)) ∙ mod-mul-add r.cell values r.value hv
 
-    cause : numbered_cause dirs (place_number values dirs r % k) ≡ r.cause
+    cause : numbered_cause dirs (removal_number values dirs r % k) ≡ r.cause
     cause = ap (numbered_cause dirs) (mod-mul-add p k x (cause-few dirs r.cause hd)) ∙ cause-back dirs r.cause hd
 
 -- the cell of a number is one of those that there are
-pub cell-few : (cells values dirs n : ℕ) → 0 < values → n < place_count cells values dirs → placed_cell values dirs n < cells
+pub cell-few : (cells values dirs n : ℕ) → 0 < values → n < removal_count cells values dirs → placed_cell values dirs n < cells
 cell-few cells values dirs n some h =
     let k_some : 0 < dirs + 1 = omega arith in
     let pair = (div-lt_iff_lt-mul {x = n} {y = cells * values} k_some).1 h in

@@ -10,7 +10,7 @@ use Rattle.wfc_problem.specs.Sizes.{size_at, sizes_of}
 use Rattle.wfc_domains.specs.declared.Removal.{Removal}
 use Rattle.wfc_domains.specs.Domains.{base_of}
 use Rattle.wfc_domains.specs.Log.{IsCauseBelow, cells_of, fewer_at, sizes_after}
-use Rattle.wfc_domains.specs.Numbered.{first_sizes, more_at, place_count, place_number, placed_cell, placed_removal, placed_removals, sizes_before}
+use Rattle.wfc_domains.specs.Numbered.{first_sizes, more_at, removal_count, removal_number, placed_cell, placed_removal, placed_removals, sizes_before}
 use Rattle.wfc_domains.proofs.Rows.{size-few}
 use Rattle.wfc_domains.proofs.SizeLemmas.{after-before, before-least, before-push, more-fewer}
 use Rattle.wfc_domains.proofs.NumberedLemmas.{cell-few, place-back, place-cell, placed-cells, placed-push, split-last}
@@ -40,19 +40,19 @@ removals-back v d s ns n =
 
 -- with a removal more the first sizes are the same
 pub first-more : (v d : ℕ) (s ns : List ℕ) (r : Removal) → r.value < v → IsCauseBelow d r.cause → r.before ≡ slice_index s r.cell → 0 < r.before
-    → first_sizes v d (set s r.cell (r.before - 1)) (ns ++ place_number v d r ∷ []) ≡ first_sizes v d s ns
+    → first_sizes v d (set s r.cell (r.before - 1)) (ns ++ removal_number v d r ∷ []) ≡ first_sizes v d s ns
 first-more v d s ns r hv hd before some =
     let less : set s r.cell (r.before - 1) ≡ fewer_at s r.cell = ap (λ b. set s r.cell (b - 1)) before in
-    ap (λ t. first_sizes v d t (ns ++ place_number v d r ∷ [])) less
-    ∙ first-back v d (fewer_at s r.cell) ns (place_number v d r)
+    ap (λ t. first_sizes v d t (ns ++ removal_number v d r ∷ [])) less
+    ∙ first-back v d (fewer_at s r.cell) ns (removal_number v d r)
     ∙ ap (λ c. first_sizes v d (more_at (fewer_at s r.cell) c) ns) (place-cell v d r hv hd)
     ∙ ap (λ t. first_sizes v d t ns) (more-fewer s r.cell (omega (arith, before, some)))
 
 -- and it is the last
 pub removals-more : (v d : ℕ) (s ns : List ℕ) (r : Removal) → r.value < v → IsCauseBelow d r.cause → r.before ≡ slice_index s r.cell
-    → placed_removals v d (first_sizes v d s ns) (ns ++ place_number v d r ∷ []) ≡ placed_removals v d (first_sizes v d s ns) ns ++ r ∷ []
+    → placed_removals v d (first_sizes v d s ns) (ns ++ removal_number v d r ∷ []) ≡ placed_removals v d (first_sizes v d s ns) ns ++ r ∷ []
 removals-more v d s ns r hv hd before =
-    let n = place_number v d r in
+    let n = removal_number v d r in
     let size : slice_index s (placed_cell v d n) ≡ r.before = ap (slice_index s) (place-cell v d r hv hd) ∙ sym before in
     removals-back v d s ns n
     ∙ ap (λ b. placed_removals v d (first_sizes v d s ns) ns ++ placed_removal v d n b ∷ []) size
@@ -61,9 +61,9 @@ removals-more v d s ns r hv hd before =
 -- ---- the last removal
 
 -- the cell of a kept number is one of those that there are
-pub kept-cell : (cells v d : ℕ) (ns : List ℕ) (k n : ℕ) → 0 < v → All (λ m. m < place_count cells v d) ns → slice_get ns k ≡ Some n → placed_cell v d n < cells
+pub kept-cell : (cells v d : ℕ) (ns : List ℕ) (k n : ℕ) → 0 < v → All (λ m. m < removal_count cells v d) ns → slice_get ns k ≡ Some n → placed_cell v d n < cells
 kept-cell cells v d ns k n some all at =
-    cell-few cells v d n some (subst (λ m. m < place_count cells v d) (get_or_from_slice_get ns k n 0 at) (all k 0 (slice_get_within ns k n at)))
+    cell-few cells v d n some (subst (λ m. m < removal_count cells v d) (get_or_from_slice_get ns k n 0 at) (all k 0 (slice_get_within ns k n at)))
 
 -- a value more at its cell, the first sizes are the same
 pub pop-first : (v d : ℕ) (s ns : List ℕ) (k n : ℕ) → slice_get ns k ≡ Some n → length ns ≡ k + 1
@@ -103,7 +103,7 @@ pub record IsTakenBack (v d : ℕ) (s ns : List ℕ) (k n w x : ℕ) : Type 0 wh
   pub written : set s w (x + 1) ≡ more_at s (placed_cell v d n)
   pub first : (front : List ℕ) → front ≡ take k ns → first_sizes v d (set s w (x + 1)) front ≡ first_sizes v d s ns
 
-pub taken_back : (v d : ℕ) (s ns : List ℕ) (k n w x : ℕ) → 0 < v → All (λ m. m < place_count (length s) v d) ns → slice_get ns k ≡ Some n → length ns ≡ k + 1
+pub taken_back : (v d : ℕ) (s ns : List ℕ) (k n w x : ℕ) → 0 < v → All (λ m. m < removal_count (length s) v d) ns → slice_get ns k ≡ Some n → length ns ≡ k + 1
     → w ≡ placed_cell v d n → x ≡ get_or s w x → IsTakenBack v d s ns k n w x
 taken_back v d s ns k n w x some all at long here reads =
     let inside = kept-cell (length s) v d ns k n some all at in

@@ -12,12 +12,12 @@ cause_number dirs (Arc d) = d
 
 -- the number of a removal's cell, value and cause among all that there can be: by the cell, then
 -- the value, then the cause
-abbrev pub place_number : ℕ → ℕ → Removal → ℕ
-place_number values dirs r = (r.cell * values + r.value) * (dirs + 1) + cause_number dirs r.cause
+abbrev pub removal_number : ℕ → ℕ → Removal → ℕ
+removal_number values dirs r = (r.cell * values + r.value) * (dirs + 1) + cause_number dirs r.cause
 
 -- how many such numbers there are
-abbrev pub place_count : ℕ → ℕ → ℕ → ℕ
-place_count cells values dirs = (cells * values) * (dirs + 1)
+abbrev pub removal_count : ℕ → ℕ → ℕ → ℕ
+removal_count cells values dirs = (cells * values) * (dirs + 1)
 
 -- the cause with this number
 abbrev pub numbered_cause : ℕ → ℕ → Cause

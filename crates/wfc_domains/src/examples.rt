@@ -10,7 +10,7 @@ ghost use Rattle.wfc_domains.specs.Counters.{count_of, with_count, counts_of, no
 ghost use Rattle.wfc_domains.specs.Halves.{entries_from, limit_from};
 ghost use Rattle.wfc_domains.specs.Parts.{IsCountSplit};
 ghost use Rattle.wfc_domains.specs.Log.{AreLogged, IsLogged, extent_of, sizes_after};
-ghost use Rattle.wfc_domains.specs.Numbered.{first_sizes, numbers_from, place_number, placed_removals};
+ghost use Rattle.wfc_domains.specs.Numbered.{first_sizes, numbers_from, removal_number, placed_removals};
 ghost use Rattle.wfc_domains.specs.Domains.{has, size_of, flags_of, base_of, less, Fits};
 ghost use Rattle.wfc_domains.specs.Removals.{without, IsUnsupported, IsCause, AreRemoved};
 ghost use Rattle.wfc_domains.specs.Sample.{two_rows, numbered_table, unsupported_removal, cut_first, later, two_levels};
@@ -121,7 +121,7 @@ pub fn logs_are_read()
     ensures no_direction { IsLogged (extent_of corner) (2 ∷ []) (record cut_first { cause = Arc 4 })
         → ⊥ }
     ensures first { first_sizes 3 4 (1 ∷ 2 ∷ 2 ∷ 2 ∷ []) (38 ∷ 4 ∷ []) ≡ 2 ∷ 2 ∷ 3 ∷ 2 ∷ [] }
-    ensures numbers { map (place_number 3 4) (unsupported_removal ∷ cut_first ∷ []) ≡ 38 ∷ 4 ∷ [] }
+    ensures numbers { map (removal_number 3 4) (unsupported_removal ∷ cut_first ∷ []) ≡ 38 ∷ 4 ∷ [] }
     ensures removals { placed_removals 3 4 (2 ∷ 2 ∷ 3 ∷ 2 ∷ []) (38 ∷ 4 ∷ [])
         ≡ unsupported_removal ∷ cut_first ∷ [] }
     ensures parts { numbers_from (38 ∷ 4 ∷ []) (0 ∷ 1 ∷ []) ≡ 38 ∷ 65540 ∷ [] }

@@ -3,7 +3,7 @@
 ghost use Rattle.std.specs.Prelude.{◌≡◌, ◌+◌, ◌<◌, ◌≤◌, ◌^◌, ◌++◌, ◌∷◌, [], length, reverse, IfOk, vec_len, vec_capacity};
 ghost use Rattle.wfc_domains.specs.Domains.{base_of};
 ghost use Rattle.wfc_domains.specs.Log.{IsLogged, AreLogged, cells_of, extent_of, sizes_after};
-ghost use Rattle.wfc_domains.specs.Numbered.{cause_number, numbered_cause, place_number};
+ghost use Rattle.wfc_domains.specs.Numbered.{cause_number, numbered_cause, removal_number};
 
 use crate::domains::Domains;
 use crate::packed::Numbers;
@@ -62,9 +62,9 @@ fn numbered_cause(number: u8, dirs: u8) -> Cause
 
 /// The number of a removal's cell, value and cause among all that there can be.
 #[inline]
-fn place_number(removal: Removal, values: u16, dirs: u8) -> u32
-    requires few { place_number values dirs removal < 2 ^ 32 }
-    ensures value { result ≡ place_number values dirs removal }
+fn removal_number(removal: Removal, values: u16, dirs: u8) -> u32
+    requires few { removal_number values dirs removal < 2 ^ 32 }
+    ensures value { result ≡ removal_number values dirs removal }
 {
     let pair = removal.cell * u32::from(values) + u32::from(removal.value);
     pair * (u32::from(dirs) + 1) + u32::from(cause_number(removal.cause, dirs))
@@ -151,7 +151,7 @@ impl Older {
     {
         self.sizes[removal.cell as usize] = removal.before - 1;
         self.numbers
-            .push(place_number(removal, self.values, self.dirs));
+            .push(removal_number(removal, self.values, self.dirs));
     }
 
     /// Takes the last away.

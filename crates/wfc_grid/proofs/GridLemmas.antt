@@ -10,7 +10,7 @@ use Rattle.std.specs.Option.{option_or}
 use Rattle.wfc_model.specs.Raster.{Raster, IsSized}
 use Rattle.wfc_model.proofs.CallerLemmas.{IsSized-raster_of, numbers_of-raster_of, raster_of-numbers_of, length-joined, height-raster_of}
 use Rattle.wfc_text.specs.Line.{LineView, lines_of}
-use Rattle.wfc_grid.specs.Grid.{GridView, IsGrid, is_cell, raster_of_grid}
+use Rattle.wfc_grid.specs.Grid.{GridView, IsGrid, is_grid_byte, raster_of_grid}
 use Rattle.wfc_grid.specs.Reading.{grid_of, rows_grid, unless_fault}
 use Rattle.wfc_grid.specs.Spelling.{SpellsRows, SpellsGrid, grid_text}
 use Rattle.wfc_grid.specs.Fault.{rows_of, grid_bytes, width_of, first_fault, size_fault, grid_fault_of}
@@ -34,11 +34,11 @@ sized_rows width rows wide high fit = record {
 }
 
 -- what holds of each byte of each row holds of each byte, and the other way round
-printable_cells : (width : ℕ) (rows : List (List ℕ)) → AllByRecursion (Fits width) rows → AllPass is_cell (concat rows)
+printable_cells : (width : ℕ) (rows : List (List ℕ)) → AllByRecursion (Fits width) rows → AllPass is_grid_byte (concat rows)
 printable_cells width [] fit = λ k d inside. absurd (omega arith)
-printable_cells width (row ∷ rows) fit = All-append (λ b. is_cell b ≡ true) row (concat rows) fit.0.printable (printable_cells width rows fit.1)
+printable_cells width (row ∷ rows) fit = All-append (λ b. is_grid_byte b ≡ true) row (concat rows) fit.0.printable (printable_cells width rows fit.1)
 
-fit_rows : (width : ℕ) (rows : List (List ℕ)) → AllByRecursion (λ (row : List ℕ). length row ≡ width) rows → AllPass is_cell (concat rows) → AllByRecursion (Fits width) rows
+fit_rows : (width : ℕ) (rows : List (List ℕ)) → AllByRecursion (λ (row : List ℕ). length row ≡ width) rows → AllPass is_grid_byte (concat rows) → AllByRecursion (Fits width) rows
 fit_rows width [] long printable = tt
 fit_rows width (row ∷ rows) long printable = (
   record { long = long.0; printable = λ k d inside. rw (get_or_append_left row (concat rows) d k inside) at (printable k d (omega (arith, length-append row (concat rows)))) },
@@ -82,7 +82,7 @@ grid_rows g is =
     let sized : IsSized (raster_of_grid g) g.width g.height = IsSized-raster_of g.width g.height g.bytes is.filled in
     fit_rows g.width (raster_of_grid g).rows
     (recursion_from_All (λ (row : List ℕ). length row ≡ g.width) (raster_of_grid g).rows sized.raster.rows_fit)
-    (subst (AllPass is_cell) (sym (joined_rows g is)) is.printable)
+    (subst (AllPass is_grid_byte) (sym (joined_rows g is)) is.printable)
 
 some_rows : (width : ℕ) (rows : List (List ℕ)) → 0 < width → AllByRecursion (Fits width) rows → AllByRecursion IsRow rows
 some_rows width [] wide fit = tt

@@ -10,24 +10,24 @@ use Rattle.std.specs.List.{All, AllPass, AllByRecursion, concat, join_with_byte,
 use Rattle.std.specs.Str.Lines.{strip_carriage_return}
 use Rattle.wfc_text.specs.Line.{LineView, is_line_feed, lines_from, lines_of, lines_of_parts}
 use Rattle.wfc_text.proofs.CallerLemmas.{lines_from-feed, lines_from-plain}
-use Rattle.wfc_grid.specs.Grid.{is_cell}
+use Rattle.wfc_grid.specs.Grid.{is_grid_byte}
 use Rattle.wfc_grid.specs.Spelling.{IsLineEnd, SpellsRows}
 use Rattle.wfc_grid.specs.Fault.{rows_of, grid_bytes, width_of}
 
 -- a row has a byte, and each may stand in a grid
 pub record IsRow (row : List ℕ) : Type 0 where
   pub some : 0 < length row
-  pub printable : AllPass is_cell row
+  pub printable : AllPass is_grid_byte row
 
 -- a byte that may stand in a grid is no line feed
-cell-no_feed : (b : ℕ) → is_cell b ≡ true → is_line_feed b ≡ false
+cell-no_feed : (b : ℕ) → is_grid_byte b ≡ true → is_line_feed b ≡ false
 cell-no_feed b cell = grind (arith, nat_tests)
 
-cell-no_return : (b : ℕ) → is_cell b ≡ true → (b == 13) ≡ false
+cell-no_return : (b : ℕ) → is_grid_byte b ≡ true → (b == 13) ≡ false
 cell-no_return b cell = grind (arith, nat_tests)
 
 -- a row has no line feed
-plain_row : (row : List ℕ) → AllPass is_cell row → All (λ b. is_line_feed b ≡ false) row
+plain_row : (row : List ℕ) → AllPass is_grid_byte row → All (λ b. is_line_feed b ≡ false) row
 plain_row row cells k d inside = cell-no_feed _ (cells k d inside)
 
 -- a row does not end with a carriage return

@@ -3,14 +3,14 @@ use Rattle.std.specs.Prelude.{ℕ, ◌+◌, ◌==◌, Bool, not, nat_lt, List, [
 use Rattle.std.specs.List.{concat}
 use Rattle.std.specs.Option.{option_or}
 use Rattle.wfc_text.specs.Line.{LineView}
-use Rattle.wfc_grid.specs.Grid.{is_cell}
-use Rattle.wfc_grid.specs.declared.reading.TheConstants.{MAX_CELLS}
+use Rattle.wfc_grid.specs.Grid.{is_grid_byte}
+use Rattle.wfc_grid.specs.declared.reading.TheConstants.{MAX_GRID_BYTES}
 use Rattle.wfc_grid.specs.declared.reading.GridFault.{GridFault}
 use Rattle.wfc_grid.specs.declared.reading.GridFault.TheVariants.{Empty, Ragged, BadByte, TooLarge}
 
 -- whether a byte may not stand in a grid
-abbrev pub is_no_cell : ℕ → Bool
-is_no_cell byte = not (is_cell byte)
+abbrev pub is_no_grid_byte : ℕ → Bool
+is_no_grid_byte byte = not (is_grid_byte byte)
 
 -- the fault at the first byte that may not stand in a grid, if there is one; columns count from 1
 abbrev pub byte_fault : ℕ → Option ℕ → Option GridFault
@@ -20,7 +20,7 @@ byte_fault line (Some at) = Some (BadByte line (at + 1))
 -- the fault of a line in a grid of this width; a bad byte comes before a wrong length
 abbrev pub line_fault : ℕ → LineView → Option GridFault
 line_fault width line =
-    option_or (byte_fault line.number (position is_no_cell line.bytes))
+    option_or (byte_fault line.number (position is_no_grid_byte line.bytes))
     (if length line.bytes == width then None else Some (Ragged line.number))
 
 -- the fault of the first line that has one
@@ -43,7 +43,7 @@ grid_bytes lines = concat (rows_of lines)
 
 -- too many bytes, where there are
 abbrev pub size_fault : ℕ → Option GridFault
-size_fault cells = if nat_lt MAX_CELLS cells then Some TooLarge else None
+size_fault cells = if nat_lt MAX_GRID_BYTES cells then Some TooLarge else None
 
 -- the first fault of lines that are read as a grid
 abbrev pub grid_fault_of : List LineView → Option GridFault

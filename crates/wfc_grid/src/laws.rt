@@ -3,18 +3,18 @@
 ghost use Rattle.std.specs.Prelude.{◌≡◌, ◌↔◌, ℕ, ◌*◌, ◌≤◌, true, false, List, [], ◌∷◌, codes, None, Some, Ok, Err};
 ghost use Rattle.wfc_model.specs.Raster.{number_at};
 ghost use Rattle.wfc_grid.specs.Fault.{size_fault};
-ghost use Rattle.wfc_grid.specs.Grid.{GridView, IsGrid, is_cell, raster_of_grid};
+ghost use Rattle.wfc_grid.specs.Grid.{GridView, IsGrid, is_grid_byte, raster_of_grid};
 ghost use Rattle.wfc_grid.specs.Reading.{grid_of};
 ghost use Rattle.wfc_grid.specs.Spelling.{SpellsGrid, grid_text};
 ghost use Rattle.wfc_grid.specs.declared.reading.GridFault.TheVariants.{Empty, Ragged, BadByte, TooLarge};
 
-use crate::MAX_CELLS;
+use crate::MAX_GRID_BYTES;
 use wfc_outside::MAX_FILE_BYTES;
 
-/// The limits are these numbers: the bytes of a file, and the cells of a grid.
+/// The limits are these numbers: the bytes of a file, and those of a grid.
 pub fn limits_are()
     ensures bytes { MAX_FILE_BYTES ≡ 16777216 }
-    ensures cells { MAX_CELLS ≡ 1048576 }
+    ensures grid { MAX_GRID_BYTES ≡ 1048576 }
     ensures most { size_fault 1048576 ≡ None }
     ensures more { size_fault 1048577 ≡ Some TooLarge }
 {}
@@ -33,7 +33,7 @@ pub fn written_grids_are_spelled()
 /// A text is read as a grid exactly where it spells it within the limit.
 pub fn spelled_grids_are_read()
     ensures read { (text : List ℕ) (grid : GridView) → (grid_of text ≡ Ok grid)
-        ↔ (SpellsGrid text grid × (grid.width * grid.height ≤ MAX_CELLS)) }
+        ↔ (SpellsGrid text grid × (grid.width * grid.height ≤ MAX_GRID_BYTES)) }
 {}
 
 /// What is read by example: the first fault line by line, and in a line a bad byte before a wrong length.
@@ -51,9 +51,9 @@ pub fn grids_by_example()
 {}
 
 /// The bytes of a grid are those from the blank to the tilde.
-pub fn cells_by_example()
-    ensures blank { is_cell 32 ≡ true }
-    ensures tilde { is_cell 126 ≡ true }
-    ensures below { is_cell 31 ≡ false }
-    ensures above { is_cell 127 ≡ false }
+pub fn grid_bytes_by_example()
+    ensures blank { is_grid_byte 32 ≡ true }
+    ensures tilde { is_grid_byte 126 ≡ true }
+    ensures below { is_grid_byte 31 ≡ false }
+    ensures above { is_grid_byte 127 ≡ false }
 {}

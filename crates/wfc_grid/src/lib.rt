@@ -8,7 +8,7 @@ pub mod laws;
 mod reading;
 mod writing;
 
-pub use reading::{GridFault, MAX_CELLS, read};
+pub use reading::{GridFault, MAX_GRID_BYTES, read};
 use std::marker::Model;
 pub use writing::write;
 
@@ -32,7 +32,7 @@ impl Model for Grid {
 
 impl Grid {
     /// The bytes, row by row.
-    pub fn cells(&self) -> &[u8]
+    pub fn as_bytes(&self) -> &[u8]
         ensures bytes { result.now ≡ self.now.bytes }
         ensures grid { IsGrid self.now }
     {

@@ -7,7 +7,7 @@ ghost use Rattle.wfc_text.specs.View.{line_view};
 ghost use Rattle.wfc_grid.specs.Grid.{GridView};
 ghost use Rattle.wfc_grid.specs.Reading.{grid_of};
 ghost use Rattle.wfc_grid.specs.Spelling.{SpellsGrid};
-ghost use Rattle.wfc_grid.specs.Fault.{grid_bytes, first_fault, is_no_cell, line_fault, width_of};
+ghost use Rattle.wfc_grid.specs.Fault.{grid_bytes, first_fault, is_no_grid_byte, line_fault, width_of};
 
 use crate::Grid;
 use std::alloc::{AllocError, Global};
@@ -16,7 +16,7 @@ use wfc_outside::MAX_FILE_BYTES;
 use wfc_text::{TextLine, lines};
 
 /// How many bytes a grid may have.
-pub const MAX_CELLS: usize = 1_048_576;
+pub const MAX_GRID_BYTES: usize = 1_048_576;
 
 /// Why a text is no grid.
 #[derive(Clone, Copy, Debug, PartialEq, Eq, Error)]
@@ -27,7 +27,7 @@ pub enum GridFault {
     Ragged { line: u32 },
     #[error("a line of the grid has a byte that is no printable ASCII")]
     BadByte { line: u32, column: u32 },
-    #[error("the grid has too many cells")]
+    #[error("the grid has too many pixels")]
     TooLarge,
     #[error("memory ran out")]
     NoMemory,
@@ -55,23 +55,23 @@ pub fn read(alloc: Global, bytes: &[u8]) -> Result<Grid, GridFault>
 
     // A grid is answered exactly for a text that spells it within the limit.
     ensures ok { IfOk result (λ grid. SpellsGrid bytes.now grid) }
-    ensures within { IfOk result (λ grid. grid.width * grid.height ≤ MAX_CELLS) }
-    ensures refused { IfErr result (λ fault. fault ≢ GridFault.NoMemory →
-        (grid : GridView) → SpellsGrid bytes.now grid → grid.width * grid.height ≤ MAX_CELLS → ⊥) }
+    ensures within { IfOk result (λ grid. grid.width * grid.height ≤ MAX_GRID_BYTES) }
+    ensures refused { IfErr result (λ fault. fault ≢ GridFault.NoMemory → (grid : GridView) →
+        SpellsGrid bytes.now grid → grid.width * grid.height ≤ MAX_GRID_BYTES → ⊥) }
 {
     let width = first_width(bytes);
     if width == 0 {
         return Err(GridFault::Empty);
     }
-    let cells = cells(alloc, bytes, width)?;
-    if cells.len() > MAX_CELLS {
+    let pixels = pixels(alloc, bytes, width)?;
+    if pixels.len() > MAX_GRID_BYTES {
         return Err(GridFault::TooLarge);
     }
-    let height = cells.len() / width;
+    let height = pixels.len() / width;
     Ok(Grid {
         width: width as u32,
         height: height as u32,
-        bytes: cells,
+        bytes: pixels,
     })
 }
 
@@ -84,19 +84,19 @@ fn first_width(text: &[u8]) -> usize
 }
 
 /// The bytes of all lines, or the first fault of a line.
-fn cells(alloc: Global, text: &[u8], width: usize) -> Result<Vec<u8>, GridFault>
+fn pixels(alloc: Global, text: &[u8], width: usize) -> Result<Vec<u8>, GridFault>
     requires short { length text.now ≤ MAX_FILE_BYTES }
     ensures right { IfOk result (λ _. first_fault width (lines_of text.now) ≡ None) }
-    ensures cells { IfOk result (λ cells. cells.items ≡ grid_bytes (lines_of text.now)) }
+    ensures pixels { IfOk result (λ pixels. pixels.items ≡ grid_bytes (lines_of text.now)) }
     ensures fault { IfErr result (λ fault.
         (first_fault width (lines_of text.now) ≡ Some fault) ⊎ (fault ≡ GridFault.NoMemory)) }
 {
-    let mut cells = Vec::with_capacity(alloc, text.len())?;
+    let mut pixels = Vec::with_capacity(alloc, text.len())?;
     for line in lines(text) {
         check(&line, width)?;
-        cells.extend_from_slice(line.bytes)?;
+        pixels.extend_from_slice(line.bytes)?;
     }
-    Ok(cells)
+    Ok(pixels)
 }
 
 /// Answers the line's fault, if it has one.
@@ -119,7 +119,7 @@ fn check(line: &TextLine<'_>, width: usize) -> Result<(), GridFault>
 
 /// The place of the first byte that may not stand in a grid.
 fn first_other(bytes: &[u8]) -> Option<usize>
-    ensures first { result ≡ position is_no_cell bytes.now }
+    ensures first { result ≡ position is_no_grid_byte bytes.now }
 {
     bytes.iter().position(|byte| !matches!(*byte, 0x20..=0x7e))
 }

@@ -12,7 +12,14 @@ ghost use Rattle.wfc_model.specs.Renumbered.{renumbered, renumbered_pin, IsKnown
 ghost use Rattle.wfc_model.specs.Small.{checkerboard, other_checkerboard, six, spotted, nine};
 ghost use Rattle.wfc_model.specs.Window.{places, window};
 
+use crate::MAX_OUTPUT_SIDE;
+
 // ---- pictures
+
+/// How many columns and rows a map may have.
+pub fn sides_have_a_limit()
+    ensures most { MAX_OUTPUT_SIDE ≡ 4096 }
+{}
 
 /// Two rows of three numbers: what stands where, and 0 outside.
 pub fn numbers_by_rows()

@@ -22,7 +22,7 @@ use Rattle.wfc_problem.specs.Network.{Network, supports_of}
 use Rattle.wfc_problem.specs.Assignment.{IsLegalAssignment}
 use Rattle.wfc_lists.proofs.Lists.{has_Contains}
 use Rattle.wfc_problem.proofs.CallerLemmas.{base_inside}
-use Rattle.wfc_places.specs.Steps.{stepped, is_there, cell_of}
+use Rattle.wfc_places.specs.Steps.{stepped, is_there, place_number}
 use Rattle.wfc_overlap.specs.Sample.{Output, window_meets_pins, problem_of_sample}
 use Rattle.wfc_overlap.specs.Bridge.{IsRoom, AreInside, nearest, pixel_of, picture_of}
 use Rattle.wfc_places.proofs.CallerLemmas.{mod_low, forth_there, stay_there, stayed, held-from_suits}
@@ -92,7 +92,7 @@ module _ (patterns : PatternsView) (output : Output) (pins : List Pin) (a : List
 
   -- the pattern at a place, and its window
   abbrev pub value : ℕ → ℕ → ℕ
-  value x y = get_or a (cell_of columns x y) 0
+  value x y = get_or a (place_number columns x y) 0
 
   abbrev pub W : ℕ → ℕ → List ℕ
   W x y = window_at patterns (value x y)
@@ -102,7 +102,7 @@ module _ (patterns : PatternsView) (output : Output) (pins : List Pin) (a : List
 
   pub value_in : (x y : ℕ) → x < columns → y < rows → value x y < length patterns.windows
   value_in x y column row =
-      let inside = base_inside P (sample_problem patterns output pins taught room) (cell_of columns x y) (value x y) (legal.based (cell_of columns x y) (cell_inside patterns output pins x y column row)) in
+      let inside = base_inside P (sample_problem patterns output pins taught room) (place_number columns x y) (value x y) (legal.based (place_number columns x y) (cell_inside patterns output pins x y column row)) in
       omega (arith, inside.1, taught.weighed)
 
   -- ---- from window to window
@@ -113,7 +113,7 @@ module _ (patterns : PatternsView) (output : Output) (pins : List Pin) (a : List
   step_agrees x y d column row dir across_there down_there =
       let u = stepped columns (right_by d) (left_by d) x in
       let v = stepped rows (down_by d) (up_by d) y in
-      let beside = legal.beside (cell_of columns x y) d (cell_of columns u v) (place-neighbour patterns output pins taught room x y d column row dir across_there down_there) in
+      let beside = legal.beside (place_number columns x y) d (place_number columns u v) (place-neighbour patterns output pins taught room x y d column row dir across_there down_there) in
       everywhere n (W x y) (W u v) d
       (support-agrees patterns output pins (value x y) (value u v) d dir (has_Contains (supports_of P (value x y) d) (value u v) beside)).agree
 
@@ -220,7 +220,7 @@ module _ (patterns : PatternsView) (output : Output) (pins : List Pin) (a : List
       let V = nearest output.height n output.wrap pin.row in
       let meets_all : window_meets_pins n output (U, V) (W U V) pins ≡ true =
       sym (base-at patterns output pins taught U V (value U V) across.inside below.inside (value_in U V across.inside below.inside))
-      ∙ legal.based (cell_of columns U V) (cell_inside patterns output pins U V across.inside below.inside) in
+      ∙ legal.based (place_number columns U V) (cell_inside patterns output pins U V across.inside below.inside) in
       let column : U + (pin.column - U) ≡ pin.column = omega (arith, across.before) in
       let row : V + (pin.row - V) ≡ pin.row = omega (arith, below.before) in
       let suited = from-meets n output (U, V) (W U V) pins meets_all k d l (pin.column - U) (pin.row - V) across.within below.within

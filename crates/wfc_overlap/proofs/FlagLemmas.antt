@@ -17,7 +17,7 @@ use Rattle.wfc_pattern.specs.Patterns.{PatternsView, window_at}
 use Rattle.wfc_places.specs.Flags.{flag}
 use Rattle.wfc_overlap.specs.Flags.{AreCut, IsTable}
 use Rattle.wfc_places.specs.Marks.{suits}
-use Rattle.wfc_places.specs.Steps.{cell_of}
+use Rattle.wfc_places.specs.Steps.{place_number}
 use Rattle.wfc_overlap.specs.Sample.{Output, window_suits_at}
 use Rattle.wfc_lists.proofs.Growing.{one_more}
 use Rattle.wfc_places.proofs.CallerLemmas.{mod_low, mod_once}
@@ -47,7 +47,7 @@ module _ (patterns : PatternsView) (output : Output) where
 
   -- nothing is taken away by a test that passes
   pub cut_nothing : (flags : List Bool) (passes : ℕ × ℕ → List ℕ → Bool) → ((place : ℕ × ℕ) (w : List ℕ) → passes place w ≡ true) → AreCut patterns output flags flags passes
-  cut_nothing flags passes all = record { as_long = refl; left = λ x y v column row inside. sym (ap (λ b. flag count flags (cell_of columns x y) v && b) (all (x, y) (window_at patterns v)) ∙ and-true (flag count flags (cell_of columns x y) v)) }
+  cut_nothing flags passes all = record { as_long = refl; left = λ x y v column row inside. sym (ap (λ b. flag count flags (place_number columns x y) v && b) (all (x, y) (window_at patterns v)) ∙ and-true (flag count flags (place_number columns x y) v)) }
 
   -- one test behind another
   pub cut_more : (old flags new : List Bool) (first second both : ℕ × ℕ → List ℕ → Bool) → AreCut patterns output old flags first → AreCut patterns output flags new second
@@ -57,8 +57,8 @@ module _ (patterns : PatternsView) (output : Output) where
     left = λ x y v column row inside.
         two.left x y v column row inside
         ∙ ap (λ b. b && second (x, y) (window_at patterns v)) (one.left x y v column row inside)
-        ∙ and_assoc (flag count old (cell_of columns x y) v) (first (x, y) (window_at patterns v)) (second (x, y) (window_at patterns v))
-        ∙ ap (λ b. flag count old (cell_of columns x y) v && b) (sym (says (x, y) (window_at patterns v)));
+        ∙ and_assoc (flag count old (place_number columns x y) v) (first (x, y) (window_at patterns v)) (second (x, y) (window_at patterns v))
+        ∙ ap (λ b. flag count old (place_number columns x y) v && b) (sym (says (x, y) (window_at patterns v)));
   }
 
   -- the flags of all places, from all true on, are those of what passes
@@ -113,11 +113,11 @@ module _ (patterns : PatternsView) (output : Output) where
   cut_nowhere flags mark i j apart = record {
     as_long = refl;
     left = λ x y v column row inside.
-        sym (ap (λ b. flag count flags (cell_of columns x y) v && b) (suits_nowhere mark i j (x, y) (window_at patterns v) (apart x y column row)) ∙ and-true (flag count flags (cell_of columns x y) v));
+        sym (ap (λ b. flag count flags (place_number columns x y) v && b) (suits_nowhere mark i j (x, y) (window_at patterns v) (apart x y column row)) ∙ and-true (flag count flags (place_number columns x y) v));
   }
 
   -- cells in other columns or rows are others
-  apart_cells : (x y u v : ℕ) → x < columns → u < columns → (x ≡ u → y ≡ v → ⊥) → cell_of columns x y ≢ cell_of columns u v
+  apart_cells : (x y u v : ℕ) → x < columns → u < columns → (x ≡ u → y ≡ v → ⊥) → place_number columns x y ≢ place_number columns u v
   apart_cells x y u v column other apart e =
       apart (sym (mod-mul-add y columns x column) ∙ ap (λ k. k % columns) e ∙ mod-mul-add v columns u other)
       (sym (div-mul-add y columns x column) ∙ ap (λ k. k / columns) e ∙ div-mul-add v columns u other)
@@ -126,8 +126,8 @@ module _ (patterns : PatternsView) (output : Output) where
   pub cut_at : (old new : List Bool) (mark : Pin) (i j u v : ℕ) → u < columns → (u + i) % output.width ≡ mark.column → (v + j) % output.height ≡ mark.row
       → ((x : ℕ) → x < columns → (x + i) % output.width ≡ mark.column → x ≡ u) → ((y : ℕ) → y < rows → (y + j) % output.height ≡ mark.row → y ≡ v)
       → length new ≡ length old
-      → ((w : ℕ) → w < count → flag count new (cell_of columns u v) w ≡ (flag count old (cell_of columns u v) w && suits mark (slice_index (window_at patterns w) (j * patterns.n + i))))
-      → ((k : ℕ) → (k < cell_of columns u v * count) ⊎ (cell_of columns u v * count + count ≤ k) → get_or new k false ≡ get_or old k false)
+      → ((w : ℕ) → w < count → flag count new (place_number columns u v) w ≡ (flag count old (place_number columns u v) w && suits mark (slice_index (window_at patterns w) (j * patterns.n + i))))
+      → ((k : ℕ) → (k < place_number columns u v * count) ⊎ (place_number columns u v * count + count ≤ k) → get_or new k false ≡ get_or old k false)
       → AreCut patterns output old new (λ place w. window_suits_at patterns.n output place w mark i j)
   cut_at old new mark i j u v u_in column row only_x only_y as_long here others = record { as_long = as_long; left = λ x y w x_in y_in inside. by x y w x_in y_in inside (cases_eq x u) (cases_eq y v) }
     where
@@ -135,20 +135,20 @@ module _ (patterns : PatternsView) (output : Output) where
       cases_eq a b = elim (cases_lt a b) [ inl l ↦ inr (λ e. absurd (omega arith)) | inr ge ↦ elim (cases_lt b a) [ inl l ↦ inr (λ e. absurd (omega arith)) | inr le ↦ inl (omega arith) ] ]
 
       away : (x y w : ℕ) → x < columns → y < rows → w < count → (x ≡ u → y ≡ v → ⊥)
-          → flag count new (cell_of columns x y) w ≡ (flag count old (cell_of columns x y) w && window_suits_at patterns.n output (x, y) (window_at patterns w) mark i j)
+          → flag count new (place_number columns x y) w ≡ (flag count old (place_number columns x y) w && window_suits_at patterns.n output (x, y) (window_at patterns w) mark i j)
       away x y w x_in y_in inside apart =
-          others (cell_of columns x y * count + w) (apart_rows count (cell_of columns x y) (cell_of columns u v) w inside (apart_cells x y u v x_in u_in apart))
-          ∙ sym (ap (λ b. flag count old (cell_of columns x y) w && b) (suits_nowhere mark i j (x, y) (window_at patterns w) (λ on_x on_y. apart (only_x x x_in on_x) (only_y y y_in on_y))) ∙ and-true (flag count old (cell_of columns x y) w))
+          others (place_number columns x y * count + w) (apart_rows count (place_number columns x y) (place_number columns u v) w inside (apart_cells x y u v x_in u_in apart))
+          ∙ sym (ap (λ b. flag count old (place_number columns x y) w && b) (suits_nowhere mark i j (x, y) (window_at patterns w) (λ on_x on_y. apart (only_x x x_in on_x) (only_y y y_in on_y))) ∙ and-true (flag count old (place_number columns x y) w))
 
       by : (x y w : ℕ) → x < columns → y < rows → w < count → (x ≡ u) ⊎ (x ≢ u) → (y ≡ v) ⊎ (y ≢ v)
-          → flag count new (cell_of columns x y) w ≡ (flag count old (cell_of columns x y) w && window_suits_at patterns.n output (x, y) (window_at patterns w) mark i j)
+          → flag count new (place_number columns x y) w ≡ (flag count old (place_number columns x y) w && window_suits_at patterns.n output (x, y) (window_at patterns w) mark i j)
       by x y w x_in y_in inside (inr other) q = away x y w x_in y_in inside (λ e _. other e)
       by x y w x_in y_in inside (inl e) (inr other) = away x y w x_in y_in inside (λ _ f. other f)
       by x y w x_in y_in inside (inl e) (inl f) =
-          ap (λ c. flag count new c w) (ap (λ k. cell_of columns k y) e ∙ ap (cell_of columns u) f)
+          ap (λ c. flag count new c w) (ap (λ k. place_number columns k y) e ∙ ap (place_number columns u) f)
           ∙ here w inside
-          ∙ ap (λ c. flag count old c w && suits mark (slice_index (window_at patterns w) (j * patterns.n + i))) (sym (ap (λ k. cell_of columns k y) e ∙ ap (cell_of columns u) f))
-          ∙ ap (λ b. flag count old (cell_of columns x y) w && b) (sym (suits_here mark i j (x, y) (window_at patterns w) (ap (λ k. (k + i) % output.width) e ∙ column) (ap (λ k. (k + j) % output.height) f ∙ row)))
+          ∙ ap (λ c. flag count old c w && suits mark (slice_index (window_at patterns w) (j * patterns.n + i))) (sym (ap (λ k. place_number columns k y) e ∙ ap (place_number columns u) f))
+          ∙ ap (λ b. flag count old (place_number columns x y) w && b) (sym (suits_here mark i j (x, y) (window_at patterns w) (ap (λ k. (k + i) % output.width) e ∙ column) (ap (λ k. (k + j) % output.height) f ∙ row)))
 
   -- a cell's row of flags lies in the table
   pub row_inside : (flags : List Bool) (n across x y : ℕ) → n ≡ patterns.n → across ≡ starts output.width n output.wrap → IsTable patterns output flags → x < starts output.width n output.wrap → y < starts output.height n output.wrap

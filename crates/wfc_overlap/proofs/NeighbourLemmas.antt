@@ -5,7 +5,7 @@ use Rattle.std.specs.List.{range_with_len}
 use Rattle.wfc_model.specs.Direction.{left_by, down_by, right_by, up_by}
 use Rattle.wfc_model.specs.Window.{starts}
 use Rattle.wfc_problem.specs.declared.TheConstants.{NO_CELL}
-use Rattle.wfc_places.specs.Steps.{along, stepped, is_there, cell_of}
+use Rattle.wfc_places.specs.Steps.{along, stepped, is_there, place_number}
 use Rattle.wfc_overlap.specs.Layout.{cell_in}
 use Rattle.wfc_overlap.specs.Sample.{Output, window_beside}
 use Rattle.wfc_places.proofs.CallerLemmas.{stay_there, stayed}
@@ -22,7 +22,7 @@ along_stays count wrap at inside = along_there count wrap 0 0 at at (stay_there 
 
 -- ---- the four cells beside a place
 
-by_bools : (a b : Bool) (columns u v : ℕ) → (if a && b then cell_of columns u v else NO_CELL) ≡ cell_in columns (if a then Some u else None) (if b then Some v else None)
+by_bools : (a b : Bool) (columns u v : ℕ) → (if a && b then place_number columns u v else NO_CELL) ≡ cell_in columns (if a then Some u else None) (if b then Some v else None)
 by_bools true true columns u v = refl
 by_bools true false columns u v = refl
 by_bools false true columns u v = refl

@@ -15,7 +15,7 @@ use Rattle.wfc_model.proofs.CallerLemmas.{same_window-Decides}
 use Rattle.wfc_model.proofs.CallerLemmas.{square-at}
 use Rattle.wfc_pattern.specs.Patterns.{PatternsView, AreDifferent, IsPatterns, window_at}
 use Rattle.wfc_problem.specs.Assignment.{IsLegalAssignment}
-use Rattle.wfc_places.specs.Steps.{cell_of}
+use Rattle.wfc_places.specs.Steps.{place_number}
 use Rattle.wfc_overlap.specs.Sample.{Output, problem_of_sample}
 use Rattle.wfc_overlap.specs.Bridge.{IsRoom, IsTaughtBy, nearest, pattern_number, numbers_of_windows, pixel_of, picture_of}
 use Rattle.wfc_places.proofs.CallerLemmas.{mod_low}
@@ -93,5 +93,5 @@ numbers_again sample rules patterns output pins a taught room by legal =
     ap (λ k. get_or (numbers_of_windows patterns output picture) k 0) (sym place.cell)
     ∙ number-at patterns output pins picture x y place.column place.row
     ∙ ap (pattern_number patterns) (window-is patterns output pins a taught room legal x y place.column place.row)
-    ∙ own_number patterns (get_or a (cell_of columns x y) 0) taught.different (value_in patterns output pins a taught room legal x y place.column place.row)
+    ∙ own_number patterns (get_or a (place_number columns x y) 0) taught.different (value_in patterns output pins a taught room legal x y place.column place.row)
     ∙ ap (λ k. get_or a k 0) place.cell)

@@ -18,7 +18,7 @@ use Rattle.wfc_problem.specs.declared.TheConstants.{NO_CELL, MAX_PAIRS}
 use Rattle.wfc_lists.proofs.Tables.{length-table, table-at, row_below}
 use Rattle.wfc_model.proofs.CallerLemmas.{opposite_below}
 use Rattle.wfc_problem.proofs.CallerLemmas.{neighbour_read, neighbour_not_none, neighbour_is, supports_inside, flag_at}
-use Rattle.wfc_places.specs.Steps.{stepped, is_there, cell_of}
+use Rattle.wfc_places.specs.Steps.{stepped, is_there, place_number}
 use Rattle.wfc_overlap.specs.Sample.{Output, window_beside, agreeing, window_meets_pins, problem_of_sample}
 use Rattle.wfc_overlap.specs.Bridge.{IsRoom}
 use Rattle.wfc_places.proofs.CallerLemmas as shared
@@ -50,7 +50,7 @@ module _ (patterns : PatternsView) (output : Output) (pins : List Pin) where
   pub cells-is : P.cells ≡ rows * columns
   cells-is = length-places output.width output.height patterns.n output.wrap
 
-  pub cell_inside : (x y : ℕ) → x < columns → y < rows → cell_of columns x y < P.cells
+  pub cell_inside : (x y : ℕ) → x < columns → y < rows → place_number columns x y < P.cells
   cell_inside x y column row = omega (arith, cells-is, mul-add-lt y columns x rows row column)
 
   pub cell_place : (c : ℕ) → c < P.cells → IsCell columns rows c (c % columns) (c / columns)
@@ -58,10 +58,10 @@ module _ (patterns : PatternsView) (output : Output) (pins : List Pin) where
 
   -- ---- what lies beside a place
 
-  pub entry : (x y d : ℕ) → x < columns → y < rows → d < 4 → get_or P.neighbours (cell_of columns x y * 4 + d) NO_CELL ≡ window_beside patterns.n output (x, y) d
+  pub entry : (x y d : ℕ) → x < columns → y < rows → d < 4 → get_or P.neighbours (place_number columns x y * 4 + d) NO_CELL ≡ window_beside patterns.n output (x, y) d
   entry x y d column row dir =
       table-at (λ place. map (λ d. window_beside patterns.n output place d) (range_with_len 0 4)) 4
-      (λ place. length-map-range_with_len (λ d. window_beside patterns.n output place d) 0 4) all (cell_of columns x y) d (0, 0) NO_CELL (cell_inside x y column row) dir
+      (λ place. length-map-range_with_len (λ d. window_beside patterns.n output place d) 0 4) all (place_number columns x y) d (0, 0) NO_CELL (cell_inside x y column row) dir
       ∙ ap (λ place. get_or (map (λ d. window_beside patterns.n output place d) (range_with_len 0 4)) d NO_CELL) (places-at output.width output.height patterns.n output.wrap x y (0, 0) column row)
       ∙ get_or-map-range_with_len (λ d. window_beside patterns.n output (x, y) d) 0 4 d d NO_CELL dir (zero-add d)
 
@@ -69,23 +69,23 @@ module _ (patterns : PatternsView) (output : Output) (pins : List Pin) where
     pub dir : d < 4
     pub across_there : is_there columns output.wrap (right_by d) (left_by d) x ≡ true
     pub down_there : is_there rows output.wrap (down_by d) (up_by d) y ≡ true
-    pub cell : m ≡ cell_of columns (across x d) (down y d)
+    pub cell : m ≡ place_number columns (across x d) (down y d)
 
   abbrev both_there : ℕ → ℕ → ℕ → Bool
   both_there x y d = is_there columns output.wrap (right_by d) (left_by d) x && is_there rows output.wrap (down_by d) (up_by d) y
 
-  pub neighbour-place : (x y d m : ℕ) → x < columns → y < rows → neighbour P (cell_of columns x y) d ≡ Some m → IsBeside x y d m
+  pub neighbour-place : (x y d m : ℕ) → x < columns → y < rows → neighbour P (place_number columns x y) d ≡ Some m → IsBeside x y d m
   neighbour-place x y d m column row at =
-      let read = neighbour_read P (cell_of columns x y) d m at in
+      let read = neighbour_read P (place_number columns x y) d m at in
       let is_m : window_beside patterns.n output (x, y) d ≡ m = sym (entry x y d column row read.dir_in) ∙ read.entry in
       by read.dir_in is_m (both_there x y d) refl
     where
       by : d < 4 → window_beside patterns.n output (x, y) d ≡ m → (b : Bool) → both_there x y d ≡ b → IsBeside x y d m
       by dir is_m true e =
           let parts = and_parts _ _ e in
-          record { dir = dir; across_there = parts.0; down_there = parts.1; cell = sym is_m ∙ cond-true (both_there x y d) (cell_of columns (across x d) (down y d)) NO_CELL e }
+          record { dir = dir; across_there = parts.0; down_there = parts.1; cell = sym is_m ∙ cond-true (both_there x y d) (place_number columns (across x d) (down y d)) NO_CELL e }
       by dir is_m false e =
-          absurd (neighbour_not_none P (cell_of columns x y) d m at (sym is_m ∙ cond-false (both_there x y d) (cell_of columns (across x d) (down y d)) NO_CELL e))
+          absurd (neighbour_not_none P (place_number columns x y) d m at (sym is_m ∙ cond-false (both_there x y d) (place_number columns (across x d) (down y d)) NO_CELL e))
 
   pub neighbour-cell : (c d m : ℕ) → neighbour P c d ≡ Some m → c < P.cells
   neighbour-cell c d m at =
@@ -100,21 +100,21 @@ module _ (patterns : PatternsView) (output : Output) (pins : List Pin) where
 
   pub place-neighbour : IsPatterns patterns → IsRoom patterns output → (x y d : ℕ) → x < columns → y < rows → d < 4
       → is_there columns output.wrap (right_by d) (left_by d) x ≡ true → is_there rows output.wrap (down_by d) (up_by d) y ≡ true
-      → neighbour P (cell_of columns x y) d ≡ Some (cell_of columns (across x d) (down y d))
+      → neighbour P (place_number columns x y) d ≡ Some (place_number columns (across x d) (down y d))
   place-neighbour taught room x y d column row dir across_there down_there =
-      let is_cell : get_or P.neighbours (cell_of columns x y * 4 + d) NO_CELL ≡ cell_of columns (across x d) (down y d) =
-      entry x y d column row dir ∙ cond-true (both_there x y d) (cell_of columns (across x d) (down y d)) NO_CELL (and_from _ _ across_there down_there) in
+      let is_grid_byte : get_or P.neighbours (place_number columns x y * 4 + d) NO_CELL ≡ place_number columns (across x d) (down y d) =
+      entry x y d column row dir ∙ cond-true (both_there x y d) (place_number columns (across x d) (down y d)) NO_CELL (and_from _ _ across_there down_there) in
       let u = stepped-is columns (right_by d) (left_by d) x column (one_across d) in
       let v = stepped-is rows (down_by d) (up_by d) y row (one_down d) in
       let inside = cell_inside (across x d) (down y d) u.below v.below in
       let few = few_cells taught room in
-      neighbour_is P (cell_of columns x y) d dir (λ none. omega (arith, is_cell, none, inside, few)) ∙ ap Some is_cell
+      neighbour_is P (place_number columns x y) d dir (λ none. omega (arith, is_grid_byte, none, inside, few)) ∙ ap Some is_grid_byte
 
   -- ---- the step back
 
   back_by : IsPatterns patterns → IsRoom patterns output → (x y d e m : ℕ) → x < columns → y < rows → e < 4
       → right_by e ≡ left_by d → left_by e ≡ right_by d → down_by e ≡ up_by d → up_by e ≡ down_by d
-      → IsBeside x y d m → neighbour P m e ≡ Some (cell_of columns x y)
+      → IsBeside x y d m → neighbour P m e ≡ Some (place_number columns x y)
   back_by taught room x y d e m column row dir right left low up near =
       let u = stepped-is columns (right_by d) (left_by d) x column (one_across d) in
       let v = stepped-is rows (down_by d) (up_by d) y row (one_down d) in
@@ -130,10 +130,10 @@ module _ (patterns : PatternsView) (output : Output) (pins : List Pin) where
       ap (λ k. stepped rows k (up_by e) (down y d)) low ∙ ap (λ k. stepped rows (up_by d) k (down y d)) up ∙ stepped-stepped rows (down_by d) (up_by d) y row (one_down d) in
       ap (λ k. neighbour P k e) near.cell
       ∙ place-neighbour taught room (across x d) (down y d) e u.below v.below dir across_there down_there
-      ∙ ap (λ k. Some (cell_of columns k (down (down y d) e))) back_x
-      ∙ ap (λ k. Some (cell_of columns x k)) back_y
+      ∙ ap (λ k. Some (place_number columns k (down (down y d) e))) back_x
+      ∙ ap (λ k. Some (place_number columns x k)) back_y
 
-  back_at : IsPatterns patterns → IsRoom patterns output → (x y d m : ℕ) → x < columns → y < rows → d < 4 → IsBeside x y d m → neighbour P m (opposite d) ≡ Some (cell_of columns x y)
+  back_at : IsPatterns patterns → IsRoom patterns output → (x y d m : ℕ) → x < columns → y < rows → d < 4 → IsBeside x y d m → neighbour P m (opposite d) ≡ Some (place_number columns x y)
   back_at taught room x y zero m column row dir near = back_by taught room x y 0 2 m column row (omega arith) refl refl refl refl near
   back_at taught room x y (suc zero) m column row dir near = back_by taught room x y 1 3 m column row (omega arith) refl refl refl refl near
   back_at taught room x y (suc (suc zero)) m column row dir near = back_by taught room x y 2 0 m column row (omega arith) refl refl refl refl near
@@ -191,11 +191,11 @@ module _ (patterns : PatternsView) (output : Output) (pins : List Pin) where
       length-table (λ place. map (λ w. window_meets_pins patterns.n output place w pins) patterns.windows) count (λ place. length-map patterns.windows (λ w. window_meets_pins patterns.n output place w pins)) all
       ∙ ap (λ k. P.cells * k) (sym taught.weighed)
 
-  pub base-at : IsPatterns patterns → (x y v : ℕ) → x < columns → y < rows → v < count → in_base P (cell_of columns x y) v ≡ window_meets_pins patterns.n output (x, y) (window_at patterns v) pins
+  pub base-at : IsPatterns patterns → (x y v : ℕ) → x < columns → y < rows → v < count → in_base P (place_number columns x y) v ≡ window_meets_pins patterns.n output (x, y) (window_at patterns v) pins
   base-at taught x y v column row inside =
-      ap (λ k. has_flag k P.base (cell_of columns x y) v) taught.weighed
-      ∙ flag_at count P.base (cell_of columns x y) v inside
-      ∙ table-at (λ place. map (λ w. window_meets_pins patterns.n output place w pins) patterns.windows) count (λ place. length-map patterns.windows (λ w. window_meets_pins patterns.n output place w pins)) all (cell_of columns x y) v (0, 0) false (cell_inside x y column row) inside
+      ap (λ k. has_flag k P.base (place_number columns x y) v) taught.weighed
+      ∙ flag_at count P.base (place_number columns x y) v inside
+      ∙ table-at (λ place. map (λ w. window_meets_pins patterns.n output place w pins) patterns.windows) count (λ place. length-map patterns.windows (λ w. window_meets_pins patterns.n output place w pins)) all (place_number columns x y) v (0, 0) false (cell_inside x y column row) inside
       ∙ ap (λ place. get_or (map (λ w. window_meets_pins patterns.n output place w pins) patterns.windows) v false) (places-at output.width output.height patterns.n output.wrap x y (0, 0) column row)
       ∙ get_or-map (λ w. window_meets_pins patterns.n output (x, y) w pins) patterns.windows v [] false inside
 

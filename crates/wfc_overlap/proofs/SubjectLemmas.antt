@@ -8,7 +8,7 @@ use Rattle.wfc_pattern.specs.Patterns.{PatternsView, IsPatterns, window_at}
 use Rattle.wfc_pattern.proofs.CallerLemmas.{everywhere, tested}
 use Rattle.wfc_problem.specs.Network.{neighbour, supports_of, in_base}
 use Rattle.wfc_overlap.specs.Bridge.{IsRoom}
-use Rattle.wfc_places.specs.Steps.{cell_of, stepped, IsStepFrom}
+use Rattle.wfc_places.specs.Steps.{place_number, stepped, IsStepFrom}
 use Rattle.wfc_overlap.specs.Sample.{Output, window_meets_pins, problem_of_sample}
 use Rattle.wfc_overlap.specs.Subject.{HoldsPin, IsPlaceOf, place_cell, place_columns, place_rows}
 use Rattle.wfc_places.proofs.CallerLemmas.{apart-stepped, apart-there, held-from_suits, one_across, one_down, same_column, same_row, step-apart, step_across, step_down, step_from, stepped-is, suits-from}
@@ -24,9 +24,9 @@ module _ (patterns : PatternsView) (output : Output) (pins : List Pin) where
 
   -- a neighbour lies one step away
   pub neighbour-step : (x y u v d : ℕ) → IsPlaceOf patterns output x y → IsPlaceOf patterns output u v
-      → neighbour (problem_of_sample patterns output pins) (cell_of columns x y) d ≡ Some (cell_of columns u v) → IsStepFrom output.wrap columns rows d x y u v
+      → neighbour (problem_of_sample patterns output pins) (place_number columns x y) d ≡ Some (place_number columns u v) → IsStepFrom output.wrap columns rows d x y u v
   neighbour-step x y u v d here other at =
-      let near = neighbour-place patterns output pins x y d (cell_of columns u v) here.column here.row at in
+      let near = neighbour-place patterns output pins x y d (place_number columns u v) here.column here.row at in
       let p = stepped columns (right_by d) (left_by d) x in
       let q = stepped rows (down_by d) (up_by d) y in
       let p_in : p < columns = (stepped-is columns (right_by d) (left_by d) x here.column (one_across d)).below in
@@ -40,15 +40,15 @@ module _ (patterns : PatternsView) (output : Output) (pins : List Pin) where
 
   -- and what lies one step away is the neighbour
   pub step-neighbour : IsPatterns patterns → IsRoom patterns output → (x y u v d : ℕ) → IsPlaceOf patterns output x y → IsPlaceOf patterns output u v → d < 4
-      → IsStepFrom output.wrap columns rows d x y u v → neighbour (problem_of_sample patterns output pins) (cell_of columns x y) d ≡ Some (cell_of columns u v)
+      → IsStepFrom output.wrap columns rows d x y u v → neighbour (problem_of_sample patterns output pins) (place_number columns x y) d ≡ Some (place_number columns u v)
   step-neighbour taught room x y u v d here other dir step =
       let across = step_across output.wrap columns rows d x y u v step in
       let down = step_down output.wrap columns rows d x y u v step in
       place-neighbour patterns output pins taught room x y d here.column here.row dir
       (apart-there output.wrap columns (right_by d) (left_by d) x u here.column other.column (one_across d) across)
       (apart-there output.wrap rows (down_by d) (up_by d) y v here.row other.row (one_down d) down)
-      ∙ ap (λ k. Some (cell_of columns k (stepped rows (down_by d) (up_by d) y))) (apart-stepped output.wrap columns (right_by d) (left_by d) x u here.column other.column (one_across d) across)
-      ∙ ap (λ k. Some (cell_of columns u k)) (apart-stepped output.wrap rows (down_by d) (up_by d) y v here.row other.row (one_down d) down)
+      ∙ ap (λ k. Some (place_number columns k (stepped rows (down_by d) (up_by d) y))) (apart-stepped output.wrap columns (right_by d) (left_by d) x u here.column other.column (one_across d) across)
+      ∙ ap (λ k. Some (place_number columns u k)) (apart-stepped output.wrap rows (down_by d) (up_by d) y v here.row other.row (one_down d) down)
 
   -- each cell is that of a place, and each place has a cell
   pub cell-place : (c : ℕ) → c < (problem_of_sample patterns output pins).cells → (x : ℕ) × (y : ℕ) × IsPlaceOf patterns output x y × (place_cell patterns output x y ≡ c)
@@ -69,13 +69,13 @@ module _ (patterns : PatternsView) (output : Output) (pins : List Pin) where
 
   -- a base value's window holds each pin
   pub base-holds : IsPatterns patterns → (x y p : ℕ) → IsPlaceOf patterns output x y → p < length patterns.windows
-      → in_base (problem_of_sample patterns output pins) (cell_of columns x y) p ≡ true → All (HoldsPin patterns.n output x y (window_at patterns p)) pins
+      → in_base (problem_of_sample patterns output pins) (place_number columns x y) p ≡ true → All (HoldsPin patterns.n output x y (window_at patterns p)) pins
   base-holds taught x y p here inside base k d l i j column row on_column on_row =
       held-from_suits (get_or pins k d) _
       (from-meets patterns.n output (x, y) (window_at patterns p) pins (sym (base-at patterns output pins taught x y p here.column here.row inside) ∙ base) k d l i j column row on_column on_row)
 
   pub holds-base : IsPatterns patterns → (x y p : ℕ) → IsPlaceOf patterns output x y → p < length patterns.windows
-      → All (HoldsPin patterns.n output x y (window_at patterns p)) pins → in_base (problem_of_sample patterns output pins) (cell_of columns x y) p ≡ true
+      → All (HoldsPin patterns.n output x y (window_at patterns p)) pins → in_base (problem_of_sample patterns output pins) (place_number columns x y) p ≡ true
   holds-base taught x y p here inside holds =
       base-at patterns output pins taught x y p here.column here.row inside
       ∙ meets-from patterns.n output (x, y) (window_at patterns p) pins (λ k d l i j column row on_column on_row.

@@ -19,7 +19,7 @@ use Rattle.wfc_pattern.proofs.CallerLemmas.{tested}
 use Rattle.wfc_problem.specs.Network.{Network, neighbour, ok, supports_of, in_base}
 use Rattle.wfc_problem.specs.Assignment.{IsLegalAssignment}
 use Rattle.wfc_lists.proofs.Lists.{Contains_has}
-use Rattle.wfc_places.specs.Steps.{stepped, is_there, cell_of}
+use Rattle.wfc_places.specs.Steps.{stepped, is_there, place_number}
 use Rattle.wfc_overlap.specs.Sample.{Output, window_meets_pins, problem_of_sample}
 use Rattle.wfc_overlap.specs.Bridge.{pattern_number, numbers_of_windows}
 use Rattle.wfc_places.proofs.CallerLemmas.{stepped-is, exact, stepped_modulo, one_across, one_down, suits-from}
@@ -67,9 +67,9 @@ module _ (patterns : PatternsView) (output : Output) (pins : List Pin) (m : Rast
   abbrev a : List ℕ
   a = numbers_of_windows patterns output m
 
-  pub number-at : (x y : ℕ) → x < columns → y < rows → get_or a (cell_of columns x y) 0 ≡ number x y
+  pub number-at : (x y : ℕ) → x < columns → y < rows → get_or a (place_number columns x y) 0 ≡ number x y
   number-at x y column row =
-      get_or-map (λ (place : ℕ × ℕ). pattern_number patterns (window m place.0 place.1 patterns.n)) all (cell_of columns x y) (0, 0) 0 (cell_inside patterns output pins x y column row)
+      get_or-map (λ (place : ℕ × ℕ). pattern_number patterns (window m place.0 place.1 patterns.n)) all (place_number columns x y) (0, 0) 0 (cell_inside patterns output pins x y column row)
       ∙ ap (λ (place : ℕ × ℕ). pattern_number patterns (window m place.0 place.1 patterns.n)) (places-at output.width output.height patterns.n output.wrap x y (0, 0) column row)
 
   abbrev AreLearned : Type 0
@@ -102,7 +102,7 @@ module _ (patterns : PatternsView) (output : Output) (pins : List Pin) (m : Rast
       let y = c / columns in
       let is = number-is learned x y place.column place.row in
       ap (λ k. in_base P k (get_or a k 0)) (sym place.cell)
-      ∙ ap (in_base P (cell_of columns x y)) (number-at x y place.column place.row)
+      ∙ ap (in_base P (place_number columns x y)) (number-at x y place.column place.row)
       ∙ base-at patterns output pins taught x y (number x y) place.column place.row is.inside
       ∙ ap (λ w. window_meets_pins patterns.n output (x, y) w pins) is.same
       ∙ window_meets sized held x y
@@ -118,7 +118,7 @@ module _ (patterns : PatternsView) (output : Output) (pins : List Pin) (m : Rast
         down = subst (λ s. (y + down_by d) % s ≡ (v + up_by d) % s) (sym sized.same_height) (step_modulo output.height patterns.n output.wrap (down_by d) (up_by d) y row (one_down d) down_there);
       })
 
-  beside_at : IsSized m output.width output.height → AreLearned → (x y d c : ℕ) → x < columns → y < rows → neighbour P (cell_of columns x y) d ≡ Some c → ok P d (get_or a (cell_of columns x y) 0) (get_or a c 0) ≡ true
+  beside_at : IsSized m output.width output.height → AreLearned → (x y d c : ℕ) → x < columns → y < rows → neighbour P (place_number columns x y) d ≡ Some c → ok P d (get_or a (place_number columns x y) 0) (get_or a c 0) ≡ true
   beside_at sized learned x y d c column row at =
       let near = neighbour-place patterns output pins x y d c column row at in
       let u = stepped columns (right_by d) (left_by d) x in

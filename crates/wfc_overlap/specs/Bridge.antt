@@ -10,7 +10,7 @@ use Rattle.wfc_model.specs.Legal.{IsLegalPicture, Rules, Pin}
 use Rattle.wfc_pattern.specs.Patterns.{PatternsView, window_at}
 use Rattle.wfc_problem.specs.declared.TheConstants.{MAX_PAIRS}
 use Rattle.wfc_problem.specs.Assignment.{IsLegalAssignment}
-use Rattle.wfc_places.specs.Steps.{cell_of}
+use Rattle.wfc_places.specs.Steps.{place_number}
 use Rattle.wfc_overlap.specs.Sample.{Output, problem_of_sample}
 
 -- how many pairs of a place and a pattern there are
@@ -44,7 +44,7 @@ abbrev pub pixel_of : PatternsView → Output → List ℕ → ℕ → ℕ → �
 pixel_of patterns output a x y =
     let u = nearest output.width patterns.n output.wrap x in
     let v = nearest output.height patterns.n output.wrap y in
-    let cell = cell_of (starts output.width patterns.n output.wrap) u v in
+    let cell = place_number (starts output.width patterns.n output.wrap) u v in
     slice_index (window_at patterns (slice_index a cell)) ((y - v) * patterns.n + (x - u))
 
 -- the numbers of row y
@@ -86,7 +86,7 @@ abbrev pub HasWindowsOf : PatternsView → Output → List ℕ → Raster → Ty
 HasWindowsOf patterns output a m =
     let columns = starts output.width patterns.n output.wrap in
     (x y : ℕ) → x < columns → y < starts output.height patterns.n output.wrap
-    → window m x y patterns.n ≡ window_at patterns (slice_index a (cell_of columns x y))
+    → window m x y patterns.n ≡ window_at patterns (slice_index a (place_number columns x y))
 
 -- the picture is legal for each sample that teaches the patterns and all pins inside, where the
 -- assignment is legal for their problem

@@ -3,7 +3,7 @@
 use Rattle.std.specs.Prelude.{◌≡◌, ℕ, ◌*◌, ◌<◌, Bool, ◌&&◌, List, length}
 use Rattle.wfc_model.specs.Window.{starts}
 use Rattle.wfc_pattern.specs.Patterns.{PatternsView, window_at}
-use Rattle.wfc_places.specs.Steps.{cell_of}
+use Rattle.wfc_places.specs.Steps.{place_number}
 use Rattle.wfc_places.specs.Flags.{flag}
 use Rattle.wfc_overlap.specs.Sample.{Output}
 
@@ -13,7 +13,7 @@ AreFlags patterns output flags said =
     let columns = starts output.width patterns.n output.wrap in
     (x y v : ℕ) → x < columns → y < starts output.height patterns.n output.wrap
     → v < length patterns.windows
-    → flag (length patterns.windows) flags (cell_of columns x y) v ≡ said (x, y) v
+    → flag (length patterns.windows) flags (place_number columns x y) v ≡ said (x, y) v
 
 -- a table has a flag for each place and pattern
 abbrev pub IsTable : PatternsView → Output → List Bool → Type 0
@@ -25,7 +25,7 @@ IsTable patterns output flags =
 abbrev pub passes_on : PatternsView → Output → List Bool → (ℕ × ℕ → List ℕ → Bool)
     → ℕ × ℕ → ℕ → Bool
 passes_on patterns output old passes place v =
-    let cell = cell_of (starts output.width patterns.n output.wrap) place.0 place.1 in
+    let cell = place_number (starts output.width patterns.n output.wrap) place.0 place.1 in
     flag (length patterns.windows) old cell v && passes place (window_at patterns v)
 
 -- a pattern stays at a place where it stood and passes a test

@@ -2,7 +2,7 @@
 use Rattle.std.specs.Prelude.{ℕ, List, map, Option, Some}
 use Rattle.std.specs.List.{range_with_len}
 use Rattle.wfc_problem.specs.declared.TheConstants.{NO_CELL}
-use Rattle.wfc_places.specs.Steps.{cell_of}
+use Rattle.wfc_places.specs.Steps.{place_number}
 use Rattle.wfc_overlap.specs.Sample.{Output}
 use Rattle.wfc_overlap.specs.declared.layout.Layout.{Layout}
 
@@ -12,7 +12,7 @@ output_of layout = record { width = layout.width; height = layout.height; wrap =
 
 -- the cell in a column and a row, if both are there
 abbrev pub cell_in : ℕ → Option ℕ → Option ℕ → ℕ
-cell_in columns (Some x) (Some y) = cell_of columns x y
+cell_in columns (Some x) (Some y) = place_number columns x y
 cell_in columns _ _ = NO_CELL
 
 -- the places in row y

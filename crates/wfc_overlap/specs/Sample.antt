@@ -8,7 +8,7 @@ use Rattle.wfc_model.specs.Legal.{Pin}
 use Rattle.wfc_pattern.specs.Agreement.{agrees}
 use Rattle.wfc_pattern.specs.Patterns.{PatternsView, window_at}
 pub use Rattle.wfc_places.specs.Marks.{suits}
-pub use Rattle.wfc_places.specs.Steps.{cell_of, is_there, stepped}
+pub use Rattle.wfc_places.specs.Steps.{place_number, is_there, stepped}
 use Rattle.wfc_problem.specs.Network.{Network}
 use Rattle.wfc_problem.specs.declared.TheConstants.{NO_CELL}
 
@@ -29,7 +29,7 @@ window_beside n output place d =
     let rows = starts output.height n output.wrap in
     if is_there columns output.wrap (right_by d) (left_by d) place.0
     && is_there rows output.wrap (down_by d) (up_by d) place.1
-    then cell_of columns (stepped columns (right_by d) (left_by d) place.0)
+    then place_number columns (stepped columns (right_by d) (left_by d) place.0)
     (stepped rows (down_by d) (up_by d) place.1)
     else NO_CELL
 

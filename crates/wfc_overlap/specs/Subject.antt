@@ -5,7 +5,7 @@ use Rattle.wfc_model.specs.Legal.{Pin}
 use Rattle.wfc_model.specs.Window.{starts}
 use Rattle.wfc_pattern.specs.Agreement.{Agrees}
 use Rattle.wfc_pattern.specs.Patterns.{PatternsView, window_at}
-use Rattle.wfc_places.specs.Steps.{IsStepFrom, cell_of}
+use Rattle.wfc_places.specs.Steps.{IsStepFrom, place_number}
 use Rattle.wfc_problem.specs.Network.{supports_of}
 use Rattle.wfc_overlap.specs.Sample.{Output, problem_of_sample}
 
@@ -24,7 +24,7 @@ pub record IsPlaceOf (patterns : PatternsView) (output : Output) (x y : ℕ) : T
 
 -- the cell of a place
 abbrev pub place_cell : PatternsView → Output → ℕ → ℕ → ℕ
-place_cell patterns output x y = cell_of (place_columns patterns output) x y
+place_cell patterns output x y = place_number (place_columns patterns output) x y
 
 -- from the place in column x and row y one step in direction d leads to that in column u and row v
 abbrev pub IsPlaceStep : PatternsView → Output → ℕ → ℕ → ℕ → ℕ → ℕ → Type 0

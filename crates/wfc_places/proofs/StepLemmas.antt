@@ -6,7 +6,7 @@ use Rattle.std.proofs.lemmas.Bool.Decides.{nat_tests}
 use Rattle.std.proofs.lemmas.Nat.{mod-mul-add, div-mul-add}
 use Rattle.std.proofs.Math.Nat.{add-mod_right}
 use Rattle.wfc_model.specs.Direction.{left_by, down_by, right_by, up_by}
-use Rattle.wfc_places.specs.Steps.{IsStepFrom, cell_of, is_there, stepped}
+use Rattle.wfc_places.specs.Steps.{IsStepFrom, place_number, is_there, stepped}
 
 -- modulo a side that isn't passed
 pub mod_low : (z n : ℕ) → z < n → z % n ≡ z
@@ -167,8 +167,8 @@ step_down true columns rows d x y u v step = step.down
 step_down false columns rows d x y u v step = step.down
 
 -- cells of one number are of one column and one row
-pub same_column : (w x y u v : ℕ) → x < w → u < w → cell_of w x y ≡ cell_of w u v → x ≡ u
+pub same_column : (w x y u v : ℕ) → x < w → u < w → place_number w x y ≡ place_number w u v → x ≡ u
 same_column w x y u v inside other same = sym (mod-mul-add y w x inside) ∙ ap (λ k. k % w) same ∙ mod-mul-add v w u other
 
-pub same_row : (w x y u v : ℕ) → x < w → u < w → cell_of w x y ≡ cell_of w u v → y ≡ v
+pub same_row : (w x y u v : ℕ) → x < w → u < w → place_number w x y ≡ place_number w u v → y ≡ v
 same_row w x y u v inside other same = sym (div-mul-add y w x inside) ∙ ap (λ k. k / w) same ∙ div-mul-add v w u other

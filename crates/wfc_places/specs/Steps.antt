@@ -18,8 +18,8 @@ along count wrap forth back at =
     if is_there count wrap forth back at then Some (stepped count forth back at) else None
 
 -- the number of the place in a column and a row, counted row by row
-abbrev pub cell_of : ℕ → ℕ → ℕ → ℕ
-cell_of columns x y = y * columns + x
+abbrev pub place_number : ℕ → ℕ → ℕ → ℕ
+place_number columns x y = y * columns + x
 
 -- (u, v) lies one step in a direction from (x, y), and modulo so many columns and rows where these wrap
 abbrev pub IsStepFrom : Bool → ℕ → ℕ → ℕ → ℕ → ℕ → ℕ → ℕ → Type 0

@@ -5,7 +5,7 @@ ghost use Rattle.wfc_model.specs.Direction.{left_by, down_by, right_by, up_by};
 ghost use Rattle.wfc_model.specs.Legal.{kept_pin, banned_pin};
 ghost use Rattle.wfc_places.specs.Flags.{HasFlags, IsRowCut, flag};
 ghost use Rattle.wfc_places.specs.Marks.{marked_pin, suits};
-ghost use Rattle.wfc_places.specs.Steps.{IsStepFrom, along, cell_of};
+ghost use Rattle.wfc_places.specs.Steps.{IsStepFrom, along, place_number};
 
 /// A step from each of three columns forth, back and neither, to the next one and not past the ends; where they wrap, on
 /// from the other end.
@@ -20,7 +20,7 @@ pub fn steps_along_three()
 
 /// Places are counted row by row, and how far each direction leads.
 pub fn places_by_rows()
-    ensures third { cell_of 5 2 1 ≡ 7 }
+    ensures third { place_number 5 2 1 ≡ 7 }
     ensures left { map left_by (0 ∷ 1 ∷ 2 ∷ 3 ∷ []) ≡ 1 ∷ 0 ∷ 0 ∷ 0 ∷ [] }
     ensures down { map down_by (0 ∷ 1 ∷ 2 ∷ 3 ∷ []) ≡ 0 ∷ 1 ∷ 0 ∷ 0 ∷ [] }
     ensures right { map right_by (0 ∷ 1 ∷ 2 ∷ 3 ∷ []) ≡ 0 ∷ 0 ∷ 1 ∷ 0 ∷ [] }

@@ -26,7 +26,6 @@ use crate::layouts::MAX_MAP_PIXELS;
 
 /// The limits as plain numbers.
 pub fn limits_are()
-    ensures output { MAX_OUTPUT_SIDE ≡ 4096 }
     ensures pixels { MAX_MAP_PIXELS ≡ 16777216 }
 {}
 

@@ -41,7 +41,8 @@ use Rattle.wfc_task.specs.Given.{HoldsPins, IsProblemOf, IsSample, IsSampleFile,
 use Rattle.wfc_task.specs.Lesson.{IsLesson, HasShownNumbers, IsSampled}
 use Rattle.wfc_task.specs.SamplePlans.{picture_plan, pins_plan, problem_plan, sample_plan, sampled_plan}
 use Rattle.wfc_task.specs.Sampled.{SampledView, shown_by_grid, shown_by_ppm}
-use Rattle.wfc_task.specs.Sources.{is_picture_name, window_side_of}
+use Rattle.wfc_task.specs.Sources.{window_side_of}
+use Rattle.wfc_tileset.specs.Document.{is_ppm_name}
 use Rattle.wfc_task.specs.Steps.{sample_in_numbers, read_pin_lines as lines_in, problem_of_lines, sampled_in, shown_in, patterns_taught}
 use Rattle.wfc_task.specs.declared.lesson.Taught.{Taught}
 use Rattle.wfc_words.specs.RequestView.{RequestView}
@@ -76,12 +77,12 @@ given_shown false bytes sampled shown =
 pub sampled_given : (asked : RequestView) (files : List File) (sampled : SampledView) → outcome (sampled_plan asked) files ≡ Ok sampled → IsSampleFile files asked.file sampled
 sampled_given asked files sampled is =
     let parts = outcome_parts (file_plan Sample asked.file) (λ bytes. step (sampled_in asked bytes)) files sampled is in
-    record { bytes = parts.0; file = file_given Sample asked.file files parts.0 parts.1; shows = shown_given (is_picture_name asked.file) parts.0 sampled (step_ok (sampled_in asked parts.0) files sampled parts.2) }
+    record { bytes = parts.0; file = file_given Sample asked.file files parts.0 parts.1; shows = shown_given (is_ppm_name asked.file) parts.0 sampled (step_ok (sampled_in asked parts.0) files sampled parts.2) }
 
 pub given_sampled : (asked : RequestView) (files : List File) (sampled : SampledView) → IsSampleFile files asked.file sampled → outcome (sampled_plan asked) files ≡ Ok sampled
 given_sampled asked files sampled file =
     outcome_on (file_plan Sample asked.file) (λ bytes. step (sampled_in asked bytes)) files file.bytes (given_file Sample asked.file files file.bytes file.file)
-    ∙ ok_step (sampled_in asked file.bytes) files sampled (given_shown (is_picture_name asked.file) file.bytes sampled file.shows)
+    ∙ ok_step (sampled_in asked file.bytes) files sampled (given_shown (is_ppm_name asked.file) file.bytes sampled file.shows)
 
 pub sample_given : (asked : RequestView) (files : List File) (lesson : Taught) → outcome (sample_plan asked) files ≡ Ok lesson → IsSample asked files lesson.kind lesson.patterns lesson.palette
 sample_given asked files lesson is =
@@ -118,7 +119,7 @@ given_sample asked files kind patterns palette sample =
 
 -- what a file shows are the pixels of a picture
 file_sampled : (files : List File) (name : List ℕ) (sampled : SampledView) → IsSampleFile files name sampled → IsSampled sampled
-file_sampled files name sampled file = by_name (is_picture_name name) file.shows
+file_sampled files name sampled file = by_name (is_ppm_name name) file.shows
   where
     by_name : (picture : Bool) → Shows picture file.bytes sampled → IsSampled sampled
     by_name true shown = let made = read-picture file.bytes shown.ppm shown.read in subst IsSampled (sym shown.shows) (ppm_sampled shown.ppm made.0 made.1)

@@ -9,7 +9,7 @@ use Rattle.std.proofs.lemmas.Nat.{div-mul-add, mul-le}
 use Rattle.std.specs.List.{range_with_len}
 use Rattle.std.specs.Prelude.{All, Contains, IfOk, IsTrue}
 use Rattle.wfc_grid.specs.Grid.{GridView, IsGrid}
-use Rattle.wfc_grid.specs.declared.reading.TheConstants.{MAX_CELLS}
+use Rattle.wfc_grid.specs.declared.reading.TheConstants.{MAX_GRID_BYTES}
 use Rattle.wfc_lists.proofs.Unrepeated.{All-unrepeated, some_unrepeated}
 use Rattle.wfc_model.proofs.CallerLemmas.{IsSized-raster_of, learned_known, numbers_of-raster_of}
 use Rattle.wfc_model.specs.Learned.{learned}
@@ -89,7 +89,7 @@ built_is patterns palette output lines P is =
     by_tests false false false (Ok pins) p q r t is = (record { wide = grind (arith, nat_tests, p); high = grind (arith, nat_tests, q); few_pairs = grind (arith, nat_tests, r) }, (pins, t, cc))
 
 -- what a grid shows
-pub grid_sampled : (grid : GridView) → IsGrid grid → grid.width * grid.height ≤ MAX_CELLS → IsSampled (shown_by_grid grid)
+pub grid_sampled : (grid : GridView) → IsGrid grid → grid.width * grid.height ≤ MAX_GRID_BYTES → IsSampled (shown_by_grid grid)
 grid_sampled grid is_grid small =
     let many : length (symbols_of grid) ≡ grid.width * grid.height = length-map grid.bytes (λ byte. Char byte) ∙ is_grid.filled.as_many in
     record {

@@ -27,7 +27,8 @@ use Rattle.wfc_task.proofs.TaskLemmas.{behind_picture, behind_sampled}
 use Rattle.wfc_task.specs.Given.{IsSampleFile}
 use Rattle.wfc_task.specs.SamplePlans.{picture_plan, sample_plan, sampled_plan}
 use Rattle.wfc_task.specs.Sampled.{SampledView, shown_by_grid, shown_by_ppm}
-use Rattle.wfc_task.specs.Sources.{is_picture_name, window_side_of}
+use Rattle.wfc_task.specs.Sources.{window_side_of}
+use Rattle.wfc_tileset.specs.Document.{is_ppm_name}
 use Rattle.wfc_task.specs.Stages.{IsFormFault, IsLayoutFault, IsLearnFault, IsReadPicture, IsShownFault, IsSymbolsFault, Teaches}
 use Rattle.wfc_task.specs.Steps.{sample_in_numbers, sample_layout, sampled_in, shown_in, patterns_taught}
 use Rattle.wfc_task.specs.declared.lesson.Taught.{Taught}
@@ -54,9 +55,9 @@ faults_sampled asked files =
     (λ bytes was.
     let file = file_given Sample asked.file files bytes was in
     faults_last (step (sampled_in asked bytes)) files (IsFormFault asked files)
-    (faults_as (step (sampled_in asked bytes)) files (IsShownFault (is_picture_name asked.file) bytes) (IsFormFault asked files)
-    (same_known (λ other. IsFile files asked.file other) (λ other. IsShownFault (is_picture_name asked.file) other) bytes file (λ other also. one_file files asked.file bytes other file also))
-    (faults_shown (is_picture_name asked.file) bytes files)))
+    (faults_as (step (sampled_in asked bytes)) files (IsShownFault (is_ppm_name asked.file) bytes) (IsFormFault asked files)
+    (same_known (λ other. IsFile files asked.file other) (λ other. IsShownFault (is_ppm_name asked.file) other) bytes file (λ other also. one_file files asked.file bytes other file also))
+    (faults_shown (is_ppm_name asked.file) bytes files)))
 
 faults_picture : (asked : RequestView) (files : List File)
     → Faults (picture_plan asked) files (IsFirstFault (IsReadingFault Sample files asked.file ∷ IsFormFault asked files ∷ IsSymbolsFault asked files ∷ []))

@@ -10,7 +10,7 @@ use Rattle.wfc_model.specs.Legal.{Pin}
 use Rattle.wfc_outside.specs.Folder.{File}
 use Rattle.wfc_outside.specs.Gives.{Gives, result_map}
 use Rattle.wfc_overlap.specs.Built.{marked_pin}
-use Rattle.wfc_overlap.specs.Sample.{cell_of}
+use Rattle.wfc_overlap.specs.Sample.{place_number}
 use Rattle.wfc_pins.specs.InOrder.{and_rest}
 use Rattle.wfc_pins.specs.PinView.{PinView}
 use Rattle.wfc_pins.specs.declared.fault.BuildFault.{BuildFault}
@@ -32,14 +32,14 @@ use Rattle.wfc_words.specs.RequestView.{RequestView}
 -- the pin that a line means stands at a place that is no hole
 pin_placed : (tiles : List TileView) (mask : MaskView) (line : PinView) (pin : Pin) → tile_map_pin tiles mask line ≡ Ok pin → IsPlaced mask pin
 pin_placed tiles mask line pin is =
-    by_tests (nat_lt line.x mask.width) (nat_lt line.y mask.height) (cell_number mask (cell_of mask.width line.x line.y)) (variant_of tiles line.symbol) refl refl refl is
+    by_tests (nat_lt line.x mask.width) (nat_lt line.y mask.height) (cell_number mask (place_number mask.width line.x line.y)) (variant_of tiles line.symbol) refl refl refl is
   where
-    by_tests : (wide high : Bool) (cell variant : Option ℕ) → nat_lt line.x mask.width ≡ wide → nat_lt line.y mask.height ≡ high → cell_number mask (cell_of mask.width line.x line.y) ≡ cell
+    by_tests : (wide high : Bool) (cell variant : Option ℕ) → nat_lt line.x mask.width ≡ wide → nat_lt line.y mask.height ≡ high → cell_number mask (place_number mask.width line.x line.y) ≡ cell
         → (if wide && high then (if is_some cell then ok_or (option_map (marked_pin line) variant) (UnknownSymbol line.line) else Err (PinInHole line.line)) else Err (PinOutside line.line)) ≡ Ok pin
         → IsPlaced mask pin
     by_tests true true (Some cell) (Some variant) w h c is =
         let same : marked_pin line variant ≡ pin = cc in
-        subst (IsPlaced mask) same (record { column_in = grind (arith, nat_tests, w); row_in = grind (arith, nat_tests, h); place = there mask.places (cell_of mask.width line.x line.y) cell c })
+        subst (IsPlaced mask) same (record { column_in = grind (arith, nat_tests, w); row_in = grind (arith, nat_tests, h); place = there mask.places (place_number mask.width line.x line.y) cell c })
     by_tests true true (Some cell) None w h c is = absurd (cc)
     by_tests true true None variant w h c is = absurd (cc)
     by_tests true false cell variant w h c is = absurd (cc)

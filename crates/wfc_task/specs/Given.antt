@@ -21,7 +21,8 @@ use Rattle.wfc_ppm.specs.Reading.{ppm_of}
 use Rattle.wfc_ppm.specs.Spelling.{SpellsPpm}
 use Rattle.wfc_problem.specs.Network.{Network}
 use Rattle.wfc_task.specs.Sampled.{SampledView, shown_by_grid, shown_by_ppm}
-use Rattle.wfc_task.specs.Sources.{is_picture_name, window_side_of}
+use Rattle.wfc_task.specs.Sources.{window_side_of}
+use Rattle.wfc_tileset.specs.Document.{is_ppm_name}
 use Rattle.wfc_words.specs.RequestView.{RequestView}
 
 -- the bytes spell a grid, within the limit of a grid, that shows this
@@ -48,7 +49,7 @@ Shows false bytes sampled = ShowsGrid bytes sampled
 pub record IsSampleFile (files : List File) (name : List ℕ) (sampled : SampledView) : Type 0 where
   pub bytes : List ℕ
   pub file : IsFile files name bytes
-  pub shows : Shows (is_picture_name name) bytes sampled
+  pub shows : Shows (is_ppm_name name) bytes sampled
 
 -- the file asked for shows symbols of this kind, which have this palette, and whose numbers teach
 -- these patterns by the request

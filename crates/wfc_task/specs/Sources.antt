@@ -1,12 +1,7 @@
--- What a map is made of, and which files are pictures in colours.
-use Rattle.std.specs.List.{ends_with}
-use Rattle.std.specs.Prelude.{Bool, List, codes, false, nat_eq, true, ℕ, ◌||◌}
+-- What a map is made of.
+use Rattle.std.specs.Prelude.{Bool, false, true, ℕ}
 use Rattle.wfc_words.specs.declared.kinds.SourceModel.{SourceModel}
 use Rattle.wfc_words.specs.declared.kinds.SourceModel.TheVariants.{Overlap, Tiles}
-
--- whether a file is named as a picture in colours
-abbrev pub is_picture_name : List ℕ → Bool
-is_picture_name name = ends_with nat_eq name (codes ".ppm") || ends_with nat_eq name (codes ".PPM")
 
 -- whether the map is made of windows
 abbrev pub is_of_windows : SourceModel → Bool

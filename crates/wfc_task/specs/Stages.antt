@@ -23,7 +23,8 @@ use Rattle.wfc_render.specs.Layout.{layout_of}
 use Rattle.wfc_task.specs.Given.{HoldsPins, IsSample, IsSampleFile}
 use Rattle.wfc_task.specs.Maps.{asked_output}
 use Rattle.wfc_task.specs.Sampled.{SampledView}
-use Rattle.wfc_task.specs.Sources.{is_picture_name, window_side_of}
+use Rattle.wfc_task.specs.Sources.{window_side_of}
+use Rattle.wfc_tileset.specs.Document.{is_ppm_name}
 use Rattle.wfc_task.specs.declared.lesson.Taught.{Taught}
 use Rattle.wfc_words.specs.RequestView.{RequestView}
 
@@ -38,7 +39,7 @@ IsShownFault false bytes = IsRefusal (refusals.Grid Sample) (grid_of bytes)
 abbrev pub IsFormFault : RequestView → List File → TaskStage
 IsFormFault asked files fault =
     (bytes : List ℕ) × IsFile files asked.file bytes
-    × IsShownFault (is_picture_name asked.file) bytes fault
+    × IsShownFault (is_ppm_name asked.file) bytes fault
 
 -- the sample shows too many symbols
 abbrev pub IsSymbolsFault : RequestView → List File → TaskStage

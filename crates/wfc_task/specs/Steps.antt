@@ -24,7 +24,8 @@ use Rattle.wfc_problem.specs.Network.{Network}
 use Rattle.wfc_render.specs.Layout.{layout_of}
 use Rattle.wfc_render.specs.declared.form.Layout.{Layout}
 use Rattle.wfc_task.specs.Sampled.{SampledView, shown_by_grid, shown_by_ppm}
-use Rattle.wfc_task.specs.Sources.{is_picture_name, window_side_of}
+use Rattle.wfc_task.specs.Sources.{window_side_of}
+use Rattle.wfc_tileset.specs.Document.{is_ppm_name}
 use Rattle.wfc_words.specs.RequestView.{RequestView}
 
 -- the grid that a file spells
@@ -42,7 +43,7 @@ shown_in false text = result_map shown_by_grid (grid_in Sample text)
 
 -- what the bytes of the sample of a request show, by the name of its file
 abbrev pub sampled_in : RequestView → List ℕ → Result SampledView Refusal
-sampled_in asked text = shown_in (is_picture_name asked.file) text
+sampled_in asked text = shown_in (is_ppm_name asked.file) text
 
 -- the picture of a sample in numbers, and the palette that says what they stand for
 abbrev pub sample_in_numbers : SampledView → Result (Raster × List Symbol) Refusal

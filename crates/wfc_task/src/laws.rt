@@ -18,7 +18,8 @@ ghost use Rattle.wfc_task.specs.Posed.{Posed, posed_plan};
 ghost use Rattle.wfc_task.specs.SamplePlans.{pins_plan, sample_plan, sampled_plan};
 ghost use Rattle.wfc_task.specs.Small.{IsLong, file, sample_asked, tiles_asked, wide_asked, windows_asked, with_pins, with_sample};
 ghost use Rattle.wfc_task.specs.Small.{inner_windows, reflected_windows, small_lesson, wrapped_windows};
-ghost use Rattle.wfc_task.specs.Sources.{is_picture_name, window_side_of};
+ghost use Rattle.wfc_task.specs.Sources.{window_side_of};
+ghost use Rattle.wfc_tileset.specs.Document.{is_ppm_name};
 ghost use Rattle.wfc_task.specs.TilePlans.{document_plan, mask_plan, mask_plan_by, picture_plan};
 ghost use Rattle.wfc_task.specs.Tiling.{HasSides, mask_or_whole};
 ghost use Rattle.wfc_tiled.specs.Mask.{MaskView, plain_mask};
@@ -34,10 +35,10 @@ pub fn posed_problems_are_given()
 
 /// Names of pictures in colours, by example.
 pub fn picture_names_by_example()
-    ensures small { is_picture_name (codes "a.ppm") ≡ true }
-    ensures large { is_picture_name (codes "a.PPM") ≡ true }
-    ensures mixed { is_picture_name (codes "a.Ppm") ≡ false }
-    ensures inside { is_picture_name (codes "ppm.txt") ≡ false }
+    ensures small { is_ppm_name (codes "a.ppm") ≡ true }
+    ensures large { is_ppm_name (codes "a.PPM") ≡ true }
+    ensures mixed { is_ppm_name (codes "a.Ppm") ≡ false }
+    ensures inside { is_ppm_name (codes "ppm.txt") ≡ false }
 {}
 
 /// A legal assignment of the problem of a request makes a legal map, and where there is a legal map there is a legal

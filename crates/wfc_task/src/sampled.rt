@@ -6,14 +6,14 @@ ghost use Rattle.wfc_task.specs.Lesson.{IsSampled};
 ghost use Rattle.wfc_task.specs.Sampled.{shown_colours, shown_by_grid, shown_by_ppm, sampled_view, symbols_of};
 ghost use Rattle.wfc_task.specs.Steps.{sampled_in};
 
-use crate::sources::is_picture_name;
 use crate::steps::{grid, ppm};
 use std::alloc::Global;
-use wfc_grid::{Grid, MAX_CELLS};
+use wfc_grid::{Grid, MAX_GRID_BYTES};
 use wfc_outside::{MAX_FILE_BYTES, NoMemory};
 use wfc_picture::{Kind, MAX_PIXELS, Symbol};
 use wfc_plan::{Refusal, Source};
 use wfc_ppm::Ppm;
+use wfc_tileset::is_ppm_name;
 use wfc_words::Request;
 
 /// What a sample shows: how a map of it is written, its width in pixels, and the symbols of its pixels row by row.
@@ -30,7 +30,7 @@ pub(crate) fn shown(alloc: Global, request: &Request, bytes: &[u8]) -> Result<Sa
     ensures exact { Gives Refusal.NoMemory sampled_view result (sampled_in request.now bytes.now) }
     ensures sampled { IfOk result (λ sampled. IsSampled (sampled_view sampled)) }
 {
-    if is_picture_name(request.file().as_bytes()) {
+    if is_ppm_name(request.file().as_bytes()) {
         let ppm = ppm(alloc, Source::Sample, bytes)?;
         shown_by_ppm(alloc, ppm)
     } else {
@@ -69,7 +69,7 @@ fn colours(alloc: Global, ppm: Ppm) -> Result<Vec<Symbol>, NoMemory>
 
 /// What a grid shows. The grid is let go.
 fn shown_by_grid(alloc: Global, grid: Grid) -> Result<Sampled, Refusal>
-    requires small { grid.width * grid.height ≤ MAX_CELLS }
+    requires small { grid.width * grid.height ≤ MAX_GRID_BYTES }
     ensures exact { Gives Refusal.NoMemory sampled_view result (Ok (shown_by_grid grid)) }
     ensures sampled { IfOk result (λ sampled. IsSampled (sampled_view sampled)) }
 {
@@ -86,7 +86,7 @@ fn shown_by_grid(alloc: Global, grid: Grid) -> Result<Sampled, Refusal>
 fn symbols(alloc: Global, grid: Grid) -> Result<Vec<Symbol>, NoMemory>
     ensures value { IfOk result (λ symbols. symbols.items ≡ symbols_of grid) }
 {
-    let bytes = grid.cells();
+    let bytes = grid.as_bytes();
     let mut symbols = Vec::with_capacity(alloc, bytes.len())?;
     for byte in bytes {
         symbols.push(Symbol::Char(*byte))?;

@@ -20,7 +20,7 @@ use crate::lesson::Taught;
 use crate::sampled::Sampled;
 use crate::sources::window_side_of;
 use std::alloc::Global;
-use wfc_grid::{Grid, MAX_CELLS};
+use wfc_grid::{Grid, MAX_GRID_BYTES};
 use wfc_model::MAX_OUTPUT_SIDE;
 use wfc_outside::MAX_FILE_BYTES;
 use wfc_overlap::build;
@@ -37,8 +37,8 @@ use wfc_words::Request;
 pub(crate) fn grid(alloc: Global, source: Source, bytes: &[u8]) -> Result<Grid, Refusal>
     requires short { length bytes.now ≤ MAX_FILE_BYTES }
     ensures exact { Gives Refusal.NoMemory (λ made. made) result (grid_in source bytes.now) }
-    ensures small { IfOk result (λ grid. grid.width * grid.height ≤ MAX_CELLS) }
-    ensures few { IfOk result (λ grid. length grid.bytes ≤ MAX_CELLS) }
+    ensures small { IfOk result (λ grid. grid.width * grid.height ≤ MAX_GRID_BYTES) }
+    ensures few { IfOk result (λ grid. length grid.bytes ≤ MAX_GRID_BYTES) }
 {
     wfc_grid::read(alloc, bytes).map_err(|fault| Refusal::of_grid(source, fault))
 }

@@ -9,7 +9,7 @@ ghost use Rattle.wfc_tiled.specs.Built.{tile_map_problem};
 ghost use Rattle.wfc_tileset.specs.Pictures.{picture_name};
 
 use std::alloc::Global;
-use wfc_grid::{Grid, MAX_CELLS};
+use wfc_grid::{Grid, MAX_GRID_BYTES};
 use wfc_outside::MAX_FILE_BYTES;
 use wfc_pins::{BuildFault, PinLine};
 use wfc_plan::Refusal;
@@ -49,7 +49,7 @@ pub fn tile_layout(tiles: &TileSet, request: &Request) -> Result<Layout, Refusal
 /// The mask that a grid spells for the map asked for.
 pub(crate) fn mask_in(alloc: Global, request: &Request, grid: &Grid) -> Result<Mask, Refusal>
     requires output { IsOutputAsked request.now }
-    requires few { length grid.now.bytes ≤ MAX_CELLS }
+    requires few { length grid.now.bytes ≤ MAX_GRID_BYTES }
     ensures exact { Gives Refusal.NoMemory (λ made. made) result (mask_in request.now grid.now) }
     ensures sides { IfOk result (HasSides request.now) }
 {

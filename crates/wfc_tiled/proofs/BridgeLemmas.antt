@@ -13,7 +13,7 @@ use Rattle.wfc_problem.specs.Network.{Network, IsProblem, in_base}
 use Rattle.wfc_problem.proofs.CallerLemmas.{base_inside}
 use Rattle.wfc_problem.specs.Assignment.{IsLegalAssignment}
 use Rattle.wfc_places.specs.Marks.{suits}
-use Rattle.wfc_places.specs.Steps.{stepped, is_there, cell_of}
+use Rattle.wfc_places.specs.Steps.{stepped, is_there, place_number}
 use Rattle.wfc_places.proofs.CallerLemmas.{suits-from, held-from_suits, stepped-is, exact, forth_there, stay_there, stayed}
 use Rattle.wfc_tileset.specs.Tiles.{TileSetView, variant_total, variant_at}
 use Rattle.wfc_tileset.specs.Allowed.{IsAcross, IsDown, across_pairs, down_pairs, may_be_above, may_be_left}
@@ -64,10 +64,10 @@ next_is count wrap at next inside is =
     ]
 
 -- the column and the row of a place's number
-column_of : (w x y : ℕ) → x < w → cell_of w x y % w ≡ x
+column_of : (w x y : ℕ) → x < w → place_number w x y % w ≡ x
 column_of w x y inside = mod-mul-add y w x inside
 
-row_of : (w x y : ℕ) → x < w → cell_of w x y / w ≡ y
+row_of : (w x y : ℕ) → x < w → place_number w x y / w ≡ y
 row_of w x y inside = div-mul-add y w x inside
 
 module _ (set : TileSetView) (mask : MaskView) (wrap : Bool) (pins : List Pin) where
@@ -104,12 +104,12 @@ module _ (set : TileSetView) (mask : MaskView) (wrap : Bool) (pins : List Pin) w
         subst (λ k. k < count) (sym (number c inside)) (legal.filled (place c % w) (place c / w) at.column at.row (is_place c inside))
 
     pin_suits : (c : ℕ) → c < P.cells → (pin : Pin) → IsHeld m pin → variant_suits_at w (place c) (get_or a c 0) pin ≡ true
-    pin_suits c inside pin held = by (cell_of w pin.column pin.row == place c) refl
+    pin_suits c inside pin held = by (place_number w pin.column pin.row == place c) refl
       where
-        by : (b : Bool) → (cell_of w pin.column pin.row == place c) ≡ b → (not b || suits pin (get_or a c 0)) ≡ true
+        by : (b : Bool) → (place_number w pin.column pin.row == place c) ≡ b → (not b || suits pin (get_or a c 0)) ≡ true
         by false e = refl
         by true e =
-            let same = eqb-true (cell_of w pin.column pin.row) (place c) e in
+            let same = eqb-true (place_number w pin.column pin.row) (place c) e in
             let column_in : pin.column < w = omega (arith, held.column_in, legal.sized.same_width) in
             let column : place c % w ≡ pin.column = ap (λ k. k % w) (sym same) ∙ column_of w pin.column pin.row column_in in
             let row : place c / w ≡ pin.row = ap (λ k. k / w) (sym same) ∙ row_of w pin.column pin.row column_in in
@@ -233,26 +233,26 @@ module _ (set : TileSetView) (mask : MaskView) (wrap : Bool) (pins : List Pin) w
     abbrev m : Raster
     m = tile_map mask a
 
-    cell_in : (x y : ℕ) → x < w → y < h → cell_of w x y < w * h
+    cell_in : (x y : ℕ) → x < w → y < h → place_number w x y < w * h
     cell_in x y column row = omega (arith, mul-add-lt y w x h row column)
 
-    tile : (x y : ℕ) → x < w → y < h → number_at m x y ≡ number_of_cell a (cell_number mask (cell_of w x y))
+    tile : (x y : ℕ) → x < w → y < h → number_at m x y ≡ number_of_cell a (cell_number mask (place_number w x y))
     tile x y column row =
         number_at-raster_of w h (numbers_of_cells mask a) x y column row
-        ∙ get_or-map-range_with_len (λ n. number_of_cell a (cell_number mask n)) 0 (w * h) (cell_of w x y) (cell_of w x y) 0 (cell_in x y column row) (zero-add (cell_of w x y))
+        ∙ get_or-map-range_with_len (λ n. number_of_cell a (cell_number mask n)) 0 (w * h) (place_number w x y) (place_number w x y) 0 (cell_in x y column row) (zero-add (place_number w x y))
 
     -- the cell of a place, and what stands there
     pub record IsAt (x y c : ℕ) : Type 0 where
       pub inside : c < P.cells
-      pub cell : cell_number mask (cell_of w x y) ≡ Some c
+      pub cell : cell_number mask (place_number w x y) ≡ Some c
       pub column : place c % w ≡ x
       pub row : place c / w ≡ y
       pub tile : number_at m x y ≡ get_or a c 0
 
     at_place : (x y : ℕ) → x < w → y < h → IsPlace mask x y → (c : ℕ) × IsAt x y c
     at_place x y column row p =
-        let f = member mask.places (cell_of w x y) is.rising p in
-        let s = stands mask.places (cell_of w x y) f.0 f.1 in (
+        let f = member mask.places (place_number w x y) is.rising p in
+        let s = stands mask.places (place_number w x y) f.0 f.1 in (
           f.0,
           record {
             inside = s.0;
@@ -275,9 +275,9 @@ module _ (set : TileSetView) (mask : MaskView) (wrap : Bool) (pins : List Pin) w
         let step : is_step mask wrap (place c.0 % w) (place c.0 / w) 2 ≡ true =
         ap (λ k. is_step mask wrap k (place c.0 / w) 2) c.1.column ∙ ap (λ k. is_step mask wrap x k 2) c.1.row
         ∙ and_from _ _ (next_there w wrap x u next) (stay_there h wrap y row) in
-        let leads : step_from mask (place c.0 % w) (place c.0 / w) 2 ≡ cell_of w u y =
+        let leads : step_from mask (place c.0 % w) (place c.0 / w) 2 ≡ place_number w u y =
         ap (λ k. step_from mask k (place c.0 / w) 2) c.1.column ∙ ap (λ k. step_from mask x k 2) c.1.row
-        ∙ ap (λ k. cell_of w k (stepped h 0 0 y)) (next_is w wrap x u column next) ∙ ap (cell_of w u) (stayed h y row) in
+        ∙ ap (λ k. place_number w k (stepped h 0 0 y)) (next_is w wrap x u column next) ∙ ap (place_number w u) (stayed h y row) in
         let near = beside-neighbour set mask wrap pins is c.0 2 e.0 c.1.inside (record { dir = omega arith; there = step; cell = ap (cell_number mask) leads ∙ e.1.cell }) in
         let fit = (support-fits set mask wrap pins (get_or a c.0 0) (get_or a e.0 0) 2 (omega arith) (has_Contains _ (get_or a e.0 0) (legal.beside c.0 2 e.0 near))).fit in
         subst (λ k. IsAcross set (variant_at set.tiles k) (variant_at set.tiles (number_at m u y))) (sym c.1.tile)
@@ -290,29 +290,29 @@ module _ (set : TileSetView) (mask : MaskView) (wrap : Bool) (pins : List Pin) w
         let step : is_step mask wrap (place c.0 % w) (place c.0 / w) 1 ≡ true =
         ap (λ k. is_step mask wrap k (place c.0 / w) 1) c.1.column ∙ ap (λ k. is_step mask wrap x k 1) c.1.row
         ∙ and_from _ _ (stay_there w wrap x column) (next_there h wrap y v next) in
-        let leads : step_from mask (place c.0 % w) (place c.0 / w) 1 ≡ cell_of w x v =
+        let leads : step_from mask (place c.0 % w) (place c.0 / w) 1 ≡ place_number w x v =
         ap (λ k. step_from mask k (place c.0 / w) 1) c.1.column ∙ ap (λ k. step_from mask x k 1) c.1.row
-        ∙ ap (λ k. cell_of w k (stepped h 1 0 y)) (stayed w x column) ∙ ap (cell_of w x) (next_is h wrap y v row next) in
+        ∙ ap (λ k. place_number w k (stepped h 1 0 y)) (stayed w x column) ∙ ap (place_number w x) (next_is h wrap y v row next) in
         let near = beside-neighbour set mask wrap pins is c.0 1 e.0 c.1.inside (record { dir = omega arith; there = step; cell = ap (cell_number mask) leads ∙ e.1.cell }) in
         let fit = (support-fits set mask wrap pins (get_or a c.0 0) (get_or a e.0 0) 1 (omega arith) (has_Contains _ (get_or a e.0 0) (legal.beside c.0 1 e.0 near))).fit in
         subst (λ k. IsDown set (variant_at set.tiles k) (variant_at set.tiles (number_at m x v))) (sym c.1.tile)
         (subst (λ k. IsDown set (variant_at set.tiles (get_or a c.0 0)) (variant_at set.tiles k)) (sym e.1.tile) (pair_has (down_pairs set) _ _ fit))
 
     hole : (x y : ℕ) → x < w → y < h → (IsPlace mask x y → ⊥) → number_at m x y ≡ HOLE
-    hole x y column row none = tile x y column row ∙ by (cell_number mask (cell_of w x y)) refl
+    hole x y column row none = tile x y column row ∙ by (cell_number mask (place_number w x y)) refl
       where
-        by : (o : Option ℕ) → cell_number mask (cell_of w x y) ≡ o → number_of_cell a (cell_number mask (cell_of w x y)) ≡ HOLE
+        by : (o : Option ℕ) → cell_number mask (place_number w x y) ≡ o → number_of_cell a (cell_number mask (place_number w x y)) ≡ HOLE
         by None e = ap (number_of_cell a) e
-        by (Some c) e = absurd (none (there mask.places (cell_of w x y) c e))
+        by (Some c) e = absurd (none (there mask.places (place_number w x y) c e))
 
     held : (pin : Pin) → Contains pins pin → IsPlaced mask pin → IsPlace mask pin.column pin.row × IsHeld m pin
     held pin within p =
         let c = at_place pin.column pin.row p.column_in p.row_in p.place in
         let v = get_or a c.0 0 in
-        let s = stands mask.places (cell_of w pin.column pin.row) c.0 c.1.cell in
+        let s = stands mask.places (place_number w pin.column pin.row) c.0 c.1.cell in
         let met = sym (base-at set mask wrap pins c.0 v c.1.inside (value c.0 c.1.inside)) ∙ legal.based c.0 c.1.inside in
         let one = all_pass (λ (pin : Pin). variant_suits_at w (place c.0) v pin) pins pin met within in
-        let suits_it : suits pin v ≡ true = sym (ap (λ b. not b || suits pin v) (eq-eqb (cell_of w pin.column pin.row) (place c.0) (sym s.1))) ∙ one in (
+        let suits_it : suits pin v ≡ true = sym (ap (λ b. not b || suits pin v) (eq-eqb (place_number w pin.column pin.row) (place c.0) (sym s.1))) ∙ one in (
           p.place,
           record {
             column_in = p.column_in;

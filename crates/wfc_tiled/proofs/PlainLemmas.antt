@@ -7,7 +7,7 @@ use Rattle.std.proofs.lemmas.Nat.{mul-add-lt}
 use Rattle.wfc_lists.proofs.Growing.{range_rises}
 use Rattle.wfc_lists.proofs.Ranges.{range_at, range_Contains}
 use Rattle.wfc_model.specs.Raster.{Raster, number_at, raster_of}
-use Rattle.wfc_places.specs.Steps.{cell_of}
+use Rattle.wfc_places.specs.Steps.{place_number}
 use Rattle.wfc_tiled.specs.Mask.{IsPlace, cell_number, plain_mask}
 use Rattle.wfc_tiled.specs.Maps.{number_of_cell, numbers_of_cells, numbers_of_places, tile_map}
 use Rattle.wfc_tiled.proofs.MaskLemmas.{found}
@@ -21,12 +21,12 @@ pub plain_cell : (w h c : ℕ) → c < w * h → cell_number (plain_mask w h) c 
 plain_cell w h c inside = found (range_with_len 0 (w * h)) c c (range_rises (w * h)) (omega (arith, length-range_with_len 0 (w * h))) (range_at (w * h) c inside)
 
 -- a place counted row by row is one of the map
-pub cell_below : (w h x y : ℕ) → x < w → y < h → cell_of w x y < w * h
+pub cell_below : (w h x y : ℕ) → x < w → y < h → place_number w x y < w * h
 cell_below w h x y column row = omega (arith, mul-add-lt y w x h row column)
 
 -- each place is one of the mask
 pub plain_there : (w h x y : ℕ) → x < w → y < h → IsPlace (plain_mask w h) x y
-plain_there w h x y column row = range_Contains (w * h) (cell_of w x y) (cell_below w h x y column row)
+plain_there w h x y column row = range_Contains (w * h) (place_number w x y) (cell_below w h x y column row)
 
 -- the map of as many numbers as there are places is the picture of these numbers
 pub plain_map : (w h : ℕ) (a : List ℕ) → length a ≡ w * h → tile_map (plain_mask w h) a ≡ raster_of w h a

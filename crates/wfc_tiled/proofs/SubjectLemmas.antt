@@ -7,7 +7,7 @@ use Rattle.wfc_model.specs.Direction.{left_by, down_by, right_by, up_by}
 use Rattle.wfc_model.specs.Legal.{Pin}
 use Rattle.wfc_problem.specs.Network.{neighbour, supports_of, in_base}
 use Rattle.wfc_places.specs.Marks.{suits}
-use Rattle.wfc_places.specs.Steps.{cell_of, is_there, stepped, IsStepFrom}
+use Rattle.wfc_places.specs.Steps.{place_number, is_there, stepped, IsStepFrom}
 use Rattle.wfc_places.proofs.CallerLemmas.{suits-from, held-from_suits, one_across, one_down, stepped-is, apart-stepped, apart-there, same_column, same_row, step-apart, step_across, step_down, step_from}
 use Rattle.wfc_tileset.specs.Allowed.{IsAcross, IsDown, across_pairs, down_pairs}
 use Rattle.wfc_tileset.specs.Tiles.{TileSetView, variant_at, variant_total}
@@ -43,7 +43,7 @@ module _ (set : TileSetView) (mask : MaskView) (wrap : Bool) (pins : List Pin) w
       let p = stepped w (right_by d) (left_by d) x in
       let q = stepped h (down_by d) (up_by d) y in
       let p_in : p < w = (stepped-is w (right_by d) (left_by d) x here.column (one_across d)).below in
-      let same : cell_of w u v ≡ cell_of w p q = far.cell ∙ (stands mask.places (cell_of w p q) m near.cell).1 in
+      let same : place_number w u v ≡ place_number w p q = far.cell ∙ (stands mask.places (place_number w p q) m near.cell).1 in
       let column : p ≡ u = sym (same_column w u v p q far.column p_in same) in
       let row : q ≡ v = sym (same_row w u v p q far.column p_in same) in
       let parts = and_parts (is_there w wrap (right_by d) (left_by d) x) (is_there h wrap (down_by d) (up_by d) y) near.there in
@@ -67,8 +67,8 @@ module _ (set : TileSetView) (mask : MaskView) (wrap : Bool) (pins : List Pin) w
       let down = step_down wrap w h d x y u v step in
       let column : stepped w (right_by d) (left_by d) x ≡ u = apart-stepped wrap w (right_by d) (left_by d) x u here.column far.column (one_across d) across in
       let row : stepped h (down_by d) (up_by d) y ≡ v = apart-stepped wrap h (down_by d) (up_by d) y v here.row far.row (one_down d) down in
-      let place : cell_of w (stepped w (right_by d) (left_by d) x) (stepped h (down_by d) (up_by d) y) ≡ get_or mask.places m 0 =
-      ap (λ k. cell_of w k (stepped h (down_by d) (up_by d) y)) column ∙ ap (cell_of w u) row ∙ far.cell in
+      let place : place_number w (stepped w (right_by d) (left_by d) x) (stepped h (down_by d) (up_by d) y) ≡ get_or mask.places m 0 =
+      ap (λ k. place_number w k (stepped h (down_by d) (up_by d) y)) column ∙ ap (place_number w u) row ∙ far.cell in
       beside-neighbour set mask wrap pins is c d m inside (record {
         dir = dir;
         there = and_from _ _
@@ -106,17 +106,17 @@ module _ (set : TileSetView) (mask : MaskView) (wrap : Bool) (pins : List Pin) w
   -- ---- the base
 
   -- a pin's place is a cell's where its column and its row are
-  pin_place : IsMask mask → (c : ℕ) → c < length mask.places → (pin : Pin) → pin.column ≡ cell_column mask c → pin.row ≡ cell_row mask c → cell_of w pin.column pin.row ≡ get_or mask.places c 0
-  pin_place is c inside pin column row = ap (λ k. cell_of w k pin.row) column ∙ ap (cell_of w (cell_column mask c)) row ∙ (place_is set mask wrap pins is c inside).cell
+  pin_place : IsMask mask → (c : ℕ) → c < length mask.places → (pin : Pin) → pin.column ≡ cell_column mask c → pin.row ≡ cell_row mask c → place_number w pin.column pin.row ≡ get_or mask.places c 0
+  pin_place is c inside pin column row = ap (λ k. place_number w k pin.row) column ∙ ap (place_number w (cell_column mask c)) row ∙ (place_is set mask wrap pins is c inside).cell
 
-  suits_there : (n v : ℕ) (pin : Pin) → cell_of w pin.column pin.row ≡ n → variant_suits_at w n v pin ≡ true → suits pin v ≡ true
-  suits_there n v pin same test = sym (ap (λ t. not t || suits pin v) (eq-eqb (cell_of w pin.column pin.row) n same)) ∙ test
+  suits_there : (n v : ℕ) (pin : Pin) → place_number w pin.column pin.row ≡ n → variant_suits_at w n v pin ≡ true → suits pin v ≡ true
+  suits_there n v pin same test = sym (ap (λ t. not t || suits pin v) (eq-eqb (place_number w pin.column pin.row) n same)) ∙ test
 
-  there_suits : (n v : ℕ) (pin : Pin) → (cell_of w pin.column pin.row ≡ n → suits pin v ≡ true) → variant_suits_at w n v pin ≡ true
-  there_suits n v pin here = by (cell_of w pin.column pin.row == n) refl
+  there_suits : (n v : ℕ) (pin : Pin) → (place_number w pin.column pin.row ≡ n → suits pin v ≡ true) → variant_suits_at w n v pin ≡ true
+  there_suits n v pin here = by (place_number w pin.column pin.row == n) refl
     where
-      by : (b : Bool) → (cell_of w pin.column pin.row == n) ≡ b → (not b || suits pin v) ≡ true
-      by true e = here (eqb-true (cell_of w pin.column pin.row) n e)
+      by : (b : Bool) → (place_number w pin.column pin.row == n) ≡ b → (not b || suits pin v) ≡ true
+      by true e = here (eqb-true (place_number w pin.column pin.row) n e)
       by false e = refl
 
   pub base-holds : IsMask mask → (c v : ℕ) → c < length mask.places → v < count
@@ -134,7 +134,7 @@ module _ (set : TileSetView) (mask : MaskView) (wrap : Bool) (pins : List Pin) w
       let pin = get_or pins k d in
       let here = place_is set mask wrap pins is c inside in
       there_suits (get_or mask.places c 0) v pin (λ same.
-      let both : cell_of w pin.column pin.row ≡ cell_of w (cell_column mask c) (cell_row mask c) = same ∙ sym here.cell in
+      let both : place_number w pin.column pin.row ≡ place_number w (cell_column mask c) (cell_row mask c) = same ∙ sym here.cell in
       suits-from pin v
       (holds k d l
       (same_column w pin.column pin.row (cell_column mask c) (cell_row mask c) (placed k d l).column_in here.column both)

@@ -12,7 +12,7 @@ use Rattle.wfc_model.proofs.CallerLemmas.{opposite_below, IsCell, cell_is}
 use Rattle.wfc_problem.specs.Network.{Network, IsProblem, neighbour, supports_of, in_base, has_flag}
 use Rattle.wfc_problem.specs.declared.TheConstants.{NO_CELL, MAX_PAIRS}
 use Rattle.wfc_problem.proofs.CallerLemmas.{neighbour_read, neighbour_not_none, neighbour_is, supports_inside, flag_at}
-use Rattle.wfc_places.specs.Steps.{stepped, is_there, cell_of}
+use Rattle.wfc_places.specs.Steps.{stepped, is_there, place_number}
 use Rattle.wfc_places.proofs.CallerLemmas as shared
 use Rattle.wfc_places.proofs.CallerLemmas.{IsFitting, length-supports, supports_rise, stepped-is, stepped-stepped, there_again, one_across, one_down}
 use Rattle.wfc_tileset.specs.Tiles.{TileSetView, HasWeight, variant_total, variant_at, tile_at}
@@ -154,7 +154,7 @@ module _ (set : TileSetView) (mask : MaskView) (wrap : Bool) (pins : List Pin) w
       ap (λ k. is_step mask wrap k (place m / w) e) column ∙ ap (λ k. is_step mask wrap (across x d) k e) row ∙ and_from _ _ across_there down_there in
       let step : step_from mask (place m % w) (place m / w) e ≡ place c =
       ap (λ k. step_from mask k (place m / w) e) column ∙ ap (λ k. step_from mask (across x d) k e) row
-      ∙ ap (λ k. cell_of w k (down (down y d) e)) back_x ∙ ap (λ k. cell_of w x k) back_y ∙ at.cell in
+      ∙ ap (λ k. place_number w k (down (down y d) e)) back_x ∙ ap (λ k. place_number w x k) back_y ∙ at.cell in
       beside-neighbour is m e c other.0 (record {
         dir = dir;
         there = there;

@@ -9,7 +9,7 @@ use Rattle.wfc_pins.specs.declared.fault.BuildFault.{BuildFault}
 use Rattle.wfc_pins.specs.declared.fault.BuildFault.TheVariants.{PinOutside, PinInHole, UnknownSymbol, TooLarge}
 use Rattle.wfc_problem.specs.Network.{Network}
 use Rattle.wfc_problem.specs.declared.TheConstants.{MAX_PAIRS}
-use Rattle.wfc_places.specs.Steps.{cell_of}
+use Rattle.wfc_places.specs.Steps.{place_number}
 use Rattle.wfc_places.specs.Marks.{marked_pin}
 use Rattle.wfc_tileset.specs.Tiles.{TileView, TileSetView, variant_of, variant_total}
 use Rattle.wfc_tiled.specs.Mask.{MaskView, cell_number}
@@ -19,7 +19,7 @@ use Rattle.wfc_tiled.specs.Tiles.{problem_of_tiles}
 abbrev pub tile_map_pin : List TileView → MaskView → PinView → Result Pin BuildFault
 tile_map_pin tiles mask line =
     if nat_lt line.x mask.width && nat_lt line.y mask.height
-    then (if is_some (cell_number mask (cell_of mask.width line.x line.y))
+    then (if is_some (cell_number mask (place_number mask.width line.x line.y))
     then ok_or (option_map (marked_pin line) (variant_of tiles line.symbol)) (UnknownSymbol line.line)
     else Err (PinInHole line.line))
     else Err (PinOutside line.line)

@@ -5,7 +5,7 @@ use Rattle.std.specs.List.{range_with_len}
 use Rattle.std.specs.List.Sorted.{IsStrictlyIncreasing}
 use Rattle.wfc_grid.specs.Grid.{GridView}
 use Rattle.wfc_model.specs.declared.TheConstants.{MAX_OUTPUT_SIDE}
-use Rattle.wfc_places.specs.Steps.{cell_of}
+use Rattle.wfc_places.specs.Steps.{place_number}
 use Rattle.wfc_tiled.specs.declared.reading.MaskFault.{MaskFault}
 use Rattle.wfc_tiled.specs.declared.reading.MaskFault.TheVariants.{SizeDiffers, BadSymbol, AllHoles}
 
@@ -29,7 +29,7 @@ pub record IsMask (mask : MaskView) : Type 0 where
 
 -- the place in a column and a row is no hole
 abbrev pub IsPlace : MaskView → ℕ → ℕ → Type 0
-IsPlace mask x y = Contains mask.places (cell_of mask.width x y)
+IsPlace mask x y = Contains mask.places (place_number mask.width x y)
 
 -- the cell of a place by its number, none where it is a hole
 abbrev pub cell_number : MaskView → ℕ → Option ℕ

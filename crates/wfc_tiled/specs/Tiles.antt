@@ -4,7 +4,7 @@ use Rattle.std.specs.List.{flat_map, list_all, range_with_len}
 use Rattle.wfc_model.specs.Direction.{left_by, down_by, right_by, up_by}
 use Rattle.wfc_model.specs.Legal.{Pin}
 use Rattle.wfc_places.specs.Marks.{suits}
-use Rattle.wfc_places.specs.Steps.{cell_of, is_there, stepped}
+use Rattle.wfc_places.specs.Steps.{place_number, is_there, stepped}
 use Rattle.wfc_problem.specs.Network.{Network}
 use Rattle.wfc_problem.specs.declared.TheConstants.{NO_CELL}
 use Rattle.wfc_tileset.specs.Tiles.{TileView, TileSetView, variant_total, variant_at, tile_at}
@@ -19,7 +19,7 @@ is_step mask wrap x y d =
 -- the number of the place that it leads to, modulo the sides
 abbrev pub step_from : MaskView → ℕ → ℕ → ℕ → ℕ
 step_from mask x y d =
-    cell_of mask.width (stepped mask.width (right_by d) (left_by d) x) (stepped mask.height (down_by d) (up_by d) y)
+    place_number mask.width (stepped mask.width (right_by d) (left_by d) x) (stepped mask.height (down_by d) (up_by d) y)
 
 -- the cell beside a place in a direction, where there is one that is no hole
 abbrev pub tile_beside : MaskView → Bool → ℕ → ℕ → ℕ → ℕ
@@ -58,7 +58,7 @@ variant_weights tiles = map (λ v. (tile_at tiles (variant_at tiles v).0).weight
 
 -- whether a variant at a place suits a pin, where it is the pin's place
 abbrev pub variant_suits_at : ℕ → ℕ → ℕ → Pin → Bool
-variant_suits_at width n v pin = not (cell_of width pin.column pin.row == n) || suits pin v
+variant_suits_at width n v pin = not (place_number width pin.column pin.row == n) || suits pin v
 
 -- whether it suits all of them
 abbrev pub variant_meets_pins : ℕ → List Pin → ℕ → ℕ → Bool

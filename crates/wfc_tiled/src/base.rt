@@ -1,7 +1,7 @@
 //! Which variants each cell may have: those that meet the pins and bans of its place.
 
 ghost use Rattle.std.specs.Prelude.{◌≡◌, ◌+◌, ◌*◌, ◌<◌, ◌≤◌, length, replicate, true, [], IfOk, IfSome};
-ghost use Rattle.wfc_places.specs.Steps.{cell_of};
+ghost use Rattle.wfc_places.specs.Steps.{place_number};
 ghost use Rattle.wfc_tileset.specs.Tiles.{variant_total};
 ghost use Rattle.wfc_places.specs.Flags.{HasFlags, IsRowCut};
 ghost use Rattle.wfc_places.specs.Marks.{suits};
@@ -54,7 +54,7 @@ fn cut(flags: &mut [bool], tiles: &TileSet, mask: &Mask, mark: &PinMark)
     requires table { length flags.old ≡ length mask.now.places * variant_total tiles.now.tiles }
     ensures mask { IsMask mask.now }
     ensures cut { IfSome
-        (cell_number mask.now (cell_of mask.now.width mark.now.column mark.now.row)) (λ cell.
+        (cell_number mask.now (place_number mask.now.width mark.now.column mark.now.row)) (λ cell.
         IsRowCut (variant_total tiles.now.tiles) flags.old flags.new cell (suits mark.now)) }
 {
     if let Some(cell) = mask.cell(mark.column, mark.row) {

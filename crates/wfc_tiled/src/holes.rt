@@ -3,7 +3,7 @@
 ghost use Rattle.std.specs.Prelude.{◌≡◌, ◌*◌, ◌<◌, ◌≤◌, length, IfOk, IfSome, nat_eq, position};
 ghost use Rattle.std.specs.List.Sorted.{IsStrictlyIncreasing};
 ghost use Rattle.std.specs.List.{range_with_len};
-ghost use Rattle.wfc_places.specs.Steps.{cell_of};
+ghost use Rattle.wfc_places.specs.Steps.{place_number};
 ghost use Rattle.wfc_tiled.specs.Mask.{IsMask, cell_number, plain_mask};
 
 use std::alloc::Global;
@@ -68,7 +68,7 @@ impl Mask {
     pub fn cell(&self, x: u32, y: u32) -> Option<u32>
         requires column_in { x < self.now.width }
         requires row_in { y < self.now.height }
-        ensures value { result ≡ cell_number self.now (cell_of self.now.width x y) }
+        ensures value { result ≡ cell_number self.now (place_number self.now.width x y) }
         ensures mask { IsMask self.now }
         ensures cell_in { IfSome result (λ cell. cell < length self.now.places) }
     {

@@ -78,7 +78,7 @@ pub fn mask(alloc: Global, grid: &Grid, width: u32, height: u32) -> Result<Mask,
             height: grid.height,
         });
     }
-    let bytes = grid.cells();
+    let bytes = grid.as_bytes();
     if let Some(at) = first_other(bytes) {
         return Err(MaskFault::BadSymbol {
             line: at / width + 1,

@@ -41,7 +41,7 @@ use picture::{TilePicture, fitting_picture, kind_of, side_of};
 pub use reading::{MAX_DOCUMENT_BYTES, read};
 use std::alloc::Global;
 use std::marker::Model;
-pub use terms::{name_length, turn_digit};
+pub use terms::{is_ppm_name, name_length, turn_digit};
 pub use tile::{End, Pair, Tile};
 pub use variants::MAX_VARIANTS;
 use variants::Variants;

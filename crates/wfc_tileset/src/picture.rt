@@ -149,7 +149,7 @@ fn of_grid(alloc: Global, grid: Grid) -> Result<Option<TilePicture>, NoMemory>
     if !is_tile_size(side, grid.height) {
         return Ok(None);
     }
-    let pixels = characters(alloc, grid.cells())?;
+    let pixels = characters(alloc, grid.as_bytes())?;
     Ok(Some(TilePicture {
         kind: Kind::Grid,
         side,

@@ -71,7 +71,7 @@ fn text_of(alloc: Global, grid: &Grid, form: Form) -> Result<Vec<u8>, Fail>
     requires limit { grid.now.width * grid.now.height ≤ MAX_PIXELS }
 {
     layouts_are_as_asked();
-    let bytes = grid.cells();
+    let bytes = grid.as_bytes();
     let symbols = symbols_of(alloc, bytes)?;
     let (picture, palette) = Palette::index(alloc, &symbols, grid.width)?;
     let laid = layout(Kind::Grid, Some(form), grid.width, grid.height, 1)?;

@@ -58,7 +58,7 @@ pub(super) fn mask_for(
     height: u32,
 ) -> Result<Mask, MaskFault> {
     assert!(rt; 0 < width && width <= 4096 && 0 < height && height <= 4096);
-    assert!(rt; grid.cells().len() <= 1_048_576);
+    assert!(rt; grid.as_bytes().len() <= 1_048_576);
     mask(alloc, grid, width, height)
 }
 

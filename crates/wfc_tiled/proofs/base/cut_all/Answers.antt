@@ -2,7 +2,7 @@ use Rattle.std.proofs.Common.{ℕ, ◌++◌, [], ◌∷◌, List, Option, length
 use Rattle.std.specs.Prelude.{IfSome}
 use Rattle.std.proofs.lemmas.List.{take_more}
 use Rattle.wfc_model.specs.Legal.{Pin}
-use Rattle.wfc_places.specs.Steps.{cell_of}
+use Rattle.wfc_places.specs.Steps.{place_number}
 use Rattle.wfc_tileset.specs.Tiles.{variant_total}
 use Rattle.wfc_places.specs.Flags.{HasFlags, IsRowCut}
 use Rattle.wfc_places.specs.Marks.{suits}
@@ -22,7 +22,7 @@ loop-mark-preserved c =
     let old = c.loop-mark.flags in
     let new = c.cut.new.flags in
     let placed : IsPlaced m pin = subst (IsPlaced m) (sym c.mark-item.is) (c.requires.placed k pin (omega arith)) in
-    let at = member m.places (cell_of m.width pin.column pin.row) c.cut.ensures.mask.rising placed.place in
+    let at = member m.places (place_number m.width pin.column pin.row) c.cut.ensures.mask.rising placed.place in
     let done : IsRowCut V old new at.0 (suits pin) = subst (λ (o : Option ℕ). IfSome o (λ cell. IsRowCut V old new cell (suits pin))) at.1 c.cut.ensures.cut in
     subst (λ (ps : List Pin). HasFlags V (length m.places) new (meets_at m ps))
     (sym (take_more marks k pin (omega arith) ∙ ap (λ (p : Pin). take k marks ++ p ∷ []) (sym c.mark-item.is)))

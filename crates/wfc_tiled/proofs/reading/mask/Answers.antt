@@ -10,10 +10,10 @@ new-requires c =
     let bytes = c.args.grid.now.bytes in
     let w = c.args.width in
     let h = c.args.height in
-    let items : c.in_ok-places.places.items ≡ places_of bytes = c.in_ok-places.ensures.value ∙ ap places_of c.cells-bytes.ensures.bytes in
+    let items : c.in_ok-places.places.items ≡ places_of bytes = c.in_ok-places.ensures.value ∙ ap places_of c.as_bytes-bytes.ensures.bytes in
     let some : 0 < length c.in_ok-places.places.items = grind (arith, common_steps) in
     let long : length bytes ≡ w * h =
-    c.cells-bytes.ensures.grid.filled.as_many
+    c.as_bytes-bytes.ensures.grid.filled.as_many
     ∙ ap (λ k. k * c.args.grid.now.height) (sym (ap (λ (g : GridView). g.width) c.grid.view_is) ∙ c.if-grid-width.false)
     ∙ ap (λ k. w * k) (sym (ap (λ (g : GridView). g.height) c.grid.view_is) ∙ c.if-grid-height.false) in
     record {

@@ -12,5 +12,5 @@ invariant_of-result c =
     let grid : GridView = record { width = c.grid.inside.width; height = c.grid.inside.height; bytes = c.grid.inside.bytes.items } in
     let sized : is_tile_size grid.width grid.height ≡ true = search rules in
     let pixels : c.in_ok-pixels.pixels.items ≡ map (λ byte. Char byte) grid.bytes =
-    c.in_ok-pixels.ensures.value ∙ ap (map (λ byte. Char byte)) (c.cells.ensures.bytes ∙ ap (λ (g : GridView). g.bytes) (sym c.grid.view_is)) in
+    c.in_ok-pixels.ensures.value ∙ ap (map (λ byte. Char byte)) (c.as_bytes.ensures.bytes ∙ ap (λ (g : GridView). g.bytes) (sym c.grid.view_is)) in
     subst (λ (symbols : List Symbol). IsPicture (record { kind = kinds.Grid; side = grid.width; pixels = symbols })) (sym pixels) (grid_picture grid c.grid.invariant sized)

@@ -11,13 +11,13 @@ use Rattle.wfc_writer_tests.proofs.render.text_of.Goals as goal
 
 pub index-requires-clause-rows : goal.index-requires-clause-rows
 index-requires-clause-rows c =
-    let same = c.deref.ensures.value ∙ c.in_ok-symbols.ensures.symbols ∙ ap (map Char) (c.cells-bytes.ensures.bytes ∙ sym (ap (λ (g : GridView). g.bytes) c.grid.view_is)) in
+    let same = c.deref.ensures.value ∙ c.in_ok-symbols.ensures.symbols ∙ ap (map Char) (c.as_bytes-bytes.ensures.bytes ∙ sym (ap (λ (g : GridView). g.bytes) c.grid.view_is)) in
     ap (λ n. n % c.grid.inside.width) (ap length same ∙ length-map c.grid.inside.bytes.items Char ∙ c.grid.invariant.filled.as_many) ∙ mul-mod_right c.grid.inside.width c.grid.inside.height
 
 pub picture_bytes-requires : goal.picture_bytes-requires
 picture_bytes-requires c =
     let grid : GridView = record { width = c.grid.inside.width; height = c.grid.inside.height; bytes = c.grid.inside.bytes.items } in
-    let same = c.deref.ensures.value ∙ c.in_ok-symbols.ensures.symbols ∙ ap (map Char) (c.cells-bytes.ensures.bytes ∙ sym (ap (λ (g : GridView). g.bytes) c.grid.view_is)) in
+    let same = c.deref.ensures.value ∙ c.in_ok-symbols.ensures.symbols ∙ ap (map Char) (c.as_bytes-bytes.ensures.bytes ∙ sym (ap (λ (g : GridView). g.bytes) c.grid.view_is)) in
     let made = gives_value NoMemory (λ m. m) (c.in_ok-picture.picture, c.in_ok-picture.palette) _ c.in_ok-picture.ensures.exact in
     let laid = sym c.in_ok-laid.ensures.exact in
     let asked = c.layouts_are_as_asked.ensures in

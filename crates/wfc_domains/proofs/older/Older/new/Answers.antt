@@ -6,7 +6,7 @@ use Rattle.std.proofs.lemmas.List.FromFn.{length-map-range_with_len}
 use Rattle.wfc_problem.specs.Network.{in_base, values}
 use Rattle.wfc_problem.specs.Sizes.{size_at, sizes_of}
 use Rattle.wfc_domains.specs.Domains.{size_of}
-use Rattle.wfc_domains.specs.Numbered.{place_count, placed_removals, first_sizes}
+use Rattle.wfc_domains.specs.Numbered.{removal_count, placed_removals, first_sizes}
 use Rattle.wfc_domains.proofs.NumberedLemmas.{number-limit}
 use Rattle.wfc_domains.proofs.OlderLemmas.{base-few}
 use Rattle.wfc_domains.proofs.older.Older.new.Goals as goal
@@ -22,7 +22,7 @@ invariant_of-result c =
     let sizes = c.in_ok-from_slice.field-0 in
     let is : sizes.items ≡ sizes_of P (in_base P) = c.in_ok-from_slice.ensures.items ∙ c.sizes.ensures.value ∙ ap (λ D. map (size_of D) (range_with_len 0 D.cells)) c.requires.base in
     let long : length sizes.items ≡ P.cells = ap length is ∙ length-map-range_with_len (size_at P (in_base P)) 0 P.cells in
-    let count : place_count (length sizes.items) v d ≡ P.cells * values P * (P.dirs + 1) = λ i. long i * c.values-values.ensures.value i * (c.dirs-dirs.ensures.value i + 1) in
+    let count : removal_count (length sizes.items) v d ≡ P.cells * values P * (P.dirs + 1) = λ i. long i * c.values-values.ensures.value i * (c.dirs-dirs.ensures.value i + 1) in
     let few = number-limit (P.cells * values P) P.dirs t.few_pairs t.four_or_six in
     let places = c.from.result * c.from-2.result * (c.from-3.result + 1) in
     let counted : places ≡ P.cells * values P * (P.dirs + 1) = λ i. (c.from.ensures ∙ c.cells-cells.ensures.value) i * (c.from-2.ensures ∙ c.values-values.ensures.value) i * ((c.from-3.ensures ∙ c.dirs-dirs.ensures.value) i + 1) in

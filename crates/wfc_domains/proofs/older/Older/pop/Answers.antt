@@ -3,7 +3,7 @@ use Rattle.std.specs.Prelude.{All, slice_index}
 use Rattle.std.proofs.lemmas.List.{length-set}
 use Rattle.std.proofs.lemmas.List.Elements.{All-take}
 use Rattle.wfc_domains.specs.Kept.{sizes_in}
-use Rattle.wfc_domains.specs.Numbered.{first_sizes, numbered_cause, place_count, placed_cell, placed_removals}
+use Rattle.wfc_domains.specs.Numbered.{first_sizes, numbered_cause, removal_count, placed_cell, placed_removals}
 use Rattle.wfc_domains.proofs.NumberedLemmas.{placed-length}
 use Rattle.wfc_domains.proofs.OlderLemmas.{kept-cell, pop-removals, taken_back}
 use Rattle.wfc_domains.proofs.older.Older.pop.Goals as goal
@@ -36,15 +36,15 @@ invariant_of-self c =
     let h = c.self.invariant in
     let t = taken_back a.values a.dirs a.sizes.items a.numbers.numbers (c.len-last.result - 1) c.at-place.result (c.at-place.result / (c.from.result + 1) / c.from-3.result) c.index.result.now h.some_value h.numbers_in c.at-place.ensures.value
     (omega (arith, c.len-last.ensures.value, rw (← c.self.view_is) at c.requires.some, placed-length a.values a.dirs (sizes_in a) a.numbers.numbers)) (λ i. c.at-place.result / (c.from.ensures i + 1) / c.from-3.ensures i) c.index.ensures in
-    let few = place_count (length a.sizes.items) a.values a.dirs in
+    let few = removal_count (length a.sizes.items) a.values a.dirs in
     let wide = length-set a.sizes.items (c.at-place.result / (c.from.result + 1) / c.from-3.result) (c.index.result.now + 1) in
     let front = ap (λ z. z.numbers) c.truncate.ensures.front in
     let all = All-take (λ m. m < few) (c.len-last.result - 1) a.numbers.numbers h.numbers_in in
     record {
       some_value = h.some_value;
-      few_places = omega (arith, ap (λ m. place_count m a.values a.dirs) wide, h.few_places);
-      places_in = omega (arith, ap (λ m. place_count m a.values a.dirs) wide, h.places_in, ap (λ z. z.limit) c.truncate.ensures.front);
-      numbers_in = subst (λ m. All (λ x. x < place_count m a.values a.dirs) c.truncate.new.self.numbers) (sym wide) (subst (All (λ x. x < few)) (sym front) all);
+      few_places = omega (arith, ap (λ m. removal_count m a.values a.dirs) wide, h.few_places);
+      places_in = omega (arith, ap (λ m. removal_count m a.values a.dirs) wide, h.places_in, ap (λ z. z.limit) c.truncate.ensures.front);
+      numbers_in = subst (λ m. All (λ x. x < removal_count m a.values a.dirs) c.truncate.new.self.numbers) (sym wide) (subst (All (λ x. x < few)) (sym front) all);
       few_values = λ m. omega (arith, ap (λ s. slice_index s m) (t.first _ front), h.few_values m);
     }
 

@@ -3,7 +3,7 @@ use Rattle.std.specs.Prelude.{All, slice_index}
 use Rattle.std.proofs.lemmas.List.{length-set}
 use Rattle.std.proofs.lemmas.List.Elements.{All-push}
 use Rattle.wfc_domains.specs.Kept.{sizes_in}
-use Rattle.wfc_domains.specs.Numbered.{first_sizes, placed_removals, place_count, place_number}
+use Rattle.wfc_domains.specs.Numbered.{first_sizes, placed_removals, removal_count, removal_number}
 use Rattle.wfc_domains.proofs.NumberedLemmas.{place-few, placed-length}
 use Rattle.wfc_domains.proofs.OlderLemmas.{first-more, left-is, removals-more}
 use Rattle.wfc_domains.proofs.older.Older.push.Goals as goal
@@ -24,16 +24,16 @@ invariant_of-self c =
     let logged = rw (← c.self.view_is) at c.requires.logged in
     let before = logged.before ∙ ap (λ t. slice_index t r.cell) (left-is a.values a.dirs s ns) in
     let long = length-set s r.cell (r.before - 1) in
-    let number = c.place_number.ensures.value in
-    let more : c.push.new.self.numbers ≡ ns ++ place_number a.values a.dirs r ∷ [] = ap (λ z. z.numbers) c.push.ensures.more ∙ ap (λ n. ns ++ n ∷ []) number in
-    let few : place_number a.values a.dirs r < place_count (length s) a.values a.dirs = place-few (length s) a.values a.dirs r logged.inside.cell_in logged.inside.value_in logged.inside.cause_in in
-    let all = All-push (λ n. n < place_count (length s) a.values a.dirs) ns (place_number a.values a.dirs r) h.numbers_in few in
+    let number = c.removal_number.ensures.value in
+    let more : c.push.new.self.numbers ≡ ns ++ removal_number a.values a.dirs r ∷ [] = ap (λ z. z.numbers) c.push.ensures.more ∙ ap (λ n. ns ++ n ∷ []) number in
+    let few : removal_number a.values a.dirs r < removal_count (length s) a.values a.dirs = place-few (length s) a.values a.dirs r logged.inside.cell_in logged.inside.value_in logged.inside.cause_in in
+    let all = All-push (λ n. n < removal_count (length s) a.values a.dirs) ns (removal_number a.values a.dirs r) h.numbers_in few in
     let first = ap (first_sizes a.values a.dirs (set s r.cell (r.before - 1))) more ∙ first-more a.values a.dirs s ns r logged.inside.value_in logged.inside.cause_in before logged.some in
     record {
       some_value = h.some_value;
-      few_places = omega (arith, ap (λ k. place_count k a.values a.dirs) long, h.few_places);
-      places_in = omega (arith, ap (λ k. place_count k a.values a.dirs) long, h.places_in, ap (λ z. z.limit) c.push.ensures.more);
-      numbers_in = subst (λ k. All (λ n. n < place_count k a.values a.dirs) c.push.new.self.numbers) (sym long) (subst (All (λ n. n < place_count (length s) a.values a.dirs)) (sym more) all);
+      few_places = omega (arith, ap (λ k. removal_count k a.values a.dirs) long, h.few_places);
+      places_in = omega (arith, ap (λ k. removal_count k a.values a.dirs) long, h.places_in, ap (λ z. z.limit) c.push.ensures.more);
+      numbers_in = subst (λ k. All (λ n. n < removal_count k a.values a.dirs) c.push.new.self.numbers) (sym long) (subst (All (λ n. n < removal_count (length s) a.values a.dirs)) (sym more) all);
       few_values = λ k. omega (arith, ap (λ t. slice_index t k) first, h.few_values k);
     }
 
@@ -46,8 +46,8 @@ returns c =
     let logged = rw (← c.self.view_is) at c.requires.logged in
     let before = logged.before ∙ ap (λ t. slice_index t r.cell) (left-is a.values a.dirs s ns) in
     let long = length-set s r.cell (r.before - 1) in
-    let number = c.place_number.ensures.value in
-    let more : c.push.new.self.numbers ≡ ns ++ place_number a.values a.dirs r ∷ [] = ap (λ z. z.numbers) c.push.ensures.more ∙ ap (λ n. ns ++ n ∷ []) number in
+    let number = c.removal_number.ensures.value in
+    let more : c.push.new.self.numbers ≡ ns ++ removal_number a.values a.dirs r ∷ [] = ap (λ z. z.numbers) c.push.ensures.more ∙ ap (λ n. ns ++ n ∷ []) number in
     let first = ap (first_sizes a.values a.dirs (set s r.cell (r.before - 1))) more ∙ first-more a.values a.dirs s ns r logged.inside.value_in logged.inside.cause_in before logged.some in
     let removals : placed_removals a.values a.dirs (first_sizes a.values a.dirs (set s r.cell (r.before - 1)) c.push.new.self.numbers) c.push.new.self.numbers ≡ placed_removals a.values a.dirs (sizes_in a) ns ++ r ∷ [] =
     ap (λ t. placed_removals a.values a.dirs t c.push.new.self.numbers) first ∙ ap (placed_removals a.values a.dirs (sizes_in a)) more ∙ removals-more a.values a.dirs s ns r logged.inside.value_in logged.inside.cause_in before in

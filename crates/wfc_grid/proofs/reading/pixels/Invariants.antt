@@ -1,10 +1,10 @@
 use Rattle.std.proofs.Common.{◌≡◌, ◌++◌}
 use Rattle.wfc_text.specs.Line.{lines_of}
 use Rattle.wfc_grid.specs.Fault.{grid_bytes, first_fault}
-use Rattle.wfc_grid.proofs.reading.cells.Given as goal
+use Rattle.wfc_grid.proofs.reading.pixels.Given as goal
 
 abbrev pub invariant-loop-line : goal.invariant-loop-line
 invariant-loop-line l = record {
-  whole : l.cells.items ++ grid_bytes l.line-iterator ≡ grid_bytes (lines_of l.text);
+  whole : l.pixels.items ++ grid_bytes l.line-iterator ≡ grid_bytes (lines_of l.text);
   right : first_fault l.width l.line-iterator ≡ first_fault l.width (lines_of l.text);
 }

@@ -1,5 +1,5 @@
 use Rattle.std.proofs.Common.{arith}
-use Rattle.wfc_domains.proofs.older.place_number.Goals as goal
+use Rattle.wfc_domains.proofs.older.removal_number.Goals as goal
 
 pub overflow_mul-result : goal.overflow_mul-result
 overflow_mul-result c = rw (c.from.ensures, c.from-2.ensures, c.from-3.ensures) (omega (arith, c.requires.few))
