@@ -1,5 +1,5 @@
 -- Draws: what is left of the values of a cell behind those that were looked at.
-use Rattle.std.proofs.Common.{◌≡◌, ℕ, suc, ◌+◌, ◌-◌, ◌%◌, ◌<◌, ◌≤◌, Bool, true, false, cond, List, [], ◌∷◌, filter, length, get_or, refl, sym, ◌∙◌, ap, arith}
+use Rattle.std.proofs.Common.{◌≡◌, ℕ, zero, suc, ◌+◌, ◌-◌, ◌%◌, ◌<◌, ◌≤◌, Bool, true, false, cond, List, [], ◌∷◌, filter, length, get_or, refl, sym, ◌∙◌, ap, arith}
 use Rattle.std.specs.Prelude.{Contains, nat_lt}
 use Rattle.std.specs.List.{range_with_len, sum_by}
 use Rattle.std.proofs.lemmas.Bool.{ltb-false, lt-ltb, le-ltb, cond-true, cond-false}
@@ -31,6 +31,20 @@ pub rest_passed : (p : ℕ → Bool) (v n : ℕ) → v < n → p v ≡ false →
 rest_passed p v n l is =
     let s : n - v ≡ suc (n - (v + 1)) = omega arith in
     ap (λ (m : ℕ). filter p (range_with_len v m)) s ∙ cond-false (p v) (v ∷ rest_from p (v + 1) n) (rest_from p (v + 1) n) is
+
+-- so where none of several passes, all are left out
+rest_skipped : (p : ℕ → Bool) (v k n : ℕ) → v + k ≤ n → ((u : ℕ) → v ≤ u → u < v + k → p u ≡ false) → rest_from p v n ≡ rest_from p (v + k) n
+rest_skipped p v zero n l none = let e : v ≡ v + 0 = omega arith in ap (λ m. rest_from p m n) e
+rest_skipped p v (suc k) n l none =
+    let e : (v + 1) + k ≡ v + suc k = omega arith in
+    rest_passed p v n (omega (arith, l)) (none v (omega arith) (omega arith))
+    ∙ rest_skipped p (v + 1) k n (omega (arith, l)) (λ u after before. none u (omega (arith, after)) (omega (arith, before)))
+    ∙ ap (λ m. rest_from p m n) e
+
+pub rest_next : (p : ℕ → Bool) (v w n : ℕ) → v ≤ w → w ≤ n → ((u : ℕ) → v ≤ u → u < w → p u ≡ false) → rest_from p v n ≡ rest_from p w n
+rest_next p v w n after within none =
+    let e : v + (w - v) ≡ w = omega (arith, after) in
+    rest_skipped p v (w - v) n (omega (arith, after, within)) (λ u a b. none u a (omega (arith, b, after))) ∙ ap (λ m. rest_from p m n) e
 
 -- ---- sums
 

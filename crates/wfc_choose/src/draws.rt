@@ -20,14 +20,15 @@ pub fn draw(problem: &Problem, domains: &Domains, cell: u32, word: u64) -> u16
     ensures stands { IsTrue (has domains.now cell result) }
 {
     let number = word % weights_at(problem, domains, cell);
+    let values = problem.values();
     let mut running: u64 = 0;
-    for value in 0..problem.values() {
-        if domains.has(cell, value) {
-            running += u64::from(problem.weight(value));
-            if number < running {
-                return value;
-            }
+    let mut value = domains.next(cell, 0);
+    while value < values {
+        running += u64::from(problem.weight(value));
+        if number < running {
+            return value;
         }
+        value = domains.next(cell, value + 1);
     }
     unreachable!()
 }
@@ -41,11 +42,12 @@ fn weights_at(problem: &Problem, domains: &Domains, cell: u32) -> u64
         ≡ sum_by (value_weight problem.now) (values_at problem.now (has domains.now) cell) }
     ensures some { 0 < result }
 {
+    let values = problem.values();
     let mut sum: u64 = 0;
-    for value in 0..problem.values() {
-        if domains.has(cell, value) {
-            sum += u64::from(problem.weight(value));
-        }
+    let mut value = domains.next(cell, 0);
+    while value < values {
+        sum += u64::from(problem.weight(value));
+        value = domains.next(cell, value + 1);
     }
     sum
 }

@@ -1,10 +1,12 @@
 -- Flags as bits: one is read, and one is written.
-use Rattle.std.proofs.Common.{◌≡◌, ◌≢◌, ℕ, zero, suc, ◌*◌, ◌/◌, ◌%◌, ◌<◌, ◌≤◌, Bool, true, false, List, length, get_or, set, refl, sym, ◌∙◌, ap, arith, inl, inr}
+use Rattle.std.proofs.Common.{◌≡◌, ◌≢◌, ℕ, zero, suc, w8, ◌+◌, ◌-◌, ◌*◌, ◌/◌, ◌%◌, ◌^◌, ◌<◌, ◌≤◌, Bool, true, false, List, length, get_or, set, refl, sym, ◌∙◌, ap, arith, inl, inr}
 use Rattle.std.specs.Prelude.{◌==◌, slice_index}
-use Rattle.std.specs.Int.{bit_at}
+use Rattle.std.specs.Int.{bit_at, trailing_zeros}
 use Rattle.std.proofs.lemmas.List.{ext_get_or, length-set, get_or-set_same, get_or-set_other}
 use Rattle.std.proofs.lemmas.List.FromFn.{get_or-map-range_with_len, length-map-range_with_len}
-use Rattle.std.proofs.lemmas.Bool.{cases_eq}
+use Rattle.std.proofs.lemmas.Bool.{cases_eq, cases_lt}
+use Rattle.std.proofs.lemmas.Nat.{shr-shr, shr_le}
+use Rattle.std.proofs.lemmas.Nat.Bits.{bit_at-trailing_zeros, bit_at-zero, bit_at_above}
 use Rattle.wfc_domains.specs.Bits.{bit_in, flags_in}
 
 -- as many flags as are wanted
@@ -60,3 +62,51 @@ flags-written n bytes i x b hi hn here others =
 -- where each byte is 255, each flag is set
 pub flags-all : (n : ℕ) (bytes : List ℕ) (k : ℕ) → k < n → get_or bytes (k / 8) 0 ≡ 255 → get_or (flags_in n bytes) k false ≡ true
 flags-all n bytes k h full = flag-at n bytes k h ∙ ap (λ b. bit_at b (k % 8) == 1) full ∙ ap (λ x. x == 1) (bit-255 (k % 8) (omega arith))
+
+-- a bit of what is left of a byte behind its first bits
+pub bit-shifted : (byte from k : ℕ) → bit_at (byte / 2 ^ from) k ≡ bit_at byte (from + k)
+bit-shifted byte from k = ap (λ n. n % 2) (shr-shr byte from k)
+
+-- what is left of a byte has no bit past the byte's end
+pub bit-past : (byte from k : ℕ) → byte < 256 → from < 8 → 8 ≤ from + k → bit_at (byte / 2 ^ from) k ≡ 0
+bit-past byte from k small inside past = bit-shifted byte from k ∙ bit_at_above byte 8 (from + k) small past
+
+-- what is left of a byte that isn't 0 has its first bit where the byte has its first from there on
+pub first-bit : (byte from : ℕ) → byte < 256 → from < 8 → 0 < byte / 2 ^ from
+    → (from + trailing_zeros w8 (byte / 2 ^ from) < 8) × (bit_at byte (from + trailing_zeros w8 (byte / 2 ^ from)) ≡ 1) × ((k : ℕ) → from ≤ k → k < from + trailing_zeros w8 (byte / 2 ^ from) → bit_at byte k ≡ 0)
+first-bit byte from small inside some = (
+  elim (cases_lt (from + zeros) 8) [ inl low ↦ low | inr past ↦ absurd (omega (arith, lowest.1, bit-past byte from zeros small inside past)) ],
+  sym (bit-shifted byte from zeros) ∙ lowest.1,
+  λ k after before. ap (bit_at byte) (sym (rest k after)) ∙ sym (bit-shifted byte from (k - from)) ∙ lowest.2 (k - from) (omega (arith, after, before)),
+)
+  where
+    zeros : ℕ
+    zeros = trailing_zeros w8 (byte / 2 ^ from)
+
+    lowest : (zeros < 8) × (bit_at (byte / 2 ^ from) zeros ≡ 1) × ((i : ℕ) → i < zeros → bit_at (byte / 2 ^ from) i ≡ 0)
+    lowest = bit_at-trailing_zeros w8 (byte / 2 ^ from) some (omega (arith, shr_le byte from, small))
+
+    rest : (k : ℕ) → from ≤ k → from + (k - from) ≡ k
+    rest k after = omega (arith, after)
+
+-- where nothing is left, no bit is set
+pub no-bit : (byte from : ℕ) → byte / 2 ^ from ≡ 0 → (k : ℕ) → from ≤ k → bit_at byte k ≡ 0
+no-bit byte from none k after =
+    let rest : from + (k - from) ≡ k = omega (arith, after) in
+    ap (bit_at byte) (sym rest) ∙ sym (bit-shifted byte from (k - from)) ∙ ap (λ n. bit_at n (k - from)) none ∙ bit_at-zero (k - from)
+
+-- where no bit of a byte is set from an index on, no flag is
+pub clear-byte : (n : ℕ) (bytes : List ℕ) (at bit : ℕ) → bit ≤ 8 → ((k : ℕ) → at % 8 ≤ k → k < bit → bit_at (slice_index bytes (at / 8)) k ≡ 0)
+    → (k : ℕ) → at ≤ k → k < at - at % 8 + bit → k < n → get_or (flags_in n bytes) k false ≡ false
+clear-byte n bytes at bit low clear k after before inside =
+    let same : k / 8 ≡ at / 8 = omega (arith, after, before, low) in
+    flag-at n bytes k inside ∙ ap (λ b. bit_at b (k % 8) == 1) (ap (slice_index bytes) same)
+    ∙ ap (λ x. x == 1) (clear (k % 8) (omega (arith, same, after)) (omega (arith, same, before)))
+
+-- and where a bit is set, its flag is
+pub set-byte : (n : ℕ) (bytes : List ℕ) (at bit : ℕ) → bit < 8 → bit_at (slice_index bytes (at / 8)) bit ≡ 1 → at - at % 8 + bit < n → get_or (flags_in n bytes) (at - at % 8 + bit) false ≡ true
+set-byte n bytes at bit low set inside =
+    let same : (at - at % 8 + bit) / 8 ≡ at / 8 = omega (arith, low) in
+    let rest : (at - at % 8 + bit) % 8 ≡ bit = omega (arith, low) in
+    flag-at n bytes (at - at % 8 + bit) inside ∙ ap (λ b. bit_at b ((at - at % 8 + bit) % 8) == 1) (ap (slice_index bytes) same)
+    ∙ ap (λ j. bit_at (slice_index bytes (at / 8)) j == 1) rest ∙ ap (λ x. x == 1) set

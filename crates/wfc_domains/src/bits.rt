@@ -1,6 +1,6 @@
 //! Flags in one bit each.
 
-ghost use Rattle.std.specs.Prelude.{◌≡◌, ◌≢◌, ℕ, ◌<◌, true, false, IfOk, length, slice_index_or, slice_set};
+ghost use Rattle.std.specs.Prelude.{◌≡◌, ◌≢◌, ℕ, ◌<◌, ◌≤◌, ◌^◌, true, false, IfOk, length, slice_index_or, slice_set};
 ghost use Rattle.std.specs.Int.{bit_at};
 
 use std::alloc::{AllocError, Global};
@@ -44,6 +44,23 @@ fn without_bit(byte: u8, bit: usize) -> u8
     byte & !(1 << bit)
 }
 
+/// The first bit of a byte from `from` on that is set, or 8 where none is.
+#[inline]
+fn next_bit(byte: u8, from: usize) -> usize
+    requires from_in { from < 8 }
+    ensures from { from ≤ result }
+    ensures within { result ≤ 8 }
+    ensures clear { (k : ℕ) → from ≤ k → k < result → bit_at byte k ≡ 0 }
+    ensures set { result < 8 → bit_at byte result ≡ 1 }
+{
+    let rest = byte >> from;
+    if rest == 0 {
+        8
+    } else {
+        from + rest.trailing_zeros() as usize
+    }
+}
+
 impl Bits {
     /// So many flags, all of them set.
     pub fn all(alloc: Global, len: usize) -> Result<Bits, AllocError>
@@ -63,6 +80,30 @@ impl Bits {
         ensures value { result ≡ slice_index_or self.now index false }
     {
         (self.bytes[index / 8] >> (index % 8)) & 1 == 1
+    }
+
+    /// The first index from `from` on whose flag is set, or `end` where none below it is. What a byte lacks is passed over
+    /// at once.
+    #[inline]
+    pub fn next(&self, from: usize, end: usize) -> usize
+        requires from_in { from ≤ end }
+        requires end_in { end ≤ length self.now }
+        requires small { end ≤ 2 ^ 63 }
+        ensures from { from ≤ result }
+        ensures within { result ≤ end }
+        ensures clear { (k : ℕ) → from ≤ k → k < result → slice_index_or self.now k false ≡ false }
+        ensures set { result < end → slice_index_or self.now result false ≡ true }
+    {
+        let mut at = from;
+        while at < end {
+            let first = at % 8;
+            let bit = next_bit(self.bytes[at / 8], first);
+            if bit < 8 {
+                return (at - first + bit).min(end);
+            }
+            at += 8 - first;
+        }
+        end
     }
 
     /// Sets the flag at an index.

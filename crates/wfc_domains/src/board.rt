@@ -125,22 +125,30 @@ impl<'p> Board<'p> {
             → IsTrue (has self.new.domains cell other) → other ≡ value }
         ensures grows { Grows self.old self.new }
     {
-        for other in 0..self.problem.values() {
-            if self.is_other(cell, other, value) {
-                self.remove(cell, other, Cause::Assumed);
-            }
+        let values = self.problem.values();
+        let mut other = self.domains.next(cell, 0);
+        while other < values && is_alive(self.verdict) {
+            self.cut_other(cell, other, value);
+            other = self.domains.next(cell, other + 1);
         }
     }
 
-    /// No cell is empty, and another value than this stands.
+    /// Removes a value that stands, unless it is the one that is kept.
     #[inline]
-    fn is_other(&self, cell: u32, other: u16, value: u16) -> bool
-        requires cell_in { cell < self.now.domains.cells }
-        requires value_in { other < self.now.domains.values }
-        ensures value { IsTrue result ↔ ((self.now.verdict ≡ Alive) × (other ≢ value)
-            × IsTrue (has self.now.domains cell other)) }
+    fn cut_other(&mut self, cell: u32, other: u16, value: u16)
+        requires board { IsBoard self.old }
+        requires alive { self.old.verdict ≡ Alive }
+        requires stands { IsTrue (has self.old.domains cell other) }
+        requires cut { other ≢ value → leaves_all self.old.levels.standing cell other ≡ false }
+        ensures board { IsBoard self.new }
+        ensures gone { other ≢ value → has self.new.domains cell other ≡ false }
+        ensures stays { (k : ℕ) → has self.old.domains cell k ≡ false
+            → has self.new.domains cell k ≡ false }
+        ensures grows { Grows self.old self.new }
     {
-        is_alive(self.verdict) && other != value && self.domains.has(cell, other)
+        if other != value {
+            self.remove(cell, other, Cause::Assumed);
+        }
     }
 
     /// Removes one value, if it stands.

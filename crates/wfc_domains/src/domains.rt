@@ -70,6 +70,21 @@ impl Domains {
         self.flags.get(self.place(cell, value))
     }
 
+    /// The first value from `from` on that stands at `cell`, or the number of values where none does.
+    #[inline]
+    pub fn next(&self, cell: u32, from: u16) -> u16
+        requires cell_in { cell < self.now.cells }
+        requires from_in { from ≤ self.now.values }
+        ensures from { from ≤ result }
+        ensures within { result ≤ self.now.values }
+        ensures gone { (v : ℕ) → from ≤ v → v < result → has self.now cell v ≡ false }
+        ensures stands { result < self.now.values → IsTrue (has self.now cell result) }
+    {
+        let start = cell as usize * self.values as usize;
+        let end = start + self.values as usize;
+        (self.flags.next(start + from as usize, end) - start) as u16
+    }
+
     /// How many values stand at `cell`.
     #[inline]
     pub fn size(&self, cell: u32) -> u32

@@ -127,6 +127,7 @@ fn made<L: Ledger>(
         (grown_of growing.now.taught.patterns growing.now.taught.palette (area_asked request.now)
         growing.now.lines.items rule request.now.budget request.now.seed) }
 {
+    // The proof knows how few symbols there are where they are counted.
     let _few = growing.taught.palette.len();
     let mut steps = Steps::<L>::new(blank);
     grow_area(

@@ -1,12 +1,13 @@
 -- What a journal tells after more lines were put into its sink.
-use Rattle.std.proofs.Common.{◌≡◌, ℕ, ◌^◌, ◌<◌, ◌≤◌, Bool, true, false, cond, nat_eq, List, [], ◌∷◌, ◌++◌, length, take, drop, Option, None, Some, is_some, Result, Ok, Err, refl, sym, ap, ◌∙◌, subst, arith, append_assoc, append-nil, length-append}
+use Rattle.std.proofs.Common.{◌≡◌, ℕ, ◌^◌, ◌<◌, ◌≤◌, Bool, true, false, cond, nat_eq, List, [], ◌∷◌, ◌++◌, length, take, drop, Option, None, Some, is_some, Result, Ok, Err, refl, sym, ap, ◌∙◌, subst, arith, append_assoc, append-nil, length-append, OnOk}
 use Rattle.std.specs.Option.{option_map}
 use Rattle.std.specs.Borrow.{GName}
 use Rattle.std.proofs.lemmas.Bool.{eqb-true, false≢true}
 use Rattle.std.proofs.Math.Seq.{take-nil}
 use Rattle.std.proofs.lemmas.List.{take-append-le, length-take-le}
 use Rattle.std.proofs.lemmas.List.Elements.{All-head, All-tail, All-take}
-use Rattle.wfc_outside.specs.Sink.{Taken, SinkView, with_bytes, after_bytes}
+use Rattle.wfc_outside.specs.Sink.{Puts, Taken, SinkView, with_bytes, after_bytes}
+use Rattle.wfc_outside.specs.declared.SinkFault.{SinkFault}
 use Rattle.wfc_proof.specs.Heads.{with_line_end, format_text, numbers_text, shape_text, head_text, head_2_text, IsShape}
 use Rattle.wfc_proof.specs.Journal.{JournalView, Target, counted_as, after_line, IsRefused}
 use Rattle.wfc_proof.specs.ProofText.{IsOfFormat, AreOfFormat}
@@ -292,14 +293,25 @@ bare_told format b bytes (Some taken) none =
     (ap (λ (r : Reading). Some r.lines) more ∙ ap Some (none read).0, (ap Some (part ∙ sym (ap (λ p. take (length p) []) part)), refl))
 
 -- the head of format 1
-pub head_bare : (old new : SinkView) (c v : ℕ) → c < 2 ^ 32 → v < 2 ^ 32 → new ≡ after_bytes old (head_text c v) → IsBare One new.told
+head_bare : (old new : SinkView) (c v : ℕ) → c < 2 ^ 32 → v < 2 ^ 32 → new ≡ after_bytes old (head_text c v) → IsBare One new.told
 head_bare old new c v cells values put =
     subst (λ (s : SinkView). IsBare One s.told) (sym put) (bare_told One 119 (drop 1 (head_text c v)) old.told (λ read. bare_1 read c v cells values))
 
 -- and of format 2
-pub head_2_bare : (old new : SinkView) (shape : Shape) (c v : ℕ) → IsShape shape → c < 2 ^ 32 → v < 2 ^ 32 → new ≡ after_bytes old (head_2_text shape c v) → IsBare Two new.told
+head_2_bare : (old new : SinkView) (shape : Shape) (c v : ℕ) → IsShape shape → c < 2 ^ 32 → v < 2 ^ 32 → new ≡ after_bytes old (head_2_text shape c v) → IsBare Two new.told
 head_2_bare old new shape c v is cells values put =
     subst (λ (s : SinkView). IsBare Two s.told) (sym put) (bare_told Two 119 (drop 1 (head_2_text shape c v)) old.told (λ read. bare_2 read shape c v is cells values))
+
+-- a head that was put leaves its sink bare
+pub header_bare : (old new : SinkView) (text : List ℕ) (c v : ℕ) (result : Result (Unit {0}) SinkFault) → c < 2 ^ 32 → v < 2 ^ 32 → text ≡ head_text c v → Puts old new text result
+    → OnOk result (IsBare One new.told)
+header_bare old new text c v (Ok unit) cells values is put = head_bare old new c v cells values (put ∙ ap (after_bytes old) is)
+header_bare old new text c v (Err fault) cells values is put = tt
+
+pub header_2_bare : (old new : SinkView) (text : List ℕ) (shape : Shape) (c v : ℕ) (result : Result (Unit {0}) SinkFault) → IsShape shape → c < 2 ^ 32 → v < 2 ^ 32 → text ≡ head_2_text shape c v → Puts old new text result
+    → OnOk result (IsBare Two new.told)
+header_2_bare old new text shape c v (Ok unit) is cells values same put = head_2_bare old new shape c v is cells values (put ∙ ap (after_bytes old) same)
+header_2_bare old new text shape c v (Err fault) is cells values same put = tt
 
 -- what a bare sink took stands before the lines
 pub bare_before : (format : Format) (told : Option Taken) → IsBare format told → option_map (before_lines format) told ≡ told

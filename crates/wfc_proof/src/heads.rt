@@ -1,11 +1,13 @@
 //! The heads of refutations: what their lines say, and how they are written.
 
-ghost use Rattle.std.specs.Prelude.{◌≡◌, ◌-◌, ◌^◌, ◌≤◌, ◌+◌, ◌∷◌, ◌++◌, [], decimal, length};
+ghost use Rattle.std.specs.Prelude.{OnOk, ◌≡◌, ◌-◌, ◌^◌, ◌≤◌, ◌+◌, ◌∷◌, ◌++◌, [], decimal, length};
 ghost use Rattle.wfc_outside.specs.Sink.{Puts};
 ghost use Rattle.wfc_proof.specs.Words.{decimal_within};
 ghost use Rattle.wfc_proof.specs.Heads.{with_line_end, format_text, numbers_text, shape_text, head_text, head_2_text};
 ghost use Rattle.wfc_proof.specs.Heads.{format_of, head_numbers, numbers_of_words, shape_of, shape_of_words, shape_with};
 ghost use Rattle.wfc_proof.specs.Heads.{head_word, bit_word, bit};
+ghost use Rattle.wfc_proof.specs.Telling.{IsBare};
+ghost use Rattle.wfc_proof.specs.declared.heads.Format.TheVariants.{One, Two};
 
 use crate::gathered::Gathered;
 use crate::text::LineFault;
@@ -161,6 +163,7 @@ fn bit_word(word: &[u8]) -> Option<bool>
 /// Puts the head of a refutation in format 1. After `Failed` the sink has taken a front of it. It takes no memory.
 pub fn write_header<S: Sink>(sink: &mut S, cells: u32, values: u16) -> Result<(), SinkFault>
     ensures put { Puts (S.seen sink.old) (S.seen sink.new) (head_text cells values) result }
+    ensures bare { OnOk result (IsBare One (S.seen sink.new).told) }
 {
     let mut text = Gathered::new();
     gather_format(&mut text, Format::One);
@@ -178,7 +181,10 @@ pub fn write_header_2<S: Sink>(
     requires limit { shape.now.n ≤ 6 }
     ensures put { Puts (S.seen sink.old) (S.seen sink.new)
         (head_2_text shape.now cells values) result }
+    ensures bare { OnOk result (IsBare Two (S.seen sink.new).told) }
 {
+    // The proof knows how large the fields are where they are read.
+    let _limits = (shape.width, shape.height, shape.depth, shape.symmetry);
     let mut text = Gathered::new();
     gather_format(&mut text, Format::Two);
     gather_numbers(&mut text, cells, values);

@@ -35,7 +35,7 @@ impl<'s, S: Sink> ProofJournal<'s, S> {
             sink.entry.ghost_name (after_bytes (S.seen sink.old) (head_text problem.now.cells
             (values problem.now)))) }
     {
-        match put_head(sink, problem.cells(), problem.values()) {
+        match write_header(sink, problem.cells(), problem.values()) {
             Ok(()) => Ok(ProofJournal::behind_head(sink)),
             Err(SinkFault::Failed) => Err(JournalFault::Failed),
         }
@@ -50,17 +50,6 @@ impl<'s, S: Sink> ProofJournal<'s, S> {
             sink,
             refused: None,
         }
-    }
-}
-
-/// Puts the head of format 1, behind which a journal begins.
-fn put_head<S: Sink>(sink: &mut S, cells: u32, values: u16) -> Result<(), SinkFault>
-    ensures put { Puts (S.seen sink.old) (S.seen sink.new) (head_text cells values) result }
-    ensures bare { OnOk result (IsBare One (S.seen sink.new).told) }
-{
-    match write_header(sink, cells, values) {
-        Ok(()) => Ok(()),
-        Err(fault) => Err(fault),
     }
 }
 
@@ -108,7 +97,7 @@ impl<'s, S: Sink> SpanJournal<'s, S> {
             ≡ new_journal sink.entry.ghost_name (after_bytes (S.seen sink.old)
             (head_2_text shape.now problem.now.cells (values problem.now)))) }
     {
-        match put_head_2(sink, *shape, problem.cells(), problem.values()) {
+        match write_header_2(sink, shape, problem.cells(), problem.values()) {
             Ok(()) => Ok(SpanJournal::behind_head(sink)),
             Err(SinkFault::Failed) => Err(JournalFault::Failed),
         }
@@ -125,19 +114,6 @@ impl<'s, S: Sink> SpanJournal<'s, S> {
             kept: None,
             refused: None,
         }
-    }
-}
-
-/// Puts the head of format 2, behind which a journal begins.
-fn put_head_2<S: Sink>(sink: &mut S, shape: Shape, cells: u32, values: u16) -> Result<(), SinkFault>
-    requires limit { shape.n ≤ 6 }
-    ensures put { Puts (S.seen sink.old) (S.seen sink.new) (head_2_text shape cells values) result }
-    ensures bare { OnOk result (IsBare Two (S.seen sink.new).told) }
-{
-    let _limits = (shape.width, shape.height, shape.depth, shape.symmetry);
-    match write_header_2(sink, &shape, cells, values) {
-        Ok(()) => Ok(()),
-        Err(fault) => Err(fault),
     }
 }
 

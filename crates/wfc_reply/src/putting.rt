@@ -98,13 +98,10 @@ fn put_head<O: Sink>(out: &mut O, writing: RunWriting, problem: &Problem) -> Res
 {
     let cells = problem.cells();
     let values = problem.values();
-    let shape = writing.shape;
-    // The proof knows how large the sides are where they are read.
-    let _limits = (shape.width, shape.height, shape.depth, shape.symmetry);
     if writing.format == 1 {
         write_header(out, cells, values)?;
     } else {
-        write_header_2(out, &shape, cells, values)?;
+        write_header_2(out, &writing.shape, cells, values)?;
     }
     Ok(())
 }

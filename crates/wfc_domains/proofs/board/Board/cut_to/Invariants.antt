@@ -1,4 +1,5 @@
-use Rattle.std.proofs.Common.{◌≡◌, ◌≢◌, ◌<◌, ℕ, false}
+-- The board holds together, and of the values below the one that is next no other stands.
+use Rattle.std.proofs.Common.{IsTrue, ◌-◌, ◌≡◌, ◌≢◌, ◌<◌, ◌≤◌, ℕ, false}
 use Rattle.wfc_domains.specs.declared.Verdict.TheVariants.{Alive}
 use Rattle.wfc_domains.specs.Domains.{has}
 use Rattle.wfc_domains.specs.Board.{IsBoard, Grows}
@@ -7,6 +8,10 @@ use Rattle.wfc_domains.proofs.board.Board.cut_to.Given as goal
 abbrev pub invariant-loop-other : goal.invariant-loop-other
 invariant-loop-other l = record {
   board : IsBoard l.self;
-  gone : l.self.verdict ≡ Alive → (k : ℕ) → k < l.other → k ≢ l.value → has l.self.domains l.cell k ≡ false;
+  gone : (k : ℕ) → k < l.other → k ≢ l.value → has l.self.domains l.cell k ≡ false;
+  stands : l.other < l.values → IsTrue (has l.self.domains l.cell l.other);
   grows : Grows l.fn.self l.self;
 }
+
+abbrev pub decreases-loop-other : goal.decreases-loop-other
+decreases-loop-other l = l.values - l.other
