@@ -26,19 +26,29 @@ impl Counters {
         if !self.is_narrow() {
             return;
         }
-        let dirs = self.dirs;
-        let mut first = 0;
-        if dirs >= 4 {
+        if self.dirs == 4 {
             self.mark_four(start, cell, value);
-            first = 4;
+        } else {
+            self.mark_sides(start, cell, value);
         }
-        for dir in first..dirs {
+    }
+
+    /// Marks the counts of a value at a cell in each direction, which stand from `start` on.
+    #[inline(never)]
+    fn mark_sides(&mut self, start: usize, cell: u32, value: u16)
+        requires start { start ≡ count_place self.old.values self.old.dirs cell value 0 }
+        requires cell_in { cell < self.old.cells }
+        requires value_in { value < self.old.values }
+        requires narrow { self.old.limit ≡ 127 }
+        ensures marks { Marks self.old self.new cell value }
+    {
+        for dir in 0..self.dirs {
             self.mark_side(start + dir, cell, value, dir);
         }
     }
 
-    /// Marks the counts of a value at a cell in the first four directions, which stand from `start` on. Without a loop
-    /// it is one change of four bytes.
+    /// Marks the counts of a value at a cell in all of four directions, which stand from `start` on. Without a loop it is
+    /// one change of four bytes.
     #[inline]
     fn mark_four(&mut self, start: usize, cell: u32, value: u16)
         requires start { start ≡ count_place self.old.values self.old.dirs cell value 0 }
@@ -46,7 +56,7 @@ impl Counters {
         requires limit { length self.old.counts < 2 ^ 63 }
         requires cell_in { cell < self.old.cells }
         requires value_in { value < self.old.values }
-        requires four { 4 ≤ self.old.dirs }
+        requires four { self.old.dirs ≡ 4 }
         requires whole { length self.old.counts
             ≡ (self.old.cells * self.old.values) * self.old.dirs }
         requires narrow { self.old.limit ≡ 127 }
