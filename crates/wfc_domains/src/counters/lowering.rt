@@ -2,7 +2,7 @@
 
 ghost use Rattle.std.specs.Prelude.{◌≡◌, ◌+◌, ◌-◌, ◌%◌, ◌<◌, ◌↔◌, IsTrue};
 ghost use Rattle.std.specs.Prelude.{IsFalse, length, slice_index, slice_set, vec_len};
-ghost use Rattle.wfc_domains.specs.Counters.{count_of, entry_of, with_count};
+ghost use Rattle.wfc_domains.specs.Counters.{count_of, entry_of, with_count, with_entry};
 
 use super::Counters;
 use crate::steps::Steps;
@@ -34,10 +34,8 @@ impl Counters {
         requires place_in { place < length self.old.counts }
         requires some { 0 < slice_index self.old.counts place % 32768 }
         ensures bare { IsTrue result ↔ (slice_index self.old.counts place ≡ 1) }
-        ensures changed { self.new ≡ record self.old {
-          counts = slice_set self.old.counts
-              place (slice_index self.old.counts place - 1);
-        } }
+        ensures changed { self.new
+            ≡ with_entry self.old place (slice_index self.old.counts place - 1) }
         ensures steps { steps.new ≡ steps.old + 1 }
     {
         steps.tick();
