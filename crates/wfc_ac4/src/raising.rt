@@ -1,11 +1,11 @@
 //! Removals taken back, and their counters raised again.
 
-ghost use Rattle.std.specs.Prelude.{◌≡◌, ◌+◌, ◌<◌, ◌≤◌, ◌++◌, [], length, Some};
+ghost use Rattle.std.specs.Prelude.{◌≡◌, ◌+◌, ◌<◌, ◌≤◌, [], length, Some};
 ghost use Rattle.wfc_problem.specs.Network.{values, neighbour, supports_of, in_base};
 ghost use Rattle.wfc_domains.specs.Counters.{cost_at, cost_of};
 ghost use Rattle.wfc_domains.specs.Removals.{without};
-ghost use Rattle.wfc_ac4.specs.Places.{places_upto, side_places};
-ghost use Rattle.wfc_ac4.specs.State.{IsRolled, IsRaising, AreLowered};
+ghost use Rattle.wfc_ac4.specs.Places.{places_upto, places_through};
+ghost use Rattle.wfc_ac4.specs.State.{IsRolled, IsRaisingOn, AreLowered};
 ghost use Rattle.wfc_ac4.specs.Flight.{front_cost, Recounts, HasNoMore, IsShorter, IsRolledTo};
 
 use crate::flight::Flight;
@@ -26,13 +26,10 @@ impl<'p> Flight<'p> {
         requires value_in { value < values self.old.board.problem.now }
         requires dir_in { dir < self.old.board.problem.now.dirs }
         requires beside { neighbour self.old.board.problem.now cell dir ≡ Some next }
-        requires raising { IsRaising self.old.board.problem.now (without (in_base
-            self.old.board.problem.now) self.old.board.trail.removals) cell value (places_upto
-            self.old.board.problem.now cell value dir) self.old.counters }
-        ensures raising { IsRaising self.old.board.problem.now (without (in_base
-            self.old.board.problem.now) self.old.board.trail.removals) cell value (places_upto
-            self.old.board.problem.now cell value dir ++ side_places self.old.board.problem.now
-            value dir (Some next)) self.new.counters }
+        requires raising { IsRaisingOn self.old.board cell value
+            (places_upto self.old.board.problem.now cell value dir) self.old.counters }
+        ensures raising { IsRaisingOn self.old.board cell value
+            (places_through self.old.board.problem.now cell value dir next) self.new.counters }
         ensures same { Recounts self.old self.new }
         ensures marks { HasNoMore self.old.counters self.new.counters }
         ensures steps { steps.new
@@ -49,9 +46,7 @@ impl<'p> Flight<'p> {
     fn raise<L: Ledger>(&mut self, cell: u32, value: u16, steps: &mut Steps<L>)
         requires cell_in { cell < self.old.board.problem.now.cells }
         requires value_in { value < values self.old.board.problem.now }
-        requires raising { IsRaising self.old.board.problem.now (without (in_base
-            self.old.board.problem.now) self.old.board.trail.removals) cell value []
-            self.old.counters }
+        requires raising { IsRaisingOn self.old.board cell value [] self.old.counters }
         ensures counters { AreLowered self.old.board.problem.now (without (in_base
             self.old.board.problem.now) self.old.board.trail.removals) [] self.new.counters }
         ensures same { Recounts self.old self.new }
