@@ -33,7 +33,7 @@ work_off-requires-clause-there g c =
     let h = c.loop-self.invariant in
     let begun = same-begun _ _ c.requires.between.board h.between.board h.grows ∙ sym c.start-start.ensures.value in
     let long = ap length (c.last.ensures.value ∙ sym c.last-in-loop-self.ensures.value) in
-    let inside : c.loop-self.at < length c.last-in-loop-self.result.now = omega (arith, c.if-at-last.true, long) in
+    let inside : c.loop-self.at < length c.last-in-loop-self.result.now = omega (arith, long) in
     last-at _ _ _ _ _ _ c.last-in-loop-self.ensures.value begun inside
 
 pub loop-self-preserved : goal.loop-self-preserved
@@ -46,7 +46,7 @@ loop-self-preserved g c =
     let rs = c.loop-self.self.board.trail.removals in
     let new = c.work_off.new.self.board.trail.removals in
     let begun = same-begun _ _ c.requires.between.board h.between.board h.grows ∙ sym c.start-start.ensures.value in
-    let inside : start + at < length rs = last-in _ _ _ _ _ c.last.ensures.value begun (omega (arith, c.if-at-last.true)) in
+    let inside : start + at < length rs = last-in _ _ _ _ _ c.last.ensures.value begun (omega arith) in
     let one_more : start + at + 1 ≡ start + (at + 1) = omega arith in
     let front = cost-front P c.args.self.now.head rs new e.grows.more e.grows.removals (omega (arith, h.forward, inside)) in
     let next = cost-front P (start + at + 1) rs new e.grows.more e.grows.removals (omega (arith, inside)) in
@@ -71,7 +71,7 @@ pub loop-self-smaller : goal.loop-self-smaller
 loop-self-smaller g c =
     let h = c.loop-self.invariant in
     let begun = same-begun _ _ c.requires.between.board h.between.board h.grows ∙ sym c.start-start.ensures.value in
-    let inside : c.start-start.result + c.loop-self.at < length c.loop-self.self.board.trail.removals = last-in _ _ _ _ _ c.last.ensures.value begun (omega (arith, c.if-at-last.true)) in
+    let inside : c.start-start.result + c.loop-self.at < length c.loop-self.self.board.trail.removals = last-in _ _ _ _ _ c.last.ensures.value begun (omega arith) in
     omega (arith, log-depth c.loop-self.self.board h.between.board.traced, ap (λ p. depth_of p.now) h.grows.problem, inside)
 
 pub overflow_add-self : goal.overflow_add-self
