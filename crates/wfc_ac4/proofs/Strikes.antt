@@ -17,15 +17,15 @@ struck_on old new n w d s = elim s [
 ]
 
 -- the state after a counter has come to 0, and its value is struck
-pub struck_working : (old new : Flight) (T : Table) (c v n w d : ℕ) (lowered : List ℕ) (next : Network → List ℕ)
-    → IsWorking old.board T old.head c v lowered → SideStep old.board.problem.now lowered (next old.board.problem.now) c v n w d T
+pub struck_working : (old new : Flight) (T : Table) (k c v n w d : ℕ) (lowered : List ℕ) (next : Network → List ℕ)
+    → IsWorking old.board T k c v lowered → SideStep old.board.problem.now lowered (next old.board.problem.now) c v n w d T
     → old.counters ≡ with_count T n w d (entry_of T n w d - 1) → entry_of T n w d ≡ 1 → IsStruck old new n w d
-    → IsWorking new.board new.counters new.head c v (next new.board.problem.now)
-struck_working old new T c v n w d lowered next h s is_table one_left struck = elim struck [
+    → IsWorking new.board new.counters k c v (next new.board.problem.now)
+struck_working old new T k c v n w d lowered next h s is_table one_left struck = elim struck [
   | inl x ↦
-      let r = step_removed old.board new.board T old.counters old.head c v lowered next n w d h s is_table x.alive one_left x.board in
-      subst (λ k. IsWorking new.board new.counters k c v (next new.board.problem.now)) (sym x.head) (working-marked new.board old.counters new.counters old.head c v n w _ r x.marks (lost-gone x.board.less))
+      let r = step_removed old.board new.board T old.counters k c v lowered next n w d h s is_table x.alive one_left x.board in
+      working-marked new.board old.counters new.counters k c v n w _ r x.marks (lost-gone x.board.less)
   | inr x ↦
-      subst (λ (f : Flight). IsWorking f.board f.counters f.head c v (next f.board.problem.now)) (sym x.same)
-      (step_lowered old.board T old.counters old.head c v lowered (next old.board.problem.now) n w d h s is_table (λ alive _ stands. x.gone alive stands))
+      subst (λ (f : Flight). IsWorking f.board f.counters k c v (next f.board.problem.now)) (sym x.same)
+      (step_lowered old.board T old.counters k c v lowered (next old.board.problem.now) n w d h s is_table (λ alive _ stands. x.gone alive stands))
 ]

@@ -14,6 +14,10 @@ abbrev pub places_upto : Network → ℕ → ℕ → ℕ → List ℕ
 places_upto P c v zero = []
 places_upto P c v (suc d) = places_upto P c v d ++ side_places P v d (neighbour P c d)
 
+-- those in the directions before d, and those at the neighbour n in direction d
+abbrev pub places_through : Network → ℕ → ℕ → ℕ → ℕ → List ℕ
+places_through P c v d n = places_upto P c v d ++ side_places P v d (Some n)
+
 -- all of them
 abbrev pub counter_places : Network → ℕ → ℕ → List ℕ
 counter_places P c v = places_upto P c v P.dirs

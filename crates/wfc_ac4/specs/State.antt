@@ -71,6 +71,10 @@ pub record IsRaising (P : Network) (E : Test) (c v : ℕ) (raised : List ℕ) (T
   pub counters : AreRaised P (less E c v) raised T
   pub stood : IsTrue (E c v)
 
+-- the last removal of the board's log was worked off, and is being taken back
+abbrev pub IsRaisingOn : Board → ℕ → ℕ → List ℕ → Table → Type 0
+IsRaisingOn b c v raised T = IsRaising b.problem.now (without (in_base b.problem.now) b.trail.removals) c v raised T
+
 -- while an opening looks at its cells: nothing is worked off yet, and the pairs before the i-th have support, where
 -- they stand
 pub record IsScanned (b : Board) (T : Table) (i : ℕ) : Type 0 where

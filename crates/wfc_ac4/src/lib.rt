@@ -13,6 +13,8 @@ ghost use Rattle.wfc_domains.specs.Store.{IsSound, IsAssumed, IsOpened, left_of,
 
 mod flight;
 mod links;
+mod raising;
+mod working;
 
 use flight::Flight;
 use links::Links;

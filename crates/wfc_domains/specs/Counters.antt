@@ -38,6 +38,10 @@ IsMarked T c v d = 32768 ≤ entry_of T c v d
 abbrev pub with_count : Table → ℕ → ℕ → ℕ → ℕ → Table
 with_count T c v d n = record T { counts = slice_set T.counts (count_place T.values T.dirs c v d) n }
 
+-- the table with this entry at a place
+abbrev pub with_entry : Table → ℕ → ℕ → Table
+with_entry T place n = record T { counts = slice_set T.counts place n }
+
 -- how many counters a problem has
 abbrev pub counters_of : Network → ℕ
 counters_of P = (P.cells * values P) * P.dirs

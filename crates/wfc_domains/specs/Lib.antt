@@ -8,6 +8,7 @@ pub mod Removals
 pub mod Store
 pub mod Loaded
 pub mod Log
+pub mod Levels
 pub mod Numbered
 pub mod Packed
 pub mod Kept

@@ -1,5 +1,5 @@
 -- Removals as numbers.
-use Rattle.std.specs.Prelude.{ℕ, ◌+◌, ◌*◌, ◌/◌, ◌%◌, ◌==◌, if◌then◌else◌, List, [], ◌∷◌, map, slice_index, slice_set}
+use Rattle.std.specs.Prelude.{ℕ, Bool, ◌+◌, ◌*◌, ◌/◌, ◌%◌, ◌==◌, if◌then◌else◌, List, [], ◌∷◌, map, slice_index, slice_set}
 use Rattle.wfc_domains.specs.declared.Cause.{Cause}
 use Rattle.wfc_domains.specs.declared.Cause.TheVariants.{Assumed, Arc}
 use Rattle.wfc_domains.specs.declared.Removal.{Removal}
@@ -71,6 +71,14 @@ pub record Packed : Type 0 where
   pub room : ℕ
   pub limit : ℕ
   pub numbers : List ℕ
+
+-- no numbers, and room for so many: below 2 ^ 32 where they are wide, else below 2 ^ 24
+abbrev pub empty_numbers : ℕ → Bool → Packed
+empty_numbers room wide = record {
+  room = room;
+  limit = (if wide then 4294967296 else 16777216);
+  numbers = [];
+}
 
 -- removals of earlier levels, and how many of them there is room for
 pub record Earlier : Type 0 where

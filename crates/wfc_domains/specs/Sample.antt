@@ -22,6 +22,14 @@ numbered_table = record { cells = 2; values = 3; dirs = 4; limit = 127; counts =
 abbrev pub unsupported_removal : Removal
 unsupported_removal = record { cell = 2; value = 1; before = 3; cause = Arc 3 }
 
+-- the same with a size too small
+abbrev pub undersized_removal : Removal
+undersized_removal = record { cell = 2; value = 1; before = 2; cause = Arc 3 }
+
+-- the same value at another cell
+abbrev pub displaced_removal : Removal
+displaced_removal = record { cell = 3; value = 1; before = 3; cause = Arc 3 }
+
 -- what `Is 0 1` cuts there
 abbrev pub cut_first : Removal
 cut_first = record { cell = 0; value = 0; before = 2; cause = Assumed }
@@ -42,5 +50,16 @@ two_levels = record {
   spare = 4;
   removals = unsupported_removal ∷ cut_first ∷ later ∷ [];
   marks = 1 ∷ 2 ∷ [];
+  verdict = Alive;
+}
+
+-- it before the second level
+abbrev pub one_level : StoreView
+one_level = record {
+  problem = corner;
+  standing = Is 1 0 ∷ [];
+  spare = 5;
+  removals = unsupported_removal ∷ cut_first ∷ [];
+  marks = 1 ∷ [];
   verdict = Alive;
 }

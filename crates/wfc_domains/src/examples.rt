@@ -13,10 +13,9 @@ ghost use Rattle.wfc_domains.specs.Log.{AreLogged, IsLogged, extent_of, sizes_af
 ghost use Rattle.wfc_domains.specs.Numbered.{first_sizes, numbers_from, removal_number, placed_removals};
 ghost use Rattle.wfc_domains.specs.Domains.{has, size_of, flags_of, base_of, less, Fits};
 ghost use Rattle.wfc_domains.specs.Removals.{without, IsUnsupported, IsCause, AreRemoved};
-ghost use Rattle.wfc_domains.specs.Sample.{two_rows, numbered_table, unsupported_removal, cut_first, later, two_levels};
+ghost use Rattle.wfc_domains.specs.Sample.{two_rows, numbered_table, unsupported_removal, undersized_removal, displaced_removal, cut_first, later, two_levels, one_level};
 ghost use Rattle.wfc_domains.specs.Store.{IsBefore, IsLeastUnsupported, IsLeastEmpty, level_mark, added_of, before_of, without_last};
 ghost use Rattle.wfc_domains.specs.declared.Cause.TheVariants.{Assumed, Arc};
-ghost use Rattle.wfc_domains.specs.declared.Verdict.TheVariants.{Alive};
 
 /// Flags are read row by row, and nothing stands out of range; a value less is one at its cell alone.
 pub fn domains_are_read()
@@ -45,9 +44,7 @@ pub fn removals_are_judged()
     ensures assumed_not { IsCause corner (Is 1 0 ∷ []) (in_base corner) 0 1 Assumed → ⊥ }
     ensures cut_first { IsCause corner (Is 1 0 ∷ []) (in_base corner) 2 1 (Arc 3) → ⊥ }
     ensures removed { AreRemoved corner [] (in_base corner) (unsupported_removal ∷ []) }
-    ensures before { AreRemoved corner [] (in_base corner) (record unsupported_removal {
-      before = 2;
-    } ∷ []) → ⊥ }
+    ensures before { AreRemoved corner [] (in_base corner) (undersized_removal ∷ []) → ⊥ }
     ensures once { AreRemoved corner [] (in_base corner) (unsupported_removal ∷ unsupported_removal
         ∷ []) → ⊥ }
     ensures behind_the_last { AreRemoved corner (Is 1 0 ∷ []) (λ c v. nat_lt c 2)
@@ -62,21 +59,12 @@ pub fn levels_are_read()
     ensures before { map (before_of two_levels 0) (range_with_len 0 3) ≡ false ∷ true ∷ false ∷ [] }
     ensures before_later { map (before_of two_levels 3) (range_with_len 0 3) ≡ true ∷ false ∷ true
         ∷ [] }
-    ensures last { without_last two_levels ≡ record {
-      problem = corner;
-      standing = Is 1 0 ∷ [];
-      spare = 5;
-      removals = unsupported_removal ∷ cut_first ∷ [];
-      marks = 1 ∷ [];
-      verdict = Alive;
-    } }
+    ensures last { without_last two_levels ≡ one_level }
     ensures cell { IsBefore 1 9 9 2 0 0 }
     ensures value { IsBefore 2 0 5 2 1 3 }
     ensures dir { IsBefore 2 1 2 2 1 3 }
     ensures itself { IsBefore 2 1 3 2 1 3 → ⊥ }
-    ensures least_not { IsLeastUnsupported corner (in_base corner) (record unsupported_removal {
-      cell = 3;
-    }) → ⊥ }
+    ensures least_not { IsLeastUnsupported corner (in_base corner) displaced_removal → ⊥ }
     ensures least_empty { IsLeastEmpty corner (λ c v. nat_lt c 2) 2 }
     ensures not_least { IsLeastEmpty corner (λ c v. nat_lt c 2) 3 → ⊥ }
 {}

@@ -1,8 +1,9 @@
 //! The literals that stand, with room for a fixed number of them.
 
-ghost use Rattle.std.specs.Prelude.{◌≡◌, ◌+◌, ◌-◌, ◌<◌, ◌++◌, ◌∷◌, [], length, IfOk};
+ghost use Rattle.std.specs.Prelude.{◌≡◌, ◌<◌, [], length, IfOk};
+ghost use Rattle.wfc_domains.specs.Levels.{with_literal, without_literal, without_literals};
 ghost use Rattle.wfc_domains.specs.Log.{Heights};
-ghost use Rattle.wfc_domains.specs.Store.{all_but_last, level_mark};
+ghost use Rattle.wfc_domains.specs.Store.{level_mark};
 
 use std::alloc::Global;
 use std::marker::Model;
@@ -73,11 +74,7 @@ impl Levels {
     /// Puts a literal on.
     pub fn push(&mut self, literal: Literal, mark: u32)
         requires spare { 0 < self.old.spare }
-        ensures more { self.new ≡ record {
-          standing = self.old.standing ++ literal ∷ [];
-          marks = self.old.marks ++ mark ∷ [];
-          spare = self.old.spare - 1;
-        } }
+        ensures more { self.new ≡ with_literal self.old literal mark }
     {
         self.standing.push_reserved(literal);
         self.marks.push_reserved(mark);
@@ -87,11 +84,7 @@ impl Levels {
     /// Takes the last literal away.
     pub fn pop(&mut self)
         requires some { 0 < length self.old.standing }
-        ensures less { self.new ≡ record {
-          standing = all_but_last self.old.standing;
-          marks = all_but_last self.old.marks;
-          spare = self.old.spare + 1;
-        } }
+        ensures less { self.new ≡ without_literal self.old }
     {
         let _ = self.standing.pop();
         let _ = self.marks.pop();
@@ -100,11 +93,7 @@ impl Levels {
 
     /// Takes all literals away.
     pub fn clear(&mut self)
-        ensures none { self.new ≡ record {
-          standing = [];
-          marks = [];
-          spare = self.old.spare + length self.old.standing;
-        } }
+        ensures none { self.new ≡ without_literals self.old }
     {
         self.spare += self.standing.len() as u32;
         self.standing.clear();

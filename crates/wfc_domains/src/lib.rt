@@ -1,6 +1,7 @@
 //! Domains under literals that are put on and taken away: what an engine keeps, and what every engine promises.
 #![tactic(auto)]
 
+mod beside;
 mod bits;
 mod board;
 mod counters;

@@ -77,8 +77,9 @@ fn add_all(older: &mut Older, removals: &[Removal])
         older.old.removals)) removals.now }
     ensures more { older.new ≡ record older.old { removals = older.old.removals ++ removals.now } }
 {
+    let (values, dirs) = (older.values, older.dirs);
     for removal in removals {
-        older.push(*removal);
+        older.push(*removal, values, dirs);
     }
 }
 
@@ -141,17 +142,18 @@ impl Older {
         self.numbers.len()
     }
 
-    /// One more.
+    /// One more. The numbers of values and of directions are those that are kept here too.
     #[inline]
-    fn push(&mut self, removal: Removal)
+    fn push(&mut self, removal: Removal, values: u16, dirs: u8)
+        requires values { values ≡ self.old.extent.values }
+        requires dirs { dirs ≡ self.old.extent.dirs }
         requires room { length self.old.removals < self.old.room }
         requires logged { IsLogged self.old.extent (sizes_after self.old.extent.sizes (cells_of
             self.old.removals)) removal }
         ensures more { self.new ≡ record self.old { removals = self.old.removals ++ removal ∷ [] } }
     {
         self.sizes[removal.cell as usize] = removal.before - 1;
-        self.numbers
-            .push(removal_number(removal, self.values, self.dirs));
+        self.numbers.push(removal_number(removal, values, dirs));
     }
 
     /// Takes the last away.

@@ -1,7 +1,7 @@
 //! Numbers of three bytes or of four.
 
-ghost use Rattle.std.specs.Prelude.{◌≡◌, ◌<◌, ◌++◌, ◌∷◌, [], length, take, slice_get, Some, IfOk, if◌then◌else◌};
-ghost use Rattle.wfc_domains.specs.Numbered.{Packed};
+ghost use Rattle.std.specs.Prelude.{◌≡◌, ◌<◌, ◌++◌, ◌∷◌, [], length, take, slice_get, Some, IfOk};
+ghost use Rattle.wfc_domains.specs.Numbered.{empty_numbers};
 
 use std::alloc::{AllocError, Global};
 use std::marker::Model;
@@ -34,11 +34,7 @@ impl Model for Numbers {
 impl Numbers {
     /// No numbers, and room for so many: below 2 ^ 32 where they are wide, else below 2 ^ 24.
     pub fn new(alloc: Global, room: usize, wide: bool) -> Result<Numbers, AllocError>
-        ensures ok { IfOk result (λ numbers. numbers ≡ record {
-          room = room;
-          limit = (if wide then 4294967296 else 16777216);
-          numbers = [];
-        }) }
+        ensures ok { IfOk result (λ numbers. numbers ≡ empty_numbers room wide) }
     {
         let (byte_room, half_room) = if wide { (0, room) } else { (room, 0) };
         Ok(Numbers {

@@ -12,8 +12,8 @@ ghost use Rattle.wfc_domains.specs.Store.{IsSound, IsOpened, IsAssumed, IsUndone
 ghost use Rattle.wfc_domains.specs.Board.{view_of, IsTraced, IsBoard, IsCut, IsFresh, HasLevels, Grows};
 ghost use Rattle.wfc_domains.specs.Swept.{IsFirstUnsupported, IsSwept, FirstIsLeast, IsClosed};
 
+use crate::beside::count_beside;
 use crate::board::{Board, is_alive};
-use crate::counters::count_beside;
 use crate::domains::Domains;
 use crate::levels::Levels;
 use crate::steps::Steps;

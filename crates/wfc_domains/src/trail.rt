@@ -66,6 +66,14 @@ impl Trail {
         self.older.len() + self.list.len()
     }
 
+    /// How many removals there are of earlier levels.
+    #[inline]
+    pub fn start(&self) -> usize
+        ensures value { result ≡ self.now.start }
+    {
+        self.older.len()
+    }
+
     /// The removal of the last level at an index of the whole log.
     #[inline]
     pub fn at(&self, index: usize) -> Removal

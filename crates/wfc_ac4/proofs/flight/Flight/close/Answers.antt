@@ -1,35 +1,59 @@
-use Rattle.std.proofs.Common.{◌<◌, ◌+◌, length, take, ap, sym, subst, arith}
+use Rattle.std.proofs.Common.{◌<◌, ◌+◌, ◌-◌, ◌≡◌, length, take, ap, sym, subst, arith, ◌∙◌}
 use Rattle.wfc_problem.specs.Rounds.{depth_of}
 use Rattle.wfc_domains.specs.Counters.{cost_of}
-use Rattle.wfc_domains.specs.Store.{level_mark}
-use Rattle.wfc_domains.proofs.Boards.{grows-more}
+use Rattle.wfc_domains.proofs.Boards.{grows-none, grows-more, log-few}
 use Rattle.wfc_ac4.specs.Links.{AreLinks}
 use Rattle.wfc_ac4.proofs.Rolls.{log-depth}
-use Rattle.wfc_ac4.proofs.Closing.{cost-front}
+use Rattle.wfc_ac4.proofs.Opening.{between-at}
+use Rattle.wfc_ac4.proofs.Closing.{cost-front, last-at, last-in, same-begun}
 use Rattle.wfc_ac4.proofs.flight.Flight.close.Goals as goal
 
 pub work_off-requires-clause-linked : goal.work_off-requires-clause-linked
 work_off-requires-clause-linked g c = subst (λ p. AreLinks p.now c.args.links.now) (sym c.loop-self.invariant.grows.problem) c.requires.linked
 
-pub work_off-requires-clause-recent : goal.work_off-requires-clause-recent
-work_off-requires-clause-recent g c =
+pub loop-self-init : goal.loop-self-init
+loop-self-init g c =
+    let b = c.args.self.now.board in
+    let back : c.args.self.now.head ≡ c.start-start.result + (c.args.self.now.head - c.start-start.result) = omega (arith, c.requires.recent, c.start-start.ensures.value) in
+    record {
+      between = between-at _ _ _ _ c.requires.between back;
+      forward = omega (arith, back);
+      idle = λ none. none;
+      grows = grows-none _;
+      steps = ap (λ n. c.args.steps.now + cost_of b.problem.now (take n b.trail.removals)) back;
+    }
+
+pub overflow_add-start : goal.overflow_add-start
+overflow_add-start g c =
     let h = c.loop-self.invariant in
-    omega (arith, h.between.board.begun, ap (λ l. level_mark l.marks) h.grows.levels, c.requires.between.board.begun, c.requires.recent, h.forward)
+    omega (arith, h.between.in_log, log-few c.loop-self.self.board h.between.board.traced)
+
+pub work_off-requires-clause-there : goal.work_off-requires-clause-there
+work_off-requires-clause-there g c =
+    let h = c.loop-self.invariant in
+    let begun = same-begun _ _ c.requires.between.board h.between.board h.grows ∙ sym c.start-start.ensures.value in
+    let long = ap length (c.last.ensures.value ∙ sym c.last-in-loop-self.ensures.value) in
+    let inside : c.loop-self.at < length c.last-in-loop-self.result.now = omega (arith, long) in
+    last-at _ _ _ _ _ _ c.last-in-loop-self.ensures.value begun inside
 
 pub loop-self-preserved : goal.loop-self-preserved
 loop-self-preserved g c =
     let h = c.loop-self.invariant in
     let e = c.work_off.ensures in
     let P = c.args.self.now.board.problem.now in
+    let start = c.start-start.result in
+    let at = c.loop-self.at in
     let rs = c.loop-self.self.board.trail.removals in
     let new = c.work_off.new.self.board.trail.removals in
-    let inside : c.loop-self.self.head < length rs = omega (arith, c.len.ensures.value) in
-    let front = cost-front P c.args.self.now.head rs new e.grows.more e.grows.removals (omega (arith, h.forward)) in
-    let next = cost-front P (c.loop-self.self.head + 1) rs new e.grows.more e.grows.removals (omega arith) in
+    let begun = same-begun _ _ c.requires.between.board h.between.board h.grows ∙ sym c.start-start.ensures.value in
+    let inside : start + at < length rs = last-in _ _ _ _ _ c.last.ensures.value begun (omega arith) in
+    let one_more : start + at + 1 ≡ start + (at + 1) = omega arith in
+    let front = cost-front P c.args.self.now.head rs new e.grows.more e.grows.removals (omega (arith, h.forward, inside)) in
+    let next = cost-front P (start + at + 1) rs new e.grows.more e.grows.removals (omega (arith, inside)) in
     record {
-      between = e.between;
-      forward = omega (arith, e.head, h.forward);
-      idle = λ none. absurd (omega (arith, ap length (h.idle none)));
+      between = between-at _ _ _ _ e.between one_more;
+      forward = omega (arith, h.forward);
+      idle = λ none. absurd (omega (arith, ap length (h.idle none), inside));
       grows = grows-more h.grows e.grows;
       steps = omega (
         arith,
@@ -37,13 +61,20 @@ loop-self-preserved g c =
         h.steps,
         front,
         next,
-        ap (λ p. cost_of p.now (take c.loop-self.self.head rs)) h.grows.problem,
-        ap (λ p. cost_of p.now (take (c.loop-self.self.head + 1) rs)) h.grows.problem,
-        ap (λ n. cost_of P (take n new)) e.head,
+        ap (λ p. cost_of p.now (take (start + at) rs)) h.grows.problem,
+        ap (λ p. cost_of p.now (take (start + at + 1) rs)) h.grows.problem,
+        ap (λ n. cost_of P (take n new)) one_more,
       );
     }
 
 pub loop-self-smaller : goal.loop-self-smaller
 loop-self-smaller g c =
     let h = c.loop-self.invariant in
-    omega (arith, log-depth c.loop-self.self.board h.between.board.traced, ap (λ p. depth_of p.now) h.grows.problem, c.work_off.ensures.head, c.len.ensures.value)
+    let begun = same-begun _ _ c.requires.between.board h.between.board h.grows ∙ sym c.start-start.ensures.value in
+    let inside : c.start-start.result + c.loop-self.at < length c.loop-self.self.board.trail.removals = last-in _ _ _ _ _ c.last.ensures.value begun (omega arith) in
+    omega (arith, log-depth c.loop-self.self.board h.between.board.traced, ap (λ p. depth_of p.now) h.grows.problem, inside)
+
+pub overflow_add-self : goal.overflow_add-self
+overflow_add-self g c =
+    let h = c.loop-self.invariant in
+    omega (arith, h.between.in_log, log-few c.loop-self.self.board h.between.board.traced)

@@ -5,17 +5,18 @@ use Rattle.wfc_domains.specs.Board.{Grows}
 use Rattle.wfc_ac4.specs.State.{IsBetweenRemovals}
 use Rattle.wfc_ac4.proofs.flight.Flight.close.Given as goal
 
+-- the removals before the place are worked off
 abbrev pub invariant-loop-self : goal.invariant-loop-self
 invariant-loop-self g l =
     let P = l.fn.self.board.problem.now in
     record {
-      between : IsBetweenRemovals l.self.board l.self.counters l.self.head;
-      forward : l.fn.self.head ≤ l.self.head;
+      between : IsBetweenRemovals l.self.board l.self.counters (l.start + l.at);
+      forward : l.fn.self.head ≤ l.start + l.at;
       idle : l.fn.self.board.trail.removals ≡ [] → l.self.board.trail.removals ≡ [];
       grows : Grows l.fn.self.board l.self.board;
-      steps : l.steps + cost_of P (take l.fn.self.head l.self.board.trail.removals) ≡ l.fn.steps + cost_of P (take l.self.head l.self.board.trail.removals);
+      steps : l.steps + cost_of P (take l.fn.self.head l.self.board.trail.removals) ≡ l.fn.steps + cost_of P (take (l.start + l.at) l.self.board.trail.removals);
     }
 
 -- each turn works one removal off, and there are at most as many as pairs
 abbrev pub decreases-loop-self : goal.decreases-loop-self
-decreases-loop-self g l = depth_of l.fn.self.board.problem.now - l.self.head
+decreases-loop-self g l = depth_of l.fn.self.board.problem.now - (l.start + l.at)

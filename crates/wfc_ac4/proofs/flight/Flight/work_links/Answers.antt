@@ -88,7 +88,7 @@ loop-link-preserved g c =
           let struck = w.strike.ensures.struck in
           let on = struck_on _ _ _ _ _ struck in
           rw (w.self-is, w.steps-is) (record {
-            working = struck_working _ _ T _ _ _ _ _ _ (λ (N : Network). link_places N c.args.cell (take (k + 1) ls)) h.working s.side (lowered-at T _ _ _ _ _ s.place_is w.down_at.ensures.changed) one_left struck;
+            working = struck_working _ _ T _ _ _ _ _ _ _ (λ (N : Network). link_places N c.args.cell (take (k + 1) ls)) h.working s.side (lowered-at T _ _ _ _ _ s.place_is w.down_at.ensures.changed) one_left struck;
             goes_on = record { grows = grows-more h.goes_on.grows on.grows; head = on.head ∙ h.goes_on.head };
             steps = omega (arith, w.down_at.ensures.steps, h.steps, longer);
           })

@@ -1,7 +1,7 @@
 use Rattle.std.proofs.Common.{sym, ◌∙◌}
 use Rattle.std.proofs.lemmas.Bool.{eqb-true}
 use Rattle.wfc_domains.proofs.Loading.{full-support}
-use Rattle.wfc_domains.proofs.counters.is_filled.Goals as goal
+use Rattle.wfc_domains.proofs.beside.is_filled.Goals as goal
 
 pub returns-in-Some : goal.returns-in-Some
 returns-in-Some c = record {

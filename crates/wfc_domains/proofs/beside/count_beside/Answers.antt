@@ -4,7 +4,7 @@ use Rattle.wfc_problem.specs.Domains.{count_at}
 use Rattle.wfc_domains.specs.Domains.{has}
 use Rattle.wfc_domains.proofs.Problems.{supports-few, supports-below}
 use Rattle.wfc_domains.proofs.Loading.{full-count}
-use Rattle.wfc_domains.proofs.counters.count_beside.Goals as goal
+use Rattle.wfc_domains.proofs.beside.count_beside.Goals as goal
 
 pub overflow_cast-result : goal.overflow_cast-result
 overflow_cast-result c =

@@ -1,6 +1,6 @@
 use Rattle.wfc_domains.specs.Domains.{has}
 use Rattle.wfc_domains.specs.Loaded.{IsSurrounded}
-use Rattle.wfc_domains.proofs.counters.is_surrounded.Given as goal
+use Rattle.wfc_domains.proofs.beside.is_surrounded.Given as goal
 
 abbrev pub invariant-loop-dir : goal.invariant-loop-dir
 invariant-loop-dir l = IsSurrounded l.problem (has l.domains) l.cell l.dir

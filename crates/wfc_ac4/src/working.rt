@@ -1,0 +1,134 @@
+//! Removals worked off.
+
+ghost use Rattle.std.specs.Prelude.{◌≡◌, ◌+◌, ◌/◌, ◌<◌, ◌≤◌, [], length, slice_get, Some};
+ghost use Rattle.wfc_model.specs.Direction.{opposite};
+ghost use Rattle.wfc_problem.specs.Network.{values};
+ghost use Rattle.wfc_domains.specs.declared.Verdict.TheVariants.{Alive};
+ghost use Rattle.wfc_domains.specs.Counters.{FitsTable, cost_at, counter_place};
+ghost use Rattle.wfc_domains.specs.Board.{Grows, HasValues, IsTraced};
+ghost use Rattle.wfc_ac4.specs.Places.{counter_places};
+ghost use Rattle.wfc_ac4.specs.Links.{AreLinks, links_of};
+ghost use Rattle.wfc_ac4.specs.State.{IsWorking, IsBetweenRemovals};
+ghost use Rattle.wfc_ac4.specs.Flight.{front_cost, GoesOn, IsStruck};
+
+use crate::flight::Flight;
+use crate::links::{Links, SupportLink};
+use std::sync::ledger::Ledger;
+use wfc_domains::{Cause, Removal, Steps, is_alive};
+
+/// The value whose entry stands at an offset within its cell. Division by 4 alone is a shift.
+#[inline]
+fn value_at(offset: u16, dirs: u8) -> u16
+    requires some { 0 < dirs }
+    ensures value { result ≡ offset / dirs }
+{
+    if dirs == 4 {
+        offset / 4
+    } else {
+        offset / u16::from(dirs)
+    }
+}
+
+impl<'p> Flight<'p> {
+    /// Removes the value to which a link leads at a neighbour, if it stands there and no cell is empty: its counter for
+    /// the way back, which stands at `at`, came to 0.
+    #[inline]
+    fn strike(&mut self, next: u32, link: SupportLink, at: usize)
+        requires traced { IsTraced self.old.board }
+        requires filled { self.old.board.verdict ≡ Alive → HasValues self.old.board }
+        requires fits { FitsTable self.old.board.problem.now self.old.counters }
+        requires next_in { next < self.old.board.problem.now.cells }
+        requires back { link.back ≡ opposite link.dir }
+        requires back_in { link.back < self.old.board.problem.now.dirs }
+        requires value_in { link.offset / self.old.board.problem.now.dirs
+            < values self.old.board.problem.now }
+        requires at { at ≡ counter_place self.old.board.problem.now next (link.offset /
+            self.old.board.problem.now.dirs) link.back }
+        ensures struck { IsStruck self.old self.new next
+            (link.offset / self.old.board.problem.now.dirs) (opposite link.dir) }
+    {
+        let problem = self.board.problem;
+        let value = value_at(link.offset, problem.dirs());
+        if self.board.domains.has(next, value) && is_alive(self.board.verdict) {
+            self.board.remove(next, value, Cause::Arc(link.back));
+            self.counters.mark_at(at - link.back as usize, next, value);
+        }
+    }
+
+    /// Lowers the counters that count a removal, and removes what has no support left. An entry beside the cell that names
+    /// no cell is above all their numbers.
+    fn work_links<L: Ledger>(
+        &mut self,
+        index: usize,
+        cell: u32,
+        value: u16,
+        links: &[SupportLink],
+        steps: &mut Steps<L>,
+    )
+        requires links { links.now ≡ links_of self.old.board.problem.now value }
+        requires working { IsWorking self.old.board self.old.counters index cell value [] }
+        ensures working { IsWorking self.new.board self.new.counters index cell value
+            (counter_places self.new.board.problem.now cell value) }
+        ensures goes_on { GoesOn self.old self.new }
+        ensures steps { steps.new ≡ steps.old + cost_at self.old.board.problem.now cell value }
+    {
+        let problem = self.board.problem;
+        let beside = problem.beside(cell);
+        let row_len = self.counters.row_len();
+        let cells = problem.cells();
+        for link in links {
+            let next = beside[link.dir as usize];
+            if next < cells {
+                let place = next as usize * row_len + link.offset as usize;
+                if self.counters.down_at(place, steps) {
+                    self.strike(next, *link, place);
+                }
+            }
+        }
+    }
+
+    /// Works off the removal at an index of the log.
+    #[inline]
+    fn work_off<L: Ledger>(
+        &mut self,
+        index: usize,
+        removal: Removal,
+        links: &Links,
+        steps: &mut Steps<L>,
+    )
+        requires between { IsBetweenRemovals self.old.board self.old.counters index }
+        requires linked { AreLinks self.old.board.problem.now links.now }
+        requires there { slice_get self.old.board.trail.removals index ≡ Some removal }
+        ensures between { IsBetweenRemovals self.new.board self.new.counters (index + 1) }
+        ensures grows { Grows self.old.board self.new.board }
+        ensures steps { steps.new + front_cost self.old self.old index
+            ≡ steps.old + front_cost self.old self.old (index + 1) }
+    {
+        let list = links.of(self.board.problem, removal.value);
+        self.work_links(index, removal.cell, removal.value, list, steps);
+    }
+
+    /// Works off what is pending, until nothing is or a cell is empty.
+    pub fn close<L: Ledger>(&mut self, links: &Links, steps: &mut Steps<L>)
+        requires between { IsBetweenRemovals self.old.board self.old.counters self.old.head }
+        requires linked { AreLinks self.old.board.problem.now links.now }
+        requires recent { self.old.board.trail.start ≤ self.old.head }
+        ensures between { IsBetweenRemovals self.new.board self.new.counters self.new.head }
+        ensures closed { self.new.board.verdict ≡ Alive → self.new.head
+            ≡ length self.new.board.trail.removals }
+        ensures forward { self.old.head ≤ self.new.head }
+        ensures idle { self.old.board.trail.removals ≡ [] → self.new.board.trail.removals ≡ [] }
+        ensures grows { Grows self.old.board self.new.board }
+        ensures steps { steps.new + front_cost self.old self.new self.old.head
+            ≡ steps.old + front_cost self.old self.new self.new.head }
+    {
+        let start = self.board.trail.start();
+        let mut at = self.head - start;
+        while is_alive(self.board.verdict) && at < self.board.trail.last().len() {
+            let removal = self.board.trail.last()[at];
+            self.work_off(start + at, removal, links, steps);
+            at += 1;
+        }
+        self.head = start + at;
+    }
+}

@@ -1,0 +1,59 @@
+//! What stands beside a cell.
+
+ghost use Rattle.std.specs.Prelude.{◌≡◌, ℕ, ◌<◌, IsTrue, length};
+ghost use Rattle.wfc_problem.specs.Network.{values, supports_of};
+ghost use Rattle.wfc_problem.specs.Domains.{support_count};
+ghost use Rattle.wfc_domains.specs.Domains.{Fits, has};
+ghost use Rattle.wfc_domains.specs.Loaded.{IsSurrounded};
+
+use crate::domains::Domains;
+use wfc_problem::Problem;
+
+/// Whether the cell has a neighbour in each direction, at which all values stand.
+pub fn is_surrounded(problem: &Problem, domains: &Domains, cell: u32) -> bool
+    requires domains { Fits problem.now domains.now }
+    requires cell_in { cell < problem.now.cells }
+    ensures all { IsTrue result → IsSurrounded problem.now (has domains.now) cell problem.now.dirs }
+{
+    for dir in 0..problem.dirs() {
+        if !is_filled(problem, domains, cell, dir) {
+            return false;
+        }
+    }
+    true
+}
+
+/// Whether the cell has a neighbour in a direction, at which all values stand.
+fn is_filled(problem: &Problem, domains: &Domains, cell: u32, dir: u8) -> bool
+    requires domains { Fits problem.now domains.now }
+    requires cell_in { cell < problem.now.cells }
+    requires dir_in { dir < problem.now.dirs }
+    ensures all { IsTrue result → (v : ℕ) → support_count problem.now (has domains.now) cell v dir
+        ≡ length (supports_of problem.now v dir) }
+{
+    match problem.neighbour(cell, dir) {
+        None => false,
+        Some(next) => domains.size(next) == u32::from(problem.values()),
+    }
+}
+
+/// How many supports of the value stand beside the cell in a direction. Where all values stand there, they are not
+/// looked at.
+#[inline]
+pub fn count_beside(problem: &Problem, domains: &Domains, cell: u32, value: u16, dir: u8) -> u16
+    requires domains { Fits problem.now domains.now }
+    requires cell_in { cell < problem.now.cells }
+    requires value_in { value < values problem.now }
+    requires dir_in { dir < problem.now.dirs }
+    ensures value { result ≡ support_count problem.now (has domains.now) cell value dir }
+{
+    let Some(next) = problem.neighbour(cell, dir) else {
+        return 0;
+    };
+    let supports = problem.supports(value, dir);
+    if domains.size(next) == u32::from(problem.values()) {
+        supports.len() as u16
+    } else {
+        domains.count_among(next, supports)
+    }
+}

@@ -1,0 +1,162 @@
+//! Counters loaded with the supports that stand.
+
+ghost use Rattle.std.specs.Prelude.{◌≡◌, ◌+◌, ◌*◌, ◌<◌, ◌≤◌, IfSome, vec_len};
+ghost use Rattle.wfc_problem.specs.Network.{values};
+ghost use Rattle.wfc_domains.specs.Counters.{FitsTable, with_count, counters_of, counts_of, counter_place};
+ghost use Rattle.wfc_domains.specs.Domains.{Fits, has};
+ghost use Rattle.wfc_domains.specs.Loaded.{AreLoaded, IsLike, IsCopied, IsRowCopied};
+
+use super::Counters;
+use crate::beside::{count_beside, is_surrounded};
+use crate::domains::Domains;
+use crate::steps::Steps;
+use std::sync::ledger::Ledger;
+use wfc_problem::Problem;
+
+impl Counters {
+    /// Sets each entry to the number of supports that stand, 0 where there is no neighbour. Each entry is one step.
+    pub fn load<L: Ledger>(&mut self, problem: &Problem, domains: &Domains, steps: &mut Steps<L>)
+        requires domains { Fits problem.now domains.now }
+        requires table { FitsTable problem.now self.old }
+        ensures loaded { self.new ≡ counts_of problem.now (has domains.now) self.new.limit }
+        ensures fits { FitsTable problem.now self.new }
+        ensures steps { steps.new ≡ steps.old + counters_of problem.now }
+    {
+        let mut like = None;
+        for cell in 0..problem.cells() {
+            like = self.load_like(problem, domains, cell, like, steps);
+        }
+    }
+
+    /// Sets the entries of one cell: where all values stand on all sides of it, those of the last such cell.
+    fn load_like<L: Ledger>(
+        &mut self,
+        problem: &Problem,
+        domains: &Domains,
+        cell: u32,
+        like: Option<u32>,
+        steps: &mut Steps<L>,
+    ) -> Option<u32>
+        requires domains { Fits problem.now domains.now }
+        requires cell_in { cell < problem.now.cells }
+        requires like { IfSome like (IsLike problem.now (has domains.now) cell) }
+        requires before { AreLoaded problem.now (has domains.now) self.old (counter_place
+            problem.now cell 0 0) }
+        ensures like { IfSome result (IsLike problem.now (has domains.now) (cell + 1)) }
+        ensures after { AreLoaded problem.now (has domains.now) self.new (counter_place problem.now
+            (cell + 1) 0 0) }
+        ensures steps { steps.new ≡ steps.old + values problem.now * problem.now.dirs }
+    {
+        if !is_surrounded(problem, domains, cell) {
+            self.load_cell(problem, domains, cell, steps);
+            return like;
+        }
+        match like {
+            Some(earlier) => self.copy_cell(earlier, cell, steps),
+            None => self.load_cell(problem, domains, cell, steps),
+        }
+        Some(cell)
+    }
+
+    /// Sets the entries of one cell to those of another. Each entry is one step.
+    fn copy_cell<L: Ledger>(&mut self, from: u32, to: u32, steps: &mut Steps<L>)
+        requires from_in { from < self.old.cells }
+        requires to_in { to < self.old.cells }
+        ensures copied { IsCopied self.old self.new from to }
+        ensures steps { steps.new ≡ steps.old + self.old.values * self.old.dirs }
+    {
+        let row = self.values * self.dirs;
+        let start = from as usize * row;
+        let dest = to as usize * row;
+        steps.add(row as u64);
+        copy_row(&mut self.small, start, row, dest);
+        if self.large.len() > 0 {
+            copy_row(&mut self.large, start, row, dest);
+        }
+    }
+
+    /// Sets the entries of one cell.
+    fn load_cell<L: Ledger>(
+        &mut self,
+        problem: &Problem,
+        domains: &Domains,
+        cell: u32,
+        steps: &mut Steps<L>,
+    )
+        requires domains { Fits problem.now domains.now }
+        requires cell_in { cell < problem.now.cells }
+        requires before { AreLoaded problem.now (has domains.now) self.old (counter_place
+            problem.now cell 0 0) }
+        ensures after { AreLoaded problem.now (has domains.now) self.new (counter_place problem.now
+            (cell + 1) 0 0) }
+        ensures steps { steps.new ≡ steps.old + values problem.now * problem.now.dirs }
+    {
+        for value in 0..problem.values() {
+            self.load_value(problem, domains, cell, value, steps);
+        }
+    }
+
+    /// Sets the entries of one value of one cell.
+    #[inline]
+    fn load_value<L: Ledger>(
+        &mut self,
+        problem: &Problem,
+        domains: &Domains,
+        cell: u32,
+        value: u16,
+        steps: &mut Steps<L>,
+    )
+        requires domains { Fits problem.now domains.now }
+        requires cell_in { cell < problem.now.cells }
+        requires value_in { value < values problem.now }
+        requires before { AreLoaded problem.now (has domains.now) self.old (counter_place
+            problem.now cell value 0) }
+        ensures after { AreLoaded problem.now (has domains.now) self.new (counter_place problem.now
+            cell value problem.now.dirs) }
+        ensures steps { steps.new ≡ steps.old + problem.now.dirs }
+    {
+        for dir in 0..problem.dirs() {
+            let count = count_beside(problem, domains, cell, value, dir);
+            self.set(cell, value, dir, count);
+            steps.tick();
+        }
+    }
+
+    #[inline]
+    fn set(&mut self, cell: u32, value: u16, dir: u8, count: u16)
+        requires cell_in { cell < self.old.cells }
+        requires value_in { value < self.old.values }
+        requires dir_in { dir < self.old.dirs }
+        requires limit { count ≤ self.old.limit }
+        ensures changed { self.new ≡ with_count self.old cell value dir count }
+    {
+        let place = self.place(cell, value, dir as usize);
+        if place < self.large.len() {
+            let large = large_part(count);
+            self.small[place] = (count - 255 * large) as u8;
+            self.large[place] = large as u8;
+        } else {
+            self.small[place] = count as u8;
+        }
+    }
+}
+
+/// The large part of a count. What it leaves for the small one is 0 only where the count is.
+fn large_part(count: u16) -> u16
+    requires limit { count ≤ 32640 }
+    ensures room { 255 * result ≤ count }
+    ensures rest { count ≤ 255 * result + 255 }
+    ensures few { result ≤ 127 }
+    ensures some { 0 < result → 255 * result < count }
+{
+    if count == 0 { 0 } else { (count - 1) / 255 }
+}
+
+/// Copies a row of parts to another place.
+fn copy_row(parts: &mut Vec<u8>, start: usize, row: usize, dest: usize)
+    requires start_in { start + row ≤ vec_len parts.old }
+    requires dest_in { dest + row ≤ vec_len parts.old }
+    ensures copied { IsRowCopied parts.old.items parts.new.items start row dest }
+{
+    parts.copy_within(start..start + row, dest);
+}
