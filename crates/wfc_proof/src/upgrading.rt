@@ -48,6 +48,7 @@ fn upgrade_to<S: Sink>(
         (upgraded_text problem.now shape bytes.now) result }
     ensures same_proof { HasUpgradedProofs problem.now shape bytes.now }
 {
+    // The proof knows how large the fields are where they are read.
     let _limits = (shape.width, shape.height, shape.depth, shape.symmetry);
     match write_header_2(sink, &shape, problem.cells(), problem.values()) {
         Ok(()) => upgrade_proof(bytes, sink),
