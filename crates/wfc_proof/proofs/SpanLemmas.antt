@@ -18,6 +18,7 @@ use Rattle.wfc_proof.specs.Text.{line_text}
 use Rattle.wfc_proof.specs.declared.Line.{Line}
 use Rattle.wfc_proof.specs.declared.Line.TheVariants.{Remove, Span, Try, Empty, End, Found, Out}
 use Rattle.wfc_proof.specs.declared.heads.Format.TheVariants.{Two}
+use Rattle.wfc_proof.specs.declared.spans.CutOff.{CutOff}
 use Rattle.wfc_proof.proofs.TellingLemmas.{Grown, put_told, cut_told, bare_before}
 
 -- ---- lists
@@ -460,15 +461,15 @@ kept_put_cut old mid new kept line after format put cut = by cut.done refl
     }
 
 -- so whatever was answered
-pub kept_put_ok : (old mid new : SinkView) (kept line : Line) (result : Result (Option Line) (Option Line)) → IsOfFormat Two kept → mid ≡ after_bytes old (with_line_end (line_text kept))
+pub kept_put_ok : (old mid new : SinkView) (kept line : Line) (result : Result (Option Line) CutOff) → IsOfFormat Two kept → mid ≡ after_bytes old (with_line_end (line_text kept))
     → IfOk result (PutsApart mid new None line) → IfOk result (PutsApart old new (Some kept) line)
 kept_put_ok old mid new kept line (Ok after) format put puts = kept_put old mid new kept line after format put puts
 kept_put_ok old mid new kept line (Err left) format put puts = record {}
 
-pub kept_put_err : (old mid new : SinkView) (kept line : Line) (result : Result (Option Line) (Option Line)) → IsOfFormat Two kept → mid ≡ after_bytes old (with_line_end (line_text kept))
-    → IfErr result (IsCutApart mid new None line) → IfErr result (IsCutApart old new (Some kept) line)
+pub kept_put_err : (old mid new : SinkView) (kept line : Line) (result : Result (Option Line) CutOff) → IsOfFormat Two kept → mid ≡ after_bytes old (with_line_end (line_text kept))
+    → IfErr result (λ (cut : CutOff). IsCutApart mid new None line cut.kept) → IfErr result (λ (cut : CutOff). IsCutApart old new (Some kept) line cut.kept)
 kept_put_err old mid new kept line (Ok after) format put cut = record {}
-kept_put_err old mid new kept line (Err left) format put cut = kept_put_cut old mid new kept line left format put cut
+kept_put_err old mid new kept line (Err left) format put cut = kept_put_cut old mid new kept line left.kept format put cut
 
 -- a span is spelled as format 2 does
 pub span_spelled : (line : Line) → is_span line ≡ true → as_span line ≡ line

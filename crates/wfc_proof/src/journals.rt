@@ -133,8 +133,8 @@ impl<'s, S: Sink> Journal for SpanJournal<'s, S> {
                 self.kept = kept;
                 Ok(())
             }
-            Err(left) => {
-                self.kept = left;
+            Err(cut) => {
+                self.kept = cut.kept;
                 self.refused = Some(told);
                 Err(JournalFault::Failed)
             }

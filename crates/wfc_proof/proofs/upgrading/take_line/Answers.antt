@@ -19,6 +19,6 @@ returns-in-Ok g c = record {
 pub returns-in-Err : goal.returns-in-Err
 returns-in-Err g c = record {
   ok = record {};
-  failed = takes_front (g.S.Sink.seen c.args.sink.now) (g.S.Sink.seen c.put_apart.new.sink) c.args.kept c.in-Err.field-0 c.args.line c.as_span-told.result (c.as_span-told.ensures.whole c.requires.whole)
+  failed = takes_front (g.S.Sink.seen c.args.sink.now) (g.S.Sink.seen c.put_apart.new.sink) c.args.kept c.in-Err.field-0.kept c.args.line c.as_span-told.result (c.as_span-told.ensures.whole c.requires.whole)
       c.as_span-told.ensures.span c.as_span-told.ensures.counts (sym c.joined.ensures.value ∙ c.in_default.is) c.in-Err.ensures.failed;
 }

@@ -39,7 +39,7 @@ pub invariant_of-self-in-Err : goal.invariant_of-self-in-Err
 invariant_of-self-in-Err g c =
     let j = c.args.self.now in
     let was : IsSpanning (g.S.Sink.seen j.sink.now) j.kept j.refused = record { at = j.at; joined = j.joined; spans = j.spans } in
-    let all = span_cut j.sink.ghost_name (g.S.Sink.seen j.sink.now) (g.S.Sink.seen c.put_apart.new.sink) j.kept j.refused c.in-Err.left c.as_span-told.result c.args.line
+    let all = span_cut j.sink.ghost_name (g.S.Sink.seen j.sink.now) (g.S.Sink.seen c.put_apart.new.sink) j.kept j.refused c.in-Err.cut.kept c.as_span-told.result c.args.line
     (c.as_span-told.ensures.whole c.requires.whole) c.as_span-told.ensures.span c.as_span-told.ensures.counts was c.requires.going (sym c.joined.ensures.value ∙ c.in_default.is) c.in-Err.ensures.failed in
     record { at = all.0.at; joined = all.0.joined; spans = all.0.spans }
 
@@ -47,6 +47,6 @@ pub returns-in-Err-clause-failed : goal.returns-in-Err-clause-failed
 returns-in-Err-clause-failed g c =
     let j = c.args.self.now in
     let was : IsSpanning (g.S.Sink.seen j.sink.now) j.kept j.refused = record { at = j.at; joined = j.joined; spans = j.spans } in
-    let all = span_cut j.sink.ghost_name (g.S.Sink.seen j.sink.now) (g.S.Sink.seen c.put_apart.new.sink) j.kept j.refused c.in-Err.left c.as_span-told.result c.args.line
+    let all = span_cut j.sink.ghost_name (g.S.Sink.seen j.sink.now) (g.S.Sink.seen c.put_apart.new.sink) j.kept j.refused c.in-Err.cut.kept c.as_span-told.result c.args.line
     (c.as_span-told.ensures.whole c.requires.whole) c.as_span-told.ensures.span c.as_span-told.ensures.counts was c.requires.going (sym c.joined.ensures.value ∙ c.in_default.is) c.in-Err.ensures.failed in
     all.1
