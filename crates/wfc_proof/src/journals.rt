@@ -5,12 +5,12 @@ ghost use Rattle.wfc_outside.specs.Sink.{Puts, after_bytes};
 ghost use Rattle.wfc_problem.specs.Network.{values};
 ghost use Rattle.wfc_proof.specs.Heads.{head_text, head_2_text};
 ghost use Rattle.wfc_proof.specs.Journal.{IsWhole, counted_as, after_line, IsRefused};
-ghost use Rattle.wfc_proof.specs.Spans.{AreJoined, as_span, ending, is_kept, join_with, waiting};
+ghost use Rattle.wfc_proof.specs.Spans.{AreJoined, as_span, ending, is_kept, join_with, waiting_lines};
 ghost use Rattle.wfc_proof.specs.Telling.{IsAt, IsBare, new_journal, refused_lines};
 ghost use Rattle.wfc_proof.specs.declared.heads.Format.TheVariants.{One, Two};
 
 use crate::heads::{write_header, write_header_2};
-use crate::spans::{as_span, joined, put_apart};
+use crate::spans::{as_span, join_with, put_apart};
 use crate::writing::put_counted;
 use crate::{Journal, JournalFault, Line, Shape};
 use wfc_outside::{Sink, SinkFault};
@@ -77,7 +77,7 @@ pub struct SpanJournal<'s, S: Sink> {
     sink: &'s mut S,
     kept: Option<Line>,
     refused: Option<Line>,
-    ghost at: { IsAt Two (S.seen sink.now).told (waiting kept refused) },
+    ghost at: { IsAt Two (S.seen sink.now).told (waiting_lines kept refused) },
     ghost joined: { AreJoined (ending (S.seen sink.now).told) kept refused },
     ghost spans: { is_kept kept ≡ true },
 }
@@ -124,7 +124,7 @@ impl<'s, S: Sink> Journal for SpanJournal<'s, S> {
 
     fn line(&mut self, line: Line) -> Result<(), JournalFault> {
         let told = as_span(line);
-        if let Some(span) = joined(self.kept, told) {
+        if let Some(span) = join_with(self.kept, told) {
             self.kept = Some(span);
             return Ok(());
         }

@@ -33,7 +33,7 @@ pub(crate) fn as_span(line: Line) -> Line
 
 /// A kept span and the line behind it as one span, if they are of one cell and direction and the values of the second
 /// follow.
-pub(crate) fn joined(kept: Option<Line>, line: Line) -> Option<Line>
+pub(crate) fn join_with(kept: Option<Line>, line: Line) -> Option<Line>
     ensures value { result ≡ join_with kept line }
 {
     let Some(
@@ -108,7 +108,7 @@ fn put_line<S: Sink>(sink: &mut S, line: Line) -> Result<(), SinkFault>
 }
 
 /// Puts a line that no span is kept before, if it can't grow, and answers it if it can.
-fn put_settled<S: Sink>(sink: &mut S, line: Line) -> Result<Option<Line>, CutOff>
+fn put_settled_part<S: Sink>(sink: &mut S, line: Line) -> Result<Option<Line>, CutOff>
     requires whole { IsWhole line }
     requires spelled { as_span line ≡ line }
     ensures ok { IfOk result (PutsApart (S.seen sink.old) (S.seen sink.new) None line) }
@@ -134,7 +134,7 @@ fn put_behind<S: Sink>(sink: &mut S, kept: Line, line: Line) -> Result<Option<Li
         (λ cut. IsCutApart (S.seen sink.old) (S.seen sink.new) (Some kept) line cut.kept) }
 {
     match put_line(sink, kept) {
-        Ok(()) => put_settled(sink, line),
+        Ok(()) => put_settled_part(sink, line),
         Err(_) => Err(CutOff { kept: Some(kept) }),
     }
 }
@@ -154,7 +154,7 @@ pub(crate) fn put_apart<S: Sink>(
         (λ cut. IsCutApart (S.seen sink.old) (S.seen sink.new) kept line cut.kept) }
 {
     match kept {
-        None => put_settled(sink, line),
+        None => put_settled_part(sink, line),
         Some(span) => put_behind(sink, span, line),
     }
 }

@@ -10,7 +10,7 @@ ghost use Rattle.wfc_proof.specs.Upgrade.{HasUpgradedProofs, TakesFront, TakesLi
 ghost use Rattle.wfc_proof.specs.Upgrade.{lines_in, upgraded_text};
 
 use crate::heads::{read_format, write_header_2};
-use crate::spans::{as_span, joined, put_apart};
+use crate::spans::{as_span, join_with, put_apart};
 use crate::text::{read_line, read_line_2};
 use crate::writing::write_line;
 use crate::{Format, Line, LineFault, Shape};
@@ -149,7 +149,7 @@ fn take_line<S: Sink>(
     ensures failed { OnErr result (TakesFront (S.seen sink.old) (S.seen sink.new) kept line) }
 {
     let told = as_span(line);
-    if let Some(span) = joined(kept, told) {
+    if let Some(span) = join_with(kept, told) {
         return Ok(Some(span));
     }
     match put_apart(sink, kept, told) {

@@ -1,5 +1,5 @@
 use Rattle.wfc_proof.proofs.SpanLemmas.{settled_cut}
-use Rattle.wfc_proof.proofs.spans.put_settled.Goals as goal
+use Rattle.wfc_proof.proofs.spans.put_settled_part.Goals as goal
 
 pub returns-in-Err : goal.returns-in-Err
 returns-in-Err g c = record {
