@@ -1,5 +1,5 @@
 use Rattle.wfc_proof.proofs.LineLemmas.{line_of-is, is-line_of, line_2_of-is, is-line_2_of}
-use Rattle.wfc_proof.proofs.laws.lines_are_their_texts.Goals as goal
+use Rattle.wfc_proof.proofs.text_laws.lines_are_their_texts.Goals as goal
 
 pub returns : goal.returns
 returns c = record {

@@ -1,7 +1,7 @@
 use Rattle.std.proofs.Common.{refl}
 use Rattle.std.specs.Fmt.{digits}
 use Rattle.wfc_proof.proofs.TellingLemmas.{nothing_lost}
-use Rattle.wfc_proof.proofs.laws.texts_are_read.Goals as goal
+use Rattle.wfc_proof.proofs.text_laws.texts_are_read.Goals as goal
 
 pub returns : goal.returns
 unfolding digits

@@ -1,5 +1,5 @@
 use Rattle.wfc_proof.proofs.HeadLemmas.{format_of-is, is-format_of, numbers_of-is, is-numbers_of, shape_of-is, is-shape_of}
-use Rattle.wfc_proof.proofs.laws.heads_are_their_texts.Goals as goal
+use Rattle.wfc_proof.proofs.text_laws.heads_are_their_texts.Goals as goal
 
 pub returns : goal.returns
 returns c = record {

@@ -2,7 +2,7 @@ use Rattle.std.proofs.Common.{◌≡◌, ℕ, List, [], ◌∷◌, ◌++◌, len
 use Rattle.wfc_proof.specs.Spans.{one_span, AreWithOneMore}
 use Rattle.wfc_proof.specs.declared.Line.{Line}
 use Rattle.wfc_proof.specs.declared.Line.TheVariants.{Span, Try}
-use Rattle.wfc_proof.proofs.laws.one_more_by_example.Goals as goal
+use Rattle.wfc_proof.proofs.span_laws.one_more_by_example.Goals as goal
 
 -- the first value of a span
 abbrev begins : Line → ℕ

@@ -1,6 +1,6 @@
 use Rattle.std.proofs.Common.{refl}
 use Rattle.std.specs.Fmt.{digits}
-use Rattle.wfc_proof.proofs.laws.heads_by_example.Goals as goal
+use Rattle.wfc_proof.proofs.text_laws.heads_by_example.Goals as goal
 
 pub returns : goal.returns
 unfolding digits
