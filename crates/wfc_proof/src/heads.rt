@@ -1,11 +1,11 @@
 //! The heads of refutations: what their lines say, and how they are written.
 
-ghost use Rattle.std.specs.Prelude.{OnOk, ◌≡◌, ◌-◌, ◌^◌, ◌<◌, ◌≤◌, ◌+◌, ◌∷◌, ◌++◌, [], decimal, length};
+ghost use Rattle.std.specs.Prelude.{OnOk, ◌≡◌, ◌^◌, ◌<◌, ◌≤◌, ◌+◌, ◌∷◌, ◌++◌, [], decimal, length};
 ghost use Rattle.wfc_outside.specs.Sink.{Puts};
 ghost use Rattle.wfc_proof.specs.Words.{decimal_within};
 ghost use Rattle.wfc_proof.specs.Heads.{with_line_end, format_text, numbers_text, shape_text, head_text, head_2_text};
-ghost use Rattle.wfc_proof.specs.Heads.{format_of, head_numbers, numbers_of_words, shape_of, shape_of_words, shape_with};
-ghost use Rattle.wfc_proof.specs.Heads.{IsShape, head_word, bit_word, bit};
+ghost use Rattle.wfc_proof.specs.Heads.{format_of, head_numbers, numbers_of_words, shape_of, shape_of_words, shape_in};
+ghost use Rattle.wfc_proof.specs.Heads.{IsShape, bit_word, bit};
 ghost use Rattle.wfc_proof.specs.Telling.{IsBare};
 ghost use Rattle.wfc_proof.specs.declared.heads.Format.TheVariants.{One, Two};
 
@@ -104,11 +104,11 @@ fn shape_of_words(mut words: Words<'_>) -> Option<Shape>
     if words.next().is_some() || !is_word(before, "for") {
         return None;
     }
-    shape_with(n, width, height, depth, symmetry, wrap_in, wrap_out)
+    shape_in(n, width, height, depth, symmetry, wrap_in, wrap_out)
 }
 
-/// The shape that these words write.
-fn shape_with(
+/// The shape that these seven words write.
+fn shape_in(
     n: &[u8],
     width: &[u8],
     height: &[u8],
@@ -117,9 +117,8 @@ fn shape_with(
     wrap_in: &[u8],
     wrap_out: &[u8],
 ) -> Option<Shape>
-    ensures exact { result ≡ shape_with (decimal_within 6 n.now) (head_word width.now)
-        (head_word height.now) (head_word depth.now) (decimal_within (2 ^ 8 - 1) symmetry.now)
-        (bit_word wrap_in.now) (bit_word wrap_out.now) }
+    ensures exact { result ≡ shape_in n.now width.now height.now depth.now symmetry.now
+        wrap_in.now wrap_out.now }
 {
     let n = side_of_window(n)?;
     let width = decimal32(width)?;

@@ -1,12 +1,10 @@
 //! Journals that write the lines they are told into a sink.
 
 ghost use Rattle.std.specs.Prelude.{◌≡◌, ◌≤◌, None, true, false, IfOk, OnOk, OnErr};
-ghost use Rattle.wfc_outside.specs.Sink.{Puts, after_bytes};
-ghost use Rattle.wfc_problem.specs.Network.{values};
-ghost use Rattle.wfc_proof.specs.Heads.{head_text, head_2_text};
+ghost use Rattle.wfc_proof.specs.ProofText.{head_1_for, head_2_for};
 ghost use Rattle.wfc_proof.specs.Journal.{IsWhole, counted_as, after_line, IsRefused};
 ghost use Rattle.wfc_proof.specs.Spans.{AreJoined, as_span, ending, is_kept, join_with, waiting_lines};
-ghost use Rattle.wfc_proof.specs.Telling.{IsAt, IsBare, new_journal, refused_lines};
+ghost use Rattle.wfc_proof.specs.Telling.{IsAt, IsBare, begun_journal, new_journal, refused_lines};
 ghost use Rattle.wfc_proof.specs.declared.heads.Format.TheVariants.{One, Two};
 
 use crate::heads::{write_header, write_header_2};
@@ -31,9 +29,8 @@ impl<'s, S: Sink> ProofJournal<'s, S> {
     /// Writes the head, and tells no line yet. After `Failed` the sink has taken a front of the head, and has counted a
     /// fault: no clause can say it, since the sink is lent to what is answered. `write_header` and `behind_head` say all.
     pub fn begin(sink: &'s mut S, problem: &Problem) -> Result<ProofJournal<'s, S>, JournalFault>
-        ensures begun { IfOk result (λ journal. told_by S.Sink journal ≡ new_journal
-            sink.entry.ghost_name (after_bytes (S.seen sink.old) (head_text problem.now.cells
-            (values problem.now)))) }
+        ensures begun { IfOk result (λ journal. told_by S.Sink journal ≡ begun_journal
+            sink.entry.ghost_name (S.seen sink.old) (head_1_for problem.now)) }
     {
         match write_header(sink, problem.cells(), problem.values()) {
             Ok(()) => Ok(ProofJournal::behind_head(sink)),
@@ -93,9 +90,8 @@ impl<'s, S: Sink> SpanJournal<'s, S> {
         shape: &Shape,
     ) -> Result<SpanJournal<'s, S>, JournalFault>
         requires limit { shape.now.n ≤ 6 }
-        ensures begun { IfOk result (λ journal. spans_told_by S.Sink journal
-            ≡ new_journal sink.entry.ghost_name (after_bytes (S.seen sink.old)
-            (head_2_text shape.now problem.now.cells (values problem.now)))) }
+        ensures begun { IfOk result (λ journal. spans_told_by S.Sink journal ≡ begun_journal
+            sink.entry.ghost_name (S.seen sink.old) (head_2_for problem.now shape.now)) }
     {
         match write_header_2(sink, shape, problem.cells(), problem.values()) {
             Ok(()) => Ok(SpanJournal::behind_head(sink)),

@@ -7,7 +7,7 @@ ghost use Rattle.wfc_problem.specs.Domains.{Test, Within, IsEmptyAt};
 ghost use Rattle.wfc_problem.specs.Network.{Network, IsProblem, in_base};
 ghost use Rattle.wfc_problem.specs.Rounds.{pairs, depth_of};
 ghost use Rattle.wfc_problem.specs.declared.Literal.TheVariants.{Is, Not};
-ghost use Rattle.wfc_proof.specs.Checker.{HasOpenBranch, line_steps, node_fault};
+ghost use Rattle.wfc_proof.specs.Checker.{HasBranchBehind, HasOpenBranch, line_steps, node_fault};
 ghost use Rattle.wfc_proof.specs.Checker.Point.{going, closed, ended};
 ghost use Rattle.wfc_proof.specs.Journal.{Target, quiet, IsWhole, counted_as, after_line, after_lines, IsRefused};
 ghost use Rattle.wfc_proof.specs.Journal.{IsCutOff};
@@ -15,7 +15,8 @@ ghost use Rattle.wfc_proof.specs.Lines.{AreClosing, AreEnding, AreLeftOpen, node
 ghost use Rattle.wfc_proof.specs.Proof.{IsLeastStanding, IsLeastSupport, Proof, Closes, nodes, IsRemoval, IsSplit};
 ghost use Rattle.wfc_proof.specs.Proof.Node.{removes, splits, empties};
 ghost use Rattle.wfc_proof.specs.Proof.Proof.{empty, remove, split, left_off};
-ghost use Rattle.wfc_proof.specs.Small.{from_base, journal_with, wide_fault, wide_fault_after};
+ghost use Rattle.wfc_proof.specs.Small.{after_a_trial, from_base, journal_over, journal_with, refused_after_a_trial};
+ghost use Rattle.wfc_proof.specs.Small.{wide_fault, wide_fault_after};
 ghost use Rattle.wfc_proof.specs.declared.Line.{Line};
 ghost use Rattle.wfc_proof.specs.declared.Line.TheVariants.{Remove, Span, Try, Empty, End, Found, Out};
 ghost use Rattle.wfc_proof.specs.declared.Reject.TheVariants.{NotStanding, HasSupport, NoNeighbour, NotEmpty};
@@ -44,29 +45,25 @@ pub fn lines_come_behind()
 
 /// A refused line counts among those that were handed over, and a fault was counted. A quiet journal refuses none.
 pub fn refusals_are_counted()
-    ensures refused { IsRefused (journal_with (Some (Try 1 2 ∷ [])) false 3)
-        (journal_with (Some (Try 1 2 ∷ Empty 5 ∷ [])) true 4) (Empty 5) }
-    ensures not_handed_over { IsRefused (journal_with (Some (Try 1 2 ∷ [])) false 3)
-        (journal_with (Some (Try 1 2 ∷ [])) true 4) (Empty 5) → ⊥ }
+    ensures refused { IsRefused after_a_trial (refused_after_a_trial (Empty 5 ∷ [])) (Empty 5) }
+    ensures not_handed_over { IsRefused after_a_trial (refused_after_a_trial []) (Empty 5) → ⊥ }
     ensures not_failed { IsRefused (journal_with None false 3) (journal_with None false 4)
         (Empty 5) → ⊥ }
     ensures not_counted { IsRefused (journal_with None false 3) (journal_with None true 3)
         (Empty 5) → ⊥ }
-    ensures elsewhere { (there : Target) → IsRefused
-        (record (journal_with None false 3) { target = Some there })
+    ensures elsewhere { (there : Target) → IsRefused (journal_over there false 3)
         (journal_with None true 4) (Empty 5) → ⊥ }
     ensures quiet { (line : Line) → IsRefused quiet quiet line → ⊥ }
 {}
 
 /// Where lines are cut off, a front of them was handed over, with at least one line.
 pub fn fronts_are_handed_over()
-    ensures front { IsCutOff (journal_with (Some (Try 1 2 ∷ [])) false 3)
-        (journal_with (Some (Try 1 2 ∷ Remove 4 5 0 ∷ Empty 5 ∷ [])) true 4)
+    ensures front { IsCutOff after_a_trial (refused_after_a_trial (Remove 4 5 0 ∷ Empty 5 ∷ []))
         (Remove 4 5 0 ∷ Empty 5 ∷ End ∷ []) }
-    ensures none { IsCutOff (journal_with (Some (Try 1 2 ∷ [])) false 3)
-        (journal_with (Some (Try 1 2 ∷ [])) true 4) (Remove 4 5 0 ∷ Empty 5 ∷ []) → ⊥ }
-    ensures a_later_line { IsCutOff (journal_with (Some (Try 1 2 ∷ [])) false 3)
-        (journal_with (Some (Try 1 2 ∷ Empty 5 ∷ [])) true 4) (Remove 4 5 0 ∷ Empty 5 ∷ []) → ⊥ }
+    ensures none { IsCutOff after_a_trial (refused_after_a_trial [])
+        (Remove 4 5 0 ∷ Empty 5 ∷ []) → ⊥ }
+    ensures a_later_line { IsCutOff after_a_trial (refused_after_a_trial (Empty 5 ∷ []))
+        (Remove 4 5 0 ∷ Empty 5 ∷ []) → ⊥ }
     ensures quiet { (lines : List Line) → IsCutOff quiet quiet lines → ⊥ }
 {}
 
@@ -103,8 +100,7 @@ pub fn refusals_name_the_least()
 /// spell a proof that follows, with branches left off at its end.
 pub fn accepted_lines_spell_proofs()
     ensures closed { (P : Network) → IsProblem P → (D : Test) → Within D (in_base P)
-        → (lines : List Line)
-        → (line_steps P (going D []) lines ≡ Ok closed) ↔ AreClosing P D lines }
+        → (ls : List Line) → (line_steps P (going D []) ls ≡ Ok closed) ↔ AreClosing P D ls }
     ensures ended { (P : Network) → IsProblem P → (D : Test) → Within D (in_base P)
         → (lines : List Line) → (line_steps P (going D []) lines ≡ Ok ended) ↔ AreEnding P D lines }
     ensures going { (P : Network) → IsProblem P → (D : Test) → Within D (in_base P)
@@ -114,9 +110,10 @@ pub fn accepted_lines_spell_proofs()
 /// Where a branch is open, the domains lie within the base, and the branches that wait and the pairs that stand are
 /// together at most as many as the pairs of the base.
 pub fn few_branches_wait()
+    ensures within { (P : Network) → IsProblem P → (lines : List Line) (E : Test)
+        (waiting : List Test) → HasBranchBehind P lines E waiting → Within E (in_base P) }
     ensures few { (P : Network) → IsProblem P → (lines : List Line) (E : Test) (waiting : List Test)
-        → line_steps P (going (in_base P) []) lines ≡ Ok (going E waiting)
-        → Within E (in_base P) × (pairs P E + length waiting ≤ depth_of P) }
+        → HasBranchBehind P lines E waiting → pairs P E + length waiting ≤ depth_of P }
 {}
 
 /// Why removals are refused: an index comes first, then a value that doesn't stand, a side without a neighbour, and the
@@ -133,9 +130,10 @@ pub fn removals_by_example()
 /// Why splits and empty cells are refused: another value has to stand beside the one that is tried, and the least value
 /// that stands is named.
 pub fn splits_by_example()
-    ensures splits { map (wide_fault_after (Is 2 0))
-        (splits 0 2 ∷ splits 0 1 ∷ splits 1 2 ∷ splits 2 2 ∷ splits 0 3 ∷ [])
-        ≡ Some OnlyValue ∷ Some NotStanding ∷ None ∷ Some IndexRange ∷ Some IndexRange ∷ [] }
+    ensures splits { map (wide_fault_after (Is 2 0)) (splits 0 2 ∷ splits 0 1 ∷ splits 1 2 ∷ [])
+        ≡ Some OnlyValue ∷ Some NotStanding ∷ None ∷ [] }
+    ensures indexes { map (wide_fault_after (Is 2 0)) (splits 2 2 ∷ splits 0 3 ∷ [])
+        ≡ Some IndexRange ∷ Some IndexRange ∷ [] }
     ensures empties { map (wide_fault_after (Is 2 0)) (empties 0 ∷ empties 1 ∷ empties 2 ∷ [])
         ≡ Some (NotEmpty 2) ∷ Some (NotEmpty 0) ∷ Some IndexRange ∷ [] }
 {}

@@ -1,16 +1,14 @@
 //! Laws of the texts of lines, heads and proofs, each a function with no body whose contract is the law. They run nothing.
 
-ghost use Rattle.std.specs.Borrow.{GName};
-ghost use Rattle.std.specs.Prelude.{◌≡◌, ℕ, ◌↔◌, [], ◌∷◌, ◌++◌, List, codes, map, Ok, Err, Option};
+ghost use Rattle.std.specs.Prelude.{◌≡◌, ℕ, ◌↔◌, [], ◌∷◌, ◌++◌, List, codes, map, Ok, Err};
 ghost use Rattle.wfc_outside.specs.Sink.{SinkView, after_bytes};
 ghost use Rattle.wfc_proof.specs.Heads.{AreHeadNumbers, IsShape, format_of, format_text, head_text, head_2_text};
 ghost use Rattle.wfc_proof.specs.Heads.{head_numbers, numbers_text, shape_of, shape_text};
-ghost use Rattle.wfc_proof.specs.Journal.{after_lines, IsCutOff};
 ghost use Rattle.wfc_proof.specs.Small.{dead, dead_text, dead_text_apart, dead_text_joined, greatest_shape};
-ghost use Rattle.wfc_proof.specs.Small.{wrapped_shape};
-ghost use Rattle.wfc_proof.specs.Spans.{IsCutInSpans, AreSettled, IsSpanning, in_spans, spans_of};
-ghost use Rattle.wfc_proof.specs.Telling.{IsFaultAfterLines, IsAt, new_journal, journal_of, read_text};
-ghost use Rattle.wfc_proof.specs.Telling.{refused_lines, text_of};
+ghost use Rattle.wfc_proof.specs.Small.{reading_with, wrapped_shape};
+ghost use Rattle.wfc_proof.specs.Spans.{IsCutInSpans, AreSettled, in_spans};
+ghost use Rattle.wfc_proof.specs.Sinks.{IsAfterRefusal, IsAfterTelling};
+ghost use Rattle.wfc_proof.specs.Telling.{IsFaultAfterLines, read_text, text_of};
 ghost use Rattle.wfc_proof.specs.Text.{line_text, line_of, line_2_of, IsOfFormat1, IsOfFormat2};
 ghost use Rattle.wfc_proof.specs.Upgrade.{upgraded_text};
 ghost use Rattle.wfc_proof.specs.declared.Line.{Line};
@@ -90,15 +88,12 @@ pub fn heads_by_example()
 
 /// What is read of a text, in each format: behind its last line that is none of the format.
 pub fn texts_are_read()
-    ensures told { read_text One (codes "r 1\nr 0 2 3\nx 7\nr 1") ≡ record {
-      before = codes "r 1\n";
-      lines = Remove 0 2 3 ∷ Empty 7 ∷ [];
-      part = codes "r 1";
-    } }
+    ensures told { read_text One (codes "r 1\nr 0 2 3\nx 7\nr 1")
+        ≡ reading_with (codes "r 1\n") (Remove 0 2 3 ∷ Empty 7 ∷ []) (codes "r 1") }
     ensures other_format { read_text Two (codes "r 0 2 3\nr 0 2 4 3\n")
-        ≡ record { before = codes "r 0 2 3\n"; lines = Span 0 2 4 3 ∷ []; part = [] } }
+        ≡ reading_with (codes "r 0 2 3\n") (Span 0 2 4 3 ∷ []) [] }
     ensures anew { read_text One (codes "t 4 5\ncells 12 values 3\n")
-        ≡ record { before = codes "t 4 5\ncells 12 values 3\n"; lines = []; part = [] } }
+        ≡ reading_with (codes "t 4 5\ncells 12 values 3\n") [] [] }
     ensures whole { (format : Format) (bytes : List ℕ) → let read = read_text format bytes in
         read.before ++ (text_of read.lines ++ read.part) ≡ bytes }
 {}
@@ -108,22 +103,14 @@ pub fn texts_are_read()
 /// sink has taken a front of the text of those up to it, and has counted a fault; in format 2 what it took ends before the
 /// last of the joined lines does.
 pub fn sinks_take_what_is_told()
-    ensures lines { (name : GName) (started sink : SinkView) (refused : Option Line)
-        (lines : List Line) → IsAt One sink.told (refused_lines refused)
-        → journal_of name sink refused ≡ after_lines (new_journal name started) lines
-        → sink ≡ after_bytes started (text_of lines) }
-    ensures lines_cut_off { (name : GName) (started sink : SinkView) (refused : Option Line)
-        (lines : List Line) → IsAt One sink.told (refused_lines refused)
-        → IsCutOff (new_journal name started) (journal_of name sink refused) lines
-        → IsFaultAfterLines started sink lines }
-    ensures spans { (name : GName) (started sink : SinkView) (kept refused : Option Line)
-        (lines : List Line) → IsSpanning sink kept refused → AreSettled lines
-        → spans_of name sink kept refused ≡ after_lines (new_journal name started) lines
-        → sink ≡ after_bytes started (text_of (in_spans lines)) }
-    ensures spans_cut_off { (name : GName) (started sink : SinkView) (kept refused : Option Line)
-        (lines : List Line) → IsSpanning sink kept refused
-        → IsCutOff (new_journal name started) (spans_of name sink kept refused) lines
-        → IsCutInSpans started sink lines }
+    ensures lines { (started sink : SinkView) (lines : List Line) →
+        IsAfterTelling One started sink lines → sink ≡ after_bytes started (text_of lines) }
+    ensures lines_cut_off { (started sink : SinkView) (lines : List Line) →
+        IsAfterRefusal One started sink lines → IsFaultAfterLines started sink lines }
+    ensures spans { (started sink : SinkView) (ls : List Line) → IsAfterTelling Two started sink ls
+        → AreSettled ls → sink ≡ after_bytes started (text_of (in_spans ls)) }
+    ensures spans_cut_off { (started sink : SinkView) (lines : List Line) →
+        IsAfterRefusal Two started sink lines → IsCutInSpans started sink lines }
 {}
 
 /// A text of either format, brought to format 2.

@@ -7,7 +7,7 @@ ghost use Rattle.wfc_proof.specs.ProofText.{IsProofText};
 ghost use Rattle.wfc_proof.specs.Spans.{counted_lines, in_spans, is_kept, line_if_any};
 ghost use Rattle.wfc_proof.specs.Telling.{PutsOrCuts, line_in, text_of};
 ghost use Rattle.wfc_proof.specs.Upgrade.{HasUpgradedProofs, TakesFront, TakesLine, behind_head, behind_line, format_at, line_at};
-ghost use Rattle.wfc_proof.specs.Upgrade.{lines_in, upgraded_text};
+ghost use Rattle.wfc_proof.specs.Upgrade.{lines_in, lines_behind_head, text_behind_head, upgraded_text};
 
 use crate::heads::{read_format, write_header_2};
 use crate::spans::{as_span, join_with, put_apart};
@@ -58,11 +58,9 @@ fn upgrade_to<S: Sink>(
 
 /// Puts the lines of a text behind its head.
 fn upgrade_proof<S: Sink>(bytes: &[u8], sink: &mut S) -> Result<(), SinkFault>
-    requires lines { text_of
-        (lines_in (format_at bytes.now) (behind_head (format_at bytes.now) bytes.now))
-        ≡ behind_head (format_at bytes.now) bytes.now }
-    ensures put { Puts (S.seen sink.old) (S.seen sink.new) (text_of (in_spans (counted_lines
-        (lines_in (format_at bytes.now) (behind_head (format_at bytes.now) bytes.now))))) result }
+    requires lines { text_of (lines_behind_head bytes.now) ≡ text_behind_head bytes.now }
+    ensures put { Puts (S.seen sink.old) (S.seen sink.new)
+        (text_of (in_spans (counted_lines (lines_behind_head bytes.now)))) result }
 {
     let format = format_at(bytes);
     upgrade_lines(behind_head(format, bytes), format, sink)
