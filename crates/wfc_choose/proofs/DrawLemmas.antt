@@ -41,10 +41,17 @@ rest_skipped p v (suc k) n l none =
     ∙ rest_skipped p (v + 1) k n (omega (arith, l)) (λ u after before. none u (omega (arith, after)) (omega (arith, before)))
     ∙ ap (λ m. rest_from p m n) e
 
+-- up to the next that passes
 pub rest_next : (p : ℕ → Bool) (v w n : ℕ) → v ≤ w → w ≤ n → ((u : ℕ) → v ≤ u → u < w → p u ≡ false) → rest_from p v n ≡ rest_from p w n
 rest_next p v w n after within none =
     let e : v + (w - v) ≡ w = omega (arith, after) in
     rest_skipped p v (w - v) n (omega (arith, after, within)) (λ u a b. none u a (omega (arith, b, after))) ∙ ap (λ m. rest_from p m n) e
+
+-- from the first that passes on all are left
+pub rest_begins : (p : ℕ → Bool) (w n : ℕ) → w ≤ n → ((u : ℕ) → u < w → p u ≡ false) → rest_from p w n ≡ filter p (range_with_len 0 n)
+rest_begins p w n within none =
+    let z : n - 0 ≡ n = omega arith in
+    sym (rest_next p 0 w n (omega arith) within (λ u after before. none u before)) ∙ ap (λ m. filter p (range_with_len 0 m)) z
 
 -- ---- sums
 
