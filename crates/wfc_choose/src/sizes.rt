@@ -12,7 +12,7 @@ pub fn narrowed(alloc: Global, sizes: &[u32]) -> Result<Vec<u16>, AllocError>
 {
     let mut narrow = Vec::with_capacity(alloc, sizes.len())?;
     for size in sizes {
-        narrow.push(*size as u16)?;
+        narrow.push_reserved(*size as u16);
     }
     Ok(narrow)
 }
