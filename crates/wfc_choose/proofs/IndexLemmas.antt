@@ -169,6 +169,22 @@ summary_falls below above at was l h less =
 pub set_back : (xs : List ℕ) (i x : ℕ) → set (set xs i x) i (get_or xs i 0) ≡ xs
 set_back xs i x = set-set xs i x (get_or xs i 0) ∙ set-get_or xs i 0
 
+-- the whole index, where the new size comes not before the first of its block, which the size that was there didn't come first in
+pub index_stays : (sizes blocks areas regions : List ℕ) (cell size : ℕ) → cell < length sizes → IsIndex sizes blocks areas regions
+    → coming (get_or blocks (cell / 64) 0) ≤ coming size → coming (get_or blocks (cell / 64) 0) < coming (get_or sizes cell 0)
+    → IsIndex (set sizes cell size) blocks areas regions
+index_stays sizes blocks areas regions cell size l index le less =
+    let was = get_or sizes cell 0 in
+    let inside : cell < length (set sizes cell size) = omega (arith, l, length-set sizes cell size) in
+    let before : IsSummary (set (set sizes cell size) cell was) blocks = subst (λ (xs : List ℕ). IsSummary xs blocks) (sym (set_back sizes cell size)) index.blocks in
+    let le_now : coming (get_or blocks (cell / 64) 0) ≤ coming (get_or (set sizes cell size) cell 0) = subst (λ (n : ℕ). coming (get_or blocks (cell / 64) 0) ≤ coming n) (sym (get_or-set_same sizes cell size 0 l)) le in
+    record {
+      limit = omega (arith, index.limit, length-set sizes cell size);
+      blocks = summary_stays (set sizes cell size) blocks cell was inside before le_now less;
+      areas = index.areas;
+      regions = index.regions;
+    }
+
 -- ---- the first entry
 
 -- of the entries below n none comes before this one, and each before it comes later

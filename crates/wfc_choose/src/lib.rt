@@ -11,6 +11,7 @@ ghost use Rattle.wfc_problem.specs.declared.TheConstants.{MAX_PAIRS, MAX_VALUES}
 
 mod buckets;
 mod draws;
+mod index;
 pub mod laws;
 mod scanning;
 mod sizes;
