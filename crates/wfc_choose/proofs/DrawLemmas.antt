@@ -10,7 +10,7 @@ use Rattle.wfc_problem.specs.Domains.{Test}
 use Rattle.wfc_problem.specs.Network.{Network, IsProblem, value_weight}
 use Rattle.wfc_problem.specs.Sizes.{values_at}
 use Rattle.wfc_problem.proofs.CallerLemmas.{some_weight, values_at_stand}
-use Rattle.wfc_choose.specs.Draw.{drawn, first_above}
+use Rattle.wfc_choose.specs.Draw.{drawn_value, first_above}
 
 -- the numbers from v up to n that pass
 abbrev pub rest_from : (ℕ → Bool) → ℕ → ℕ → List ℕ
@@ -120,8 +120,8 @@ first_Contains P number running (v ∷ vs) low high =
     (λ above. first_Contains P number (running + value_weight P v) vs (ltb-false number (running + value_weight P v) above) (omega (arith, high, sum_by-cons (value_weight P) v vs)))
 
 -- of a cell that isn't empty one of its values is drawn
-pub drawn_one : (P : Network) → IsProblem P → (D : Test) (c word : ℕ) → 0 < length (values_at P D c) → Contains (values_at P D c) (drawn P (values_at P D c) word)
-unfolding drawn
+pub drawn_one : (P : Network) → IsProblem P → (D : Test) (c word : ℕ) → 0 < length (values_at P D c) → Contains (values_at P D c) (drawn_value P (values_at P D c) word)
+unfolding drawn_value
 drawn_one P p D c word some =
     let vs : List ℕ = values_at P D c in
     let above : 0 < sum_by (value_weight P) vs = sum_some P p D c some in

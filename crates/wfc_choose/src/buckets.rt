@@ -4,7 +4,7 @@ ghost use Rattle.std.specs.Prelude.{◌≡◌, []};
 ghost use Rattle.wfc_choose.specs.declared.RuleKind.TheVariants.{Fewest};
 
 use crate::index::{FAN, coming, first_open, mend_above, summary_of};
-use crate::sizes::narrowed;
+use crate::sizes::narrow_sizes;
 use crate::{Chooser, RuleKind};
 use std::alloc::Global;
 use std::marker::Model;
@@ -62,7 +62,7 @@ impl Chooser for Buckets {
     }
 
     fn load(&mut self, sizes: &[u32]) -> Result<(), NoMemory> {
-        let sizes = narrowed(self.alloc, sizes)?;
+        let sizes = narrow_sizes(self.alloc, sizes)?;
         let blocks = summary_of(self.alloc, &sizes)?;
         let areas = summary_of(self.alloc, &blocks)?;
         let regions = summary_of(self.alloc, &areas)?;

@@ -7,7 +7,7 @@
 
 ghost use Rattle.std.specs.Prelude.{◌≡◌, ℕ, ◌+◌, ◌*◌, ◌/◌, ◌<◌, ◌≤◌, ◌^◌, [], length, slice_index, slice_set, IfOk, IfNone, IfSome};
 ghost use Rattle.wfc_choose.specs.Index.{coming, IsFirst, IsIndex, IsLeastIn, IsSummary};
-ghost use Rattle.wfc_choose.specs.Pick.{picked};
+ghost use Rattle.wfc_choose.specs.Pick.{picked_cell};
 ghost use Rattle.wfc_choose.specs.declared.RuleKind.TheVariants.{Fewest};
 ghost use Rattle.wfc_problem.specs.declared.TheConstants.{MAX_PAIRS};
 
@@ -158,7 +158,7 @@ fn first_below(above: &[u16], below: &[u16], block: usize) -> usize
 /// The first cell of an index, if it is open.
 pub fn first_open(sizes: &[u16], blocks: &[u16], areas: &[u16], regions: &[u16]) -> Option<u32>
     requires index { IsIndex sizes.now blocks.now areas.now regions.now }
-    ensures exact { result ≡ picked (record { kind = Fewest; ranks = [] }) sizes.now }
+    ensures exact { result ≡ picked_cell (record { kind = Fewest; ranks = [] }) sizes.now }
 {
     if regions.is_empty() {
         return None;

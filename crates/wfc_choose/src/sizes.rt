@@ -6,7 +6,7 @@ ghost use Rattle.wfc_problem.specs.declared.TheConstants.{MAX_VALUES};
 use std::alloc::{AllocError, Global};
 
 /// The same sizes in half the memory.
-pub fn narrowed(alloc: Global, sizes: &[u32]) -> Result<Vec<u16>, AllocError>
+pub fn narrow_sizes(alloc: Global, sizes: &[u32]) -> Result<Vec<u16>, AllocError>
     requires small { All (λ size. size ≤ MAX_VALUES) sizes.now }
     ensures same { IfOk result (λ narrow. narrow.items ≡ sizes.now) }
 {

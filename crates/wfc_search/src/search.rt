@@ -4,7 +4,7 @@ ghost use Rattle.std.specs.Prelude.{◌≡◌, ◌≢◌, ◌≤◌, ◌<◌, �
 ghost use Rattle.std.specs.Prelude.{None, Some, slice_get, slice_index, IfOk, OnOk, OnErr, IsErr, IsOk, IsTrue, Ok};
 ghost use Rattle.std.specs.Option.{ForSome};
 ghost use Rattle.rand_core.specs.Stream.{Stream};
-ghost use Rattle.wfc_choose.specs.Pick.{picked};
+ghost use Rattle.wfc_choose.specs.Pick.{picked_cell};
 ghost use Rattle.wfc_domains.specs.Domains.{has, flags_of};
 ghost use Rattle.wfc_domains.specs.Store.{StoreView, IsSound, left_of};
 ghost use Rattle.wfc_domains.specs.declared.Verdict.TheVariants.{Alive};
@@ -158,7 +158,7 @@ impl<'p, S: Store> Search<'p, S> {
     fn choose<R: Rng, L: Ledger>(&mut self, cell: u32, words: &mut R, steps: &mut Steps<L>) -> Turn
         requires ready { IsReady (view_of_search S.view self.old (told self.old.chooser)) }
         requires alive { (S.view self.old.store).verdict ≡ Alive }
-        requires picked { Some cell ≡ picked (told self.old.chooser).rule
+        requires picked { Some cell ≡ picked_cell (told self.old.chooser).rule
             (told self.old.chooser).sizes }
         requires going { self.old.course.outcome ≡ None }
         ensures turn { IsTurn (view_of_search S.view self.old (told self.old.chooser)) (R.stream

@@ -5,7 +5,7 @@ use Rattle.wfc_problem.specs.Network.{values, value_weight}
 use Rattle.wfc_problem.specs.Sizes.{values_at}
 use Rattle.wfc_problem.proofs.CallerLemmas.{small_weight}
 use Rattle.wfc_domains.specs.Domains.{has}
-use Rattle.wfc_choose.specs.Draw.{drawn, first_above}
+use Rattle.wfc_choose.specs.Draw.{drawn_value, first_above}
 use Rattle.wfc_choose.proofs.DrawLemmas.{above_here, above_taken, rest_begins, rest_from, rest_next, sum_taken}
 use Rattle.wfc_choose.proofs.draws.draw.Goals as goal
 
@@ -27,7 +27,7 @@ loop-value-init c =
     }
 
 pub returns-then-number-running-clause-exact : goal.returns-then-number-running-clause-exact
-unfolding drawn
+unfolding drawn_value
 returns-then-number-running-clause-exact c =
     let P = c.args.problem.now in
     let p = has c.args.domains.now c.args.cell in

@@ -1,5 +1,5 @@
 use Rattle.std.proofs.Common.{◌≡◌, ◌≤◌, length, take, vec_capacity}
-use Rattle.wfc_choose.proofs.sizes.narrowed.Given as goal
+use Rattle.wfc_choose.proofs.sizes.narrow_sizes.Given as goal
 
 -- the sizes so far are taken over, and there is room for all
 abbrev pub invariant-loop-size : goal.invariant-loop-size
