@@ -4,8 +4,8 @@ use Rattle.std.specs.Prelude.{Result, Ok, Err, ◌==◌, ◌||◌, ◌&&◌, not
 use Rattle.std.specs.List.{list_all, range_with_len}
 use Rattle.std.proofs.lemmas.Bool.{cases_Bool, eqb-true, eqb-false, false≢true, and_parts, and_from}
 use Rattle.rand_core.specs.Stream.{next_u64}
-use Rattle.wfc_choose.specs.Draw.{drawn}
-use Rattle.wfc_choose.specs.Pick.{Rule, picked}
+use Rattle.wfc_choose.specs.Draw.{drawn_value}
+use Rattle.wfc_choose.specs.Pick.{Rule, picked_cell}
 use Rattle.wfc_domains.specs.Domains.{less}
 use Rattle.wfc_domains.specs.Removals.{without, IsUnsupported, IsCause, AreRemoved}
 use Rattle.wfc_domains.specs.Store.{StoreView, IsSound, IsVerdict, left_of, before_of, added_of, level_mark, all_but_last}
@@ -277,8 +277,8 @@ level_begins P before l store sound same standing =
     but_last ls m = grind (arith, common_steps)
 
 -- a choice that is told
-choice_told : (P : Network) → IsProblem P → (rule : Rule) (s : State) (store : StoreView) (cell : ℕ) → is_dead P (greatest P s.standing) ≡ false → picked rule (sizes_of P (greatest P s.standing)) ≡ Some cell
-    → (value : ℕ) → value ≡ drawn P (values_at P (greatest P s.standing) cell) (next_u64 s.words).0
+choice_told : (P : Network) → IsProblem P → (rule : Rule) (s : State) (store : StoreView) (cell : ℕ) → is_dead P (greatest P s.standing) ≡ false → picked_cell rule (sizes_of P (greatest P s.standing)) ≡ Some cell
+    → (value : ℕ) → value ≡ drawn_value P (values_at P (greatest P s.standing) cell) (next_u64 s.words).0
     → IsStoreAt P (after_choice s cell value (next_u64 s.words).1) store
     → node_steps P (point_of P s.standing) (nodes_of_lines (Try cell value ∷ level_lines store)) ≡ Ok (point_of P (s.standing ++ Is value cell ∷ []))
 choice_told P p rule s store cell alive picks value draws at =
@@ -320,21 +320,21 @@ back_told P p s t store last false dead found leads at =
 
 -- a turn that leads on, told
 lead_told : (P : Network) → IsProblem P → (rule : Rule) (budget : ℕ) (s t : State) (store : StoreView) (b : Bool) (m : Option Choice) (o : Option ℕ)
-    → is_dead P (greatest P s.standing) ≡ b → last_choice s.standing ≡ m → picked rule (sizes_of P (greatest P s.standing)) ≡ o
+    → is_dead P (greatest P s.standing) ≡ b → last_choice s.standing ≡ m → picked_cell rule (sizes_of P (greatest P s.standing)) ≡ o
     → LeadsTo (cond b (dead_turn budget s m) (alive_turn P s (greatest P s.standing) o)) t → IsStoreAt P t store
     → node_steps P (point_of P s.standing) (nodes_of_lines (turn_lines (cond {A = Turn × State} b (dead_turn budget s m) (alive_turn P s (greatest P s.standing) o)).0 store)) ≡ Ok (point_of P t.standing)
 lead_told P p rule budget s t store true None o dead found picks leads at = absurd leads
 lead_told P p rule budget s t store true (Some last) o dead found picks leads at = back_told P p s t store last (s.retractions == budget) dead found leads at
 lead_told P p rule budget s t store false m None dead found picks leads at = absurd leads
 lead_told P p rule budget s t store false m (Some cell) dead found picks leads at =
-    choice_told P p rule s store cell dead picks (drawn P (values_at P (greatest P s.standing) cell) (next_u64 s.words).0) refl (subst (λ (u : State). IsStoreAt P u store) (sym leads) at)
+    choice_told P p rule s store cell dead picks (drawn_value P (values_at P (greatest P s.standing) cell) (next_u64 s.words).0) refl (subst (λ (u : State). IsStoreAt P u store) (sym leads) at)
     ∙ ap (λ (u : State). accepted (point_of P u.standing)) leads
 
 turn_told : (P : Network) → IsProblem P → (rule : Rule) (budget : ℕ) (s t : State) (store : StoreView) → LeadsTo (turn_of P rule budget s) t → IsStoreAt P t store
     → node_steps P (point_of P s.standing) (nodes_of_lines (turn_lines (turn_of P rule budget s).0 store)) ≡ Ok (point_of P t.standing)
 unfolding turn_of
 turn_told P p rule budget s t store leads at =
-    lead_told P p rule budget s t store (is_dead P (greatest P s.standing)) (last_choice s.standing) (picked rule (sizes_of P (greatest P s.standing))) refl refl refl leads at
+    lead_told P p rule budget s t store (is_dead P (greatest P s.standing)) (last_choice s.standing) (picked_cell rule (sizes_of P (greatest P s.standing))) refl refl refl leads at
 
 -- ---- runs
 

@@ -1,7 +1,7 @@
 //! The turns of a search, which tell nobody.
 
 ghost use Rattle.std.specs.Prelude.{◌≡◌, ◌≢◌, ◌<◌, ◌+◌, ◌^◌, length, true, None, Some, slice_get};
-ghost use Rattle.wfc_choose.specs.Pick.{picked};
+ghost use Rattle.wfc_choose.specs.Pick.{picked_cell};
 ghost use Rattle.wfc_domains.specs.declared.Verdict.TheVariants.{Alive};
 ghost use Rattle.wfc_problem.specs.Rounds.{greatest};
 ghost use Rattle.wfc_problem.specs.Sizes.{is_dead};
@@ -81,7 +81,7 @@ impl<'p, S: Store> Search<'p, S> {
     fn choose<R: Rng, L: Ledger>(&mut self, cell: u32, words: &mut R, steps: &mut Steps<L>) -> Turn
         requires ready { IsReady (view_of_search S.view self.old (told self.old.chooser)) }
         requires alive { (S.view self.old.store).verdict ≡ Alive }
-        requires picked { Some cell ≡ picked (told self.old.chooser).rule
+        requires picked { Some cell ≡ picked_cell (told self.old.chooser).rule
             (told self.old.chooser).sizes }
         requires going { self.old.course.outcome ≡ None }
         ensures turn { IsTurnBetween S.view self.old (told self.old.chooser) (R.stream words.old)

@@ -1,6 +1,6 @@
 use Rattle.std.proofs.Common.{◌≡◌, vec_len}
 use Rattle.wfc_choose.proofs.IndexLemmas.{AreLeast}
-use Rattle.wfc_choose.proofs.buckets.summary_of.Given as goal
+use Rattle.wfc_choose.proofs.index.summary_of.Given as goal
 
 -- the blocks so far are summed up
 abbrev pub invariant-loop-block : goal.invariant-loop-block

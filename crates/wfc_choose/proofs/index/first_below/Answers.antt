@@ -1,6 +1,6 @@
 use Rattle.std.proofs.Common.{arith}
 use Rattle.wfc_choose.proofs.IndexLemmas.{first_down}
-use Rattle.wfc_choose.proofs.buckets.first_below.Goals as goal
+use Rattle.wfc_choose.proofs.index.first_below.Goals as goal
 
 pub returns-then-below-at : goal.returns-then-below-at
 returns-then-below-at c =

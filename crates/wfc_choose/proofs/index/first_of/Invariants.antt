@@ -1,5 +1,5 @@
 use Rattle.wfc_choose.proofs.IndexLemmas.{IsFirstBelow}
-use Rattle.wfc_choose.proofs.buckets.first_of.Given as goal
+use Rattle.wfc_choose.proofs.index.first_of.Given as goal
 
 -- the first of the entries so far is known
 abbrev pub invariant-loop-at : goal.invariant-loop-at

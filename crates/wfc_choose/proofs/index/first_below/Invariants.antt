@@ -1,5 +1,5 @@
 use Rattle.std.proofs.Common.{◌≢◌, ℕ, ◌*◌, ◌<◌, ◌≤◌, get_or}
-use Rattle.wfc_choose.proofs.buckets.first_below.Given as goal
+use Rattle.wfc_choose.proofs.index.first_below.Given as goal
 
 -- the entries of the block so far are others
 abbrev pub invariant-loop-at : goal.invariant-loop-at

@@ -1,5 +1,5 @@
 use Rattle.wfc_choose.proofs.IndexLemmas.{IsLeastBelow}
-use Rattle.wfc_choose.proofs.buckets.least_of.Given as goal
+use Rattle.wfc_choose.proofs.index.least_of.Given as goal
 
 -- the time that comes first in the block so far is known
 abbrev pub invariant-loop-at : goal.invariant-loop-at

@@ -1,7 +1,7 @@
 use Rattle.std.proofs.Common.{length, sym, ◌∙◌, arith}
 use Rattle.std.proofs.lemmas.Bool.{eqb-true}
 use Rattle.wfc_choose.proofs.IndexLemmas.{first_picked, first_none, empty_none}
-use Rattle.wfc_choose.proofs.buckets.first_open.Goals as goal
+use Rattle.wfc_choose.proofs.index.first_open.Goals as goal
 
 pub returns-then-sizes-cell-lt2 : goal.returns-then-sizes-cell-lt2
 returns-then-sizes-cell-lt2 c = record {

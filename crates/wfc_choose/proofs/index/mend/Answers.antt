@@ -1,7 +1,7 @@
 use Rattle.std.proofs.Common.{ℕ, ◌/◌, subst, arith}
 use Rattle.wfc_choose.specs.Index.{IsLeastIn}
 use Rattle.wfc_choose.proofs.IndexLemmas.{summary_falls, summary_same, summary_stays, summary_with, set_back}
-use Rattle.wfc_choose.proofs.buckets.mend.Goals as goal
+use Rattle.wfc_choose.proofs.index.mend.Goals as goal
 
 pub returns-then-coming-clause-summary : goal.returns-then-coming-clause-summary
 returns-then-coming-clause-summary c =

@@ -2,7 +2,7 @@ use Rattle.std.proofs.Common.{◌≡◌, ℕ, ◌+◌, get_or, sym, subst, arith
 use Rattle.std.specs.Prelude.{min}
 use Rattle.wfc_choose.specs.Index.{coming}
 use Rattle.wfc_choose.proofs.IndexLemmas.{IsLeastBelow, least_more}
-use Rattle.wfc_choose.proofs.buckets.least_of.Goals as goal
+use Rattle.wfc_choose.proofs.index.least_of.Goals as goal
 
 pub loop-at-preserved : goal.loop-at-preserved
 loop-at-preserved c =
