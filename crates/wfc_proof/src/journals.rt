@@ -41,7 +41,8 @@ impl<'s, S: Sink> ProofJournal<'s, S> {
     /// A journal over a sink that has taken a head. It writes nothing yet.
     pub fn behind_head(sink: &'s mut S) -> ProofJournal<'s, S>
         requires bare { IsBare One (S.seen sink.old).told }
-        ensures begun { told_by S.Sink result ≡ new_journal sink.entry.ghost_name (S.seen sink.old) }
+        ensures begun { told_by S.Sink result
+            ≡ new_journal sink.entry.ghost_name (S.seen sink.old) }
     {
         ProofJournal {
             sink,

@@ -159,7 +159,8 @@ fn take_line<S: Sink>(
 /// Puts the kept span, if there is one.
 fn put_kept<S: Sink>(sink: &mut S, kept: Option<Line>) -> Result<(), SinkFault>
     requires kept { is_kept kept ≡ true }
-    ensures put { PutsOrCuts (S.seen sink.old) (S.seen sink.new) (text_of (line_if_any kept)) result }
+    ensures put { PutsOrCuts (S.seen sink.old) (S.seen sink.new)
+        (text_of (line_if_any kept)) result }
 {
     match kept {
         Some(span) => write_line(sink, span),

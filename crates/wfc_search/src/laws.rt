@@ -34,12 +34,12 @@ pub fn cuts_are_few()
 /// Each turn keeps what holds between turns, from the start on, and leaves less to do.
 pub fn turns_keep()
     ensures start { (P : Network) (budget : ℕ) → IsBetween P budget [] 0 }
-    ensures next { HoldsAtStates (λ P rule budget s. (t : State) → LeadsTo (turn_of P rule budget s) t
-        → IsRunState P budget t) }
+    ensures next { HoldsAtStates (λ P rule budget s. (t : State) → LeadsTo
+        (turn_of P rule budget s) t → IsRunState P budget t) }
     ensures few { (P : Network) → IsProblem P → (budget retractions : ℕ) (standing : List Literal) →
         IsBetween P budget standing retractions → length standing ≤ depth_of P }
-    ensures falls { HoldsAtStates (λ P rule budget s. (t : State)
-        → LeadsTo (turn_of P rule budget s) t → turns_to_come P budget t < turns_to_come P budget s) }
+    ensures falls { HoldsAtStates (λ P rule budget s. (t : State) → LeadsTo
+        (turn_of P rule budget s) t → turns_to_come P budget t < turns_to_come P budget s) }
     ensures most { (P : Network) (budget retractions : ℕ) (standing : List Literal) →
         work_left P budget standing retractions < most_turns P budget }
 {}
@@ -49,8 +49,8 @@ pub fn turns_keep()
 pub fn ends_carry_over()
     ensures ended { HoldsAtStates (λ P rule budget s. (u : State) (o : Outcome)
         → turn_of P rule budget s ≡ (Ended o, u) → end_from P rule budget s ≡ Some (o, u)) }
-    ensures next { HoldsAtStates (λ P rule budget s. (t : State) → LeadsTo (turn_of P rule budget s) t
-        → end_from P rule budget s ≡ end_from P rule budget t) }
+    ensures next { HoldsAtStates (λ P rule budget s. (t : State) → LeadsTo
+        (turn_of P rule budget s) t → end_from P rule budget s ≡ end_from P rule budget t) }
     ensures reached { HoldsAtStates (λ P rule budget s. (t : State) (outcome : Outcome)
         → end_from P rule budget s ≡ Some (outcome, t) → IsLastOfRun P rule budget outcome t) }
 {}
