@@ -10,7 +10,7 @@ use Rattle.wfc_problem.specs.Domains.{Test}
 use Rattle.wfc_problem.specs.Network.{Network, IsProblem, value_weight}
 use Rattle.wfc_problem.specs.Sizes.{values_at}
 use Rattle.wfc_problem.proofs.CallerLemmas.{some_weight, values_at_stand}
-use Rattle.wfc_choose.specs.Draw.{drawn, first_above}
+use Rattle.wfc_choose.specs.Draw.{drawn_value, first_above}
 
 -- the numbers from v up to n that pass
 abbrev pub rest_from : (ℕ → Bool) → ℕ → ℕ → List ℕ
@@ -41,10 +41,17 @@ rest_skipped p v (suc k) n l none =
     ∙ rest_skipped p (v + 1) k n (omega (arith, l)) (λ u after before. none u (omega (arith, after)) (omega (arith, before)))
     ∙ ap (λ m. rest_from p m n) e
 
+-- up to the next that passes
 pub rest_next : (p : ℕ → Bool) (v w n : ℕ) → v ≤ w → w ≤ n → ((u : ℕ) → v ≤ u → u < w → p u ≡ false) → rest_from p v n ≡ rest_from p w n
 rest_next p v w n after within none =
     let e : v + (w - v) ≡ w = omega (arith, after) in
     rest_skipped p v (w - v) n (omega (arith, after, within)) (λ u a b. none u a (omega (arith, b, after))) ∙ ap (λ m. rest_from p m n) e
+
+-- from the first that passes on all are left
+pub rest_begins : (p : ℕ → Bool) (w n : ℕ) → w ≤ n → ((u : ℕ) → u < w → p u ≡ false) → rest_from p w n ≡ filter p (range_with_len 0 n)
+rest_begins p w n within none =
+    let z : n - 0 ≡ n = omega arith in
+    sym (rest_next p 0 w n (omega arith) within (λ u after before. none u before)) ∙ ap (λ m. filter p (range_with_len 0 m)) z
 
 -- ---- sums
 
@@ -113,8 +120,8 @@ first_Contains P number running (v ∷ vs) low high =
     (λ above. first_Contains P number (running + value_weight P v) vs (ltb-false number (running + value_weight P v) above) (omega (arith, high, sum_by-cons (value_weight P) v vs)))
 
 -- of a cell that isn't empty one of its values is drawn
-pub drawn_one : (P : Network) → IsProblem P → (D : Test) (c word : ℕ) → 0 < length (values_at P D c) → Contains (values_at P D c) (drawn P (values_at P D c) word)
-unfolding drawn
+pub drawn_one : (P : Network) → IsProblem P → (D : Test) (c word : ℕ) → 0 < length (values_at P D c) → Contains (values_at P D c) (drawn_value P (values_at P D c) word)
+unfolding drawn_value
 drawn_one P p D c word some =
     let vs : List ℕ = values_at P D c in
     let above : 0 < sum_by (value_weight P) vs = sum_some P p D c some in

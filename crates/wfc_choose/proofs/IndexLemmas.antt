@@ -4,7 +4,7 @@ use Rattle.std.specs.Prelude.{min, nat_le}
 use Rattle.std.proofs.lemmas.Bool.{cases_lt, cases_eq, cond-true, cond-false, le-leb, lt-leb}
 use Rattle.std.proofs.lemmas.List.{length-set, get_or-set_same, get_or-set_other, set-get_or, set-set}
 use Rattle.wfc_choose.specs.Index.{coming, IsInBlock, IsLeastIn, IsSummary, IsFirst, IsIndex}
-use Rattle.wfc_choose.specs.Pick.{Rule, picked}
+use Rattle.wfc_choose.specs.Pick.{Rule, picked_cell}
 use Rattle.wfc_choose.specs.declared.RuleKind.TheVariants.{Fewest}
 use Rattle.wfc_choose.proofs.PickLemmas.{picked_is, picked_is_none}
 
@@ -169,6 +169,22 @@ summary_falls below above at was l h less =
 pub set_back : (xs : List ℕ) (i x : ℕ) → set (set xs i x) i (get_or xs i 0) ≡ xs
 set_back xs i x = set-set xs i x (get_or xs i 0) ∙ set-get_or xs i 0
 
+-- the whole index, where the new size comes not before the first of its block, which the size that was there didn't come first in
+pub index_stays : (sizes blocks areas regions : List ℕ) (cell size : ℕ) → cell < length sizes → IsIndex sizes blocks areas regions
+    → coming (get_or blocks (cell / 64) 0) ≤ coming size → coming (get_or blocks (cell / 64) 0) < coming (get_or sizes cell 0)
+    → IsIndex (set sizes cell size) blocks areas regions
+index_stays sizes blocks areas regions cell size l index le less =
+    let was = get_or sizes cell 0 in
+    let inside : cell < length (set sizes cell size) = omega (arith, l, length-set sizes cell size) in
+    let before : IsSummary (set (set sizes cell size) cell was) blocks = subst (λ (xs : List ℕ). IsSummary xs blocks) (sym (set_back sizes cell size)) index.blocks in
+    let le_now : coming (get_or blocks (cell / 64) 0) ≤ coming (get_or (set sizes cell size) cell 0) = subst (λ (n : ℕ). coming (get_or blocks (cell / 64) 0) ≤ coming n) (sym (get_or-set_same sizes cell size 0 l)) le in
+    record {
+      limit = omega (arith, index.limit, length-set sizes cell size);
+      blocks = summary_stays (set sizes cell size) blocks cell was inside before le_now less;
+      areas = index.areas;
+      regions = index.regions;
+    }
+
 -- ---- the first entry
 
 -- of the entries below n none comes before this one, and each before it comes later
@@ -244,7 +260,7 @@ open_le : (a b : ℕ) → 2 ≤ a → 2 ≤ b → coming a ≤ coming b → a �
 open_le a b oa ob le = omega (arith, coming_open a oa, coming_open b ob)
 
 -- the first of all, if it is open, is the picked one
-pub first_picked : (sizes : List ℕ) (at : ℕ) → IsFirst sizes at → 2 ≤ get_or sizes at 0 → picked (record { kind = Fewest; ranks = [] }) sizes ≡ Some at
+pub first_picked : (sizes : List ℕ) (at : ℕ) → IsFirst sizes at → 2 ≤ get_or sizes at 0 → picked_cell (record { kind = Fewest; ranks = [] }) sizes ≡ Some at
 first_picked sizes at h o =
     let rule : Rule = record { kind = Fewest; ranks = [] } in
     picked_is rule sizes at h.within o
@@ -252,7 +268,7 @@ first_picked sizes at h o =
     (λ other l oo. let less = h.first other l in omega (arith, coming_open (get_or sizes at 0) o, coming_open (get_or sizes other 0) oo))
 
 -- and if it isn't, none is
-pub first_none : (sizes : List ℕ) (at : ℕ) → IsFirst sizes at → ((k : ℕ) → get_or sizes k 0 < 2 ^ 16) → get_or sizes at 0 ≤ 1 → picked (record { kind = Fewest; ranks = [] }) sizes ≡ None
+pub first_none : (sizes : List ℕ) (at : ℕ) → IsFirst sizes at → ((k : ℕ) → get_or sizes k 0 < 2 ^ 16) → get_or sizes at 0 ≤ 1 → picked_cell (record { kind = Fewest; ranks = [] }) sizes ≡ None
 first_none sizes at h smalls closed =
     let rule : Rule = record { kind = Fewest; ranks = [] } in
     picked_is_none rule sizes (λ c l. elim (cases_lt 1 (get_or sizes c 0)) [
@@ -262,7 +278,7 @@ first_none sizes at h smalls closed =
 
 -- without regions there are no cells, and none is picked
 pub empty_none : (sizes blocks areas regions : List ℕ) → IsIndex sizes blocks areas regions → length regions ≡ 0
-    → picked (record { kind = Fewest; ranks = [] }) sizes ≡ None
+    → picked_cell (record { kind = Fewest; ranks = [] }) sizes ≡ None
 empty_none sizes blocks areas regions index none =
     let rule : Rule = record { kind = Fewest; ranks = [] } in
     picked_is_none rule sizes (λ c l. absurd (omega (arith, index.blocks.long, index.areas.long, index.regions.long)))

@@ -12,7 +12,7 @@ use Rattle.wfc_problem.specs.Domains.{Test}
 use Rattle.wfc_problem.specs.Network.{Network, IsProblem, value_weight}
 use Rattle.wfc_problem.specs.Sizes.{values_at}
 use Rattle.wfc_problem.proofs.CallerLemmas.{values_at_rise}
-use Rattle.wfc_choose.specs.Draw.{drawn, first_above, IsInShare}
+use Rattle.wfc_choose.specs.Draw.{drawn_value, first_above, IsInShare}
 use Rattle.wfc_choose.proofs.DrawLemmas.{first_Contains, sum_some}
 
 -- the number is in the share of v, once the weights so far are counted on from `running`
@@ -80,8 +80,8 @@ first_shared P number running (x ∷ front) v behind up low high is = elim (case
 -- ---- what is drawn
 
 pub drawn_share : (P : Network) → IsProblem P → (D : Test) (c word v : ℕ) (front behind : List ℕ) → values_at P D c ≡ front ++ v ∷ behind
-    → (drawn P (values_at P D c) word ≡ v) ↔ IsInShare P front v (word % sum_by (value_weight P) (values_at P D c))
-unfolding drawn
+    → (drawn_value P (values_at P D c) word ≡ v) ↔ IsInShare P front v (word % sum_by (value_weight P) (values_at P D c))
+unfolding drawn_value
 drawn_share P p D c word v front behind e =
     let total : ℕ = sum_by (value_weight P) (values_at P D c) in
     let same : total ≡ sum_by (value_weight P) (front ++ v ∷ behind) = ap (sum_by (value_weight P)) e in

@@ -14,6 +14,10 @@ pub record Rule : Type 0 where
 abbrev pub is_open : List ℕ → ℕ → Bool
 is_open sizes c = nat_le 2 (slice_index sizes c)
 
+-- c is a cell that has two values or more
+abbrev pub IsOpen : List ℕ → ℕ → Type 0
+IsOpen sizes c = (c < length sizes) × (2 ≤ slice_index sizes c)
+
 -- what a kind of rule goes by at cell c: nothing, its size, or its rank
 abbrev pub urge_by : RuleKind → List ℕ → List ℕ → ℕ → ℕ
 urge_by Scanline ranks sizes c = 0
@@ -30,8 +34,8 @@ is_least rule sizes c =
     list_all (λ other. not (is_open sizes other) || nat_le (urge rule sizes c) (urge rule sizes other)) (range_with_len 0 (length sizes))
 
 -- the first of the open cells before which none comes by the rule, if any cell is open
-unfoldable pub picked : Rule → List ℕ → Option ℕ
-picked rule sizes = find (λ c. is_open sizes c && is_least rule sizes c) (range_with_len 0 (length sizes))
+unfoldable pub picked_cell : Rule → List ℕ → Option ℕ
+picked_cell rule sizes = find (λ c. is_open sizes c && is_least rule sizes c) (range_with_len 0 (length sizes))
 
 -- of the cells below n this one is to be picked, or none of them is open
 abbrev pub IsBestBelow : Rule → List ℕ → ℕ → Option ℕ → Type 0

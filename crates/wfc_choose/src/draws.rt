@@ -5,7 +5,7 @@ ghost use Rattle.std.specs.List.{sum_by};
 ghost use Rattle.wfc_problem.specs.Network.{value_weight};
 ghost use Rattle.wfc_problem.specs.Sizes.{values_at, size_at};
 ghost use Rattle.wfc_domains.specs.Domains.{Fits, has};
-ghost use Rattle.wfc_choose.specs.Draw.{drawn};
+ghost use Rattle.wfc_choose.specs.Draw.{drawn_value};
 
 use wfc_domains::Domains;
 use wfc_problem::Problem;
@@ -16,7 +16,8 @@ pub fn draw(problem: &Problem, domains: &Domains, cell: u32, word: u64) -> u16
     requires fits { Fits problem.now domains.now }
     requires cell_in { cell < problem.now.cells }
     requires some { 0 < size_at problem.now (has domains.now) cell }
-    ensures exact { result ≡ drawn problem.now (values_at problem.now (has domains.now) cell) word }
+    ensures exact { result
+        ≡ drawn_value problem.now (values_at problem.now (has domains.now) cell) word }
     ensures stands { IsTrue (has domains.now cell result) }
 {
     let number = word % weights_at(problem, domains, cell);

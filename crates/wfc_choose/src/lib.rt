@@ -5,12 +5,13 @@
 #![tactic(auto)]
 
 ghost use Rattle.std.specs.Prelude.{◌≡◌, ◌<◌, ◌≤◌, length, All, OnOk, OnErr, slice_set};
-ghost use Rattle.wfc_choose.specs.Pick.{picked};
+ghost use Rattle.wfc_choose.specs.Pick.{picked_cell};
 ghost use Rattle.wfc_choose.specs.Told.{Told};
 ghost use Rattle.wfc_problem.specs.declared.TheConstants.{MAX_PAIRS, MAX_VALUES};
 
 mod buckets;
 mod draws;
+mod index;
 pub mod laws;
 mod scanning;
 mod sizes;
@@ -59,5 +60,5 @@ pub trait Chooser: Drop {
 
     /// The cell that the rule picks of these sizes, if some cell has two values or more. It takes no memory.
     fn pick(&self) -> Option<u32>
-        ensures exact { result ≡ picked (told self.now).rule (told self.now).sizes };
+        ensures exact { result ≡ picked_cell (told self.now).rule (told self.now).sizes };
 }

@@ -1,11 +1,11 @@
 //! A chooser that looks through all sizes.
 
 ghost use Rattle.std.specs.Prelude.{◌≡◌, ℕ, ◌+◌, ◌<◌, ◌≤◌, List, [], length, slice_index};
-ghost use Rattle.wfc_choose.specs.Pick.{picked, urge, IsBestBelow};
+ghost use Rattle.wfc_choose.specs.Pick.{picked_cell, urge, IsBestBelow};
 ghost use Rattle.wfc_choose.specs.declared.RuleKind.TheVariants.{Scanline, Fewest, Ranked};
 ghost use Rattle.wfc_problem.specs.declared.TheConstants.{MAX_PAIRS};
 
-use crate::sizes::narrowed;
+use crate::sizes::narrow_sizes;
 use crate::{Chooser, NO_RANK, RuleKind};
 use std::alloc::Global;
 use std::marker::Model;
@@ -60,7 +60,7 @@ impl Scanning {
     }
 
     /// The cell of the least rank first. The ranks are those of the first cells; the others have `NO_RANK`.
-    pub fn ranked(alloc: Global, ranks: Vec<u32>) -> Scanning
+    pub fn least_rank(alloc: Global, ranks: Vec<u32>) -> Scanning
         ensures begins { result
             ≡ record { rule = record { kind = Ranked; ranks = ranks.items }; sizes = [] } }
     {
@@ -111,7 +111,7 @@ fn better(kind: RuleKind, ranks: &[u32], sizes: &[u16], best: Option<u32>, cell:
 /// The best of all cells.
 fn best_of(kind: RuleKind, ranks: &[u32], sizes: &[u16]) -> Option<u32>
     requires limit { length sizes.now ≤ MAX_PAIRS }
-    ensures exact { result ≡ picked (record { kind = kind; ranks = ranks.now }) sizes.now }
+    ensures exact { result ≡ picked_cell (record { kind = kind; ranks = ranks.now }) sizes.now }
 {
     let mut best = None;
     for cell in 0..sizes.len() as u32 {
@@ -124,7 +124,7 @@ fn best_of(kind: RuleKind, ranks: &[u32], sizes: &[u16]) -> Option<u32>
 fn first_open(sizes: &[u16]) -> Option<u32>
     requires limit { length sizes.now ≤ MAX_PAIRS }
     ensures exact { (ranks : List ℕ) →
-        result ≡ picked (record { kind = Scanline; ranks = ranks }) sizes.now }
+        result ≡ picked_cell (record { kind = Scanline; ranks = ranks }) sizes.now }
 {
     for cell in 0..sizes.len() as u32 {
         if sizes[cell as usize] >= 2 {
@@ -142,7 +142,7 @@ impl Chooser for Scanning {
     }
 
     fn load(&mut self, sizes: &[u32]) -> Result<(), NoMemory> {
-        self.sizes = narrowed(self.alloc, sizes)?;
+        self.sizes = narrow_sizes(self.alloc, sizes)?;
         Ok(())
     }
 

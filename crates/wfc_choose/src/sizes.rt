@@ -6,13 +6,13 @@ ghost use Rattle.wfc_problem.specs.declared.TheConstants.{MAX_VALUES};
 use std::alloc::{AllocError, Global};
 
 /// The same sizes in half the memory.
-pub fn narrowed(alloc: Global, sizes: &[u32]) -> Result<Vec<u16>, AllocError>
+pub fn narrow_sizes(alloc: Global, sizes: &[u32]) -> Result<Vec<u16>, AllocError>
     requires small { All (λ size. size ≤ MAX_VALUES) sizes.now }
     ensures same { IfOk result (λ narrow. narrow.items ≡ sizes.now) }
 {
     let mut narrow = Vec::with_capacity(alloc, sizes.len())?;
     for size in sizes {
-        narrow.push(*size as u16)?;
+        narrow.push_reserved(*size as u16);
     }
     Ok(narrow)
 }

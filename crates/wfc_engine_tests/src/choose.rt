@@ -47,7 +47,7 @@ fn picks(rt: &impl Abort, chooser: &mut Box<dyn Chooser>, cell: u32, size: u32, 
 fn ranks_decide(rt: HostRuntime) -> Result<(), Fail> {
     let alloc = rt.alloc();
     let ranks = vec![in alloc; 5, 3]?;
-    let mut ranked: Box<dyn Chooser> = Box::new(alloc, Scanning::ranked(alloc, ranks))?;
+    let mut ranked: Box<dyn Chooser> = Box::new(alloc, Scanning::least_rank(alloc, ranks))?;
     assert_eq!(rt; ranked.kind(), RuleKind::Ranked);
     load(&mut ranked, &[2, 2, 2])?;
     assert_eq!(rt; ranked.pick(), Some(1));

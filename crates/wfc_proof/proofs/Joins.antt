@@ -5,7 +5,7 @@ use Rattle.std.specs.List.{AllByRecursion, range_with_len}
 use Rattle.wfc_proof.specs.Journal.{IsWhole, counted_as}
 use Rattle.wfc_proof.specs.Lines.{nodes_of, nodes_of_lines}
 use Rattle.wfc_proof.specs.Proof.Node.{removes}
-use Rattle.wfc_proof.specs.Spans.{as_span, one_span, join_with, growing, settled, line_if_any, Joined, nothing_joined, apart, grown_or_apart, join_line, join_on, all_joined, in_spans, is_kept, AreWithOneMore}
+use Rattle.wfc_proof.specs.Spans.{as_span, one_span, join_with, growing_part, settled_part, line_if_any, Joined, nothing_joined, apart, grown_or_apart, join_line, join_on, all_joined, in_spans, is_kept, AreWithOneMore}
 use Rattle.wfc_proof.specs.declared.Line.{Line}
 use Rattle.wfc_proof.specs.declared.Line.TheVariants.{Remove, Span, Try, Empty, End, Found, Out}
 use Rattle.wfc_proof.proofs.SpanLemmas.{join_on-append, settled_growing, grown_counts, growing_kept}
@@ -14,8 +14,8 @@ use Rattle.wfc_proof.proofs.UpgradeLemmas.{counted_spells, spelled-append}
 -- a line that isn't joined stands behind all
 pub apart_all : (joined : Joined) (line : Line) → all_joined (apart joined line) ≡ all_joined joined ++ line ∷ []
 apart_all joined line =
-    ap (λ ls. ls ++ line_if_any (growing line)) (sym (append_assoc joined.done (line_if_any joined.kept) (settled line)))
-    ∙ append_assoc (all_joined joined) (settled line) (line_if_any (growing line))
+    ap (λ ls. ls ++ line_if_any (growing_part line)) (sym (append_assoc joined.done (line_if_any joined.kept) (settled_part line)))
+    ∙ append_assoc (all_joined joined) (settled_part line) (line_if_any (growing_part line))
     ∙ ap (λ ls. all_joined joined ++ ls) (settled_growing line)
 
 -- a line as a span is as its span is
@@ -163,7 +163,7 @@ grown_is (Span c first last d) (Span x from to z) span e = by (x == c && (z == d
         subst (IsGrown (Span c first last d)) same (record { kept_span = refl; span_span = refl; alike = λ x none. begins_alike x c first last to d none })
 
 -- what can't be joined to what may grow of a line can't be joined to the line
-growing_apart : (line next : Line) → join_with (growing line) next ≡ None → one_span line next ≡ None
+growing_apart : (line next : Line) → join_with (growing_part line) next ≡ None → one_span line next ≡ None
 growing_apart (Remove c v d) next e = refl
 growing_apart (Span c first last d) next e = e
 growing_apart (Try c v) next e = refl

@@ -4,7 +4,7 @@ use Rattle.std.specs.List.{AllByRecursion}
 use Rattle.std.proofs.lemmas.Grind.{flat_map-append}
 use Rattle.wfc_proof.specs.Joins.{AreSpansOf}
 use Rattle.wfc_proof.specs.Journal.{IsWhole, counted_as}
-use Rattle.wfc_proof.specs.Spans.{as_span, counted_lines, one_span, join_with, growing, line_if_any, Joined, nothing_joined, apart, grown_or_apart, join_line, join_on, all_joined, in_spans, is_kept}
+use Rattle.wfc_proof.specs.Spans.{as_span, counted_lines, one_span, join_with, growing_part, line_if_any, Joined, nothing_joined, apart, grown_or_apart, join_line, join_on, all_joined, in_spans, is_kept}
 use Rattle.wfc_proof.specs.declared.Line.{Line}
 use Rattle.wfc_proof.specs.declared.Line.TheVariants.{Remove, Span, Try, Empty, End, Found, Out}
 use Rattle.wfc_proof.proofs.Joins.{AreApart, apart_all, spans_apart, spans_as_spans}
@@ -30,7 +30,7 @@ lines_counted joined (line ∷ lines) whole =
 
 -- ---- spans that are apart stay as they are
 
-settles : (line next : Line) → one_span line next ≡ None → join_with (growing line) next ≡ None
+settles : (line next : Line) → one_span line next ≡ None → join_with (growing_part line) next ≡ None
 settles (Remove c v d) next e = refl
 settles (Span c first last d) next e = e
 settles (Try c v) next e = refl

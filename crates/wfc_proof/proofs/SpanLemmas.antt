@@ -11,13 +11,14 @@ use Rattle.wfc_outside.specs.Sink.{Taken, SinkView, after_bytes}
 use Rattle.wfc_outside.proofs.CallerLemmas.{after_bytes-append, puts_none}
 use Rattle.wfc_proof.specs.Heads.{with_line_end}
 use Rattle.wfc_proof.specs.Journal.{JournalView, Target, IsWhole, counted_as, after_line, IsRefused}
-use Rattle.wfc_proof.specs.Spans.{counted_lines, as_span, span_behind, one_span, join_with, growing, settled, line_if_any, Joined, nothing_joined, apart, grown_or_apart, join_line, join_on, spans_of, ending, AreJoined, is_span, is_kept, IsSpanning, IsCutApart, PutsApart}
+use Rattle.wfc_proof.specs.Spans.{counted_lines, as_span, span_behind, one_span, join_with, growing_part, settled_part, line_if_any, Joined, nothing_joined, apart, grown_or_apart, join_line, join_on, spans_of, ending, AreJoined, is_span, is_kept, IsSpanning, IsCutApart, PutsApart}
 use Rattle.wfc_proof.specs.ProofText.{IsOfFormat}
 use Rattle.wfc_proof.specs.Telling.{lines_at_end, text_of, IsAt, IsBare, new_journal, IsCutShort}
 use Rattle.wfc_proof.specs.Text.{line_text}
 use Rattle.wfc_proof.specs.declared.Line.{Line}
 use Rattle.wfc_proof.specs.declared.Line.TheVariants.{Remove, Span, Try, Empty, End, Found, Out}
 use Rattle.wfc_proof.specs.declared.heads.Format.TheVariants.{Two}
+use Rattle.wfc_proof.specs.declared.spans.CutOff.{CutOff}
 use Rattle.wfc_proof.proofs.TellingLemmas.{Grown, put_told, cut_told, bare_before}
 
 -- ---- lists
@@ -101,7 +102,7 @@ line_at_once joined Found whole is = refl
 line_at_once joined Out whole is = refl
 
 -- a line is what can't grow of it and what may
-pub settled_growing : (line : Line) → settled line ++ line_if_any (growing line) ≡ line ∷ []
+pub settled_growing : (line : Line) → settled_part line ++ line_if_any (growing_part line) ≡ line ∷ []
 settled_growing (Remove c v d) = refl
 settled_growing (Span c first last d) = refl
 settled_growing (Try c v) = refl
@@ -205,7 +206,7 @@ span_whole Found is = absurd (false≢true is)
 span_whole Out is = absurd (false≢true is)
 
 -- what may grow of a whole line is a span
-pub growing_kept : (line : Line) → IsWhole line → is_kept (growing line) ≡ true
+pub growing_kept : (line : Line) → IsWhole line → is_kept (growing_part line) ≡ true
 growing_kept (Remove c v d) whole = refl
 growing_kept (Span c first last d) whole = grind (arith, nat_tests)
 growing_kept (Try c v) whole = refl
@@ -252,19 +253,19 @@ joined_told told (Some kept) line span whole is spans join joined =
 
 -- a line that wasn't is told, where what can't grow was put
 pub apart_told : (told : Option (List Line)) (kept : Option Line) (line : Line) → IsWhole line → as_span line ≡ line → join_with kept line ≡ None → AreJoined told kept None
-    → let new = option_map (λ (lines : List Line). lines ++ (line_if_any kept ++ settled line)) told in
-    AreJoined new (growing line) None
-    × (option_map (λ (lines : List Line). counted_lines (lines ++ (line_if_any (growing line) ++ []))) new
+    → let new = option_map (λ (lines : List Line). lines ++ (line_if_any kept ++ settled_part line)) told in
+    AreJoined new (growing_part line) None
+    × (option_map (λ (lines : List Line). counted_lines (lines ++ (line_if_any (growing_part line) ++ []))) new
     ≡ option_map (λ (xs : List Line). xs ++ counted_as line) (option_map (λ (lines : List Line). counted_lines (lines ++ (line_if_any kept ++ []))) told))
 apart_told None kept line whole is none joined = (refl, refl)
 apart_told (Some xs) kept line whole is none joined =
     let before : join_on nothing_joined (counted_lines (xs ++ (line_if_any kept ++ []))) ≡ record { done = xs; kept = kept } = cc joined in
     let plain : join_on nothing_joined (counted_lines (xs ++ line_if_any kept)) ≡ record { done = xs; kept = kept } =
     ap (λ ls. join_on nothing_joined (counted_lines (xs ++ ls))) (sym (append-nil (line_if_any kept))) ∙ before in
-    let all : (xs ++ (line_if_any kept ++ settled line)) ++ (line_if_any (growing line) ++ []) ≡ (xs ++ line_if_any kept) ++ line ∷ [] =
-    ap (λ ls. (xs ++ (line_if_any kept ++ settled line)) ++ ls) (append-nil (line_if_any (growing line)))
-    ∙ ap (λ ls. ls ++ line_if_any (growing line)) (sym (append_assoc xs (line_if_any kept) (settled line)))
-    ∙ append_assoc (xs ++ line_if_any kept) (settled line) (line_if_any (growing line))
+    let all : (xs ++ (line_if_any kept ++ settled_part line)) ++ (line_if_any (growing_part line) ++ []) ≡ (xs ++ line_if_any kept) ++ line ∷ [] =
+    ap (λ ls. (xs ++ (line_if_any kept ++ settled_part line)) ++ ls) (append-nil (line_if_any (growing_part line)))
+    ∙ ap (λ ls. ls ++ line_if_any (growing_part line)) (sym (append_assoc xs (line_if_any kept) (settled_part line)))
+    ∙ append_assoc (xs ++ line_if_any kept) (settled_part line) (line_if_any (growing_part line))
     ∙ ap (λ ls. (xs ++ line_if_any kept) ++ ls) (settled_growing line) in (
       ap Some (ap (λ ls. join_on nothing_joined (counted_lines ls)) all ∙ joined_apart xs kept line whole is none plain),
       ap Some (ap counted_lines all ∙ counted_more (xs ++ line_if_any kept) (line ∷ []) ∙ ap (λ ls. counted_lines (xs ++ line_if_any kept) ++ ls) (append-nil (counted_as line))
@@ -287,7 +288,7 @@ cut_lines (Some xs) kept left line done whole is none split joined =
     λ ls. sym (append_assoc (xs ++ done) (line_if_any left) ls) ∙ ap (λ k. k ++ ls) (append_assoc xs done (line_if_any left) ∙ ap (λ k. xs ++ k) (sym split)) in
     let all : (xs ++ done) ++ (line_if_any left ++ line ∷ []) ≡ (xs ++ line_if_any kept) ++ line ∷ [] = behind (line ∷ []) in (
       ap Some (ap (λ ls. join_on nothing_joined (counted_lines ls)) all ∙ joined_apart xs kept line whole is none plain
-          ∙ ap (λ ls. let j : Joined = record { done = ls; kept = growing line } in j) (sym (append_assoc xs (line_if_any kept) (settled line)) ∙ sym (behind (settled line)))),
+          ∙ ap (λ ls. let j : Joined = record { done = ls; kept = growing_part line } in j) (sym (append_assoc xs (line_if_any kept) (settled_part line)) ∙ sym (behind (settled_part line)))),
       ap Some (ap counted_lines all ∙ counted_more (xs ++ line_if_any kept) (line ∷ []) ∙ ap (λ ls. counted_lines (xs ++ line_if_any kept) ++ ls) (append-nil (counted_as line))
           ∙ ap (λ ls. counted_lines (xs ++ ls) ++ counted_as line) (sym (append-nil (line_if_any kept)))),
     )
@@ -321,15 +322,15 @@ span_apart name old new kept (Some refused) after line told whole is same was go
 span_apart name old new kept None after line told whole is same was going none puts =
     subst (λ (o : Option Line). IsSpanning new o None × (spans_of name new o None ≡ after_line (spans_of name old kept None) told)) (sym puts.kept) made
   where
-    made : IsSpanning new (growing line) None × (spans_of name new (growing line) None ≡ after_line (spans_of name old kept None) told)
+    made : IsSpanning new (growing_part line) None × (spans_of name new (growing_part line) None ≡ after_line (spans_of name old kept None) told)
     made =
-        let grown = subst (λ (s : SinkView). Grown Two old.told s.told (line_if_any kept ++ settled line) []) (sym puts.put) (put_told Two old.told (line_if_any kept ++ settled line) was.at puts.formed) in
-        let lines = ending_grown old.told new.told (line_if_any kept ++ settled line) [] grown in
+        let grown = subst (λ (s : SinkView). Grown Two old.told s.told (line_if_any kept ++ settled_part line) []) (sym puts.put) (put_told Two old.told (line_if_any kept ++ settled_part line) was.at puts.formed) in
+        let lines = ending_grown old.told new.told (line_if_any kept ++ settled_part line) [] grown in
         let all = apart_told (ending old.told) kept line whole is none was.joined in
-        let shown = ap (option_map (λ (ls : List Line). counted_lines (ls ++ (line_if_any (growing line) ++ [])))) lines ∙ all.1
+        let shown = ap (option_map (λ (ls : List Line). counted_lines (ls ++ (line_if_any (growing_part line) ++ [])))) lines ∙ all.1
         ∙ ap (λ ls. option_map (λ (xs : List Line). xs ++ ls) (spans_of name old kept None).lines) same in
         let faults : new.faults ≡ old.faults = ap (λ (s : SinkView). s.faults) puts.put in (
-          record { at = grown.at; joined = subst (λ (o : Option (List Line)). AreJoined o (growing line) None) (sym lines) all.0; spans = growing_kept line whole },
+          record { at = grown.at; joined = subst (λ (o : Option (List Line)). AreJoined o (growing_part line) None) (sym lines) all.0; spans = growing_kept line whole },
           λ i. let target : Target = record { name = name; before = grown.before i } in
               let j : JournalView = record { lines = shown i; failed = false; faults = faults i; target = Some target } in j,
         )
@@ -404,7 +405,7 @@ settled_cut old new line is other format cut = record {
   cut = subst (λ (s : SinkView). IsCutShort s new (with_line_end (line_text line))) (puts_none old) cut;
 }
   where
-    firm : (l : Line) → as_span l ≡ l → ((c first last d : ℕ) → l ≡ Span c first last d → ⊥) → settled l ≡ l ∷ []
+    firm : (l : Line) → as_span l ≡ l → ((c first last d : ℕ) → l ≡ Span c first last d → ⊥) → settled_part l ≡ l ∷ []
     firm (Remove c v d) is other = cc
     firm (Span c first last d) is other = absurd (other c first last d refl)
     firm (Try c v) is other = refl
@@ -421,7 +422,7 @@ kept_cut old new kept line spans format cut = record {
   rest = line ∷ [];
   split = refl;
   left = refl;
-  most = settled line;
+  most = settled_part line;
   firm = refl;
   spans = spans;
   formed = record {};
@@ -435,7 +436,7 @@ pub kept_put : (old mid new : SinkView) (kept line : Line) (after : Option Line)
 kept_put old mid new kept line after format put puts = record {
   kept = puts.kept;
   formed = (format, puts.formed);
-  put = puts.put ∙ ap (λ (s : SinkView). after_bytes s (text_of (settled line))) put ∙ after_bytes-append old (with_line_end (line_text kept)) (text_of (settled line));
+  put = puts.put ∙ ap (λ (s : SinkView). after_bytes s (text_of (settled_part line))) put ∙ after_bytes-append old (with_line_end (line_text kept)) (text_of (settled_part line));
 }
 
 pub kept_put_cut : (old mid new : SinkView) (kept line : Line) (after : Option Line) → IsOfFormat Two kept → mid ≡ after_bytes old (with_line_end (line_text kept))
@@ -460,15 +461,15 @@ kept_put_cut old mid new kept line after format put cut = by cut.done refl
     }
 
 -- so whatever was answered
-pub kept_put_ok : (old mid new : SinkView) (kept line : Line) (result : Result (Option Line) (Option Line)) → IsOfFormat Two kept → mid ≡ after_bytes old (with_line_end (line_text kept))
+pub kept_put_ok : (old mid new : SinkView) (kept line : Line) (result : Result (Option Line) CutOff) → IsOfFormat Two kept → mid ≡ after_bytes old (with_line_end (line_text kept))
     → IfOk result (PutsApart mid new None line) → IfOk result (PutsApart old new (Some kept) line)
 kept_put_ok old mid new kept line (Ok after) format put puts = kept_put old mid new kept line after format put puts
 kept_put_ok old mid new kept line (Err left) format put puts = record {}
 
-pub kept_put_err : (old mid new : SinkView) (kept line : Line) (result : Result (Option Line) (Option Line)) → IsOfFormat Two kept → mid ≡ after_bytes old (with_line_end (line_text kept))
-    → IfErr result (IsCutApart mid new None line) → IfErr result (IsCutApart old new (Some kept) line)
+pub kept_put_err : (old mid new : SinkView) (kept line : Line) (result : Result (Option Line) CutOff) → IsOfFormat Two kept → mid ≡ after_bytes old (with_line_end (line_text kept))
+    → IfErr result (λ (cut : CutOff). IsCutApart mid new None line cut.kept) → IfErr result (λ (cut : CutOff). IsCutApart old new (Some kept) line cut.kept)
 kept_put_err old mid new kept line (Ok after) format put cut = record {}
-kept_put_err old mid new kept line (Err left) format put cut = kept_put_cut old mid new kept line left format put cut
+kept_put_err old mid new kept line (Err left) format put cut = kept_put_cut old mid new kept line left.kept format put cut
 
 -- a span is spelled as format 2 does
 pub span_spelled : (line : Line) → is_span line ≡ true → as_span line ≡ line

@@ -18,7 +18,7 @@ use Rattle.wfc_proof.specs.Lines.{nodes_of, has_nodes, nodes_of_lines}
 use Rattle.wfc_proof.specs.Proof.{Proof}
 use Rattle.wfc_proof.specs.Proof.Node.{removes}
 use Rattle.wfc_proof.specs.ProofText.{IsOfFormat, AreOfFormat, IsTextOf, head_in}
-use Rattle.wfc_proof.specs.Spans.{counted_lines, as_span, one_span, join_with, growing, settled, line_if_any, Joined, nothing_joined, grown_or_apart, join_line, join_on, all_joined, in_spans, is_span, is_kept, IsCutApart, PutsApart}
+use Rattle.wfc_proof.specs.Spans.{counted_lines, as_span, one_span, join_with, growing_part, settled_part, line_if_any, Joined, nothing_joined, grown_or_apart, join_line, join_on, all_joined, in_spans, is_span, is_kept, IsCutApart, PutsApart}
 use Rattle.wfc_proof.specs.Telling.{Reading, line_in, read_on, text_of, PutsOrCuts}
 use Rattle.wfc_proof.specs.Text.{line_text}
 use Rattle.wfc_proof.specs.Upgrade.{line_at, behind_line, named_format, format_at, behind_head, lines_in, upgraded_text, spans_left, TakesLine, TakesFront}
@@ -136,7 +136,7 @@ behind_done before joined (line ∷ lines) =
   where
     step : (o : Option Line) → grown_or_apart (record { done = before ++ joined.done; kept = joined.kept }) (as_span line) o
         ≡ (let j : Joined = record { done = before ++ (grown_or_apart joined (as_span line) o).done; kept = (grown_or_apart joined (as_span line) o).kept } in j)
-    step None = ap (λ ls. let j : Joined = record { done = ls; kept = growing (as_span line) } in j) (append_assoc before joined.done (line_if_any joined.kept ++ settled (as_span line)))
+    step None = ap (λ ls. let j : Joined = record { done = ls; kept = growing_part (as_span line) } in j) (append_assoc before joined.done (line_if_any joined.kept ++ settled_part (as_span line)))
     step (Some span) = refl
 
 -- a line is joined to what is kept or comes behind it
@@ -149,13 +149,13 @@ first_taken kept line told more whole is counts =
     ∙ ap (λ j. join_on j (counted_lines more)) (ap (join_on here) (sym counts) ∙ line_at_once here told whole is ∙ ap (λ l. grown_or_apart here l (join_with kept l)) is))
 
 apart_taken : (kept : Option Line) (line told : Line) (more : List Line) → IsWhole told → as_span told ≡ told → counted_as told ≡ counted_as line → join_with kept told ≡ None
-    → spans_left kept (line ∷ more) ≡ (line_if_any kept ++ settled told) ++ spans_left (growing told) more
+    → spans_left kept (line ∷ more) ≡ (line_if_any kept ++ settled_part told) ++ spans_left (growing_part told) more
 apart_taken kept line told more whole is counts none =
-    let put = line_if_any kept ++ settled told in
+    let put = line_if_any kept ++ settled_part told in
     first_taken kept line told more whole is counts
     ∙ ap (λ o. all_joined (join_on (grown_or_apart (record { done = []; kept = kept }) told o) (counted_lines more))) none
-    ∙ ap (λ ls. let j : Joined = record { done = ls; kept = growing told } in all_joined (join_on j (counted_lines more))) (sym (append-nil put))
-    ∙ behind_done put (record { done = []; kept = growing told }) (counted_lines more)
+    ∙ ap (λ ls. let j : Joined = record { done = ls; kept = growing_part told } in all_joined (join_on j (counted_lines more))) (sym (append-nil put))
+    ∙ behind_done put (record { done = []; kept = growing_part told }) (counted_lines more)
 
 pub takes_grown : (sink : SinkView) (kept : Option Line) (line told span : Line) → IsWhole told → as_span told ≡ told → counted_as told ≡ counted_as line → is_kept kept ≡ true
     → join_with kept told ≡ Some span → TakesLine sink sink kept line (Some span)
@@ -171,9 +171,9 @@ takes_grown sink (Some kept) line told span whole is counts spans join = record 
 pub takes_apart : (old new : SinkView) (kept after : Option Line) (line told : Line) → IsWhole told → as_span told ≡ told → counted_as told ≡ counted_as line → join_with kept told ≡ None
     → PutsApart old new kept told after → TakesLine old new kept line after
 takes_apart old new kept after line told whole is counts none puts = record {
-  put = line_if_any kept ++ settled told;
+  put = line_if_any kept ++ settled_part told;
   bytes = puts.put;
-  on = λ more. apart_taken kept line told more whole is counts none ∙ ap (λ o. (line_if_any kept ++ settled told) ++ spans_left o more) (sym puts.kept);
+  on = λ more. apart_taken kept line told more whole is counts none ∙ ap (λ o. (line_if_any kept ++ settled_part told) ++ spans_left o more) (sym puts.kept);
   spans = subst (λ (o : Option Line). is_kept o ≡ true) (sym puts.kept) (growing_kept told whole);
 }
 
@@ -181,13 +181,13 @@ pub takes_front : (old new : SinkView) (kept after : Option Line) (line told : L
     → IsCutApart old new kept told after → TakesFront old new kept line
 takes_front old new kept after line told whole is counts none cut =
     let front : IsFaultAfterFront (after_bytes old (text_of cut.done)) new (with_line_end (line_text cut.first)) = record { front = (cut.cut.n, cut.cut.front); counted = cut.cut.counted } in
-    let text : text_of cut.done ++ (with_line_end (line_text cut.first) ++ text_of cut.most) ≡ text_of (line_if_any kept ++ settled told) =
+    let text : text_of cut.done ++ (with_line_end (line_text cut.first) ++ text_of cut.most) ≡ text_of (line_if_any kept ++ settled_part told) =
     sym (text_of-append cut.done (cut.first ∷ cut.most)) ∙ ap text_of (sym cut.firm) in
     record {
-      put = line_if_any kept ++ settled told;
+      put = line_if_any kept ++ settled_part told;
       fault = subst (IsFaultAfterFront old new) text (fault_on old (after_bytes old (text_of cut.done)) new (text_of cut.done) (with_line_end (line_text cut.first) ++ text_of cut.most) refl
           (fault_out (after_bytes old (text_of cut.done)) new (with_line_end (line_text cut.first)) (text_of cut.most) front));
-      on = λ more. (spans_left (growing told) more, apart_taken kept line told more whole is counts none);
+      on = λ more. (spans_left (growing_part told) more, apart_taken kept line told more whole is counts none);
     }
 
 -- what becomes of what is left becomes of it with the line that was taken
@@ -438,7 +438,7 @@ all_has (x ∷ xs) ys first rest = let parts = and_parts (has_nodes x) (list_all
 
 -- a line is settled or grows
 parted : (line : Line) → IsOfFormat Two line → has_nodes line ≡ true
-    → (AreOfFormat Two (settled line) × AreOfFormat Two (line_if_any (growing line))) × ((list_all has_nodes (settled line) ≡ true) × (list_all has_nodes (line_if_any (growing line)) ≡ true))
+    → (AreOfFormat Two (settled_part line) × AreOfFormat Two (line_if_any (growing_part line))) × ((list_all has_nodes (settled_part line) ≡ true) × (list_all has_nodes (line_if_any (growing_part line)) ≡ true))
 parted (Remove c v d) keeps has = absurd keeps
 parted (Span c first last d) keeps has = ((record {}, (keeps, record {})), (refl, and_from _ _ has refl))
 parted (Try c v) keeps has = (((keeps, record {}), record {}), (refl, refl))
@@ -478,12 +478,12 @@ spelled_on joined told line is plain = by (join_with joined.kept (as_span line))
     by None e =
         let parts = parted (as_span line) plain.format plain.has in
         record {
-          formed = (of_format-append Two joined.done (line_if_any joined.kept ++ settled (as_span line)) is.formed.0 (of_format-append Two (line_if_any joined.kept) (settled (as_span line)) is.formed.1 parts.0.0), parts.0.1);
-          has = (all_has joined.done (line_if_any joined.kept ++ settled (as_span line)) is.has.0 (all_has (line_if_any joined.kept) (settled (as_span line)) is.has.1 parts.1.0), parts.1.1);
+          formed = (of_format-append Two joined.done (line_if_any joined.kept ++ settled_part (as_span line)) is.formed.0 (of_format-append Two (line_if_any joined.kept) (settled_part (as_span line)) is.formed.1 parts.0.0), parts.0.1);
+          has = (all_has joined.done (line_if_any joined.kept ++ settled_part (as_span line)) is.has.0 (all_has (line_if_any joined.kept) (settled_part (as_span line)) is.has.1 parts.1.0), parts.1.1);
           kept = growing_kept (as_span line) plain.whole;
           counts = ap counted_lines
-              (ap (λ ls. ls ++ line_if_any (growing (as_span line))) (sym (append_assoc joined.done (line_if_any joined.kept) (settled (as_span line))))
-              ∙ append_assoc (all_joined joined) (settled (as_span line)) (line_if_any (growing (as_span line)))
+              (ap (λ ls. ls ++ line_if_any (growing_part (as_span line))) (sym (append_assoc joined.done (line_if_any joined.kept) (settled_part (as_span line))))
+              ∙ append_assoc (all_joined joined) (settled_part (as_span line)) (line_if_any (growing_part (as_span line)))
               ∙ ap (λ ls. all_joined joined ++ ls) (settled_growing (as_span line)))
               ∙ flat_map-append counted_as (all_joined joined) (as_span line ∷ [])
               ∙ (λ i. is.counts i ++ (append-nil (counted_as (as_span line)) ∙ plain.counts ∙ plain.alone) i);

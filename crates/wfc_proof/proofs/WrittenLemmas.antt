@@ -10,7 +10,7 @@ use Rattle.std.proofs.lemmas.List.{take_all}
 use Rattle.std.proofs.lemmas.List.Folds.{list_any-append}
 use Rattle.wfc_outside.specs.Sink.{Taken, SinkView, with_bytes, after_bytes, IsFaultAfterFront}
 use Rattle.wfc_proof.specs.Journal.{JournalView, Target, after_lines, IsCutOff}
-use Rattle.wfc_proof.specs.Spans.{counted_lines, growing, settled, line_if_any, Joined, nothing_joined, apart, join_on, all_joined, in_spans, spans_of, ending, joined_as, AreJoined, IsSpanning}
+use Rattle.wfc_proof.specs.Spans.{counted_lines, growing_part, settled_part, line_if_any, Joined, nothing_joined, apart, join_on, all_joined, in_spans, spans_of, ending, joined_as, AreJoined, IsSpanning}
 use Rattle.wfc_proof.specs.Heads.{with_line_end}
 use Rattle.wfc_proof.specs.Text.{line_text}
 use Rattle.wfc_proof.specs.Telling.{IsCutShort, Reading, and_line, line_in, read_byte, read_on, read_text, lines_at_end, before_lines, part_at_end, text_of, journal_of, refused_lines, IsAt, new_journal}
@@ -51,8 +51,8 @@ told_joined lines told kept None joined are =
     ap in_spans (sym are) ∙ ap all_joined joined ∙ ap (λ ls. lines ++ ls) (sym (append-nil (line_if_any kept)))
 told_joined lines told kept (Some refused) joined are =
     ap in_spans (sym are) ∙ ap all_joined joined
-    ∙ ap (λ ls. ls ++ line_if_any (growing refused)) (sym (append_assoc lines (line_if_any kept) (settled refused)))
-    ∙ append_assoc (lines ++ line_if_any kept) (settled refused) (line_if_any (growing refused))
+    ∙ ap (λ ls. ls ++ line_if_any (growing_part refused)) (sym (append_assoc lines (line_if_any kept) (settled_part refused)))
+    ∙ append_assoc (lines ++ line_if_any kept) (settled_part refused) (line_if_any (growing_part refused))
     ∙ ap (λ ls. (lines ++ line_if_any kept) ++ ls) (settled_growing refused)
     ∙ append_assoc lines (line_if_any kept) (refused ∷ [])
 

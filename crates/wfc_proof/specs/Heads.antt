@@ -104,12 +104,16 @@ shape_with (Some n) (Some width) (Some height) (Some depth) (Some symmetry) (Som
     Some (record { n = n; width = width; height = height; depth = depth; symmetry = symmetry; wrap_in = wrap_in; wrap_out = wrap_out })
 shape_with _ _ _ _ _ _ _ = None
 
+-- the shape that these seven words write
+abbrev pub shape_in : List ℕ → List ℕ → List ℕ → List ℕ → List ℕ → List ℕ → List ℕ → Option Shape
+shape_in n w h d s i o =
+    shape_with (decimal_within 6 n) (head_word w) (head_word h) (head_word d)
+    (decimal_within (2 ^ 8 - 1) s) (bit_word i) (bit_word o)
+
 -- the shape that the words of a third line say
 abbrev pub shape_of_words : List (List ℕ) → Option Shape
 shape_of_words (word ∷ n ∷ w ∷ h ∷ d ∷ s ∷ i ∷ o ∷ []) =
-    if bytes_eq word (codes "for")
-    then shape_with (decimal_within 6 n) (head_word w) (head_word h) (head_word d)
-    (decimal_within (2 ^ 8 - 1) s) (bit_word i) (bit_word o) else None
+    if bytes_eq word (codes "for") then shape_in n w h d s i o else None
 shape_of_words _ = None
 
 -- the shape that a third line says

@@ -13,6 +13,7 @@ pub mod ProofText
 pub mod JournalText
 pub mod Over
 pub mod Spans
+pub mod Sinks
 pub mod Upgrade
 -- passed on from the crate below
 pub use Rattle.wfc_outside.specs.Count

@@ -22,10 +22,18 @@ abbrev pub AreOfFormat : Format → List Line → Type 0
 AreOfFormat format [] = ⊤
 AreOfFormat format (line ∷ lines) = IsOfFormat format line × AreOfFormat format lines
 
--- the head of the format, with the problem's numbers; format 2 names the shape too
+-- the head in format 1, with the problem's numbers
+abbrev pub head_1_for : Network → List ℕ
+head_1_for P = head_text P.cells (values P)
+
+-- the head in format 2, with the problem's numbers, and the shape
+abbrev pub head_2_for : Network → Shape → List ℕ
+head_2_for P shape = head_2_text shape P.cells (values P)
+
+-- the head of the format
 abbrev pub head_in : Format → Network → Shape → List ℕ
-head_in One P shape = head_text P.cells (values P)
-head_in Two P shape = head_2_text shape P.cells (values P)
+head_in One P shape = head_1_for P
+head_in Two P shape = head_2_for P shape
 
 -- the bytes are the text of the proof in this format: the head, lines of the format that spell the
 -- nodes, and the end; the proof closes the base domains

@@ -1,5 +1,5 @@
 -- Two small problems, on which laws try the definitions, with a proof of the second, and small journals.
-use Rattle.std.specs.Prelude.{ℕ, Bool, true, false, List, [], ◌∷◌, Option, None, Result, codes}
+use Rattle.std.specs.Prelude.{ℕ, Bool, true, false, List, [], ◌∷◌, Option, None, Some, Result, codes}
 use Rattle.wfc_problem.specs.Domains.{cut}
 use Rattle.wfc_problem.specs.Network.{Network, in_base}
 use Rattle.wfc_problem.specs.declared.Literal.{Literal}
@@ -7,8 +7,10 @@ use Rattle.wfc_problem.specs.declared.TheConstants.{NO_CELL}
 use Rattle.wfc_proof.specs.Checker.{Point, line_steps, node_fault}
 use Rattle.wfc_proof.specs.Checker.Point.{going}
 use Rattle.wfc_proof.specs.Proof.{Node}
-use Rattle.wfc_proof.specs.Journal.{JournalView}
+use Rattle.wfc_proof.specs.Journal.{JournalView, Target}
+use Rattle.wfc_proof.specs.Telling.{Reading}
 use Rattle.wfc_proof.specs.declared.Line.{Line}
+use Rattle.wfc_proof.specs.declared.Line.TheVariants.{Try}
 use Rattle.wfc_proof.specs.declared.Reject.{Reject}
 use Rattle.wfc_proof.specs.declared.heads.Shape.{Shape}
 
@@ -74,6 +76,22 @@ dead_text_apart = codes "wfc-refutation 2\ncells 2 values 3\nfor 2 3 4 1 8 1 0\n
 abbrev pub dead_text_joined : List ℕ
 dead_text_joined = codes "wfc-refutation 2\ncells 2 values 3\nfor 2 3 4 1 8 1 0\nr 0 0 1 2\nx 0\nq\n"
 
+-- what was read of a text: these bytes before the lines, the lines, and this part of a line
+abbrev pub reading_with : List ℕ → List Line → List ℕ → Reading
+reading_with before lines part = record { before = before; lines = lines; part = part }
+
 -- a journal without a sink: its lines, where they are told, whether it refused one, and the count of its faults
 abbrev pub journal_with : Option (List Line) → Bool → ℕ → JournalView
 journal_with lines failed faults = record { lines = lines; failed = failed; faults = faults; target = None }
+
+-- a journal over a sink that tells nothing: whether it refused a line, and the count of its faults
+abbrev pub journal_over : Target → Bool → ℕ → JournalView
+journal_over there failed faults = record { lines = None; failed = failed; faults = faults; target = Some there }
+
+-- a journal that was told a trial, after three faults
+abbrev pub after_a_trial : JournalView
+after_a_trial = journal_with (Some (Try 1 2 ∷ [])) false 3
+
+-- the same, once it was handed these lines too and refused the last, with a fourth fault
+abbrev pub refused_after_a_trial : List Line → JournalView
+refused_after_a_trial lines = journal_with (Some (Try 1 2 ∷ lines)) true 4

@@ -54,25 +54,25 @@ abbrev pub join_with : Option Line → Line → Option Line
 join_with None line = None
 join_with (Some kept) line = one_span kept line
 
--- the line, if it may still grow: a span
-abbrev pub growing : Line → Option Line
-growing (Remove c v d) = None
-growing (Span c first last d) = Some (Span c first last d)
-growing (Try c v) = None
-growing (Empty c) = None
-growing End = None
-growing Found = None
-growing Out = None
+-- the part of a line that may still grow: the line, if it is a span
+abbrev pub growing_part : Line → Option Line
+growing_part (Remove c v d) = None
+growing_part (Span c first last d) = Some (Span c first last d)
+growing_part (Try c v) = None
+growing_part (Empty c) = None
+growing_part End = None
+growing_part Found = None
+growing_part Out = None
 
--- and else the line
-abbrev pub settled : Line → List Line
-settled (Remove c v d) = Remove c v d ∷ []
-settled (Span c first last d) = []
-settled (Try c v) = Try c v ∷ []
-settled (Empty c) = Empty c ∷ []
-settled End = End ∷ []
-settled Found = Found ∷ []
-settled Out = Out ∷ []
+-- the part of a line that can't grow: the line, if it is no span
+abbrev pub settled_part : Line → List Line
+settled_part (Remove c v d) = Remove c v d ∷ []
+settled_part (Span c first last d) = []
+settled_part (Try c v) = Try c v ∷ []
+settled_part (Empty c) = Empty c ∷ []
+settled_part End = End ∷ []
+settled_part Found = Found ∷ []
+settled_part Out = Out ∷ []
 
 -- the line, if there is one
 abbrev pub line_if_any : Option Line → List Line
@@ -90,7 +90,7 @@ nothing_joined = record { done = []; kept = None }
 
 -- with a line behind them that is no part of the last span
 abbrev pub apart : Joined → Line → Joined
-apart joined line = record { done = joined.done ++ (line_if_any joined.kept ++ settled line); kept = growing line }
+apart joined line = record { done = joined.done ++ (line_if_any joined.kept ++ settled_part line); kept = growing_part line }
 
 -- with a line behind them: the last span grew to this one, or, where there is none, the line is no part of it
 abbrev pub grown_or_apart : Joined → Line → Option Line → Joined
@@ -147,9 +147,9 @@ spans_of name sink kept refused = record {
 }
 
 -- what waits to be put: nothing before a line was refused, and then the span that isn't written and the refused line
-abbrev pub waiting : Option Line → Option Line → List Line
-waiting kept None = []
-waiting kept (Some refused) = line_if_any kept ++ refused ∷ []
+abbrev pub waiting_lines : Option Line → Option Line → List Line
+waiting_lines kept None = []
+waiting_lines kept (Some refused) = line_if_any kept ++ refused ∷ []
 
 -- how the lines at the end of what was taken are joined, with those that aren't there
 abbrev pub joined_as : Option Line → Option Line → List Line → Joined
@@ -181,7 +181,7 @@ is_kept (Some line) = is_span line
 -- front of what waits, all that it
 -- was told is joined so, and what it keeps is a span
 pub record IsSpanning (sink : SinkView) (kept refused : Option Line) : Type 0 where
-  pub at : IsAt Two sink.told (waiting kept refused)
+  pub at : IsAt Two sink.told (waiting_lines kept refused)
   pub joined : AreJoined (ending sink.told) kept refused
   pub spans : is_kept kept ≡ true
 
@@ -195,7 +195,7 @@ pub record IsCutApart (old new : SinkView) (before : Option Line) (line : Line) 
   pub split : line_if_any before ≡ done ++ line_if_any after
   pub left : line_if_any after ++ line ∷ [] ≡ first ∷ rest
   pub most : List Line
-  pub firm : line_if_any before ++ settled line ≡ done ++ first ∷ most
+  pub firm : line_if_any before ++ settled_part line ≡ done ++ first ∷ most
   pub spans : is_kept after ≡ true
   pub formed : AreOfFormat Two done
   pub format : IsOfFormat Two first
@@ -203,6 +203,6 @@ pub record IsCutApart (old new : SinkView) (before : Option Line) (line : Line) 
 
 -- the kept span and a line behind it that is no part of it were put, as far as they can't grow, and what may is kept
 pub record PutsApart (old new : SinkView) (before : Option Line) (line : Line) (after : Option Line) : Type 0 where
-  pub kept : after ≡ growing line
-  pub formed : AreOfFormat Two (line_if_any before ++ settled line)
-  pub put : new ≡ after_bytes old (text_of (line_if_any before ++ settled line))
+  pub kept : after ≡ growing_part line
+  pub formed : AreOfFormat Two (line_if_any before ++ settled_part line)
+  pub put : new ≡ after_bytes old (text_of (line_if_any before ++ settled_part line))

@@ -103,6 +103,10 @@ new_journal name sink = record {
   target = Some (record { name = name; before = sink.told });
 }
 
+-- a journal that was begun where this head was put into the sink
+abbrev pub begun_journal : GName → SinkView → List ℕ → JournalView
+begun_journal name sink head = new_journal name (after_bytes sink head)
+
 -- a fault was counted after the sink took a front of these bytes that isn't the whole
 pub record IsCutShort (old new : SinkView) (bytes : List ℕ) : Type 0 where
   pub n : ℕ

@@ -41,6 +41,14 @@ behind_head Two bytes = behind_line (behind_line (behind_line bytes))
 abbrev pub lines_in : Format → List ℕ → List Line
 lines_in format bytes = (read_text format bytes).lines
 
+-- what stands behind the head of a text, in the format that its first line names
+abbrev pub text_behind_head : List ℕ → List ℕ
+text_behind_head bytes = behind_head (format_at bytes) bytes
+
+-- the lines at the end of that
+abbrev pub lines_behind_head : List ℕ → List Line
+lines_behind_head bytes = lines_in (format_at bytes) (text_behind_head bytes)
+
 -- the text in format 2 of what a text tells: its lines, their removals joined into spans
 abbrev pub upgraded_text : Network → Shape → List ℕ → List ℕ
 upgraded_text P shape bytes =

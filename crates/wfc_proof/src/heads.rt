@@ -1,11 +1,11 @@
 //! The heads of refutations: what their lines say, and how they are written.
 
-ghost use Rattle.std.specs.Prelude.{OnOk, ◌≡◌, ◌-◌, ◌^◌, ◌≤◌, ◌+◌, ◌∷◌, ◌++◌, [], decimal, length};
+ghost use Rattle.std.specs.Prelude.{OnOk, ◌≡◌, ◌^◌, ◌<◌, ◌≤◌, ◌+◌, ◌∷◌, ◌++◌, [], decimal, length};
 ghost use Rattle.wfc_outside.specs.Sink.{Puts};
 ghost use Rattle.wfc_proof.specs.Words.{decimal_within};
 ghost use Rattle.wfc_proof.specs.Heads.{with_line_end, format_text, numbers_text, shape_text, head_text, head_2_text};
-ghost use Rattle.wfc_proof.specs.Heads.{format_of, head_numbers, numbers_of_words, shape_of, shape_of_words, shape_with};
-ghost use Rattle.wfc_proof.specs.Heads.{head_word, bit_word, bit};
+ghost use Rattle.wfc_proof.specs.Heads.{format_of, head_numbers, numbers_of_words, shape_of, shape_of_words, shape_in};
+ghost use Rattle.wfc_proof.specs.Heads.{IsShape, bit_word, bit};
 ghost use Rattle.wfc_proof.specs.Telling.{IsBare};
 ghost use Rattle.wfc_proof.specs.declared.heads.Format.TheVariants.{One, Two};
 
@@ -104,11 +104,11 @@ fn shape_of_words(mut words: Words<'_>) -> Option<Shape>
     if words.next().is_some() || !is_word(before, "for") {
         return None;
     }
-    shape_with(n, width, height, depth, symmetry, wrap_in, wrap_out)
+    shape_in(n, width, height, depth, symmetry, wrap_in, wrap_out)
 }
 
-/// The shape that these words write.
-fn shape_with(
+/// The shape that these seven words write.
+fn shape_in(
     n: &[u8],
     width: &[u8],
     height: &[u8],
@@ -117,9 +117,8 @@ fn shape_with(
     wrap_in: &[u8],
     wrap_out: &[u8],
 ) -> Option<Shape>
-    ensures exact { result ≡ shape_with (decimal_within 6 n.now) (head_word width.now)
-        (head_word height.now) (head_word depth.now) (decimal_within (2 ^ 8 - 1) symmetry.now)
-        (bit_word wrap_in.now) (bit_word wrap_out.now) }
+    ensures exact { result ≡ shape_in n.now width.now height.now depth.now symmetry.now
+        wrap_in.now wrap_out.now }
 {
     let n = side_of_window(n)?;
     let width = decimal32(width)?;
@@ -183,12 +182,10 @@ pub fn write_header_2<S: Sink>(
         (head_2_text shape.now cells values) result }
     ensures bare { OnOk result (IsBare Two (S.seen sink.new).told) }
 {
-    // The proof knows how large the fields are where they are read.
-    let _limits = (shape.width, shape.height, shape.depth, shape.symmetry);
     let mut text = Gathered::new();
     gather_format(&mut text, Format::Two);
     gather_numbers(&mut text, cells, values);
-    gather_shape(&mut text, shape);
+    gather_shape(&mut text, *shape);
     write_all(sink, text.as_slice())
 }
 
@@ -220,9 +217,11 @@ fn gather_numbers(text: &mut Gathered, cells: u32, values: u16)
 }
 
 /// Gathers the third line of a head of format 2.
-fn gather_shape(text: &mut Gathered, shape: &Shape)
+fn gather_shape(text: &mut Gathered, shape: Shape)
     requires room { length text.old ≤ 64 }
-    ensures gathered { text.new ≡ text.old ++ with_line_end (shape_text shape.now) }
+    requires limit { shape.n ≤ 6 }
+    ensures gathered { text.new ≡ text.old ++ with_line_end (shape_text shape) }
+    ensures limits { IsShape shape }
 {
     text.push(b"for");
     text.push_number(shape.n);
@@ -233,10 +232,11 @@ fn gather_shape(text: &mut Gathered, shape: &Shape)
 }
 
 /// Gathers the end of that line: the number of images, and what wraps.
-fn gather_images(text: &mut Gathered, shape: &Shape)
+fn gather_images(text: &mut Gathered, shape: Shape)
     requires room { length text.old ≤ 128 }
-    ensures gathered { text.new ≡ text.old ++ 32 ∷ (decimal shape.now.symmetry ++ 32
-        ∷ (decimal (bit shape.now.wrap_in) ++ 32 ∷ (decimal (bit shape.now.wrap_out) ++ 10 ∷ []))) }
+    ensures gathered { text.new ≡ text.old ++ 32 ∷ (decimal shape.symmetry ++ 32
+        ∷ (decimal (bit shape.wrap_in) ++ 32 ∷ (decimal (bit shape.wrap_out) ++ 10 ∷ []))) }
+    ensures few { shape.symmetry < 2 ^ 8 }
 {
     text.push_number(u32::from(shape.symmetry));
     text.push_number(bit(shape.wrap_in));

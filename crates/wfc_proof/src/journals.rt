@@ -1,16 +1,14 @@
 //! Journals that write the lines they are told into a sink.
 
 ghost use Rattle.std.specs.Prelude.{◌≡◌, ◌≤◌, None, true, false, IfOk, OnOk, OnErr};
-ghost use Rattle.wfc_outside.specs.Sink.{Puts, after_bytes};
-ghost use Rattle.wfc_problem.specs.Network.{values};
-ghost use Rattle.wfc_proof.specs.Heads.{head_text, head_2_text};
+ghost use Rattle.wfc_proof.specs.ProofText.{head_1_for, head_2_for};
 ghost use Rattle.wfc_proof.specs.Journal.{IsWhole, counted_as, after_line, IsRefused};
-ghost use Rattle.wfc_proof.specs.Spans.{AreJoined, as_span, ending, is_kept, join_with, waiting};
-ghost use Rattle.wfc_proof.specs.Telling.{IsAt, IsBare, new_journal, refused_lines};
+ghost use Rattle.wfc_proof.specs.Spans.{AreJoined, as_span, ending, is_kept, join_with, waiting_lines};
+ghost use Rattle.wfc_proof.specs.Telling.{IsAt, IsBare, begun_journal, new_journal, refused_lines};
 ghost use Rattle.wfc_proof.specs.declared.heads.Format.TheVariants.{One, Two};
 
 use crate::heads::{write_header, write_header_2};
-use crate::spans::{as_span, joined, put_apart};
+use crate::spans::{as_span, join_with, put_apart};
 use crate::writing::put_counted;
 use crate::{Journal, JournalFault, Line, Shape};
 use wfc_outside::{Sink, SinkFault};
@@ -31,9 +29,8 @@ impl<'s, S: Sink> ProofJournal<'s, S> {
     /// Writes the head, and tells no line yet. After `Failed` the sink has taken a front of the head, and has counted a
     /// fault: no clause can say it, since the sink is lent to what is answered. `write_header` and `behind_head` say all.
     pub fn begin(sink: &'s mut S, problem: &Problem) -> Result<ProofJournal<'s, S>, JournalFault>
-        ensures begun { IfOk result (λ journal. told_by S.Sink journal ≡ new_journal
-            sink.entry.ghost_name (after_bytes (S.seen sink.old) (head_text problem.now.cells
-            (values problem.now)))) }
+        ensures begun { IfOk result (λ journal. told_by S.Sink journal ≡ begun_journal
+            sink.entry.ghost_name (S.seen sink.old) (head_1_for problem.now)) }
     {
         match write_header(sink, problem.cells(), problem.values()) {
             Ok(()) => Ok(ProofJournal::behind_head(sink)),
@@ -44,7 +41,8 @@ impl<'s, S: Sink> ProofJournal<'s, S> {
     /// A journal over a sink that has taken a head. It writes nothing yet.
     pub fn behind_head(sink: &'s mut S) -> ProofJournal<'s, S>
         requires bare { IsBare One (S.seen sink.old).told }
-        ensures begun { told_by S.Sink result ≡ new_journal sink.entry.ghost_name (S.seen sink.old) }
+        ensures begun { told_by S.Sink result
+            ≡ new_journal sink.entry.ghost_name (S.seen sink.old) }
     {
         ProofJournal {
             sink,
@@ -77,7 +75,7 @@ pub struct SpanJournal<'s, S: Sink> {
     sink: &'s mut S,
     kept: Option<Line>,
     refused: Option<Line>,
-    ghost at: { IsAt Two (S.seen sink.now).told (waiting kept refused) },
+    ghost at: { IsAt Two (S.seen sink.now).told (waiting_lines kept refused) },
     ghost joined: { AreJoined (ending (S.seen sink.now).told) kept refused },
     ghost spans: { is_kept kept ≡ true },
 }
@@ -93,9 +91,8 @@ impl<'s, S: Sink> SpanJournal<'s, S> {
         shape: &Shape,
     ) -> Result<SpanJournal<'s, S>, JournalFault>
         requires limit { shape.now.n ≤ 6 }
-        ensures begun { IfOk result (λ journal. spans_told_by S.Sink journal
-            ≡ new_journal sink.entry.ghost_name (after_bytes (S.seen sink.old)
-            (head_2_text shape.now problem.now.cells (values problem.now)))) }
+        ensures begun { IfOk result (λ journal. spans_told_by S.Sink journal ≡ begun_journal
+            sink.entry.ghost_name (S.seen sink.old) (head_2_for problem.now shape.now)) }
     {
         match write_header_2(sink, shape, problem.cells(), problem.values()) {
             Ok(()) => Ok(SpanJournal::behind_head(sink)),
@@ -124,7 +121,7 @@ impl<'s, S: Sink> Journal for SpanJournal<'s, S> {
 
     fn line(&mut self, line: Line) -> Result<(), JournalFault> {
         let told = as_span(line);
-        if let Some(span) = joined(self.kept, told) {
+        if let Some(span) = join_with(self.kept, told) {
             self.kept = Some(span);
             return Ok(());
         }
@@ -133,8 +130,8 @@ impl<'s, S: Sink> Journal for SpanJournal<'s, S> {
                 self.kept = kept;
                 Ok(())
             }
-            Err(left) => {
-                self.kept = left;
+            Err(cut) => {
+                self.kept = cut.kept;
                 self.refused = Some(told);
                 Err(JournalFault::Failed)
             }

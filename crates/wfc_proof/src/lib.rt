@@ -15,6 +15,7 @@ pub mod laws;
 pub mod span_laws;
 mod spans;
 mod text;
+pub mod text_laws;
 mod upgrading;
 mod words;
 mod writing;

@@ -49,3 +49,11 @@ pub fn spans_by_example()
     ensures between { in_spans (Remove 1 4 2 ∷ Try 1 5 ∷ Remove 1 5 2 ∷ Empty 1 ∷ Found ∷ [])
         ≡ Span 1 4 4 2 ∷ Try 1 5 ∷ Span 1 5 5 2 ∷ Empty 1 ∷ Found ∷ [] }
 {}
+
+/// One line more stands behind the lines, or makes the last of them longer.
+pub fn one_more_by_example()
+    ensures behind { AreWithOneMore (Try 1 5 ∷ []) (Span 1 6 6 2) (Try 1 5 ∷ Span 1 6 6 2 ∷ []) }
+    ensures longer { AreWithOneMore (Try 1 5 ∷ Span 1 4 5 2 ∷ []) (Span 1 6 6 2)
+        (Try 1 5 ∷ Span 1 4 6 2 ∷ []) }
+    ensures alone { AreWithOneMore (Span 1 4 5 2 ∷ []) (Span 1 6 6 2) (Span 1 6 6 2 ∷ []) → ⊥ }
+{}

@@ -33,7 +33,7 @@ pub(crate) fn as_span(line: Line) -> Line
 
 /// A kept span and the line behind it as one span, if they are of one cell and direction and the values of the second
 /// follow.
-pub(crate) fn joined(kept: Option<Line>, line: Line) -> Option<Line>
+pub(crate) fn join_with(kept: Option<Line>, line: Line) -> Option<Line>
     ensures value { result ≡ join_with kept line }
 {
     let Some(
@@ -66,6 +66,13 @@ pub(crate) fn joined(kept: Option<Line>, line: Line) -> Option<Line>
     } else {
         None
     }
+}
+
+/// What is left where a kept span and a line behind it are not both put: the span, where it is the one that was cut off,
+/// and no span, where the line was.
+#[derive(Clone, Copy, Debug)]
+pub(crate) struct CutOff {
+    pub(crate) kept: Option<Line>,
 }
 
 /// Puts a line of format 2.
@@ -101,51 +108,53 @@ fn put_line<S: Sink>(sink: &mut S, line: Line) -> Result<(), SinkFault>
 }
 
 /// Puts a line that no span is kept before, if it can't grow, and answers it if it can.
-fn put_settled<S: Sink>(sink: &mut S, line: Line) -> Result<Option<Line>, Option<Line>>
+fn put_settled_part<S: Sink>(sink: &mut S, line: Line) -> Result<Option<Line>, CutOff>
     requires whole { IsWhole line }
     requires spelled { as_span line ≡ line }
     ensures ok { IfOk result (PutsApart (S.seen sink.old) (S.seen sink.new) None line) }
-    ensures failed { IfErr result (IsCutApart (S.seen sink.old) (S.seen sink.new) None line) }
+    ensures failed { IfErr result
+        (λ cut. IsCutApart (S.seen sink.old) (S.seen sink.new) None line cut.kept) }
 {
     if let Line::Span { .. } = line {
         return Ok(Some(line));
     }
     match put_line(sink, line) {
         Ok(()) => Ok(None),
-        Err(_) => Err(None),
+        Err(_) => Err(CutOff { kept: None }),
     }
 }
 
 /// Puts a kept span, and a line behind it that is no part of it.
-fn put_behind<S: Sink>(sink: &mut S, kept: Line, line: Line) -> Result<Option<Line>, Option<Line>>
+fn put_behind<S: Sink>(sink: &mut S, kept: Line, line: Line) -> Result<Option<Line>, CutOff>
     requires whole { IsWhole line }
     requires spelled { as_span line ≡ line }
     requires kept { is_span kept ≡ true }
     ensures ok { IfOk result (PutsApart (S.seen sink.old) (S.seen sink.new) (Some kept) line) }
     ensures failed { IfErr result
-        (IsCutApart (S.seen sink.old) (S.seen sink.new) (Some kept) line) }
+        (λ cut. IsCutApart (S.seen sink.old) (S.seen sink.new) (Some kept) line cut.kept) }
 {
     match put_line(sink, kept) {
-        Ok(()) => put_settled(sink, line),
-        Err(_) => Err(Some(kept)),
+        Ok(()) => put_settled_part(sink, line),
+        Err(_) => Err(CutOff { kept: Some(kept) }),
     }
 }
 
 /// Puts the span that is kept, if there is one, and a line behind it that is no part of it; a line that can still grow is
-/// answered in place of being put. Where not all is put, the answer is what is left of the kept span.
+/// answered in place of being put.
 pub(crate) fn put_apart<S: Sink>(
     sink: &mut S,
     kept: Option<Line>,
     line: Line,
-) -> Result<Option<Line>, Option<Line>>
+) -> Result<Option<Line>, CutOff>
     requires whole { IsWhole line }
     requires spelled { as_span line ≡ line }
     requires kept { is_kept kept ≡ true }
     ensures ok { IfOk result (PutsApart (S.seen sink.old) (S.seen sink.new) kept line) }
-    ensures failed { IfErr result (IsCutApart (S.seen sink.old) (S.seen sink.new) kept line) }
+    ensures failed { IfErr result
+        (λ cut. IsCutApart (S.seen sink.old) (S.seen sink.new) kept line cut.kept) }
 {
     match kept {
-        None => put_settled(sink, line),
+        None => put_settled_part(sink, line),
         Some(span) => put_behind(sink, span, line),
     }
 }

@@ -7,10 +7,10 @@ ghost use Rattle.wfc_proof.specs.ProofText.{IsProofText};
 ghost use Rattle.wfc_proof.specs.Spans.{counted_lines, in_spans, is_kept, line_if_any};
 ghost use Rattle.wfc_proof.specs.Telling.{PutsOrCuts, line_in, text_of};
 ghost use Rattle.wfc_proof.specs.Upgrade.{HasUpgradedProofs, TakesFront, TakesLine, behind_head, behind_line, format_at, line_at};
-ghost use Rattle.wfc_proof.specs.Upgrade.{lines_in, upgraded_text};
+ghost use Rattle.wfc_proof.specs.Upgrade.{lines_in, lines_behind_head, text_behind_head, upgraded_text};
 
 use crate::heads::{read_format, write_header_2};
-use crate::spans::{as_span, joined, put_apart};
+use crate::spans::{as_span, join_with, put_apart};
 use crate::text::{read_line, read_line_2};
 use crate::writing::write_line;
 use crate::{Format, Line, LineFault, Shape};
@@ -48,6 +48,7 @@ fn upgrade_to<S: Sink>(
         (upgraded_text problem.now shape bytes.now) result }
     ensures same_proof { HasUpgradedProofs problem.now shape bytes.now }
 {
+    // The proof knows how large the fields are where they are read.
     let _limits = (shape.width, shape.height, shape.depth, shape.symmetry);
     match write_header_2(sink, &shape, problem.cells(), problem.values()) {
         Ok(()) => upgrade_proof(bytes, sink),
@@ -57,11 +58,9 @@ fn upgrade_to<S: Sink>(
 
 /// Puts the lines of a text behind its head.
 fn upgrade_proof<S: Sink>(bytes: &[u8], sink: &mut S) -> Result<(), SinkFault>
-    requires lines { text_of
-        (lines_in (format_at bytes.now) (behind_head (format_at bytes.now) bytes.now))
-        ≡ behind_head (format_at bytes.now) bytes.now }
-    ensures put { Puts (S.seen sink.old) (S.seen sink.new) (text_of (in_spans (counted_lines
-        (lines_in (format_at bytes.now) (behind_head (format_at bytes.now) bytes.now))))) result }
+    requires lines { text_of (lines_behind_head bytes.now) ≡ text_behind_head bytes.now }
+    ensures put { Puts (S.seen sink.old) (S.seen sink.new)
+        (text_of (in_spans (counted_lines (lines_behind_head bytes.now)))) result }
 {
     let format = format_at(bytes);
     upgrade_lines(behind_head(format, bytes), format, sink)
@@ -148,7 +147,7 @@ fn take_line<S: Sink>(
     ensures failed { OnErr result (TakesFront (S.seen sink.old) (S.seen sink.new) kept line) }
 {
     let told = as_span(line);
-    if let Some(span) = joined(kept, told) {
+    if let Some(span) = join_with(kept, told) {
         return Ok(Some(span));
     }
     match put_apart(sink, kept, told) {
@@ -160,7 +159,8 @@ fn take_line<S: Sink>(
 /// Puts the kept span, if there is one.
 fn put_kept<S: Sink>(sink: &mut S, kept: Option<Line>) -> Result<(), SinkFault>
     requires kept { is_kept kept ≡ true }
-    ensures put { PutsOrCuts (S.seen sink.old) (S.seen sink.new) (text_of (line_if_any kept)) result }
+    ensures put { PutsOrCuts (S.seen sink.old) (S.seen sink.new)
+        (text_of (line_if_any kept)) result }
 {
     match kept {
         Some(span) => write_line(sink, span),

@@ -15,7 +15,7 @@ use Rattle.wfc_problem.specs.Network.{IsProblem, Network, in_base}
 use Rattle.wfc_proof.proofs.Formed.{AreFormed, closes_follows, is_single, proof_formed}
 use Rattle.wfc_proof.specs.JournalText.{IsOpenTextOf}
 use Rattle.wfc_proof.specs.ProofText.{IsTextOf, head_in}
-use Rattle.wfc_proof.specs.Spans.{Joined, all_joined, apart, as_span, growing, grown_or_apart, in_spans, join_line, join_on, join_with, line_if_any, nothing_joined}
+use Rattle.wfc_proof.specs.Spans.{Joined, all_joined, apart, as_span, growing_part, grown_or_apart, in_spans, join_line, join_on, join_with, line_if_any, nothing_joined}
 use Rattle.wfc_proof.specs.Telling.{text_of}
 use Rattle.wfc_proof.specs.declared.Line.{Line}
 use Rattle.wfc_proof.specs.declared.Line.TheVariants.{Empty, End, Found, Out, Remove, Span, Try}
@@ -50,7 +50,7 @@ none_joined (Some End) o = refl
 none_joined (Some Found) o = refl
 none_joined (Some Out) o = refl
 
-pub none_growing : (o : Outcome) → growing (as_span (end_line o)) ≡ None
+pub none_growing : (o : Outcome) → growing_part (as_span (end_line o)) ≡ None
 none_growing outcome.Map = refl
 none_growing outcome.NoMap = refl
 none_growing outcome.Spent = refl

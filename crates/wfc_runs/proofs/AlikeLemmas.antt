@@ -2,7 +2,7 @@
 use Rattle.std.proofs.Common.{◌≡◌, ℕ, zero, suc, List, [], Option, get_or, refl, ap, sym, ◌∙◌, cond}
 use Rattle.std.specs.Prelude.{All}
 use Rattle.rand_core.specs.Stream.{Stream}
-use Rattle.wfc_choose.specs.Pick.{Rule, picked}
+use Rattle.wfc_choose.specs.Pick.{Rule, picked_cell}
 use Rattle.wfc_choose.specs.declared.RuleKind.{RuleKind}
 use Rattle.wfc_choose.specs.declared.RuleKind.TheVariants.{Scanline, Fewest, Ranked}
 use Rattle.wfc_problem.specs.Network.{Network}
@@ -13,7 +13,7 @@ use Rattle.wfc_runs.specs.Alike.{IsPlain, PickAlike, PicksAs}
 
 -- rules of one kind pick alike, but where they go by ranks
 pub kinds_alike : (kind : RuleKind) (ranks others : List ℕ) → IsPlain kind → PicksAs (record { kind = kind; ranks = ranks }) (record { kind = kind; ranks = others })
-unfolding picked
+unfolding picked_cell
 kinds_alike Scanline ranks others plain sizes = refl
 kinds_alike Fewest ranks others plain sizes = refl
 kinds_alike Ranked ranks others plain sizes = absurd plain
@@ -21,9 +21,9 @@ kinds_alike Ranked ranks others plain sizes = absurd plain
 -- so two rules that are of such a kind
 pub plain_alike : (rule other : Rule) (kind : RuleKind) → IsPlain kind → rule.kind ≡ kind → other.kind ≡ kind → PicksAs rule other
 plain_alike rule other kind plain is it sizes =
-    ap (λ k. picked (record { kind = k; ranks = rule.ranks }) sizes) is
+    ap (λ k. picked_cell (record { kind = k; ranks = rule.ranks }) sizes) is
     ∙ kinds_alike kind rule.ranks other.ranks plain sizes
-    ∙ ap (λ k. picked (record { kind = k; ranks = other.ranks }) sizes) (sym it)
+    ∙ ap (λ k. picked_cell (record { kind = k; ranks = other.ranks }) sizes) (sym it)
 
 -- so all rules of such a kind
 pub rules_alike : (rules : List Rule) (kind : RuleKind) → IsPlain kind → All (λ (r : Rule). r.kind ≡ kind) rules → PickAlike rules

@@ -13,7 +13,7 @@ use Rattle.wfc_problem.specs.Sizes.{values_at}
 use Rattle.wfc_problem.specs.declared.Literal.{Literal}
 use Rattle.wfc_proof.specs.Journal.{quiet}
 use Rattle.wfc_proof.specs.declared.JournalFault.{JournalFault}
-use Rattle.wfc_search.specs.Run.{State, start, end_from}
+use Rattle.wfc_search.specs.Run.{start, end_from}
 use Rattle.wfc_search.specs.Search.{SearchView, state_at, IsReady, SaysTrue, assignment_of}
 use Rattle.wfc_search.specs.Ends.{EndsIn, EndsInMap}
 use Rattle.wfc_search.specs.Telling.{StepFails, RunFails}

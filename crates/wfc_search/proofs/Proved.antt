@@ -1,13 +1,13 @@
 -- What a run tells leads a checker to where the run is.
-use Rattle.std.proofs.Common.{◌≡◌, ◌≢◌, ℕ, zero, suc, ◌+◌, ◌-◌, ◌<◌, ◌≤◌, Bool, true, false, cond, List, [], ◌∷◌, ◌++◌, length, take, drop, refl, sym, ◌∙◌, ap, subst, arith, inl, inr, ◌⊎◌, Option, Some, None, append_assoc, append-nil, length-append}
-use Rattle.std.specs.Prelude.{Result, Ok, Err, ◌==◌, ◌||◌, ◌&&◌, not, slice_index, IsTrue, IsFalse, count_by, Contains}
-use Rattle.std.specs.List.{list_all, list_any, range_with_len}
+use Rattle.std.proofs.Common.{◌≡◌, ◌≢◌, ℕ, ◌<◌, ◌≤◌, Bool, true, false, cond, List, [], ◌∷◌, ◌++◌, length, take, refl, sym, ◌∙◌, ap, subst, arith, inl, inr, ◌⊎◌, Option, Some, None, append_assoc, append-nil, length-append}
+use Rattle.std.specs.Prelude.{Result, Ok, Err, ◌==◌, ◌||◌, ◌&&◌, not, count_by}
+use Rattle.std.specs.List.{list_all, range_with_len}
 use Rattle.std.proofs.lemmas.Bool.{cases_Bool, eqb-true, eqb-false, false≢true, and_parts, and_from}
-use Rattle.rand_core.specs.Stream.{Stream, next_u64}
-use Rattle.wfc_choose.specs.Draw.{drawn}
-use Rattle.wfc_choose.specs.Pick.{Rule, picked}
+use Rattle.rand_core.specs.Stream.{next_u64}
+use Rattle.wfc_choose.specs.Draw.{drawn_value}
+use Rattle.wfc_choose.specs.Pick.{Rule, picked_cell}
 use Rattle.wfc_domains.specs.Domains.{less}
-use Rattle.wfc_domains.specs.Removals.{without, IsUnsupported, IsCause, IsRemoved, AreRemoved}
+use Rattle.wfc_domains.specs.Removals.{without, IsUnsupported, IsCause, AreRemoved}
 use Rattle.wfc_domains.specs.Store.{StoreView, IsSound, IsVerdict, left_of, before_of, added_of, level_mark, all_but_last}
 use Rattle.wfc_domains.specs.declared.Cause.{Cause}
 use Rattle.wfc_domains.specs.declared.Cause.TheVariants.{Assumed, Arc}
@@ -18,24 +18,24 @@ use Rattle.wfc_lists.proofs.Counts.{count_by_pos}
 use Rattle.wfc_lists.proofs.Lists.{all_pass, one_fails, has_Contains}
 use Rattle.wfc_lists.proofs.Ranges.{range_Contains}
 use Rattle.wfc_problem.proofs.CallerLemmas.{base_inside, cut_within, greatest_base, greatest_is, greatest_same, greatest_within, size_at_one}
-use Rattle.wfc_problem.specs.Domains.{Test, Within, cut, leaves, leaves_all, base_with, support_count, count_at, IsGreatest, IsEmptyAt}
-use Rattle.wfc_problem.specs.Network.{Network, IsProblem, values, in_base, neighbour, supports_of, ok}
+use Rattle.wfc_problem.specs.Domains.{Test, Within, cut, leaves, leaves_all, base_with, count_at, IsGreatest}
+use Rattle.wfc_problem.specs.Network.{Network, IsProblem, values, in_base, supports_of, ok}
 use Rattle.wfc_problem.specs.Rounds.{greatest}
 use Rattle.wfc_problem.specs.Sizes.{values_at, sizes_of, size_at, is_dead}
 use Rattle.wfc_problem.specs.declared.Literal.{Literal}
 use Rattle.wfc_problem.specs.declared.Literal.TheVariants.{Is, Not}
 use Rattle.wfc_proof.specs.Checker.{Point, after_close, and_on, node_steps}
-use Rattle.wfc_proof.specs.Checker.Point.{going, closed, ended}
-use Rattle.wfc_proof.specs.Lines.{has_nodes, nodes_of, nodes_of_lines, SpellsNodes}
-use Rattle.wfc_proof.specs.Proof.{Proof, IsRemoval, IsSplit, Node, is_left_off, nodes}
+use Rattle.wfc_proof.specs.Checker.Point.{going, closed}
+use Rattle.wfc_proof.specs.Lines.{has_nodes, nodes_of, nodes_of_lines}
+use Rattle.wfc_proof.specs.Proof.{IsRemoval, IsSplit, Node, is_left_off}
 use Rattle.wfc_proof.specs.Proof.Node.{empties, removes, splits}
 use Rattle.wfc_proof.specs.declared.Line.{Line}
-use Rattle.wfc_proof.specs.declared.Line.TheVariants.{Remove, Try, Empty, End, Found, Out}
+use Rattle.wfc_proof.specs.declared.Line.TheVariants.{Try, End, Found, Out}
 use Rattle.wfc_proof.specs.declared.Reject.{Reject}
 use Rattle.wfc_proof.proofs.Forests.{step_on, steps_append, closed_proof, follow_proof, follows_closes, going_iff}
 use Rattle.wfc_proof.proofs.Nodes.{removal_accepted, split_accepted, empty_accepted, neither}
 use Rattle.wfc_search.specs.Between.{Cuts}
-use Rattle.wfc_search.specs.Proved.{AreProof, IsClosedBy, IsLeftOpen}
+use Rattle.wfc_search.specs.Proved.{AreProof, IsLeftOpen}
 use Rattle.wfc_search.specs.Run.{State, Choice, last_choice, after_choice, after_retraction, dead_turn, alive_turn, turn_of, LeadsTo}
 use Rattle.wfc_search.specs.Telling.{lines_by, removal_lines, empty_lines, level_lines, opening_lines, end_line, turn_lines, IsStoreAt, TellsTo, TellsRun}
 use Rattle.wfc_search.specs.declared.Outcome.{Outcome}
@@ -277,8 +277,8 @@ level_begins P before l store sound same standing =
     but_last ls m = grind (arith, common_steps)
 
 -- a choice that is told
-choice_told : (P : Network) → IsProblem P → (rule : Rule) (s : State) (store : StoreView) (cell : ℕ) → is_dead P (greatest P s.standing) ≡ false → picked rule (sizes_of P (greatest P s.standing)) ≡ Some cell
-    → (value : ℕ) → value ≡ drawn P (values_at P (greatest P s.standing) cell) (next_u64 s.words).0
+choice_told : (P : Network) → IsProblem P → (rule : Rule) (s : State) (store : StoreView) (cell : ℕ) → is_dead P (greatest P s.standing) ≡ false → picked_cell rule (sizes_of P (greatest P s.standing)) ≡ Some cell
+    → (value : ℕ) → value ≡ drawn_value P (values_at P (greatest P s.standing) cell) (next_u64 s.words).0
     → IsStoreAt P (after_choice s cell value (next_u64 s.words).1) store
     → node_steps P (point_of P s.standing) (nodes_of_lines (Try cell value ∷ level_lines store)) ≡ Ok (point_of P (s.standing ++ Is value cell ∷ []))
 choice_told P p rule s store cell alive picks value draws at =
@@ -320,21 +320,21 @@ back_told P p s t store last false dead found leads at =
 
 -- a turn that leads on, told
 lead_told : (P : Network) → IsProblem P → (rule : Rule) (budget : ℕ) (s t : State) (store : StoreView) (b : Bool) (m : Option Choice) (o : Option ℕ)
-    → is_dead P (greatest P s.standing) ≡ b → last_choice s.standing ≡ m → picked rule (sizes_of P (greatest P s.standing)) ≡ o
+    → is_dead P (greatest P s.standing) ≡ b → last_choice s.standing ≡ m → picked_cell rule (sizes_of P (greatest P s.standing)) ≡ o
     → LeadsTo (cond b (dead_turn budget s m) (alive_turn P s (greatest P s.standing) o)) t → IsStoreAt P t store
     → node_steps P (point_of P s.standing) (nodes_of_lines (turn_lines (cond {A = Turn × State} b (dead_turn budget s m) (alive_turn P s (greatest P s.standing) o)).0 store)) ≡ Ok (point_of P t.standing)
 lead_told P p rule budget s t store true None o dead found picks leads at = absurd leads
 lead_told P p rule budget s t store true (Some last) o dead found picks leads at = back_told P p s t store last (s.retractions == budget) dead found leads at
 lead_told P p rule budget s t store false m None dead found picks leads at = absurd leads
 lead_told P p rule budget s t store false m (Some cell) dead found picks leads at =
-    choice_told P p rule s store cell dead picks (drawn P (values_at P (greatest P s.standing) cell) (next_u64 s.words).0) refl (subst (λ (u : State). IsStoreAt P u store) (sym leads) at)
+    choice_told P p rule s store cell dead picks (drawn_value P (values_at P (greatest P s.standing) cell) (next_u64 s.words).0) refl (subst (λ (u : State). IsStoreAt P u store) (sym leads) at)
     ∙ ap (λ (u : State). accepted (point_of P u.standing)) leads
 
 turn_told : (P : Network) → IsProblem P → (rule : Rule) (budget : ℕ) (s t : State) (store : StoreView) → LeadsTo (turn_of P rule budget s) t → IsStoreAt P t store
     → node_steps P (point_of P s.standing) (nodes_of_lines (turn_lines (turn_of P rule budget s).0 store)) ≡ Ok (point_of P t.standing)
 unfolding turn_of
 turn_told P p rule budget s t store leads at =
-    lead_told P p rule budget s t store (is_dead P (greatest P s.standing)) (last_choice s.standing) (picked rule (sizes_of P (greatest P s.standing))) refl refl refl leads at
+    lead_told P p rule budget s t store (is_dead P (greatest P s.standing)) (last_choice s.standing) (picked_cell rule (sizes_of P (greatest P s.standing))) refl refl refl leads at
 
 -- ---- runs
 

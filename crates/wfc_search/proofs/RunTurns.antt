@@ -1,5 +1,5 @@
 -- One turn in the middle of a run, and the last one.
-use Rattle.std.proofs.Common.{◌≡◌, ◌≢◌, ℕ, ◌<◌, ◌≤◌, List, ◌++◌, false, refl, ◌∙◌, ap, subst, arith, Some, None}
+use Rattle.std.proofs.Common.{◌≡◌, ◌≢◌, ℕ, ◌<◌, ◌≤◌, ◌++◌, false, refl, ◌∙◌, ap, subst, arith, None}
 use Rattle.std.specs.Prelude.{IsTrue}
 use Rattle.std.proofs.lemmas.Bool.{false_from_ne_true}
 use Rattle.rand_core.specs.Stream.{Stream}
@@ -7,13 +7,11 @@ use Rattle.wfc_choose.specs.Pick.{Rule}
 use Rattle.wfc_domains.specs.Store.{StoreView}
 use Rattle.wfc_problem.specs.Network.{Network, IsProblem}
 use Rattle.wfc_proof.specs.Journal.{JournalView, after_lines}
-use Rattle.wfc_proof.specs.declared.Line.{Line}
 use Rattle.wfc_search.specs.Between.{IsBetween, work_left}
 use Rattle.wfc_search.specs.Run.{State, turn_of, end_from, LeadsTo}
 use Rattle.wfc_search.specs.Search.{SearchView, state_at, draws_after, outcome_after, IsTurnFrom, HoldsBetween, IsReady, IsTurn, IsEnd, IsGoing}
-use Rattle.wfc_search.specs.Telling.{opening_lines, turn_lines, TellsRun, IsCutOffFrom, IsRunCutOff, IsRunTold}
+use Rattle.wfc_search.specs.Telling.{opening_lines, turn_lines, IsCutOffFrom, IsRunCutOff, IsRunTold}
 use Rattle.wfc_search.specs.Volume.{volume_of}
-use Rattle.wfc_search.specs.declared.course.Course.{Course}
 use Rattle.wfc_search.specs.declared.Outcome.{Outcome}
 use Rattle.wfc_search.specs.declared.Outcome.TheVariants.{Spent}
 use Rattle.wfc_search.specs.declared.Turn.{Turn}

@@ -3,8 +3,8 @@ use Rattle.std.proofs.Common.{◌≡◌, ◌≢◌, ℕ, ◌+◌, ◌<◌, true,
 use Rattle.std.specs.Option.{ForSome}
 use Rattle.std.proofs.lemmas.List.{length-take-le}
 use Rattle.rand_core.specs.Stream.{Stream, next_u64}
-use Rattle.wfc_choose.specs.Draw.{drawn}
-use Rattle.wfc_choose.specs.Pick.{Rule, picked}
+use Rattle.wfc_choose.specs.Draw.{drawn_value}
+use Rattle.wfc_choose.specs.Pick.{Rule, picked_cell}
 use Rattle.wfc_choose.specs.Told.{Told}
 use Rattle.wfc_domains.specs.Store.{StoreView, left_of}
 use Rattle.wfc_domains.specs.declared.Verdict.TheVariants.{Alive, Dead}
@@ -79,10 +79,10 @@ no_outcome P outcome none o is = cc
 -- ---- a choice
 
 -- the cell that is picked is one, and not empty
-pub pick_open : (P : Network) (rule : Rule) (store : StoreView) (chooser : Told) (cell : ℕ) → IsAlive P store chooser → Some cell ≡ picked rule chooser.sizes
-    → (picked rule (sizes_of P (greatest P store.standing)) ≡ Some cell) × (cell < P.cells) × (0 < size_at P (left_of store) cell)
+pub pick_open : (P : Network) (rule : Rule) (store : StoreView) (chooser : Told) (cell : ℕ) → IsAlive P store chooser → Some cell ≡ picked_cell rule chooser.sizes
+    → (picked_cell rule (sizes_of P (greatest P store.standing)) ≡ Some cell) × (cell < P.cells) × (0 < size_at P (left_of store) cell)
 pick_open P rule store chooser cell alive is =
-    let picks : picked rule (sizes_of P (greatest P store.standing)) ≡ Some cell = ap (picked rule) (sym alive.sizes) ∙ sym is in
+    let picks : picked_cell rule (sizes_of P (greatest P store.standing)) ≡ Some cell = ap (picked_cell rule) (sym alive.sizes) ∙ sym is in
     let opened = picked_open rule (sizes_of P (greatest P store.standing)) cell picks in
     let inside : cell < P.cells = omega (arith, opened.0, length-sizes_of P (greatest P store.standing)) in
     let two = opened.1 in
@@ -91,26 +91,26 @@ pick_open P rule store chooser cell alive is =
 
 -- a cell is picked, and the word draws this value of it
 pub record Draws (P : Network) (rule : Rule) (store : StoreView) (words left : Stream) (cell value word : ℕ) : Type 0 where
-  pub picks : picked rule (sizes_of P (greatest P store.standing)) ≡ Some cell
+  pub picks : picked_cell rule (sizes_of P (greatest P store.standing)) ≡ Some cell
   pub word_is : (word, left) ≡ next_u64 words
-  pub value_is : value ≡ drawn P (values_at P (greatest P store.standing) cell) word
+  pub value_is : value ≡ drawn_value P (values_at P (greatest P store.standing) cell) word
 
 -- so it is, told from the domains that are read
-pub draws_is : (P : Network) (rule : Rule) (store : StoreView) (chooser : Told) (D : Test) (words left : Stream) (cell value word : ℕ) → IsAlive P store chooser → Some cell ≡ picked rule chooser.sizes
-    → D ≡ left_of store → ◌≡◌ {A = ℕ × Stream} (word, left) (next_u64 words) → value ≡ drawn P (values_at P D cell) word → Draws P rule store words left cell value word
+pub draws_is : (P : Network) (rule : Rule) (store : StoreView) (chooser : Told) (D : Test) (words left : Stream) (cell value word : ℕ) → IsAlive P store chooser → Some cell ≡ picked_cell rule chooser.sizes
+    → D ≡ left_of store → ◌≡◌ {A = ℕ × Stream} (word, left) (next_u64 words) → value ≡ drawn_value P (values_at P D cell) word → Draws P rule store words left cell value word
 draws_is P rule store chooser D words left cell value word alive picks read word_is value_is = record {
   picks = (pick_open P rule store chooser cell alive picks).0;
   word_is = word_is;
-  value_is = value_is ∙ ap (λ (E : Test). drawn P (values_at P E cell) word) (read ∙ alive.left);
+  value_is = value_is ∙ ap (λ (E : Test). drawn_value P (values_at P E cell) word) (read ∙ alive.left);
 }
 
 -- the turn that it is
 choice_turn : (P : Network) (rule : Rule) (budget : ℕ) (s : State) (cell value word : ℕ) (left : Stream) → is_dead P (greatest P s.standing) ≡ false
-    → picked rule (sizes_of P (greatest P s.standing)) ≡ Some cell → ◌≡◌ {A = ℕ × Stream} (word, left) (next_u64 s.words) → value ≡ drawn P (values_at P (greatest P s.standing) cell) word
+    → picked_cell rule (sizes_of P (greatest P s.standing)) ≡ Some cell → ◌≡◌ {A = ℕ × Stream} (word, left) (next_u64 s.words) → value ≡ drawn_value P (values_at P (greatest P s.standing) cell) word
     → turn_of P rule budget s ≡ (Chose cell value, after_choice s cell value left)
 choice_turn P rule budget s cell value word left alive picks word_is value_is =
     made_choice P rule budget s cell alive picks
-    ∙ ap (λ (next : ℕ × Stream). (Chose cell (drawn P (values_at P (greatest P s.standing) cell) next.0), after_choice s cell (drawn P (values_at P (greatest P s.standing) cell) next.0) next.1)) (sym word_is)
+    ∙ ap (λ (next : ℕ × Stream). (Chose cell (drawn_value P (values_at P (greatest P s.standing) cell) next.0), after_choice s cell (drawn_value P (values_at P (greatest P s.standing) cell) next.0) next.1)) (sym word_is)
     ∙ ap (λ (v : ℕ). (Chose cell v, after_choice s cell v left)) (sym value_is)
 
 -- of the search
@@ -126,7 +126,7 @@ choice_cut : (P : Network) → IsProblem P → (rule : Rule) (old : StoreView) (
 choice_cut P p rule old chooser words left cell value word alive d =
     let s : State = record { standing = old.standing; retractions = 0; draws = 0; words = words } in
     choice_cuts P p rule s (after_choice s cell value left) old.standing
-    (record { alive = alive.alive; cell = cell; value = value; words = left; picks = d.picks; draws = d.value_is ∙ ap (λ (next : ℕ × Stream). drawn P (values_at P (greatest P old.standing) cell) next.0) d.word_is; next = refl })
+    (record { alive = alive.alive; cell = cell; value = value; words = left; picks = d.picks; draws = d.value_is ∙ ap (λ (next : ℕ × Stream). drawn_value P (values_at P (greatest P old.standing) cell) next.0) d.word_is; next = refl })
 
 -- it is a literal of the problem
 pub choice_in_problem : (P : Network) → IsProblem P → (rule : Rule) (old : StoreView) (chooser : Told) (words left : Stream) (cell value word : ℕ) → IsAlive P old chooser
@@ -168,8 +168,8 @@ pub record IsKnown (old : SearchView) (words left : Stream) (cell value : ℕ) :
   pub ready : (new : StoreView) (told : Told) → old.course.outcome ≡ None → IsPutOn old.store new (Is value cell) → Keeps new told → HoldsBetween old.problem new told old.course
 
 -- so it is, told from the domains that are read
-pub choice_known : (old : SearchView) (D : Test) (words left : Stream) (cell value word : ℕ) → IsReady old → old.store.verdict ≡ Alive → Some cell ≡ picked old.chooser.rule old.chooser.sizes
-    → D ≡ left_of old.store → ◌≡◌ {A = ℕ × Stream} (word, left) (next_u64 words) → value ≡ drawn old.problem (values_at old.problem D cell) word → IsKnown old words left cell value
+pub choice_known : (old : SearchView) (D : Test) (words left : Stream) (cell value word : ℕ) → IsReady old → old.store.verdict ≡ Alive → Some cell ≡ picked_cell old.chooser.rule old.chooser.sizes
+    → D ≡ left_of old.store → ◌≡◌ {A = ℕ × Stream} (word, left) (next_u64 words) → value ≡ drawn_value old.problem (values_at old.problem D cell) word → IsKnown old words left cell value
 choice_known old D words left cell value word ready alive_is picks read word_is value_is =
     let P : Network = old.problem in
     let rule : Rule = old.chooser.rule in

@@ -9,8 +9,8 @@ use Rattle.wfc_problem.specs.Rounds.{greatest}
 use Rattle.wfc_problem.specs.declared.Literal.{Literal}
 use Rattle.wfc_problem.specs.declared.Literal.TheVariants.{Is}
 use Rattle.wfc_search.specs.Between.{Cuts}
-use Rattle.wfc_choose.specs.Draw.{drawn}
-use Rattle.wfc_choose.specs.Pick.{Rule, picked}
+use Rattle.wfc_choose.specs.Draw.{drawn_value}
+use Rattle.wfc_choose.specs.Pick.{Rule, picked_cell}
 use Rattle.wfc_search.specs.Run.{State, Choice, last_choice, after_choice, after_retraction, dead_turn, alive_turn, turn_of, LeadsTo}
 use Rattle.wfc_problem.specs.Sizes.{values_at, sizes_of, is_dead}
 use Rattle.wfc_search.specs.declared.Outcome.{Outcome}
@@ -27,8 +27,8 @@ pub record IsChoice (P : Network) (rule : Rule) (s t : State) (D : Test) : Type 
   pub cell : ℕ
   pub value : ℕ
   pub words : Stream
-  pub picks : picked rule (sizes_of P D) ≡ Some cell
-  pub draws : value ≡ drawn P (values_at P D cell) (next_u64 s.words).0
+  pub picks : picked_cell rule (sizes_of P D) ≡ Some cell
+  pub draws : value ≡ drawn_value P (values_at P D cell) (next_u64 s.words).0
   pub next : after_choice s cell value words ≡ t
 
 pub record IsRetraction (P : Network) (budget : ℕ) (s t : State) (D : Test) : Type 0 where
@@ -47,7 +47,7 @@ back_cases P budget s t D last false dead found full leads =
 
 -- what a turn does that leads on
 lead_cases : (P : Network) (rule : Rule) (budget : ℕ) (s t : State) (D : Test) (b : Bool) (m : Option Choice) (o : Option ℕ)
-    → is_dead P D ≡ b → last_choice s.standing ≡ m → picked rule (sizes_of P D) ≡ o
+    → is_dead P D ≡ b → last_choice s.standing ≡ m → picked_cell rule (sizes_of P D) ≡ o
     → LeadsTo (cond b (dead_turn budget s m) (alive_turn P s D o)) t → IsChoice P rule s t D ⊎ IsRetraction P budget s t D
 lead_cases P rule budget s t D true None o dead found picks leads = absurd leads
 lead_cases P rule budget s t D true (Some last) o dead found picks leads =
@@ -57,7 +57,7 @@ lead_cases P rule budget s t D false m (Some cell) dead found picks leads =
     inl (record {
       alive = dead;
       cell = cell;
-      value = drawn P (values_at P D cell) (next_u64 s.words).0;
+      value = drawn_value P (values_at P D cell) (next_u64 s.words).0;
       words = (next_u64 s.words).1;
       picks = picks;
       draws = refl;
@@ -70,14 +70,14 @@ pub leads_cases : (P : Network) (rule : Rule) (budget : ℕ) (s t : State) → L
 unfolding turn_of
 leads_cases P rule budget s t leads =
     let D : Test = greatest P s.standing in
-    lead_cases P rule budget s t D (is_dead P D) (last_choice s.standing) (picked rule (sizes_of P D)) refl refl refl leads
+    lead_cases P rule budget s t D (is_dead P D) (last_choice s.standing) (picked_cell rule (sizes_of P D)) refl refl refl leads
 
 -- ---- turns that end
 
 pub record IsMapEnd (P : Network) (rule : Rule) (outcome : Outcome) (D : Test) : Type 0 where
   pub is : outcome ≡ Map
   pub alive : is_dead P D ≡ false
-  pub none : picked rule (sizes_of P D) ≡ None
+  pub none : picked_cell rule (sizes_of P D) ≡ None
 
 pub record IsNoMapEnd (P : Network) (s : State) (outcome : Outcome) (D : Test) : Type 0 where
   pub is : outcome ≡ NoMap
@@ -102,7 +102,7 @@ back_ends P rule budget s u D outcome last false found full is = let e = ap (λ 
 
 -- what a turn says that ends
 end_cases : (P : Network) (rule : Rule) (budget : ℕ) (s u : State) (D : Test) (outcome : Outcome) (b : Bool) (m : Option Choice) (o : Option ℕ)
-    → is_dead P D ≡ b → last_choice s.standing ≡ m → picked rule (sizes_of P D) ≡ o
+    → is_dead P D ≡ b → last_choice s.standing ≡ m → picked_cell rule (sizes_of P D) ≡ o
     → cond b (dead_turn budget s m) (alive_turn P s D o) ≡ (Ended outcome, u) → EndCases P rule budget s outcome D
 end_cases P rule budget s u D outcome true None o dead found picks is =
     inr (inl (record { is = (let e = ap (λ (x : Turn × State). x.0) is in cc); dead = dead; none = found }))
@@ -118,7 +118,7 @@ pub ends_cases : (P : Network) (rule : Rule) (budget : ℕ) (s u : State) (outco
 unfolding turn_of
 ends_cases P rule budget s u outcome is =
     let D : Test = greatest P s.standing in
-    end_cases P rule budget s u D outcome (is_dead P D) (last_choice s.standing) (picked rule (sizes_of P D)) refl refl refl is
+    end_cases P rule budget s u D outcome (is_dead P D) (last_choice s.standing) (picked_cell rule (sizes_of P D)) refl refl refl is
 
 -- ---- each turn ends or leads on
 
@@ -146,8 +146,8 @@ pub either_turn : (P : Network) (rule : Rule) (budget : ℕ) (s : State) → End
 unfolding turn_of
 either_turn P rule budget s =
     let D : Test = greatest P s.standing in
-    either_if s (is_dead P D) (dead_turn budget s (last_choice s.standing)) (alive_turn P s D (picked rule (sizes_of P D)))
-    (either_dead budget s (last_choice s.standing)) (either_alive P s D (picked rule (sizes_of P D)))
+    either_if s (is_dead P D) (dead_turn budget s (last_choice s.standing)) (alive_turn P s D (picked_cell rule (sizes_of P D)))
+    (either_dead budget s (last_choice s.standing)) (either_alive P s D (picked_cell rule (sizes_of P D)))
 
 -- a turn that is no end leads on
 pub leads_on : (x : Turn × State) (turn : Turn) (t : State) → x ≡ (turn, t) → ((outcome : Outcome) → turn ≡ Ended outcome → ⊥) → LeadsTo x t

@@ -62,3 +62,7 @@ IsRunState P budget s = IsBetween P budget s.standing s.retractions
 -- at most so many turns come after the next one
 abbrev pub work_left : Network → ℕ → List Literal → ℕ → ℕ
 work_left P budget standing retractions = (budget - retractions) * (depth_of P + 1) + (depth_of P - length standing)
+
+-- at most so many turns come after the next one from a state
+abbrev pub turns_to_come : Network → ℕ → State → ℕ
+turns_to_come P budget s = work_left P budget s.standing s.retractions

@@ -8,4 +8,5 @@ pub mod Telling
 pub mod Proved
 pub mod Shown
 pub mod Ends
+pub mod Each
 pub mod Small

@@ -7,8 +7,8 @@ use Rattle.wfc_problem.specs.Rounds.{greatest, depth_of}
 use Rattle.wfc_problem.specs.declared.Literal.{Literal}
 use Rattle.wfc_problem.specs.declared.Literal.TheVariants.{Is, Not}
 use Rattle.wfc_problem.specs.Sizes.{values_at, sizes_of, is_dead}
-use Rattle.wfc_choose.specs.Pick.{Rule, picked}
-use Rattle.wfc_choose.specs.Draw.{drawn}
+use Rattle.wfc_choose.specs.Pick.{Rule, picked_cell}
+use Rattle.wfc_choose.specs.Draw.{drawn_value}
 use Rattle.wfc_search.specs.declared.Turn.{Turn}
 use Rattle.wfc_search.specs.declared.Turn.TheVariants.{Chose, Retracted, Ended}
 use Rattle.wfc_search.specs.declared.Outcome.{Outcome}
@@ -73,7 +73,7 @@ dead_turn budget s (Some last) =
 -- a cell is given the value that the next word draws
 abbrev pub draw_at : Network → State → Test → ℕ → ℕ × Stream → Turn × State
 draw_at P s D cell next =
-    (Chose cell (drawn P (values_at P D cell) next.0), after_choice s cell (drawn P (values_at P D cell) next.0) next.1)
+    (Chose cell (drawn_value P (values_at P D cell) next.0), after_choice s cell (drawn_value P (values_at P D cell) next.0) next.1)
 
 -- a turn where no cell is empty: a map, or the picked cell draws one of its values
 abbrev pub alive_turn : Network → State → Test → Option ℕ → Turn × State
@@ -83,7 +83,7 @@ alive_turn P s D (Some cell) = draw_at P s D cell (next_u64 s.words)
 -- the turn from a state whose domains are these
 abbrev pub turn_on : Network → Rule → ℕ → State → Test → Turn × State
 turn_on P rule budget s D =
-    if is_dead P D then dead_turn budget s (last_choice s.standing) else alive_turn P s D (picked rule (sizes_of P D))
+    if is_dead P D then dead_turn budget s (last_choice s.standing) else alive_turn P s D (picked_cell rule (sizes_of P D))
 
 -- the turn from a state, and the state after it
 unfoldable pub turn_of : Network → Rule → ℕ → State → Turn × State

@@ -4,14 +4,16 @@ use Rattle.rand_core.specs.Stream.{Stream}
 use Rattle.wfc_choose.specs.Pick.{Rule}
 use Rattle.wfc_choose.specs.declared.RuleKind.TheVariants.{Scanline}
 use Rattle.wfc_domains.specs.Store.{StoreView}
+use Rattle.wfc_domains.specs.declared.Cause.{Cause}
 use Rattle.wfc_domains.specs.declared.Cause.TheVariants.{Arc}
 use Rattle.wfc_domains.specs.declared.Removal.{Removal}
 use Rattle.wfc_domains.specs.declared.Verdict.{Verdict}
 use Rattle.wfc_problem.specs.declared.TheConstants.{NO_CELL}
 use Rattle.wfc_problem.specs.declared.Literal.{Literal}
 use Rattle.wfc_problem.specs.Network.{Network}
-use Rattle.wfc_search.specs.Run.{State}
+use Rattle.wfc_search.specs.Run.{Choice, State}
 use Rattle.wfc_search.specs.declared.Outcome.{Outcome}
+use Rattle.wfc_search.specs.declared.last.LastChoice.{LastChoice}
 
 -- two cells side by side, whose values 0 and 1 of weights 1 and 3 must differ
 unfoldable pub pair : Network
@@ -38,6 +40,18 @@ ring = record {
 -- the value 1 was removed at cell 5 for want of support in direction 3
 abbrev pub one_removal : Removal
 one_removal = record { cell = 5; value = 1; before = 2; cause = Arc 3 }
+
+-- the value was removed at the cell, where so many values stood before, for this cause
+abbrev pub removal_by : Cause → ℕ → ℕ → ℕ → Removal
+removal_by cause cell value before = record { cell = cell; value = value; before = before; cause = cause }
+
+-- at this place of a list the value was chosen at the cell
+abbrev pub choice_at : ℕ → ℕ → ℕ → LastChoice
+choice_at place cell value = record { at = place; cell = cell; value = value }
+
+-- behind these literals the value was chosen at the cell
+abbrev pub choice_behind : List Literal → ℕ → ℕ → Choice
+choice_behind before cell value = record { before = before; cell = cell; value = value }
 
 -- a store of the ring with these literals, room, marks, verdict and removals
 abbrev pub ring_store : List Literal → ℕ → List ℕ → Verdict → List Removal → StoreView

@@ -1,9 +1,7 @@
 //! What the definitions give on small problems. Each function does nothing; its contract is the law.
 
 ghost use Rattle.std.specs.Prelude.{◌≡◌, ℕ, true, false, List, [], ◌∷◌, map, Option, Some, None};
-ghost use Rattle.wfc_domains.specs.Store.{StoreView};
 ghost use Rattle.wfc_domains.specs.declared.Cause.TheVariants.{Assumed, Arc};
-ghost use Rattle.wfc_domains.specs.declared.Removal.{Removal};
 ghost use Rattle.wfc_domains.specs.declared.Verdict.TheVariants.{Alive, Dead};
 ghost use Rattle.wfc_problem.specs.Rounds.{greatest, depth_of};
 ghost use Rattle.wfc_problem.specs.declared.Literal.TheVariants.{Is, Not};
@@ -12,7 +10,8 @@ ghost use Rattle.wfc_search.specs.Between.{Cuts, IsBetween, ways_left, work_left
 ghost use Rattle.wfc_search.specs.Last.{choice_in};
 ghost use Rattle.wfc_search.specs.Run.{last_choice, most_turns, outcome_of};
 ghost use Rattle.wfc_search.specs.Search.{draws_after, outcome_after};
-ghost use Rattle.wfc_search.specs.Small.{one_removal, pair, ring, ring_store, scanline, summary, twos};
+ghost use Rattle.wfc_search.specs.Small.{choice_at, choice_behind, one_removal, pair, removal_by, ring, ring_store};
+ghost use Rattle.wfc_search.specs.Small.{scanline, summary, twos};
 ghost use Rattle.wfc_search.specs.Telling.{end_line, level_lines, opening_lines, removal_lines, turn_lines};
 ghost use Rattle.wfc_search.specs.Volume.{at_least_one, product, volume_of};
 ghost use Rattle.wfc_search.specs.declared.Outcome.TheVariants.{Map, NoMap, Spent};
@@ -31,15 +30,14 @@ pub fn numbers()
 /// The last choice is the last `Is`, with what stands before it.
 pub fn last_choices()
     ensures last { last_choice (Is 1 0 ∷ Not 1 2 ∷ Is 5 1 ∷ Not 0 2 ∷ Not 4 3 ∷ [])
-        ≡ Some (record { before = Is 1 0 ∷ Not 1 2 ∷ []; cell = 1; value = 5 }) }
+        ≡ Some (choice_behind (Is 1 0 ∷ Not 1 2 ∷ []) 1 5) }
     ensures none { last_choice (Not 1 2 ∷ Not 4 3 ∷ []) ≡ None }
 {}
 
 /// A choice by its place in the list is a choice by what stands before it.
 pub fn choices_by_their_places()
-    ensures some { choice_in (Is 1 0 ∷ Not 1 2 ∷ Is 5 1 ∷ Not 0 2 ∷ [])
-        (Some (record { at = 2; cell = 1; value = 5 }))
-        ≡ Some (record { before = Is 1 0 ∷ Not 1 2 ∷ []; cell = 1; value = 5 }) }
+    ensures some { choice_in (Is 1 0 ∷ Not 1 2 ∷ Is 5 1 ∷ Not 0 2 ∷ []) (Some (choice_at 2 1 5))
+        ≡ Some (choice_behind (Is 1 0 ∷ Not 1 2 ∷ []) 1 5) }
     ensures none { choice_in (Is 1 0 ∷ []) None ≡ None }
 {}
 
@@ -71,19 +69,16 @@ pub fn literals_cut()
 /// Of the removals those for want of support are told, in their order, and then the cell that is empty. Before the first
 /// turn the opening is told; a choice tells its value first, a retraction no line of its own, and an end its line.
 pub fn lines_are_told()
-    ensures removals { removal_lines (record { cell = 4; value = 2; before = 3; cause = Assumed }
-        ∷ one_removal ∷ record { cell = 5; value = 0; before = 1; cause = Arc 0 } ∷ [])
-        ≡ Remove 5 1 3 ∷ Remove 5 0 0 ∷ [] }
+    ensures removals { removal_lines (removal_by Assumed 4 2 3 ∷ one_removal
+        ∷ removal_by (Arc 0) 5 0 1 ∷ []) ≡ Remove 5 1 3 ∷ Remove 5 0 0 ∷ [] }
     ensures level { level_lines (ring_store (Not 1 0 ∷ []) 5 (1 ∷ []) (Dead 6)
-        (record { cell = 7; value = 7; before = 2; cause = Arc 1 } ∷ one_removal ∷ []))
-        ≡ Remove 5 1 3 ∷ Empty 6 ∷ [] }
+        (removal_by (Arc 1) 7 7 2 ∷ one_removal ∷ [])) ≡ Remove 5 1 3 ∷ Empty 6 ∷ [] }
     ensures opening { opening_lines (ring_store [] 6 [] Alive (one_removal ∷ []))
         ≡ Remove 5 1 3 ∷ [] }
     ensures no_opening { opening_lines
         (ring_store (Not 1 0 ∷ []) 6 (0 ∷ []) Alive (one_removal ∷ [])) ≡ [] }
-    ensures choice { turn_lines (Chose 3 8)
-        (ring_store (Is 8 3 ∷ []) 6 (0 ∷ []) (Dead 6) (one_removal ∷ []))
-        ≡ Try 3 8 ∷ Remove 5 1 3 ∷ Empty 6 ∷ [] }
+    ensures choice { turn_lines (Chose 3 8) (ring_store (Is 8 3 ∷ []) 6 (0 ∷ []) (Dead 6)
+        (one_removal ∷ [])) ≡ Try 3 8 ∷ Remove 5 1 3 ∷ Empty 6 ∷ [] }
     ensures retraction { turn_lines (Retracted 3 8)
         (ring_store (Not 8 3 ∷ []) 6 (0 ∷ []) Alive (one_removal ∷ [])) ≡ Remove 5 1 3 ∷ [] }
     ensures ends { map end_line (Map ∷ NoMap ∷ Spent ∷ []) ≡ Found ∷ End ∷ Out ∷ [] }

@@ -4,7 +4,7 @@
 //! away, the sizes of the cells that changed are told as they were.
 
 ghost use Rattle.std.specs.Prelude.{◌≡◌, ◌+◌, ◌-◌, ◌++◌, ◌∷◌, [], ◌<◌, ◌≤◌, length, take, slice_set, All, OnOk, OnErr};
-ghost use Rattle.wfc_choose.specs.Pick.{picked};
+ghost use Rattle.wfc_choose.specs.Pick.{picked_cell};
 ghost use Rattle.wfc_choose.specs.Told.{Told};
 ghost use Rattle.wfc_domains.specs.Store.{StoreView, IsSound, left_of, before_of};
 ghost use Rattle.wfc_domains.specs.declared.Verdict.TheVariants.{Alive};
@@ -32,7 +32,7 @@ pub fn load(chooser: &mut Box<dyn Chooser>, sizes: &[u32]) -> Result<(), NoMemor
 /// The cell that the chooser picks.
 #[inline]
 pub fn pick(chooser: &Box<dyn Chooser>) -> Option<u32>
-    ensures value { result ≡ picked (told chooser.now).rule (told chooser.now).sizes }
+    ensures value { result ≡ picked_cell (told chooser.now).rule (told chooser.now).sizes }
 {
     chooser.pick()
 }

@@ -10,6 +10,7 @@ mod last;
 pub mod laws;
 mod search;
 mod telling;
+mod turning;
 mod volumes;
 
 pub use search::Search;

@@ -1,43 +1,37 @@
 //! A search over a store, with a chooser that is handed in.
 
-ghost use Rattle.std.specs.Prelude.{◌≡◌, ◌≢◌, ◌≤◌, ◌<◌, ◌+◌, ◌^◌, ◌↔◌, ◌++◌, ◌∷◌, [], ℕ, List, length, take, All, false, true};
-ghost use Rattle.std.specs.Prelude.{None, Some, slice_get, slice_index, IfOk, OnOk, OnErr, IsErr, IsOk, IsTrue, Ok};
+ghost use Rattle.std.specs.Prelude.{◌≡◌, ◌≢◌, ◌≤◌, ◌<◌, ◌↔◌, [], false, true, None, Some, slice_index, IfOk, OnOk};
+ghost use Rattle.std.specs.Prelude.{IsErr, IsTrue, Ok};
 ghost use Rattle.std.specs.Option.{ForSome};
-ghost use Rattle.rand_core.specs.Stream.{Stream};
-ghost use Rattle.wfc_choose.specs.Pick.{picked};
 ghost use Rattle.wfc_domains.specs.Domains.{has, flags_of};
-ghost use Rattle.wfc_domains.specs.Store.{StoreView, IsSound, left_of};
+ghost use Rattle.wfc_domains.specs.Store.{IsSound, left_of};
 ghost use Rattle.wfc_domains.specs.declared.Verdict.TheVariants.{Alive};
 ghost use Rattle.wfc_problem.specs.Assignment.{IsLegalAssignment};
-ghost use Rattle.wfc_problem.specs.Network.{IsProblem};
 ghost use Rattle.wfc_problem.specs.Rounds.{greatest, depth_of};
-ghost use Rattle.wfc_problem.specs.Sizes.{is_dead, sizes_of};
-ghost use Rattle.wfc_search.specs.Last.{choice_in};
-ghost use Rattle.wfc_search.specs.Run.{last_choice};
-ghost use Rattle.wfc_search.specs.Search.{state_at, outcome_after, IsTurn, IsWordless, Turns, Ends};
-ghost use Rattle.wfc_search.specs.Search.{SaysTrue, IsReady, IsGoing, IsOnward, assignment_of};
+ghost use Rattle.wfc_problem.specs.Sizes.{sizes_of};
+ghost use Rattle.wfc_search.specs.Search.{outcome_after, SaysTrue, IsReady, IsGoing, assignment_of};
 ghost use Rattle.wfc_search.specs.Telling.{IsStepTold, StepFails, IsRunTold, RunFails};
 ghost use Rattle.wfc_search.specs.Volume.{volume_of};
+ghost use Rattle.wfc_search.specs.Shown.{TurnsBetween, EndsBetween};
 
 use crate::course::Course;
-use crate::last::{LastChoice, last_choice_of};
 use crate::telling::{tell_opening, tell_turn};
 use crate::{Outcome, Turn, follow};
 use rand_core::Rng;
 use std::alloc::{AllocError, Global};
 use std::sync::ledger::Ledger;
-use wfc_choose::{Chooser, draw};
-use wfc_domains::{Domains, OpenFault, Steps, Store, Verdict};
+use wfc_choose::Chooser;
+use wfc_domains::{Domains, OpenFault, Steps, Store};
 use wfc_problem::{Literal, Problem};
 use wfc_proof::{Journal, JournalFault};
 
 /// A bounded search for a legal assignment of a problem.
 #[derive(Drop)]
 pub struct Search<'p, S: Store> {
-    problem: &'p Problem,
-    store: S,
-    chooser: Box<dyn Chooser>,
-    course: Course,
+    pub(crate) problem: &'p Problem,
+    pub(crate) store: S,
+    pub(crate) chooser: Box<dyn Chooser>,
+    pub(crate) course: Course,
 }
 
 /// How many values stand at each cell of a store.
@@ -50,7 +44,7 @@ fn sizes_in<S: Store>(alloc: Global, store: &S, cells: u32) -> Result<Vec<u32>, 
     let domains = store.domains();
     let mut sizes = Vec::with_capacity(alloc, cells as usize)?;
     for cell in 0..cells {
-        sizes.push(domains.size(cell))?;
+        sizes.push_reserved(domains.size(cell));
     }
     Ok(sizes)
 }
@@ -98,118 +92,6 @@ impl<'p, S: Store> Search<'p, S> {
         })
     }
 
-    /// Takes the last choice back, and rules its value out instead.
-    fn retract<L: Ledger>(&mut self, last: LastChoice, steps: &mut Steps<L>) -> Turn
-        requires ready { IsReady (view_of_search S.view self.old (told self.old.chooser)) }
-        requires dead { is_dead self.old.problem.now
-            (greatest self.old.problem.now (S.view self.old.store).standing) ≡ true }
-        requires last { choice_in (S.view self.old.store).standing (Some last) ≡ last_choice
-            (S.view self.old.store).standing }
-        requires within { last.at < length (S.view self.old.store).standing }
-        requires stands { slice_get (S.view self.old.store).standing last.at ≡ Some
-            (Literal.Is last.value last.cell) }
-        requires left { self.old.course.retractions ≢ self.old.course.budget }
-        requires few { self.old.course.budget < 2 ^ 32 }
-        requires going { self.old.course.outcome ≡ None }
-        ensures turn { IsWordless (view_of_search S.view self.old (told self.old.chooser)) result
-            (view_of_search S.view self.new (told self.new.chooser)) }
-        ensures ready { IsReady (view_of_search S.view self.new (told self.new.chooser)) }
-        ensures kept { IsOnward (view_of_search S.view self.old (told self.old.chooser))
-            (view_of_search S.view self.new (told self.new.chooser)) }
-    {
-        follow::cut_back(&mut self.store, &mut self.chooser, last.at, steps);
-        let ruled_out = Literal::Not {
-            cell: last.cell,
-            value: last.value,
-        };
-        follow::put_on(&mut self.store, &mut self.chooser, ruled_out, steps);
-        self.course.retractions += 1;
-        Turn::Retracted {
-            cell: last.cell,
-            value: last.value,
-        }
-    }
-
-    /// A turn where some cell is empty.
-    fn dead_turn<L: Ledger>(&mut self, steps: &mut Steps<L>) -> Turn
-        requires ready { IsReady (view_of_search S.view self.old (told self.old.chooser)) }
-        requires dead { is_dead self.old.problem.now
-            (greatest self.old.problem.now (S.view self.old.store).standing) ≡ true }
-        requires going { self.old.course.outcome ≡ None }
-        ensures turn { IsWordless (view_of_search S.view self.old (told self.old.chooser)) result
-            (view_of_search S.view self.new (told self.new.chooser)) }
-        ensures ready { IsReady (view_of_search S.view self.new (told self.new.chooser)) }
-        ensures kept { IsOnward (view_of_search S.view self.old (told self.old.chooser))
-            (view_of_search S.view self.new (told self.new.chooser)) }
-    {
-        match last_choice_of(self.store.standing()) {
-            None => Turn::Ended(Outcome::NoMap),
-            Some(last) => {
-                if self.course.retractions == self.course.budget {
-                    Turn::Ended(Outcome::Spent)
-                } else {
-                    self.retract(last, steps)
-                }
-            }
-        }
-    }
-
-    /// Gives a cell the value that the next word draws.
-    fn choose<R: Rng, L: Ledger>(&mut self, cell: u32, words: &mut R, steps: &mut Steps<L>) -> Turn
-        requires ready { IsReady (view_of_search S.view self.old (told self.old.chooser)) }
-        requires alive { (S.view self.old.store).verdict ≡ Alive }
-        requires picked { Some cell ≡ picked (told self.old.chooser).rule
-            (told self.old.chooser).sizes }
-        requires going { self.old.course.outcome ≡ None }
-        ensures turn { IsTurn (view_of_search S.view self.old (told self.old.chooser)) (R.stream
-            words.old) result (view_of_search S.view self.new (told self.new.chooser)) (R.stream
-            words.new) }
-        ensures ready { IsReady (view_of_search S.view self.new (told self.new.chooser)) }
-        ensures kept { IsOnward (view_of_search S.view self.old (told self.old.chooser))
-            (view_of_search S.view self.new (told self.new.chooser)) }
-    {
-        let word = words.next_u64();
-        let value = draw(self.problem, self.store.domains(), cell, word);
-        let literal = Literal::Is { cell, value };
-        follow::put_on(&mut self.store, &mut self.chooser, literal, steps);
-        Turn::Chose { cell, value }
-    }
-
-    /// A turn where no cell is empty.
-    fn alive_turn<R: Rng, L: Ledger>(&mut self, words: &mut R, steps: &mut Steps<L>) -> Turn
-        requires ready { IsReady (view_of_search S.view self.old (told self.old.chooser)) }
-        requires alive { (S.view self.old.store).verdict ≡ Alive }
-        requires going { self.old.course.outcome ≡ None }
-        ensures turn { IsTurn (view_of_search S.view self.old (told self.old.chooser)) (R.stream
-            words.old) result (view_of_search S.view self.new (told self.new.chooser)) (R.stream
-            words.new) }
-        ensures ready { IsReady (view_of_search S.view self.new (told self.new.chooser)) }
-        ensures kept { IsOnward (view_of_search S.view self.old (told self.old.chooser))
-            (view_of_search S.view self.new (told self.new.chooser)) }
-    {
-        match follow::pick(&self.chooser) {
-            None => Turn::Ended(Outcome::Map),
-            Some(cell) => self.choose(cell, words, steps),
-        }
-    }
-
-    /// Makes a turn, and tells nobody.
-    fn turn<R: Rng, L: Ledger>(&mut self, words: &mut R, steps: &mut Steps<L>) -> Turn
-        requires ready { IsReady (view_of_search S.view self.old (told self.old.chooser)) }
-        requires going { self.old.course.outcome ≡ None }
-        ensures turn { IsTurn (view_of_search S.view self.old (told self.old.chooser)) (R.stream
-            words.old) result (view_of_search S.view self.new (told self.new.chooser)) (R.stream
-            words.new) }
-        ensures ready { IsReady (view_of_search S.view self.new (told self.new.chooser)) }
-        ensures kept { IsOnward (view_of_search S.view self.old (told self.old.chooser))
-            (view_of_search S.view self.new (told self.new.chooser)) }
-    {
-        match self.store.verdict() {
-            Verdict::Dead { .. } => self.dead_turn(steps),
-            Verdict::Alive => self.alive_turn(words, steps),
-        }
-    }
-
     /// Makes one turn of the run, and tells its lines. The first call, which is the one at which no literal stands, tells
     /// the lines of the opening before them. It takes no memory, and it looks at no cell that the turn doesn't change.
     pub fn step<R: Rng, J: Journal, L: Ledger>(
@@ -223,9 +105,8 @@ impl<'p, S: Store> Search<'p, S> {
         requires journal { (J.seen journal.old).failed ≡ false }
 
         // It is the turn of the run from the standing literals and the retractions, with the next word where one is drawn.
-        ensures turn { Turns (view_of_search S.view self.old (told self.old.chooser)) (R.stream
-            words.old) result (view_of_search S.view self.new (told self.new.chooser)) (R.stream
-            words.new) }
+        ensures turn { TurnsBetween S.view self.old (told self.old.chooser) (R.stream words.old)
+            result self.new (told self.new.chooser) (R.stream words.new) }
         ensures outcome { IfOk result (λ turn. self.new.course.outcome ≡ outcome_after turn) }
         ensures ready { OnOk result (IsReady (view_of_search S.view self.new (told
             self.new.chooser))) }
@@ -265,9 +146,8 @@ impl<'p, S: Store> Search<'p, S> {
         requires journal { (J.seen journal.old).failed ≡ false }
 
         // It is the end of the run from the standing literals and the retractions, with the words that the source gives.
-        ensures end { Ends (view_of_search S.view self.old (told self.old.chooser)) (R.stream
-            words.old) result (view_of_search S.view self.new (told self.new.chooser)) (R.stream
-            words.new) }
+        ensures end { EndsBetween S.view self.old (told self.old.chooser) (R.stream words.old)
+            result self.new (told self.new.chooser) (R.stream words.new) }
         ensures outcome { IfOk result (λ outcome. self.new.course.outcome ≡ Some outcome) }
         ensures enough { volume_of self.old.problem.now ≤ self.old.course.budget → result ≢ Ok
             Outcome.Spent }
@@ -337,7 +217,7 @@ impl<'p, S: Store> Search<'p, S> {
         self.store.domains()
     }
 
-    /// The value of a cell in the map that was found. It looks through the values for it.
+    /// The value of a cell in the map that was found: the first that stands.
     pub fn value_at(&self, cell: u32) -> u16
         requires ready { IsReady (view_of_search S.view self.now (told self.now.chooser)) }
         requires map { self.now.course.outcome ≡ Some Outcome.Map }
@@ -347,12 +227,6 @@ impl<'p, S: Store> Search<'p, S> {
         ensures legal { IsLegalAssignment self.now.problem.now
             (assignment_of self.now.problem.now (S.view self.now.store).standing) }
     {
-        let domains = self.store.domains();
-        for value in 0..self.problem.values() {
-            if domains.has(cell, value) {
-                return value;
-            }
-        }
-        unreachable!()
+        self.store.domains().next(cell, 0)
     }
 }

@@ -7,13 +7,7 @@ use Rattle.wfc_proof.specs.declared.heads.Format.TheVariants.{Two}
 pub returns-clause-bare : goal.returns-clause-bare
 returns-clause-bare g c =
     let shape = c.args.shape.now in
-    let is : IsShape shape = record {
-      n = c.requires.limit;
-      width = omega arith;
-      height = omega arith;
-      depth = omega arith;
-      symmetry = omega arith;
-    } in
+    let is : IsShape shape = c.gather_shape.ensures.limits in
     let numbers = with_line_end (numbers_text c.args.cells c.args.values) in
     let text =
     c.as_slice.ensures.bytes ∙ c.gather_shape.ensures.gathered ∙ ap (λ t. t ++ with_line_end (shape_text shape)) (c.gather_numbers.ensures.gathered ∙ ap (λ t. t ++ numbers) c.gather_format.ensures.gathered)

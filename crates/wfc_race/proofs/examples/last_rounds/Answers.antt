@@ -1,7 +1,7 @@
 use Rattle.std.proofs.Common.{refl, inl, inr, lit<, lit≤, arith}
 use Rattle.rand_core.specs.Stream.{next_u64}
-use Rattle.wfc_choose.specs.Draw.{drawn}
-use Rattle.wfc_choose.specs.Pick.{picked}
+use Rattle.wfc_choose.specs.Draw.{drawn_value}
+use Rattle.wfc_choose.specs.Pick.{picked_cell}
 use Rattle.wfc_problem.specs.Rounds.{greatest}
 use Rattle.wfc_search.specs.Run.{turn_of}
 use Rattle.wfc_search.specs.Small.{pair, ring, twos}
@@ -10,15 +10,15 @@ use Rattle.wfc_race.specs.Winner.{IsNoLater}
 use Rattle.wfc_race.proofs.examples.last_rounds.Goals as goal
 
 pub returns-clause-by_one : goal.returns-clause-by_one
-unfolding pair ring twos greatest picked drawn next_u64 turn_of turns_within
+unfolding pair ring twos greatest picked_cell drawn_value next_u64 turn_of turns_within
 returns-clause-by_one c = refl
 
 pub returns-clause-by_two : goal.returns-clause-by_two
-unfolding pair ring twos greatest picked drawn next_u64 turn_of turns_within
+unfolding pair ring twos greatest picked_cell drawn_value next_u64 turn_of turns_within
 returns-clause-by_two c = refl
 
 pub returns-clause-by_three : goal.returns-clause-by_three
-unfolding pair ring twos greatest picked drawn next_u64 turn_of turns_within
+unfolding pair ring twos greatest picked_cell drawn_value next_u64 turn_of turns_within
 returns-clause-by_three c = refl
 
 pub returns-clause-earlier : goal.returns-clause-earlier

@@ -2,8 +2,8 @@ use Rattle.std.proofs.Common.{◌≡◌, ℕ, zero, suc, [], ◌∷◌, Some, re
 use Rattle.std.specs.List.{slice_get}
 use Rattle.std.proofs.lemmas.List.Elements.{All-cons, All-nil}
 use Rattle.rand_core.specs.Stream.{next_u64}
-use Rattle.wfc_choose.specs.Draw.{drawn}
-use Rattle.wfc_choose.specs.Pick.{picked}
+use Rattle.wfc_choose.specs.Draw.{drawn_value}
+use Rattle.wfc_choose.specs.Pick.{picked_cell}
 use Rattle.wfc_problem.specs.Rounds.{greatest}
 use Rattle.wfc_search.specs.Run.{end_from, end_within, turn_of}
 use Rattle.wfc_search.specs.Small.{pair, ring, twos}
@@ -17,28 +17,28 @@ use Rattle.wfc_race.proofs.examples.winners.Goals as goal
 
 -- the runs alone
 none_ahead : EndsAlone ring (ahead 1) outcome.NoMap
-unfolding pair ring twos greatest picked drawn next_u64 turn_of end_from end_within
+unfolding pair ring twos greatest picked_cell drawn_value next_u64 turn_of end_from end_within
 none_ahead = (_, refl)
 
 none_fresh : EndsAlone ring (fresh 1) outcome.NoMap
-unfolding pair ring twos greatest picked drawn next_u64 turn_of end_from end_within
+unfolding pair ring twos greatest picked_cell drawn_value next_u64 turn_of end_from end_within
 none_fresh = (_, refl)
 
 spent_fresh : EndsAlone ring (fresh 0) outcome.Spent
-unfolding pair ring twos greatest picked drawn next_u64 turn_of end_from end_within
+unfolding pair ring twos greatest picked_cell drawn_value next_u64 turn_of end_from end_within
 spent_fresh = (_, refl)
 
 spent_ahead : EndsAlone ring (ahead 0) outcome.Spent
-unfolding pair ring twos greatest picked drawn next_u64 turn_of end_from end_within
+unfolding pair ring twos greatest picked_cell drawn_value next_u64 turn_of end_from end_within
 spent_ahead = (_, refl)
 
 -- their rounds
 rounds_one : (last_round ring 1 (fresh 1) ≡ 2) × (last_round ring 1 (ahead 1) ≡ 1)
-unfolding pair ring twos greatest picked drawn next_u64 turn_of turns_within
+unfolding pair ring twos greatest picked_cell drawn_value next_u64 turn_of turns_within
 rounds_one = (refl, refl)
 
 rounds_three : (last_round ring 3 (fresh 1) ≡ 0) × (last_round ring 3 (ahead 1) ≡ 0)
-unfolding pair ring twos greatest picked drawn next_u64 turn_of turns_within
+unfolding pair ring twos greatest picked_cell drawn_value next_u64 turn_of turns_within
 rounds_three = (refl, refl)
 
 pub returns-clause-by_one : goal.returns-clause-by_one

@@ -4,8 +4,8 @@ use Rattle.wfc_search.proofs.laws.turns_keep.Goals as goal
 pub returns : goal.returns
 returns c = record {
   start = between_none;
-  next = between_next;
+  next = λ P p rule budget s between t leads. between_next P p rule budget s t between leads;
   few = between_few;
-  falls = work_falls;
+  falls = λ P p rule budget s between t leads. work_falls P p rule budget s t between leads;
   most = work_most;
 }

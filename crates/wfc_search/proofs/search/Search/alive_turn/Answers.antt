@@ -1,5 +1,5 @@
 use Rattle.std.proofs.Common.{ap, sym, ◌∙◌}
-use Rattle.wfc_choose.specs.Pick.{picked}
+use Rattle.wfc_choose.specs.Pick.{picked_cell}
 use Rattle.wfc_choose.specs.Told.{Told}
 use Rattle.wfc_domains.specs.Store.{StoreView}
 use Rattle.wfc_problem.specs.Network.{Network}
@@ -16,4 +16,4 @@ returns-in-None-clause-turn g c draws =
     let course : Course = c.args.self.now.course in
     let told : Told = (goal.Chooser-dyn g (c.args.self.now.chooser.vtable, c.args.self.now.chooser.value)).told c.args.self.now.chooser.value in
     let alive : IsAlive P store told = ready_alive P store told course c.requires.ready c.requires.alive in
-    made_map P told.rule course.budget (state_at store course draws (g.R.Rng.stream c.args.words.now)) alive.alive (ap (picked told.rule) (sym alive.sizes) ∙ sym c.in-None.ensures.value)
+    made_map P told.rule course.budget (state_at store course draws (g.R.Rng.stream c.args.words.now)) alive.alive (ap (picked_cell told.rule) (sym alive.sizes) ∙ sym c.in-None.ensures.value)

@@ -1,5 +1,3 @@
-use Rattle.std.proofs.Common.{◌<◌}
-use Rattle.wfc_domains.specs.Store.{StoreView}
 use Rattle.wfc_search.specs.Search.{SearchView}
 use Rattle.wfc_search.specs.Shown.{view_of_search}
 use Rattle.wfc_search.proofs.Searches.{ready_alive, pick_open, choice_known}

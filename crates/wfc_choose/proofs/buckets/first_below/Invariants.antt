@@ -1,6 +1,0 @@
-use Rattle.std.proofs.Common.{◌≢◌, ℕ, ◌*◌, ◌<◌, ◌≤◌, get_or}
-use Rattle.wfc_choose.proofs.buckets.first_below.Given as goal
-
--- the entries of the block so far are others
-abbrev pub invariant-loop-at : goal.invariant-loop-at
-invariant-loop-at l = (j : ℕ) → l.block * 64 ≤ j → j < l.at → get_or l.below j 0 ≢ l.least

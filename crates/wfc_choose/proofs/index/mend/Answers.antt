@@ -1,0 +1,27 @@
+use Rattle.std.proofs.Common.{ℕ, ◌/◌, subst, arith}
+use Rattle.wfc_choose.specs.Index.{IsLeastIn}
+use Rattle.wfc_choose.proofs.IndexLemmas.{summary_falls, summary_same, summary_stays, summary_with, set_back}
+use Rattle.wfc_choose.proofs.index.mend.Goals as goal
+
+pub returns-then-coming-clause-summary : goal.returns-then-coming-clause-summary
+returns-then-coming-clause-summary c =
+    summary_falls c.args.below.now c.args.above.now c.args.at c.args.was c.requires.at_in c.requires.before (omega (arith, c.coming.ensures.value, c.coming-2.ensures.value))
+
+pub returns-then-coming-clause-mended : goal.returns-then-coming-clause-mended
+returns-then-coming-clause-mended c = set_back c.args.above.now _ _
+
+pub returns-then-coming-2-clause-summary : goal.returns-then-coming-2-clause-summary
+returns-then-coming-2-clause-summary c =
+    summary_stays c.args.below.now c.args.above.now c.args.at c.args.was c.requires.at_in c.requires.before
+    (omega (arith, c.coming.ensures.value, c.coming-2.ensures.value)) (omega (arith, c.coming-3.ensures.value, c.coming-4.ensures.value))
+
+pub returns-then-least-old-clause-summary : goal.returns-then-least-old-clause-summary
+returns-then-least-old-clause-summary c =
+    summary_same c.args.below.now c.args.above.now c.args.at c.args.was c.requires.at_in c.requires.before
+    (subst (λ (n : ℕ). IsLeastIn c.args.below.now (c.args.at / 64) n) c.if-least-old.true c.least_of-least.ensures.least)
+
+pub returns-clause-summary : goal.returns-clause-summary
+returns-clause-summary c = summary_with c.args.below.now c.args.above.now c.args.at c.args.was _ c.requires.at_in c.requires.before c.least_of-least.ensures.least
+
+pub returns-clause-mended : goal.returns-clause-mended
+returns-clause-mended c = set_back c.args.above.now _ _
