@@ -23,11 +23,11 @@ impl Problem {
         ensures problem { IsOk result ↔ IsProblem parts }
     {
         check(&parts)?;
-        Ok(Problem::kept(parts))
+        Ok(Problem::from_parts(parts))
     }
 
     /// The problem of these parts, without the flags of the base where each of them is set.
-    fn kept(mut parts: Parts) -> Problem
+    fn from_parts(mut parts: Parts) -> Problem
         requires problem { IsProblem parts }
         ensures value { result ≡ parts }
     {
