@@ -8,7 +8,7 @@ use Rattle.std.proofs.lemmas.Nat.{div-mul-add}
 use Rattle.std.proofs.Math.Nat.{mul-le-mul}
 use Rattle.wfc_model.specs.Direction.{opposite}
 use Rattle.wfc_problem.specs.declared.TheConstants.{NO_CELL}
-use Rattle.wfc_problem.specs.Network.{Network, values, neighbour, named, beside, supports_of, IsProblem}
+use Rattle.wfc_problem.specs.Network.{Network, values, neighbour, entry_cell, beside, supports_of, IsProblem}
 use Rattle.wfc_problem.proofs.CallerLemmas.{beside_names, beside_length, few_cells}
 use Rattle.wfc_domains.specs.Counters.{Table, FitsTable, counter_place, count_place, entry_of, with_count, counters_of, cost_at}
 use Rattle.wfc_domains.specs.declared.board.Board.{Board}
@@ -227,9 +227,9 @@ pub table-few : (P : Network) (T : Table) → IsProblem P → FitsTable P T → 
 table-few P T p fits = omega (arith, fits.whole, counters-few P p)
 
 -- what the entries of a cell say of a direction
-entry-names : (P : Network) → IsProblem P → (c d n : ℕ) → c < P.cells → d < P.dirs → n ≡ slice_index (beside P c) d → neighbour P c d ≡ named n
+entry-names : (P : Network) → IsProblem P → (c d n : ℕ) → c < P.cells → d < P.dirs → n ≡ slice_index (beside P c) d → neighbour P c d ≡ entry_cell n
 entry-names P p c d n hc hd is =
-    beside_names P c d hd ∙ ap named (get_or_default (beside P c) d NO_CELL 0 (omega (arith, beside_length P p c hc)) ∙ sym is)
+    beside_names P c d hd ∙ ap entry_cell (get_or_default (beside P c) d NO_CELL 0 (omega (arith, beside_length P p c hc)) ∙ sym is)
 
 -- an entry that names a cell names the neighbour
 named_neighbour : (P : Network) → IsProblem P → (c d n : ℕ) → c < P.cells → d < P.dirs → n ≡ slice_index (beside P c) d → n ≢ NO_CELL → neighbour P c d ≡ Some n

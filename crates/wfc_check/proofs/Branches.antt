@@ -3,7 +3,7 @@ use Rattle.std.proofs.Common.{◌≡◌, ℕ, ◌+◌, ◌<◌, ◌≤◌, Bool,
 use Rattle.std.specs.Prelude.{not, ◌&&◌, ◌||◌, ◌==◌, nat_le, IsTrue}
 use Rattle.std.proofs.lemmas.Bool.Decides.{nat_tests}
 use Rattle.std.proofs.lemmas.Bool.{eqb-true}
-use Rattle.wfc_problem.specs.Domains.{Test, cut}
+use Rattle.wfc_problem.specs.Domains.{Test, with_literal}
 use Rattle.wfc_problem.specs.Network.{IsProblem, in_base, values}
 use Rattle.wfc_problem.specs.declared.Literal.TheVariants.{Is, Not}
 use Rattle.wfc_check.specs.Entries.{behind_entry, put_off, TrailView, standing, waits_of, with_more, Resumes, Branches}
@@ -23,13 +23,13 @@ waits_more t e = waiting_more (in_base t.problem) [] t.entries e
 
 pub waits_same : (start here new : TrailView) (e : Entry) → waits_of here ≡ waits_of start → here ≡ with_more new e → e.waits ≡ false → waits_of new ≡ waits_of start
 waits_same start here new e same last w =
-    sym (waits_more new e ∙ ap (λ b. cond b (cut (standing new) (Not e.value e.cell) ∷ waits_of new) (waits_of new)) w) ∙ ap waits_of (sym last) ∙ same
+    sym (waits_more new e ∙ ap (λ b. cond b (with_literal (standing new) (Not e.value e.cell) ∷ waits_of new) (waits_of new)) w) ∙ ap waits_of (sym last) ∙ same
 
 pub resumes : (start here new : TrailView) (e : Entry) → waits_of here ≡ waits_of start → here ≡ with_more new e → e.waits ≡ true
     → IsTrue (standing new e.cell e.value) → Resumes start new e
 resumes start here new e same last w stands = record {
   stands = stands;
-  waited = sym same ∙ ap waits_of last ∙ waits_more new e ∙ ap (λ b. cond b (cut (standing new) (Not e.value e.cell) ∷ waits_of new) (waits_of new)) w;
+  waited = sym same ∙ ap waits_of last ∙ waits_more new e ∙ ap (λ b. cond b (with_literal (standing new) (Not e.value e.cell) ∷ waits_of new) (waits_of new)) w;
 }
 
 -- ---- the values beside one are taken away, from the least on
@@ -50,7 +50,7 @@ le_next n w = grind (arith, nat_tests)
 not_both : (n v w : ℕ) → not (n == v) ≡ true → ((w == v) && (w == n)) ≡ false
 not_both n v w ne = grind (arith, nat_tests)
 
-pub below_taken : (D : Test) (c v n x w : ℕ) → not (n == v) ≡ true → cut (cut_below D c v n) (Not n c) x w ≡ cut_below D c v (n + 1) x w
+pub below_taken : (D : Test) (c v n x w : ℕ) → not (n == v) ≡ true → with_literal (cut_below D c v n) (Not n c) x w ≡ cut_below D c v (n + 1) x w
 below_taken D c v n x w ne =
     one (D x w) (x == c) (w == v) (w == n) (nat_le n w) (not_both n v w ne)
     ∙ ap (λ l. D x w && (not (x == c) || (w == v || l))) (sym (le_next n w))
@@ -78,7 +78,7 @@ below_skipped D c v n x w skip =
     one true true false true false h = grind arith
     one false true false true l h = grind arith
 
-pub below_all : (D : Test) (c v n : ℕ) → ((x w : ℕ) → D x w ≡ true → w < n) → (x w : ℕ) → cut_below D c v n x w ≡ cut D (Is v c) x w
+pub below_all : (D : Test) (c v n : ℕ) → ((x w : ℕ) → D x w ≡ true → w < n) → (x w : ℕ) → cut_below D c v n x w ≡ with_literal D (Is v c) x w
 below_all D c v n few x w = one (D x w) (x == c) (w == v) (nat_le n w) (λ t. let l = few x w t in grind (arith, nat_tests))
   where
     one : (d a b l : Bool) → (d ≡ true → l ≡ false) → (d && (not a || (b || l))) ≡ (d && (not a || b))
@@ -89,7 +89,7 @@ below_all D c v n few x w = one (D x w) (x == c) (w == v) (nat_le n w) (λ t. le
 pub record IsCutting (start here : TrailView) (c v n : ℕ) : Type 0 where
   pub same : here.problem ≡ start.problem
   pub each : (x w : ℕ) → standing here x w ≡ cut_below (standing start) c v n x w
-  pub waiting : waits_of here ≡ cut (standing start) (Not v c) ∷ waits_of start
+  pub waiting : waits_of here ≡ with_literal (standing start) (Not v c) ∷ waits_of start
 
 pub cutting_begins : (start here : TrailView) (c v : ℕ) → here ≡ with_more start (waits_at c v) → IsCutting start here c v 0
 cutting_begins start here c v is = record {
@@ -123,5 +123,5 @@ cutting_ends start here c v n p whole h = record {
   second = h.waiting;
 }
   where
-    each : (x w : ℕ) → standing here x w ≡ cut (standing start) (Is v c) x w
+    each : (x w : ℕ) → standing here x w ≡ with_literal (standing start) (Is v c) x w
     each x w = h.each x w ∙ below_all (standing start) c v n (λ y z t. let s = left_inside start.problem p start.entries y z t in omega (arith, whole, s.1)) x w

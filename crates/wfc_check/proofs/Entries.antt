@@ -2,7 +2,7 @@
 use Rattle.std.proofs.Common.{◌≡◌, ℕ, ◌+◌, ◌*◌, ◌<◌, ◌≤◌, Bool, true, false, cond, List, [], ◌∷◌, ◌++◌, length, refl, ◌∙◌, ap, arith}
 use Rattle.std.specs.Prelude.{◌&&◌}
 use Rattle.std.proofs.lemmas.Bool.{and_parts}
-use Rattle.wfc_problem.specs.Domains.{Test, Within, cut}
+use Rattle.wfc_problem.specs.Domains.{Test, Within, with_literal}
 use Rattle.wfc_problem.specs.Network.{Network, IsProblem, in_base, values}
 use Rattle.wfc_problem.specs.Rounds.{pairs, depth_of}
 use Rattle.wfc_problem.specs.declared.Literal.TheVariants.{Not}
@@ -31,7 +31,7 @@ stood_more D [] e = last_of (D e.cell e.value)
 stood_more D (x ∷ es) e = ap (λ b. D x.cell x.value && b) (stood_more (behind_entry D x) es e) ∙ both_of (D x.cell x.value) (are_stood (behind_entry D x) es) (domains_left D (x ∷ es) e.cell e.value)
 
 -- entries only take away
-within_at : (b : Bool) (D B : Test) (c v : ℕ) → Within D B → Within (cond b D (cut D (Not v c))) B
+within_at : (b : Bool) (D B : Test) (c v : ℕ) → Within D B → Within (cond b D (with_literal D (Not v c))) B
 within_at true D B c v within = within
 within_at false D B c v within = cut_within D B (Not v c) within
 
@@ -45,7 +45,7 @@ left_inside P p es c v t = base_inside P p c v (left_within (in_base P) (in_base
 
 -- each entry takes a pair or adds a branch
 room_at : (b : Bool) (P : Network) → IsProblem P → (D : Test) → Within D (in_base P) → (W : List Test) (c v : ℕ) → D c v ≡ true
-    → pairs P (cond b D (cut D (Not v c))) + length W + 1 ≤ pairs P D + length (cond b (cut D (Not v c) ∷ W) W)
+    → pairs P (cond b D (with_literal D (Not v c))) + length W + 1 ≤ pairs P D + length (cond b (with_literal D (Not v c) ∷ W) W)
 room_at true P p D within W c v t = omega arith
 room_at false P p D within W c v t = omega (arith, not_less P p D within c v t)
 

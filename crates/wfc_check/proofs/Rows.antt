@@ -4,7 +4,7 @@ use Rattle.std.specs.Prelude.{not, ◌&&◌, ◌==◌}
 use Rattle.std.proofs.lemmas.List.{length-take, length-drop, get_or-set_same, get_or-set_other, drop-set-add, drop-set-lt, take-set-le}
 use Rattle.std.proofs.Math.Nat.{mul-le-mul_right}
 use Rattle.std.proofs.lemmas.Bool.{cases_eq, cases_lt, eq-eqb, ne_eqb, cond-true, cond-false, and_parts, eqb-true}
-use Rattle.wfc_problem.specs.Domains.{Test, cut}
+use Rattle.wfc_problem.specs.Domains.{Test, with_literal}
 use Rattle.wfc_problem.specs.Network.{row_of, has_flag}
 use Rattle.wfc_problem.specs.declared.Literal.TheVariants.{Not}
 
@@ -63,7 +63,7 @@ flag_set n flags c v rows b c' v' whole hc hv = elim (cases_eq c' c) [
 
 -- a value is taken away
 pub flag_removed : (n : ℕ) (flags : List Bool) (D : Test) (c v rows : ℕ) → length flags ≡ rows * n → c < rows → v < n
-    → ((x w : ℕ) → has_flag n flags x w ≡ D x w) → (c' v' : ℕ) → has_flag n (set flags (c * n + v) false) c' v' ≡ cut D (Not v c) c' v'
+    → ((x w : ℕ) → has_flag n flags x w ≡ D x w) → (c' v' : ℕ) → has_flag n (set flags (c * n + v) false) c' v' ≡ with_literal D (Not v c) c' v'
 flag_removed n flags D c v rows whole hc hv each c' v' =
     flag_set n flags c v rows false c' v' whole hc hv ∙ ap (λ x. cond ((c' == c) && (v' == v)) false x) (each c' v') ∙ off ((c' == c) && (v' == v)) (D c' v')
   where
@@ -72,7 +72,7 @@ flag_removed n flags D c v rows whole hc hv each c' v' =
 
 -- and comes back
 pub flag_restored : (n : ℕ) (flags : List Bool) (D : Test) (c v rows : ℕ) → length flags ≡ rows * n → c < rows → v < n → D c v ≡ true
-    → ((x w : ℕ) → has_flag n flags x w ≡ cut D (Not v c) x w) → (c' v' : ℕ) → has_flag n (set flags (c * n + v) true) c' v' ≡ D c' v'
+    → ((x w : ℕ) → has_flag n flags x w ≡ with_literal D (Not v c) x w) → (c' v' : ℕ) → has_flag n (set flags (c * n + v) true) c' v' ≡ D c' v'
 flag_restored n flags D c v rows whole hc hv t each c' v' =
     flag_set n flags c v rows true c' v' whole hc hv ∙ ap (λ x. cond ((c' == c) && (v' == v)) true x) (each c' v')
     ∙ on ((c' == c) && (v' == v)) (D c' v') (λ both.

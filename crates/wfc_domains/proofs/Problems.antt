@@ -9,7 +9,7 @@ use Rattle.std.specs.List.Sorted.{IsStrictlyIncreasing}
 use Rattle.wfc_problem.specs.Network.{Network, values, neighbour, supports_of, in_base, IsProblem}
 use Rattle.wfc_model.specs.Direction.{opposite}
 use Rattle.wfc_model.proofs.DirectionLemmas.{opposite-opposite as twice}
-use Rattle.wfc_problem.specs.Domains.{Test, Within, IsArcConsistent, IsInGreatest, IsGreatest, IsDead, IsEmptyAt, base_with, cut, count_at, support_count}
+use Rattle.wfc_problem.specs.Domains.{Test, Within, IsArcConsistent, IsInGreatest, IsGreatest, IsDead, IsEmptyAt, base_with, with_literal, count_at, support_count}
 use Rattle.wfc_problem.specs.Rounds.{depth_of, greatest}
 use Rattle.wfc_problem.proofs.CallerLemmas as callers
 use Rattle.wfc_problem.specs.Sizes.{is_dead, size_at}
@@ -94,7 +94,7 @@ supports-below P p v d xs e h = callers.support_in P p.indexed v d xs e
 -- ---- literals and the greatest domains
 
 -- the base with one more literal is cut by it
-pub base_with-push : (P : Network) (literals : List Literal) (l : Literal) (c v : ℕ) → base_with P (literals ++ l ∷ []) c v ≡ cut (base_with P literals) l c v
+pub base_with-push : (P : Network) (literals : List Literal) (l : Literal) (c v : ℕ) → base_with P (literals ++ l ∷ []) c v ≡ with_literal (base_with P literals) l c v
 base_with-push P literals l c v = ap (λ f. f c v) (callers.base_with_more P literals l)
 
 -- literals more leave less

@@ -21,7 +21,7 @@ use Rattle.wfc_pattern.proofs.LearningLemmas.{length-arising}
 use Rattle.wfc_pattern.specs.Learning.{is_below_n, learned_patterns, patterns_of}
 use Rattle.wfc_pattern.specs.Patterns.{IsPatterns, PatternsView}
 use Rattle.wfc_picture.proofs.PaletteLemmas.{indexed-made, none_past}
-use Rattle.wfc_picture.specs.Palette.{indexed, numbered, palette_of}
+use Rattle.wfc_picture.specs.Palette.{picture_and_palette, palette_numbers, palette_of}
 use Rattle.wfc_picture.specs.Symbol.{same_symbol}
 use Rattle.wfc_picture.specs.declared.palette.PaletteFault.{PaletteFault}
 use Rattle.wfc_picture.specs.declared.palette.TheConstants.{MAX_COLOURS}
@@ -32,24 +32,24 @@ use Rattle.wfc_plan.specs.declared.fault.Refusal.{Refusal}
 use Rattle.wfc_plan.specs.declared.fault.Refusal.TheVariants.{Build, Colours, Learn, NoMemory}
 
 -- so few symbols make a picture and a palette
-few_symbols : (symbols : List Symbol) (width : ℕ) → length symbols ≤ MAX_COLOURS → indexed symbols width ≡ Ok (raster_of width (length symbols / width) (numbered symbols), palette_of symbols)
+few_symbols : (symbols : List Symbol) (width : ℕ) → length symbols ≤ MAX_COLOURS → picture_and_palette symbols width ≡ Ok (raster_of width (length symbols / width) (palette_numbers symbols), palette_of symbols)
 few_symbols symbols width few =
     let up_to : (j : ℕ) → j ≤ length symbols → length (palette_of (take j symbols)) ≤ MAX_COLOURS
     = λ j _. omega (arith, length-unrepeated same_symbol (take j symbols), length-take j symbols) in
-    sym (indexed-made symbols width (raster_of width (length symbols / width) (numbered symbols)) (palette_of symbols) (none_past symbols (length symbols) (omega arith) up_to) refl refl)
+    sym (indexed-made symbols width (raster_of width (length symbols / width) (palette_numbers symbols)) (palette_of symbols) (none_past symbols (length symbols) (omega arith) up_to) refl refl)
 
 -- the square of a demonstration has as many pixels as its sides say
 pub length-demo_symbols : (n side : ℕ) → length (demo_symbols n side) ≡ side * side
 length-demo_symbols n side = length-map-range_with_len (λ k. demo_symbol n (k % side) (k / side)) 0 (side * side)
 
 -- its picture and its palette
-pub demo_indexed : (n side : ℕ) → 0 < side → side ≤ 24 → indexed (demo_symbols n side) side ≡ Ok (demo_picture n side, palette_of (demo_symbols n side))
+pub demo_indexed : (n side : ℕ) → 0 < side → side ≤ 24 → picture_and_palette (demo_symbols n side) side ≡ Ok (demo_picture n side, palette_of (demo_symbols n side))
 demo_indexed n side some small =
     let many : side * side ≤ 24 * 24 = mul-le side side 24 24 small small in
     let few : length (demo_symbols n side) ≤ MAX_COLOURS = omega (arith, length-demo_symbols n side, many) in
     let high : length (demo_symbols n side) / side ≡ side = ap (λ m. m / side) (length-demo_symbols n side) ∙ square_side side some in
     few_symbols (demo_symbols n side) side few
-    ∙ ap (λ h. let made : Result (Raster × List Symbol) PaletteFault = Ok (raster_of side h (numbered (demo_symbols n side)), palette_of (demo_symbols n side)) in made) high
+    ∙ ap (λ h. let made : Result (Raster × List Symbol) PaletteFault = Ok (raster_of side h (palette_numbers (demo_symbols n side)), palette_of (demo_symbols n side)) in made) high
   where
     square_side : (side : ℕ) → 0 < side → side * side / side ≡ side
     square_side side some = let zero_more : side * side + 0 ≡ side * side = omega arith in ap (λ m. m / side) (sym zero_more) ∙ div-mul-add side side 0 some
@@ -59,7 +59,7 @@ pub demo_wide : (n side : ℕ) → (demo_picture n side).width ≡ side
 demo_wide n side = refl
 
 pub demo_high : (n side : ℕ) → height_of (demo_picture n side) ≡ side
-demo_high n side = length-map-range_with_len (λ y. take side (drop (y * side) (numbered (demo_symbols n side)))) 0 side
+demo_high n side = length-map-range_with_len (λ y. take side (drop (y * side) (palette_numbers (demo_symbols n side)))) 0 side
 
 -- so many windows are learned from it at most
 pub demo_few : (n side : ℕ) → 3 ≤ side → side ≤ 24 → length (learned (demo_picture n side) 3 1 false) ≤ 484
@@ -107,8 +107,8 @@ short_of_memory wanted value refusal is (inl gives) = absurd (cc)
 short_of_memory wanted value refusal is (inr short) = cc (short)
 
 -- the steps of a demonstration, each with what it is wanted to come to
-pub demo_coloured : (n : ℕ) (symbols : List Symbol) → symbols ≡ demo_symbols n demo_side → or_refuse Colours (indexed symbols demo_side) ≡ Ok (demo_picture n demo_side, palette_of (demo_symbols n demo_side))
-demo_coloured n symbols is = ap (λ symbols. or_refuse Colours (indexed symbols demo_side)) is ∙ ap (or_refuse Colours) (demo_indexed n demo_side (omega arith) (omega arith))
+pub demo_coloured : (n : ℕ) (symbols : List Symbol) → symbols ≡ demo_symbols n demo_side → or_refuse Colours (picture_and_palette symbols demo_side) ≡ Ok (demo_picture n demo_side, palette_of (demo_symbols n demo_side))
+demo_coloured n symbols is = ap (λ symbols. or_refuse Colours (picture_and_palette symbols demo_side)) is ∙ ap (or_refuse Colours) (demo_indexed n demo_side (omega arith) (omega arith))
 
 pub demo_taught : (n : ℕ) (picture : Raster) → picture ≡ demo_picture n demo_side → or_refuse Learn (patterns_of picture 3 1 false) ≡ Ok (demo_patterns n)
 unfolding demo_patterns
@@ -121,15 +121,15 @@ demo_posed n patterns palette is =
     ap (λ patterns. or_refuse Build (picture_problem patterns palette (output_with demo_output demo_output false) [])) is
     ∙ ap (or_refuse Build) (demo_built (learned_patterns (demo_picture n demo_side) 3 1 false) palette refl (demo_few n demo_side (omega arith) (omega arith)))
 
-length-numbered : (symbols : List Symbol) → length (numbered symbols) ≡ length symbols
+length-numbered : (symbols : List Symbol) → length (palette_numbers symbols) ≡ length symbols
 length-numbered symbols = length-map symbols (λ symbol. position_or_len (same_symbol symbol) (palette_of symbols))
 
 -- what a demonstration runs on are patterns and their problem
 pub demo_are_patterns : (n : ℕ) → IsPatterns (demo_patterns n)
 unfolding demo_patterns
 demo_are_patterns n =
-    let filled : IsFilled demo_side demo_side (numbered (demo_symbols n demo_side)) = record { some_column = omega arith; some_row = omega arith; as_many = length-numbered (demo_symbols n demo_side) ∙ length-demo_symbols n demo_side } in
-    taught_are_patterns (demo_picture n demo_side) 3 1 false (learned_patterns (demo_picture n demo_side) 3 1 false) (IsSized-raster_of demo_side demo_side (numbered (demo_symbols n demo_side)) filled).raster
+    let filled : IsFilled demo_side demo_side (palette_numbers (demo_symbols n demo_side)) = record { some_column = omega arith; some_row = omega arith; as_many = length-numbered (demo_symbols n demo_side) ∙ length-demo_symbols n demo_side } in
+    taught_are_patterns (demo_picture n demo_side) 3 1 false (learned_patterns (demo_picture n demo_side) 3 1 false) (IsSized-raster_of demo_side demo_side (palette_numbers (demo_symbols n demo_side)) filled).raster
     (omega arith) (omega arith) (omega arith) (omega arith) (subst (λ h. demo_side * h ≤ 1048576) (sym (demo_high n demo_side)) (omega arith)) (demo_learned n demo_side (omega arith) (omega arith))
 
 pub demo_problem_is : (n : ℕ) → demo_problem n ≡ problem_of_sample (demo_patterns n) (output_with demo_output demo_output false) []

@@ -5,7 +5,7 @@ use Rattle.wfc_model.specs.Raster.{Raster, raster_of}
 use Rattle.wfc_overlap.specs.Sample.{output_with, problem_of_sample}
 use Rattle.wfc_pattern.specs.Learning.{learned_patterns}
 use Rattle.wfc_pattern.specs.Patterns.{PatternsView}
-use Rattle.wfc_picture.specs.Palette.{numbered}
+use Rattle.wfc_picture.specs.Palette.{palette_numbers}
 use Rattle.wfc_picture.specs.declared.symbol.Symbol.{Symbol}
 use Rattle.wfc_picture.specs.declared.symbol.Symbol.TheVariants.{Char}
 use Rattle.wfc_problem.specs.Network.{Network}
@@ -28,7 +28,7 @@ demo_symbols n side = map (λ k. demo_symbol n (k % side) (k / side)) (range_wit
 
 -- the same square in numbers
 abbrev pub demo_picture : ℕ → ℕ → Raster
-demo_picture n side = raster_of side side (numbered (demo_symbols n side))
+demo_picture n side = raster_of side side (palette_numbers (demo_symbols n side))
 
 -- how long the sides are of the picture that a demonstration learns from
 abbrev pub demo_side : ℕ

@@ -22,7 +22,7 @@ use Rattle.wfc_problem.specs.Network.{Network, supports_of}
 use Rattle.wfc_problem.specs.Assignment.{IsLegalAssignment}
 use Rattle.wfc_lists.proofs.Lists.{has_Contains}
 use Rattle.wfc_problem.proofs.CallerLemmas.{base_inside}
-use Rattle.wfc_places.specs.Steps.{stepped, is_there, place_number}
+use Rattle.wfc_places.specs.Steps.{step_end, is_there, place_number}
 use Rattle.wfc_overlap.specs.Sample.{Output, window_meets_pins, problem_of_sample}
 use Rattle.wfc_overlap.specs.Bridge.{IsRoom, AreInside, nearest, pixel_of, picture_of}
 use Rattle.wfc_places.proofs.CallerLemmas.{mod_low, forth_there, stay_there, stayed, held-from_suits}
@@ -30,7 +30,7 @@ use Rattle.wfc_overlap.proofs.SampleLemmas.{cell_inside, place-neighbour, suppor
 use Rattle.wfc_overlap.proofs.PinLemmas.{from-meets}
 
 -- one step after t steps
-stepped_on : (count at t : ℕ) → stepped count 1 0 ((at + t) % count) ≡ (at + suc t) % count
+stepped_on : (count at t : ℕ) → step_end count 1 0 ((at + t) % count) ≡ (at + suc t) % count
 stepped_on count at t =
     let front : (at + t) % count + 1 + count - 0 ≡ (at + t) % count + 1 + count = omega arith in
     let next : at + t + 1 ≡ at + suc t = omega arith in
@@ -109,25 +109,25 @@ module _ (patterns : PatternsView) (output : Output) (pins : List Pin) (a : List
 
   step_agrees : (x y d : ℕ) → x < columns → y < rows → d < 4
       → is_there columns output.wrap (right_by d) (left_by d) x ≡ true → is_there rows output.wrap (down_by d) (up_by d) y ≡ true
-      → Agrees n (W x y) (W (stepped columns (right_by d) (left_by d) x) (stepped rows (down_by d) (up_by d) y)) d
+      → Agrees n (W x y) (W (step_end columns (right_by d) (left_by d) x) (step_end rows (down_by d) (up_by d) y)) d
   step_agrees x y d column row dir across_there down_there =
-      let u = stepped columns (right_by d) (left_by d) x in
-      let v = stepped rows (down_by d) (up_by d) y in
+      let u = step_end columns (right_by d) (left_by d) x in
+      let v = step_end rows (down_by d) (up_by d) y in
       let beside = legal.beside (place_number columns x y) d (place_number columns u v) (place-neighbour patterns output pins taught room x y d column row dir across_there down_there) in
       everywhere n (W x y) (W u v) d
       (support-agrees patterns output pins (value x y) (value u v) d dir (has_Contains (supports_of P (value x y) d) (value u v) beside)).agree
 
-  right_one : (x y i j : ℕ) → x < columns → y < rows → (output.wrap ≡ true) ⊎ (x + 1 < columns) → i + 1 < n → j < n → cell_at n (W x y) (i + 1) j ≡ cell_at n (W (stepped columns 1 0 x) y) i j
+  right_one : (x y i j : ℕ) → x < columns → y < rows → (output.wrap ≡ true) ⊎ (x + 1 < columns) → i + 1 < n → j < n → cell_at n (W x y) (i + 1) j ≡ cell_at n (W (step_end columns 1 0 x) y) i j
   right_one x y i j column row on i_in j_in =
       step_agrees x y 2 column row (omega arith) (forth_there columns output.wrap x on) (stay_there rows output.wrap y row)
       (i + 1) j i j i_in j_in (omega arith) j_in (record { across = omega arith; down = omega arith })
-      ∙ ap (λ v. cell_at n (W (stepped columns 1 0 x) v) i j) (stayed rows y row)
+      ∙ ap (λ v. cell_at n (W (step_end columns 1 0 x) v) i j) (stayed rows y row)
 
-  down_one : (x y i j : ℕ) → x < columns → y < rows → (output.wrap ≡ true) ⊎ (y + 1 < rows) → i < n → j + 1 < n → cell_at n (W x y) i (j + 1) ≡ cell_at n (W x (stepped rows 1 0 y)) i j
+  down_one : (x y i j : ℕ) → x < columns → y < rows → (output.wrap ≡ true) ⊎ (y + 1 < rows) → i < n → j + 1 < n → cell_at n (W x y) i (j + 1) ≡ cell_at n (W x (step_end rows 1 0 y)) i j
   down_one x y i j column row on i_in j_in =
       step_agrees x y 1 column row (omega arith) (stay_there columns output.wrap x column) (forth_there rows output.wrap y on)
       i (j + 1) i j i_in j_in i_in (omega arith) (record { across = omega arith; down = omega arith })
-      ∙ ap (λ u. cell_at n (W u (stepped rows 1 0 y)) i j) (stayed columns x column)
+      ∙ ap (λ u. cell_at n (W u (step_end rows 1 0 y)) i j) (stayed columns x column)
 
   right : (t x y i j : ℕ) → x < columns → y < rows → Open output.wrap columns x t → t ≤ i → i < n → j < n → cell_at n (W x y) i j ≡ cell_at n (W ((x + t) % columns) y) (i - t) j
   right zero x y i j column row on few i_in j_in =

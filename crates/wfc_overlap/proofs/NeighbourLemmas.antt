@@ -5,7 +5,7 @@ use Rattle.std.specs.List.{range_with_len}
 use Rattle.wfc_model.specs.Direction.{left_by, down_by, right_by, up_by}
 use Rattle.wfc_model.specs.Window.{starts}
 use Rattle.wfc_problem.specs.declared.TheConstants.{NO_CELL}
-use Rattle.wfc_places.specs.Steps.{along, stepped, is_there, place_number}
+use Rattle.wfc_places.specs.Steps.{along, step_end, is_there, place_number}
 use Rattle.wfc_overlap.specs.Layout.{cell_in}
 use Rattle.wfc_overlap.specs.Sample.{Output, window_beside}
 use Rattle.wfc_places.proofs.CallerLemmas.{stay_there, stayed}
@@ -13,8 +13,8 @@ use Rattle.wfc_places.proofs.CallerLemmas.{stay_there, stayed}
 -- ---- one step along a side
 
 -- a step that is there
-along_there : (count : ℕ) (wrap : Bool) (forth back at s : ℕ) → is_there count wrap forth back at ≡ true → stepped count forth back at ≡ s → along count wrap forth back at ≡ Some s
-along_there count wrap forth back at s there is = ap (λ b. if b then Some (stepped count forth back at) else None) there ∙ ap Some is
+along_there : (count : ℕ) (wrap : Bool) (forth back at s : ℕ) → is_there count wrap forth back at ≡ true → step_end count forth back at ≡ s → along count wrap forth back at ≡ Some s
+along_there count wrap forth back at s there is = ap (λ b. if b then Some (step_end count forth back at) else None) there ∙ ap Some is
 
 -- no step
 pub along_stays : (count : ℕ) (wrap : Bool) (at : ℕ) → at < count → along count wrap 0 0 at ≡ Some at
@@ -37,7 +37,7 @@ module _ (n : ℕ) (output : Output) (columns rows x y : ℕ) (columns_are : col
       ∙ ap (λ c. cell_in c (along c output.wrap (right_by d) (left_by d) x) (along rows output.wrap (down_by d) (up_by d) y)) columns_are
       ∙ ap (λ r. cell_in (starts output.width n output.wrap) (along (starts output.width n output.wrap) output.wrap (right_by d) (left_by d) x) (along r output.wrap (down_by d) (up_by d) y)) rows_are
       ∙ sym (by_bools (is_there (starts output.width n output.wrap) output.wrap (right_by d) (left_by d) x) (is_there (starts output.height n output.wrap) output.wrap (down_by d) (up_by d) y) (starts output.width n output.wrap)
-      (stepped (starts output.width n output.wrap) (right_by d) (left_by d) x) (stepped (starts output.height n output.wrap) (down_by d) (up_by d) y))
+      (step_end (starts output.width n output.wrap) (right_by d) (left_by d) x) (step_end (starts output.height n output.wrap) (down_by d) (up_by d) y))
 
   -- all four of them
   pub four_beside : x < columns → y < rows → (left right up down : Option ℕ) → left ≡ along columns output.wrap 0 1 x → right ≡ along columns output.wrap 1 0 x → up ≡ along rows output.wrap 0 1 y → down ≡ along rows output.wrap 1 0 y

@@ -18,7 +18,7 @@ use Rattle.wfc_problem.specs.declared.TheConstants.{NO_CELL, MAX_PAIRS}
 use Rattle.wfc_lists.proofs.Tables.{length-table, table-at, row_below}
 use Rattle.wfc_model.proofs.CallerLemmas.{opposite_below}
 use Rattle.wfc_problem.proofs.CallerLemmas.{neighbour_read, neighbour_not_none, neighbour_is, supports_inside, flag_at}
-use Rattle.wfc_places.specs.Steps.{stepped, is_there, place_number}
+use Rattle.wfc_places.specs.Steps.{step_end, is_there, place_number}
 use Rattle.wfc_overlap.specs.Sample.{Output, window_beside, agreeing, window_meets_pins, problem_of_sample}
 use Rattle.wfc_overlap.specs.Bridge.{IsRoom}
 use Rattle.wfc_places.proofs.CallerLemmas as shared
@@ -42,10 +42,10 @@ module _ (patterns : PatternsView) (output : Output) (pins : List Pin) where
   count = length patterns.windows
 
   abbrev across : ℕ → ℕ → ℕ
-  across x d = stepped columns (right_by d) (left_by d) x
+  across x d = step_end columns (right_by d) (left_by d) x
 
   abbrev down : ℕ → ℕ → ℕ
-  down y d = stepped rows (down_by d) (up_by d) y
+  down y d = step_end rows (down_by d) (up_by d) y
 
   pub cells-is : P.cells ≡ rows * columns
   cells-is = length-places output.width output.height patterns.n output.wrap
@@ -125,9 +125,9 @@ module _ (patterns : PatternsView) (output : Output) (pins : List Pin) where
       ap (λ k. is_there rows output.wrap k (up_by e) (down y d)) low ∙ ap (λ k. is_there rows output.wrap (up_by d) k (down y d)) up
       ∙ there_again rows output.wrap (down_by d) (up_by d) y row (one_down d) near.down_there in
       let back_x : across (across x d) e ≡ x =
-      ap (λ k. stepped columns k (left_by e) (across x d)) right ∙ ap (λ k. stepped columns (left_by d) k (across x d)) left ∙ stepped-stepped columns (right_by d) (left_by d) x column (one_across d) in
+      ap (λ k. step_end columns k (left_by e) (across x d)) right ∙ ap (λ k. step_end columns (left_by d) k (across x d)) left ∙ stepped-stepped columns (right_by d) (left_by d) x column (one_across d) in
       let back_y : down (down y d) e ≡ y =
-      ap (λ k. stepped rows k (up_by e) (down y d)) low ∙ ap (λ k. stepped rows (up_by d) k (down y d)) up ∙ stepped-stepped rows (down_by d) (up_by d) y row (one_down d) in
+      ap (λ k. step_end rows k (up_by e) (down y d)) low ∙ ap (λ k. step_end rows (up_by d) k (down y d)) up ∙ stepped-stepped rows (down_by d) (up_by d) y row (one_down d) in
       ap (λ k. neighbour P k e) near.cell
       ∙ place-neighbour taught room (across x d) (down y d) e u.below v.below dir across_there down_there
       ∙ ap (λ k. Some (place_number columns k (down (down y d) e))) back_x

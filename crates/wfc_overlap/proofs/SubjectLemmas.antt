@@ -8,7 +8,7 @@ use Rattle.wfc_pattern.specs.Patterns.{PatternsView, IsPatterns, window_at}
 use Rattle.wfc_pattern.proofs.CallerLemmas.{everywhere, tested}
 use Rattle.wfc_problem.specs.Network.{neighbour, supports_of, in_base}
 use Rattle.wfc_overlap.specs.Bridge.{IsRoom}
-use Rattle.wfc_places.specs.Steps.{place_number, stepped, IsStepFrom}
+use Rattle.wfc_places.specs.Steps.{place_number, step_end, IsStepFrom}
 use Rattle.wfc_overlap.specs.Sample.{Output, window_meets_pins, problem_of_sample}
 use Rattle.wfc_overlap.specs.Subject.{HoldsPin, IsPlaceOf, place_cell, place_columns, place_rows}
 use Rattle.wfc_places.proofs.CallerLemmas.{apart-stepped, apart-there, held-from_suits, one_across, one_down, same_column, same_row, step-apart, step_across, step_down, step_from, stepped-is, suits-from}
@@ -27,8 +27,8 @@ module _ (patterns : PatternsView) (output : Output) (pins : List Pin) where
       → neighbour (problem_of_sample patterns output pins) (place_number columns x y) d ≡ Some (place_number columns u v) → IsStepFrom output.wrap columns rows d x y u v
   neighbour-step x y u v d here other at =
       let near = neighbour-place patterns output pins x y d (place_number columns u v) here.column here.row at in
-      let p = stepped columns (right_by d) (left_by d) x in
-      let q = stepped rows (down_by d) (up_by d) y in
+      let p = step_end columns (right_by d) (left_by d) x in
+      let q = step_end rows (down_by d) (up_by d) y in
       let p_in : p < columns = (stepped-is columns (right_by d) (left_by d) x here.column (one_across d)).below in
       let column : p ≡ u = sym (same_column columns u v p q other.column p_in near.cell) in
       let row : q ≡ v = sym (same_row columns u v p q other.column p_in near.cell) in
@@ -47,7 +47,7 @@ module _ (patterns : PatternsView) (output : Output) (pins : List Pin) where
       place-neighbour patterns output pins taught room x y d here.column here.row dir
       (apart-there output.wrap columns (right_by d) (left_by d) x u here.column other.column (one_across d) across)
       (apart-there output.wrap rows (down_by d) (up_by d) y v here.row other.row (one_down d) down)
-      ∙ ap (λ k. Some (place_number columns k (stepped rows (down_by d) (up_by d) y))) (apart-stepped output.wrap columns (right_by d) (left_by d) x u here.column other.column (one_across d) across)
+      ∙ ap (λ k. Some (place_number columns k (step_end rows (down_by d) (up_by d) y))) (apart-stepped output.wrap columns (right_by d) (left_by d) x u here.column other.column (one_across d) across)
       ∙ ap (λ k. Some (place_number columns u k)) (apart-stepped output.wrap rows (down_by d) (up_by d) y v here.row other.row (one_down d) down)
 
   -- each cell is that of a place, and each place has a cell

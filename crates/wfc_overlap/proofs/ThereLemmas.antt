@@ -19,7 +19,7 @@ use Rattle.wfc_pattern.proofs.CallerLemmas.{tested}
 use Rattle.wfc_problem.specs.Network.{Network, neighbour, ok, supports_of, in_base}
 use Rattle.wfc_problem.specs.Assignment.{IsLegalAssignment}
 use Rattle.wfc_lists.proofs.Lists.{Contains_has}
-use Rattle.wfc_places.specs.Steps.{stepped, is_there, place_number}
+use Rattle.wfc_places.specs.Steps.{step_end, is_there, place_number}
 use Rattle.wfc_overlap.specs.Sample.{Output, window_meets_pins, problem_of_sample}
 use Rattle.wfc_overlap.specs.Bridge.{pattern_number, numbers_of_windows}
 use Rattle.wfc_places.proofs.CallerLemmas.{stepped-is, exact, stepped_modulo, one_across, one_down, suits-from}
@@ -42,11 +42,11 @@ numbered patterns w has =
     record { inside = inside; same = sym ((same_window-Decides w (window_at patterns p)).0 (passes_at_first (pointwise nat_eq w) patterns.windows [] inside)) }
 
 -- a step of places is a step modulo the side of the picture
-step_modulo : (side n : ℕ) (wrap : Bool) (forth back at : ℕ) → at < starts side n wrap → forth + back ≤ 1 → is_there (starts side n wrap) wrap forth back at ≡ true → (at + forth) % side ≡ (stepped (starts side n wrap) forth back at + back) % side
-step_modulo side n true forth back at inside one there = stepped_modulo side forth back at (stepped side forth back at) (stepped-is side forth back at inside one)
+step_modulo : (side n : ℕ) (wrap : Bool) (forth back at : ℕ) → at < starts side n wrap → forth + back ≤ 1 → is_there (starts side n wrap) wrap forth back at ≡ true → (at + forth) % side ≡ (step_end (starts side n wrap) forth back at + back) % side
+step_modulo side n true forth back at inside one there = stepped_modulo side forth back at (step_end side forth back at) (stepped-is side forth back at inside one)
 step_modulo side n false forth back at inside one there =
     let count = starts side n false in
-    ap (λ k. k % side) (sym (exact count forth back at (stepped count forth back at) (stepped-is count forth back at inside one) there))
+    ap (λ k. k % side) (sym (exact count forth back at (step_end count forth back at) (stepped-is count forth back at inside one) there))
 
 module _ (patterns : PatternsView) (output : Output) (pins : List Pin) (m : Raster) where
   abbrev P : Network
@@ -109,10 +109,10 @@ module _ (patterns : PatternsView) (output : Output) (pins : List Pin) (m : Rast
 
   windows_agree : IsSized m output.width output.height → (x y d : ℕ) → x < columns → y < rows
       → is_there columns output.wrap (right_by d) (left_by d) x ≡ true → is_there rows output.wrap (down_by d) (up_by d) y ≡ true
-      → Agrees patterns.n (window m x y patterns.n) (window m (stepped columns (right_by d) (left_by d) x) (stepped rows (down_by d) (up_by d) y) patterns.n) d
+      → Agrees patterns.n (window m x y patterns.n) (window m (step_end columns (right_by d) (left_by d) x) (step_end rows (down_by d) (up_by d) y) patterns.n) d
   windows_agree sized x y d column row across_there down_there =
-      let u = stepped columns (right_by d) (left_by d) x in
-      let v = stepped rows (down_by d) (up_by d) y in
+      let u = step_end columns (right_by d) (left_by d) x in
+      let v = step_end rows (down_by d) (up_by d) y in
       neighbours_agree m patterns.n x y u v d sized.raster (record {
         across = subst (λ s. (x + right_by d) % s ≡ (u + left_by d) % s) (sym sized.same_width) (step_modulo output.width patterns.n output.wrap (right_by d) (left_by d) x column (one_across d) across_there);
         down = subst (λ s. (y + down_by d) % s ≡ (v + up_by d) % s) (sym sized.same_height) (step_modulo output.height patterns.n output.wrap (down_by d) (up_by d) y row (one_down d) down_there);
@@ -121,8 +121,8 @@ module _ (patterns : PatternsView) (output : Output) (pins : List Pin) (m : Rast
   beside_at : IsSized m output.width output.height → AreLearned → (x y d c : ℕ) → x < columns → y < rows → neighbour P (place_number columns x y) d ≡ Some c → ok P d (get_or a (place_number columns x y) 0) (get_or a c 0) ≡ true
   beside_at sized learned x y d c column row at =
       let near = neighbour-place patterns output pins x y d c column row at in
-      let u = stepped columns (right_by d) (left_by d) x in
-      let v = stepped rows (down_by d) (up_by d) y in
+      let u = step_end columns (right_by d) (left_by d) x in
+      let v = step_end rows (down_by d) (up_by d) y in
       let u_in : u < columns = (stepped-is columns (right_by d) (left_by d) x column (one_across d)).below in
       let v_in : v < rows = (stepped-is rows (down_by d) (up_by d) y row (one_down d)).below in
       let here = number-is learned x y column row in

@@ -1,6 +1,6 @@
 -- What is built of learned patterns, an output and the lines of a pins file: a problem, or the
 -- first fault.
-use Rattle.std.specs.Prelude.{ℕ, ◌&&◌, ◌||◌, nat_lt, List, map, position, Result, Err, if◌then◌else◌}
+use Rattle.std.specs.Prelude.{ℕ, ◌<◌, ◌≤◌, ◌&&◌, ◌||◌, nat_lt, List, map, position, Result, Err, if◌then◌else◌}
 use Rattle.std.specs.Option.{ok_or, option_map}
 use Rattle.std.specs.Str.{bytes_eq}
 use Rattle.wfc_outside.specs.Gives.{result_map}
@@ -49,3 +49,14 @@ picture_problem patterns palette output lines =
     else (if nat_lt MAX_PAIRS (window_pair_count patterns output) then Err (TooLarge (window_pair_count patterns output))
     else result_map (problem_of_sample patterns output)
     (picture_pins (texts_of palette) output.width output.height lines))
+
+-- an output has room for a window, but too many pairs of a place and a pattern
+abbrev pub IsCrowded : PatternsView → Output → Type 0
+IsCrowded patterns output =
+    (patterns.n ≤ output.width) × (patterns.n ≤ output.height) × (MAX_PAIRS < window_pair_count patterns output)
+
+-- the problem of the pins that the lines mean, or the fault of the first line that has one
+abbrev pub problem_by_lines : PatternsView → List Symbol → Output → List PinView → Result Network BuildFault
+problem_by_lines patterns palette output lines =
+    result_map (problem_of_sample patterns output)
+    (picture_pins (texts_of palette) output.width output.height lines)

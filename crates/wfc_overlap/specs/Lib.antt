@@ -5,4 +5,5 @@ pub mod Flags
 pub mod Layout
 pub mod Built
 pub mod Small
+pub mod Setting
 pub mod Subject

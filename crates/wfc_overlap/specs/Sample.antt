@@ -8,7 +8,7 @@ use Rattle.wfc_model.specs.Legal.{Pin}
 use Rattle.wfc_pattern.specs.Agreement.{agrees}
 use Rattle.wfc_pattern.specs.Patterns.{PatternsView, window_at}
 pub use Rattle.wfc_places.specs.Marks.{suits}
-pub use Rattle.wfc_places.specs.Steps.{place_number, is_there, stepped}
+pub use Rattle.wfc_places.specs.Steps.{place_number, is_there, step_end}
 use Rattle.wfc_problem.specs.Network.{Network}
 use Rattle.wfc_problem.specs.declared.TheConstants.{NO_CELL}
 
@@ -29,8 +29,8 @@ window_beside n output place d =
     let rows = starts output.height n output.wrap in
     if is_there columns output.wrap (right_by d) (left_by d) place.0
     && is_there rows output.wrap (down_by d) (up_by d) place.1
-    then place_number columns (stepped columns (right_by d) (left_by d) place.0)
-    (stepped rows (down_by d) (up_by d) place.1)
+    then place_number columns (step_end columns (right_by d) (left_by d) place.0)
+    (step_end rows (down_by d) (up_by d) place.1)
     else NO_CELL
 
 -- the cells beside a place, direction by direction

@@ -32,13 +32,13 @@ pub(crate) fn base(
     let count = patterns.count() as usize;
     let mut flags = all_set(alloc, layout.cells() as usize * count)?;
     for mark in marks {
-        cut(&mut flags, patterns, layout, mark);
+        cut_by_mark(&mut flags, patterns, layout, mark);
     }
     Ok(flags)
 }
 
 /// Takes away what doesn't meet a pin or a ban, at each place whose window has its pixel.
-fn cut(flags: &mut [bool], patterns: &Patterns, layout: Layout, mark: &PinMark)
+fn cut_by_mark(flags: &mut [bool], patterns: &Patterns, layout: Layout, mark: &PinMark)
     requires n { layout.n ≡ patterns.now.n }
     requires table { IsTable patterns.now (output_of layout) flags.old }
     requires column_in { mark.now.column < layout.width }

@@ -4,14 +4,14 @@
 ghost use Rattle.std.specs.Prelude.{◌≡◌, ℕ, ◌<◌, ◌≤◌, List, [], ◌∷◌, true, false, codes, Ok, Err};
 ghost use Rattle.wfc_model.specs.Legal.{banned_pin, kept_pin};
 ghost use Rattle.wfc_model.specs.Raster.{raster_of};
-ghost use Rattle.wfc_outside.specs.Gives.{result_map};
 ghost use Rattle.wfc_overlap.specs.Bridge.{AreInside, HasWindowsOf, IsRoom, IsTaughtBy, numbers_of_windows, window_pair_count, picture_of};
-ghost use Rattle.wfc_overlap.specs.Built.{picture_problem, checked_picture_pins, picture_pin, picture_pins, texts_of};
+ghost use Rattle.wfc_overlap.specs.Built.{IsCrowded, picture_problem, checked_picture_pins, picture_pin, picture_pins, problem_by_lines, texts_of};
 ghost use Rattle.wfc_overlap.specs.Sample.{Output, output_with, problem_of_sample};
 ghost use Rattle.wfc_places.specs.Steps.{IsStepFrom};
 ghost use Rattle.wfc_overlap.specs.Subject.{HoldsPin, IsPlaceOf, place_cell};
 ghost use Rattle.wfc_overlap.specs.Small.{window_pin_line, no_pattern, one_pattern, rules_with};
-ghost use Rattle.wfc_overlap.specs.Small.{six_numbers, three_by_two, three_symbols, two_patterns};
+ghost use Rattle.wfc_overlap.specs.Small.{blank_and_letter, kept_and_banned, kept_blank, six_numbers, three_by_two, three_symbols};
+ghost use Rattle.wfc_overlap.specs.Small.{twelve_flags, twelve_neighbours, two_patterns, unknown_first};
 ghost use Rattle.wfc_pattern.specs.Patterns.{PatternsView};
 ghost use Rattle.wfc_picture.specs.declared.symbol.Symbol.{Symbol};
 ghost use Rattle.wfc_pins.specs.PinView.{PinView};
@@ -41,12 +41,9 @@ pub fn two_cells()
 /// there, or stands clear of it.
 pub fn wrapped_cells()
     ensures neighbours { (problem_of_sample (no_pattern 2) (output_with 3 4 true) []).neighbours
-        ≡ 2 ∷ 3 ∷ 1 ∷ 9 ∷ 0 ∷ 4 ∷ 2 ∷ 10 ∷ 1 ∷ 5 ∷ 0 ∷ 11 ∷ 5 ∷ 6 ∷ 4 ∷ 0 ∷ 3 ∷ 7 ∷ 5 ∷ 1
-        ∷ 4 ∷ 8 ∷ 3 ∷ 2 ∷ 8 ∷ 9 ∷ 7 ∷ 3 ∷ 6 ∷ 10 ∷ 8 ∷ 4 ∷ 7 ∷ 11 ∷ 6 ∷ 5 ∷ 11 ∷ 0 ∷ 10 ∷ 6
-        ∷ 9 ∷ 1 ∷ 11 ∷ 7 ∷ 10 ∷ 2 ∷ 9 ∷ 8 ∷ [] }
+        ≡ twelve_neighbours }
     ensures base { (problem_of_sample one_pattern (output_with 3 4 true) (kept_pin 0 0 2 ∷ [])).base
-        ≡ false ∷ true ∷ true ∷ true ∷ true ∷ true ∷ true ∷ true ∷ true ∷ false ∷ true
-        ∷ false ∷ [] }
+        ≡ twelve_flags }
     ensures own_neighbour { (problem_of_sample (no_pattern 1) (output_with 1 2 true) []).neighbours
         ≡ 0 ∷ 1 ∷ 0 ∷ 1 ∷ 1 ∷ 0 ∷ 1 ∷ 0 ∷ [] }
 {}
@@ -114,12 +111,9 @@ pub fn lines_by_symbols()
 
 /// All lines are read in order, and the first that has a fault is answered.
 pub fn lines_in_order()
-    ensures read { picture_pins (codes "a" ∷ codes "b" ∷ []) 3 2 (window_pin_line 1 true 2 0 (codes
-        "b") ∷ window_pin_line 3 false 1 1 (codes "a") ∷ []) ≡ Ok (kept_pin 2 0 1 ∷ banned_pin 1 1 0
-        ∷ []) }
-    ensures unknown { picture_pins (codes "a" ∷ []) 3 2
-        (window_pin_line 1 true 2 0 (codes "a") ∷ window_pin_line 3 true 1 1 (codes "b")
-        ∷ window_pin_line 4 true 3 0 (codes "a") ∷ []) ≡ Err (UnknownSymbol 3) }
+    ensures read { picture_pins (codes "a" ∷ codes "b" ∷ []) 3 2 kept_and_banned
+        ≡ Ok (kept_pin 2 0 1 ∷ banned_pin 1 1 0 ∷ []) }
+    ensures unknown { picture_pins (codes "a" ∷ []) 3 2 unknown_first ≡ Err (UnknownSymbol 3) }
     ensures outside { picture_pins (codes "a" ∷ []) 3 2 (window_pin_line 2 true 3 0 (codes "a")
         ∷ window_pin_line 3 true 1 1 (codes "b") ∷ []) ≡ Err (PinOutside 2) }
 {}
@@ -127,13 +121,11 @@ pub fn lines_in_order()
 /// A problem is built of the pins that the lines mean; a side below that of a window comes before
 /// too many pairs, and those come before the lines.
 pub fn small_builds()
-    ensures pins { checked_picture_pins two_patterns three_symbols three_by_two
-        (window_pin_line 1 true 1 0 (codes "\\s") ∷ window_pin_line 2 false 2 1 (codes "a") ∷ [])
+    ensures pins { checked_picture_pins two_patterns three_symbols three_by_two blank_and_letter
         ≡ Ok (kept_pin 1 0 1 ∷ banned_pin 2 1 0 ∷ []) }
     ensures narrow_pins { checked_picture_pins two_patterns three_symbols (output_with 1 2 true)
         (window_pin_line 5 true 9 9 [] ∷ []) ≡ Err SizeBelowN }
-    ensures problem { picture_problem two_patterns three_symbols three_by_two
-        (window_pin_line 1 true 1 0 (codes "\\s") ∷ [])
+    ensures problem { picture_problem two_patterns three_symbols three_by_two (kept_blank ∷ [])
         ≡ Ok (problem_of_sample two_patterns three_by_two (kept_pin 1 0 1 ∷ [])) }
     ensures line { picture_problem two_patterns three_symbols three_by_two
         (window_pin_line 5 true 1 2 (codes "a") ∷ []) ≡ Err (PinOutside 5) }
@@ -145,14 +137,10 @@ pub fn small_builds()
 
 /// Of an output that is large enough, too many pairs are refused, and else the lines decide.
 pub fn builds_by_pairs()
-    ensures crowded { (patterns : PatternsView) (palette : List Symbol) (output : Output) (lines :
-        List PinView) → patterns.n ≤ output.width → patterns.n ≤ output.height → MAX_PAIRS <
-        window_pair_count patterns output → picture_problem patterns palette output lines ≡ Err
-        (TooLarge (window_pair_count patterns output)) }
-    ensures roomy { (patterns : PatternsView) (palette : List Symbol) (output : Output) (lines :
-        List PinView) → IsRoom patterns output → picture_problem patterns palette output lines ≡
-        result_map (problem_of_sample patterns output) (picture_pins (texts_of palette) output.width
-        output.height lines) }
+    ensures crowded { (p : PatternsView) (s : List Symbol) (o : Output) (lines : List PinView) →
+        IsCrowded p o → picture_problem p s o lines ≡ Err (TooLarge (window_pair_count p o)) }
+    ensures roomy { (p : PatternsView) (s : List Symbol) (o : Output) (lines : List PinView) →
+        IsRoom p o → picture_problem p s o lines ≡ problem_by_lines p s o lines }
 {}
 
 /// Places of an output of three by two: two side by side; and the cells of one of four by three.

@@ -2,6 +2,7 @@
 
 ghost use Rattle.std.specs.Prelude.{◌≡◌, ◌*◌, ◌<◌, ◌≤◌};
 ghost use Rattle.wfc_model.specs.Window.{starts};
+ghost use Rattle.wfc_model.specs.declared.TheConstants.{MAX_OUTPUT_SIDE};
 
 use wfc_model::MAX_OUTPUT_SIDE;
 

@@ -45,11 +45,11 @@ pub fn picture_of(
     for y in 0..height {
         push_row(&mut numbers, patterns, layout, assignment, y)?;
     }
-    Ok(filled(width, height, numbers))
+    Ok(picture_from(width, height, numbers))
 }
 
 /// The picture with these numbers, of which there are as many as pixels.
-fn filled(width: u32, height: u32, numbers: Vec<u32>) -> Picture
+fn picture_from(width: u32, height: u32, numbers: Vec<u32>) -> Picture
     requires filled { IsFilled width height numbers.items }
     ensures value { result ≡ raster_of width height numbers.items }
 {

@@ -38,7 +38,8 @@ pub fn marks(
 /// What one line means.
 fn mark(texts: &[Vec<u8>], width: u32, height: u32, line: &PinLine) -> Result<PinMark, BuildFault>
     requires few { length texts.now ≤ MAX_COLOURS }
-    ensures exact { result ≡ picture_pin (map (λ text. text.items) texts.now) width height line.now }
+    ensures exact { result
+        ≡ picture_pin (map (λ text. text.items) texts.now) width height line.now }
     ensures inside { IfOk result (λ mark. (mark.column < width) × (mark.row < height)) }
 {
     if line.x >= width || line.y >= height {

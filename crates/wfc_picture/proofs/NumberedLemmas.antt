@@ -5,7 +5,7 @@ use Rattle.std.proofs.lemmas.List.Elements.{All-map, All-weaker, All-contains_it
 use Rattle.wfc_lists.proofs.Positions.{place_inside, place_own}
 use Rattle.wfc_lists.proofs.Unrepeated.{Contains-unrepeated}
 use Rattle.wfc_picture.specs.declared.symbol.Symbol.{Symbol}
-use Rattle.wfc_picture.specs.Palette.{numbered, palette_of}
+use Rattle.wfc_picture.specs.Palette.{palette_numbers, palette_of}
 use Rattle.wfc_picture.specs.Symbol.{same_symbol}
 use Rattle.wfc_picture.proofs.SymbolLemmas.{same_symbol-sound, same_symbol-whole}
 
@@ -14,7 +14,7 @@ pub palette_has : (symbols : List Symbol) (symbol : Symbol) → Contains symbols
 palette_has symbols symbol within = Contains-unrepeated same_symbol same_symbol-sound same_symbol-whole symbols symbol within
 
 -- each number is below the palette's length
-pub numbered_below : (symbols : List Symbol) → All (λ n. n < length (palette_of symbols)) (numbered symbols)
+pub numbered_below : (symbols : List Symbol) → All (λ n. n < length (palette_of symbols)) (palette_numbers symbols)
 numbered_below symbols =
     All-map (λ n. n < length (palette_of symbols)) (λ symbol. position_or_len (same_symbol symbol) (palette_of symbols)) symbols
     (All-weaker (Contains symbols) (λ symbol. position_or_len (same_symbol symbol) (palette_of symbols) < length (palette_of symbols))
@@ -29,7 +29,7 @@ named_each palette (symbol ∷ symbols) all =
     ∙ ap (λ (more : List (Option Symbol)). Some symbol ∷ more) (named_each palette symbols all.1)
 
 -- naming what was numbered gives the symbols back
-pub named_back : (symbols : List Symbol) → map (λ n. slice_get (palette_of symbols) n) (numbered symbols) ≡ map (λ symbol. Some symbol) symbols
+pub named_back : (symbols : List Symbol) → map (λ n. slice_get (palette_of symbols) n) (palette_numbers symbols) ≡ map (λ symbol. Some symbol) symbols
 named_back symbols =
     named_each (palette_of symbols) symbols
     (recursion_from_All (λ symbol. slice_get (palette_of symbols) (position_or_len (same_symbol symbol) (palette_of symbols)) ≡ Some symbol) symbols

@@ -12,7 +12,7 @@ use Rattle.wfc_picture.specs.declared.palette.PaletteFault.TheVariants.{TooManyC
 use Rattle.wfc_picture.specs.declared.symbol.Symbol.{Symbol}
 use Rattle.wfc_picture.specs.Symbol.{same_symbol}
 use Rattle.wfc_picture.specs.declared.palette.TheConstants.{MAX_COLOURS}
-use Rattle.wfc_picture.specs.Palette.{palette_of, numbered, first_past, unless_past, indexed}
+use Rattle.wfc_picture.specs.Palette.{palette_of, palette_numbers, first_past, unless_past, picture_and_palette}
 use Rattle.wfc_lists.proofs.Unrepeated.{unrepeated_push, place_in_all}
 use Rattle.wfc_lists.proofs.Positions.{position_at, position_none}
 use Rattle.wfc_picture.proofs.SymbolLemmas.{same_symbol-sound, same_symbol-whole}
@@ -31,7 +31,7 @@ module _ (symbols : List Symbol) (i : ℕ) (d : Symbol) (keys : List Symbol) (wi
       ∙ ap palette_of (sym (take_more symbols i d within))
 
   -- the number that the symbol is given is its number in the end
-  pub cells_more : (cells : List ℕ) (number : ℕ) → number ≡ position_or_len (same_symbol (get_or symbols i d)) keys → cells ≡ take i (numbered symbols) → cells ++ number ∷ [] ≡ take (i + 1) (numbered symbols)
+  pub cells_more : (cells : List ℕ) (number : ℕ) → number ≡ position_or_len (same_symbol (get_or symbols i d)) keys → cells ≡ take i (palette_numbers symbols) → cells ++ number ∷ [] ≡ take (i + 1) (palette_numbers symbols)
   cells_more cells number place so_far =
       let x : Symbol = get_or symbols i d in
       let f : Symbol → ℕ = λ symbol. position_or_len (same_symbol symbol) (palette_of symbols) in
@@ -77,17 +77,17 @@ none_past symbols n all few =
 
 -- where none is too many, the picture of the numbers and the palette are what the symbols are numbered as
 pub indexed-made : (symbols : List Symbol) (width : ℕ) (picture : Raster) (palette : List Symbol) → first_past MAX_COLOURS symbols ≡ None
-    → picture ≡ raster_of width (length symbols / width) (numbered symbols) → palette ≡ palette_of symbols → Ok (picture, palette) ≡ indexed symbols width
+    → picture ≡ raster_of width (length symbols / width) (palette_numbers symbols) → palette ≡ palette_of symbols → Ok (picture, palette) ≡ picture_and_palette symbols width
 indexed-made symbols width picture palette none picture_is palette_is =
     ap (λ (m : Raster). made (m, palette)) picture_is
-    ∙ ap (λ (p : List Symbol). made (raster_of width (length symbols / width) (numbered symbols), p)) palette_is
+    ∙ ap (λ (p : List Symbol). made (raster_of width (length symbols / width) (palette_numbers symbols), p)) palette_is
     ∙ sym (ap (λ at. unless_past at symbols width) none)
   where
     made : Raster × List Symbol → Result (Raster × List Symbol) PaletteFault
     made both = Ok both
 
 -- where one is too many, it is named
-pub indexed-past : (symbols : List Symbol) (width at : ℕ) → first_past MAX_COLOURS symbols ≡ Some at → Err (TooManyColours at) ≡ indexed symbols width
+pub indexed-past : (symbols : List Symbol) (width at : ℕ) → first_past MAX_COLOURS symbols ≡ Some at → Err (TooManyColours at) ≡ picture_and_palette symbols width
 indexed-past symbols width at past = sym (ap (λ o. unless_past o symbols width) past)
 
 -- a fault is the wanted answer, or want of memory

@@ -18,8 +18,8 @@ abbrev pub symbol_number : List Symbol → Symbol → Option ℕ
 symbol_number palette symbol = position (same_symbol symbol) palette
 
 -- for each of these symbols its number in the palette of them all
-abbrev pub numbered : List Symbol → List ℕ
-numbered symbols = map (λ symbol. position_or_len (same_symbol symbol) (palette_of symbols)) symbols
+abbrev pub palette_numbers : List Symbol → List ℕ
+palette_numbers symbols = map (λ symbol. position_or_len (same_symbol symbol) (palette_of symbols)) symbols
 
 -- where the first symbol past the limit appears, if there are so many
 abbrev pub first_past : ℕ → List Symbol → Option ℕ
@@ -30,8 +30,8 @@ first_past limit symbols =
 -- the picture and the palette of these symbols, unless there is a symbol too many
 abbrev pub unless_past : Option ℕ → List Symbol → ℕ → Result (Raster × List Symbol) PaletteFault
 unless_past (Some at) symbols width = Err (TooManyColours at)
-unless_past None symbols width = Ok (raster_of width (length symbols / width) (numbered symbols), palette_of symbols)
+unless_past None symbols width = Ok (raster_of width (length symbols / width) (palette_numbers symbols), palette_of symbols)
 
--- what the symbols of a picture of this width are numbered as
-abbrev pub indexed : List Symbol → ℕ → Result (Raster × List Symbol) PaletteFault
-indexed symbols width = unless_past (first_past MAX_COLOURS symbols) symbols width
+-- the picture of these symbols by their numbers, and its palette, or the fault of a symbol too many
+abbrev pub picture_and_palette : List Symbol → ℕ → Result (Raster × List Symbol) PaletteFault
+picture_and_palette symbols width = unless_past (first_past MAX_COLOURS symbols) symbols width

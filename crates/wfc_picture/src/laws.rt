@@ -4,7 +4,7 @@ ghost use Rattle.std.specs.Prelude.{◌≡◌, ◌↔◌, ℕ, ◌<◌, List, []
 ghost use Rattle.std.specs.Prelude.{None, Some, Ok, Err, IsTrue, true, false, codes};
 ghost use Rattle.std.specs.List.{IsDistinct};
 ghost use Rattle.wfc_model.specs.Raster.{raster_of};
-ghost use Rattle.wfc_picture.specs.Palette.{palette_of, symbol_number, numbered, first_past, unless_past, indexed};
+ghost use Rattle.wfc_picture.specs.Palette.{palette_of, symbol_number, palette_numbers, first_past, unless_past, picture_and_palette};
 ghost use Rattle.wfc_picture.specs.Small.{rgb, six_pixels};
 ghost use Rattle.wfc_picture.specs.Symbol.{Spells, same_symbol, is_shown, symbol_text};
 ghost use Rattle.wfc_picture.specs.declared.palette.PaletteFault.TheVariants.{TooManyColours};
@@ -70,9 +70,9 @@ pub fn words_that_spell_nothing()
 /// Naming what was numbered gives the symbols back, and each number is below the palette's length.
 pub fn numbers_name_symbols()
     ensures named { (symbols : List Symbol)
-        → map (slice_get (palette_of symbols)) (numbered symbols) ≡ map (λ s. Some s) symbols }
+        → map (slice_get (palette_of symbols)) (palette_numbers symbols) ≡ map (λ s. Some s) symbols }
     ensures below { (symbols : List Symbol)
-        → All (λ n. n < length (palette_of symbols)) (numbered symbols) }
+        → All (λ n. n < length (palette_of symbols)) (palette_numbers symbols) }
 {}
 
 /// A palette has each symbol of the pixels, no other, and none twice.
@@ -86,12 +86,12 @@ pub fn palettes_have_each_symbol_once()
 /// are as a picture of three columns.
 pub fn numbers_of_six_pixels()
     ensures palette { palette_of six_pixels ≡ Char 98 ∷ Char 97 ∷ rgb 1 2 3 ∷ Char 99 ∷ [] }
-    ensures numbers { numbered six_pixels ≡ 0 ∷ 1 ∷ 0 ∷ 2 ∷ 1 ∷ 3 ∷ [] }
+    ensures numbers { palette_numbers six_pixels ≡ 0 ∷ 1 ∷ 0 ∷ 2 ∷ 1 ∷ 3 ∷ [] }
     ensures number { map (symbol_number (palette_of six_pixels))
         (rgb 1 2 3 ∷ rgb 2 1 3 ∷ Char 1 ∷ []) ≡ Some 2 ∷ None ∷ None ∷ [] }
     ensures past { map (λ limit. first_past limit six_pixels) (2 ∷ 3 ∷ 4 ∷ []) ≡
         Some 3 ∷ Some 5 ∷ None ∷ [] }
     ensures fault { unless_past (Some 3) six_pixels 3 ≡ Err (TooManyColours 3) }
-    ensures picture { indexed six_pixels 3 ≡
+    ensures picture { picture_and_palette six_pixels 3 ≡
         Ok (raster_of 3 2 (0 ∷ 1 ∷ 0 ∷ 2 ∷ 1 ∷ 3 ∷ []), palette_of six_pixels) }
 {}

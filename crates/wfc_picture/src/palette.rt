@@ -4,7 +4,7 @@ ghost use Rattle.std.specs.Prelude.{◌≡◌, ℕ, ◌/◌, ◌%◌, ◌<◌, �
 ghost use Rattle.std.specs.List.{position_or_len};
 ghost use Rattle.wfc_lists.specs.Unrepeated.{with_new};
 ghost use Rattle.wfc_outside.specs.Gives.{Gives};
-ghost use Rattle.wfc_picture.specs.Palette.{symbol_number, indexed};
+ghost use Rattle.wfc_picture.specs.Palette.{symbol_number, picture_and_palette};
 ghost use Rattle.wfc_picture.specs.Symbol.{same_symbol};
 ghost use Rattle.wfc_picture.specs.declared.palette.PaletteFault.TheVariants.{NoMemory};
 ghost use Rattle.wfc_picture.specs.declared.palette.TheConstants.{MAX_COLOURS, MAX_PIXELS};
@@ -78,7 +78,7 @@ impl Palette {
         requires rows { length symbols.now % width ≡ 0 }
         requires some_pixel { 0 < length symbols.now }
         requires limit { length symbols.now ≤ MAX_PIXELS }
-        ensures exact { Gives NoMemory (λ made. made) result (indexed symbols.now width) }
+        ensures exact { Gives NoMemory (λ made. made) result (picture_and_palette symbols.now width) }
     {
         let mut found = IndexSet::new(alloc);
         let mut cells = Vec::with_capacity(alloc, symbols.len())?;

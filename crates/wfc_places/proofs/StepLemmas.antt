@@ -6,7 +6,7 @@ use Rattle.std.proofs.lemmas.Bool.Decides.{nat_tests}
 use Rattle.std.proofs.lemmas.Nat.{mod-mul-add, div-mul-add}
 use Rattle.std.proofs.Math.Nat.{add-mod_right}
 use Rattle.wfc_model.specs.Direction.{left_by, down_by, right_by, up_by}
-use Rattle.wfc_places.specs.Steps.{IsStepFrom, place_number, is_there, stepped}
+use Rattle.wfc_places.specs.Steps.{IsStepFrom, place_number, is_there, step_end}
 
 -- modulo a side that isn't passed
 pub mod_low : (z n : ℕ) → z < n → z % n ≡ z
@@ -25,7 +25,7 @@ pub record IsStepped (count forth back at s : ℕ) : Type 0 where
   pub below : s < count
   pub apart : (s + back ≡ at + forth) ⊎ ((s + back + count ≡ at + forth) ⊎ (s + back ≡ at + forth + count))
 
-pub stepped-is : (count forth back at : ℕ) → at < count → forth + back ≤ 1 → IsStepped count forth back at (stepped count forth back at)
+pub stepped-is : (count forth back at : ℕ) → at < count → forth + back ≤ 1 → IsStepped count forth back at (step_end count forth back at)
 stepped-is count forth back at inside one =
     let z = at + forth + count - back in
     elim (cases_lt z count) [
@@ -51,11 +51,11 @@ returned count forth back at s t inside there (inr (inr e)) (inr (inl g)) = omeg
 returned count forth back at s t inside there (inr (inr e)) (inr (inr g)) = omega arith
 
 -- a step forth and the same step back lead to where they began
-pub stepped-stepped : (count forth back at : ℕ) → at < count → forth + back ≤ 1 → stepped count back forth (stepped count forth back at) ≡ at
+pub stepped-stepped : (count forth back at : ℕ) → at < count → forth + back ≤ 1 → step_end count back forth (step_end count forth back at) ≡ at
 stepped-stepped count forth back at inside one =
     let s = stepped-is count forth back at inside one in
-    let t = stepped-is count back forth (stepped count forth back at) s.below (omega arith) in
-    returned count forth back at (stepped count forth back at) (stepped count back forth (stepped count forth back at)) inside t.below s.apart t.apart
+    let t = stepped-is count back forth (step_end count forth back at) s.below (omega arith) in
+    returned count forth back at (step_end count forth back at) (step_end count back forth (step_end count forth back at)) inside t.below s.apart t.apart
 
 -- a step that stays inside without wrapping is a step
 pub exact : (count forth back at s : ℕ) → IsStepped count forth back at s → is_there count false forth back at ≡ true → s + back ≡ at + forth
@@ -67,11 +67,11 @@ exact count forth back at s step there =
     elim step.apart [ inl e ↦ e | inr more ↦ elim more [ inl e ↦ omega arith | inr e ↦ omega arith ] ]
 
 -- where a step is, the step back is too
-pub there_again : (count : ℕ) (wrap : Bool) (forth back at : ℕ) → at < count → forth + back ≤ 1 → is_there count wrap forth back at ≡ true → is_there count wrap back forth (stepped count forth back at) ≡ true
+pub there_again : (count : ℕ) (wrap : Bool) (forth back at : ℕ) → at < count → forth + back ≤ 1 → is_there count wrap forth back at ≡ true → is_there count wrap back forth (step_end count forth back at) ≡ true
 there_again count true forth back at inside one there = refl
 there_again count false forth back at inside one there =
-    let e = exact count forth back at (stepped count forth back at) (stepped-is count forth back at inside one) there in
-    and_from _ _ (le-leb forth (stepped count forth back at + back) (omega arith)) (lt-ltb (stepped count forth back at + back) (count + forth) (omega arith))
+    let e = exact count forth back at (step_end count forth back at) (stepped-is count forth back at inside one) there in
+    and_from _ _ (le-leb forth (step_end count forth back at + back) (omega arith)) (lt-ltb (step_end count forth back at + back) (count + forth) (omega arith))
 
 -- both ends are the same modulo the number of places
 pub stepped_modulo : (count forth back at s : ℕ) → IsStepped count forth back at s → (at + forth) % count ≡ (s + back) % count
@@ -95,7 +95,7 @@ stay_there count true at inside = refl
 stay_there count false at inside = and_from _ _ (le-leb 0 (at + 0) (omega arith)) (lt-ltb (at + 0) (count + 0) (omega arith))
 
 -- no step leads nowhere else
-pub stayed : (count at : ℕ) → at < count → stepped count 0 0 at ≡ at
+pub stayed : (count at : ℕ) → at < count → step_end count 0 0 at ≡ at
 stayed count at inside =
     let step = stepped-is count 0 0 at inside (omega arith) in
     let low = step.below in
@@ -126,9 +126,9 @@ mod_same count back s u below inside one same =
 
 -- a step that is there leads forth and back by so much
 pub step-apart : (wrap : Bool) (count forth back at : ℕ) → at < count → forth + back ≤ 1 → is_there count wrap forth back at ≡ true
-    → MatchBool wrap ((at + forth) % count ≡ (stepped count forth back at + back) % count) (at + forth ≡ stepped count forth back at + back)
-step-apart true count forth back at inside one there = stepped_modulo count forth back at (stepped count forth back at) (stepped-is count forth back at inside one)
-step-apart false count forth back at inside one there = sym (exact count forth back at (stepped count forth back at) (stepped-is count forth back at inside one) there)
+    → MatchBool wrap ((at + forth) % count ≡ (step_end count forth back at + back) % count) (at + forth ≡ step_end count forth back at + back)
+step-apart true count forth back at inside one there = stepped_modulo count forth back at (step_end count forth back at) (stepped-is count forth back at inside one)
+step-apart false count forth back at inside one there = sym (exact count forth back at (step_end count forth back at) (stepped-is count forth back at inside one) there)
 
 -- and what lies so far is where the step leads
 pub apart-there : (wrap : Bool) (count forth back at u : ℕ) → at < count → u < count → forth + back ≤ 1
@@ -137,14 +137,14 @@ apart-there true count forth back at u inside other one apart = refl
 apart-there false count forth back at u inside other one apart = and_from _ _ (le-leb back (at + forth) (omega (arith, apart))) (lt-ltb (at + forth) (count + back) (omega (arith, apart)))
 
 pub apart-stepped : (wrap : Bool) (count forth back at u : ℕ) → at < count → u < count → forth + back ≤ 1
-    → MatchBool wrap ((at + forth) % count ≡ (u + back) % count) (at + forth ≡ u + back) → stepped count forth back at ≡ u
+    → MatchBool wrap ((at + forth) % count ≡ (u + back) % count) (at + forth ≡ u + back) → step_end count forth back at ≡ u
 apart-stepped true count forth back at u inside other one apart =
     let s = stepped-is count forth back at inside one in
-    mod_same count back (stepped count forth back at) u s.below other (omega arith) (sym (stepped_modulo count forth back at (stepped count forth back at) s) ∙ apart)
+    mod_same count back (step_end count forth back at) u s.below other (omega arith) (sym (stepped_modulo count forth back at (step_end count forth back at) s) ∙ apart)
 apart-stepped false count forth back at u inside other one apart =
     let s = stepped-is count forth back at inside one in
     let low = s.below in
-    let e = exact count forth back at (stepped count forth back at) s (apart-there false count forth back at u inside other one apart) in
+    let e = exact count forth back at (step_end count forth back at) s (apart-there false count forth back at u inside other one apart) in
     omega (arith, apart)
 
 -- ---- a step of places

@@ -2,9 +2,9 @@
 use Rattle.std.specs.Prelude.{ℕ, ◌+◌, ◌-◌, ◌*◌, ◌%◌, Bool, ◌&&◌, ◌||◌, nat_le, nat_lt, Option, None, Some, MatchBool, if◌then◌else◌}
 use Rattle.wfc_model.specs.Direction.{IsStep, IsStepModulo}
 
--- a column or a row of places, a step forth or back along so many, modulo them
-abbrev pub stepped : ℕ → ℕ → ℕ → ℕ → ℕ
-stepped count forth back at = (at + forth + count - back) % count
+-- the column or the row that a step forth or back along so many places leads to, modulo them
+abbrev pub step_end : ℕ → ℕ → ℕ → ℕ → ℕ
+step_end count forth back at = (at + forth + count - back) % count
 
 -- whether the step leads to another that there is: modulo their number always, else not past either
 -- end
@@ -15,7 +15,7 @@ is_there count wrap forth back at =
 -- the column or the row that a step leads to, if there is one
 abbrev pub along : ℕ → Bool → ℕ → ℕ → ℕ → Option ℕ
 along count wrap forth back at =
-    if is_there count wrap forth back at then Some (stepped count forth back at) else None
+    if is_there count wrap forth back at then Some (step_end count forth back at) else None
 
 -- the number of the place in a column and a row, counted row by row
 abbrev pub place_number : ℕ → ℕ → ℕ → ℕ

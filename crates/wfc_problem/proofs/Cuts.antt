@@ -8,7 +8,7 @@ use Rattle.std.proofs.lemmas.List.Folds.{list_all-append}
 use Rattle.wfc_lists.proofs.Lists.{has_Contains, Contains_has, Contains_any, one_fails, all_pass}
 use Rattle.wfc_lists.proofs.Ranges.{range_Contains}
 use Rattle.wfc_problem.specs.Assignment.{IsLegalAssignment, LiesIn}
-use Rattle.wfc_problem.specs.Domains.{Test, leaves, cut, base_with, Within, IsSupported, IsArcConsistent}
+use Rattle.wfc_problem.specs.Domains.{Test, leaves, with_literal, base_with, Within, IsSupported, IsArcConsistent}
 use Rattle.wfc_problem.specs.Network.{Network, values, neighbour, supports_of, ok, in_base, IsProblem}
 use Rattle.wfc_problem.specs.Rounds.{side_holds, is_supported}
 use Rattle.wfc_problem.specs.declared.Literal.{Literal}
@@ -31,11 +31,11 @@ pub leaves_other : (c v x w : ℕ) → (x ≡ c → w ≢ v) → leaves (Not v c
 leaves_other c v x w other = grind (arith, nat_tests)
 
 -- a cut takes away
-pub cut_within : (D E : Test) (l : Literal) → Within D E → Within (cut D l) E
+pub cut_within : (D E : Test) (l : Literal) → Within D E → Within (with_literal D l) E
 cut_within D E l within c v t = within c v (and_parts _ _ t).0
 
 -- and takes from less what it takes from more
-pub cut_both : (D E : Test) (l : Literal) → Within D E → Within (cut D l) (cut E l)
+pub cut_both : (D E : Test) (l : Literal) → Within D E → Within (with_literal D l) (with_literal E l)
 cut_both D E l within c v t = let parts = and_parts _ _ t in and_from _ _ (within c v parts.0) parts.1
 
 -- ---- the base, cut by literals
@@ -48,13 +48,13 @@ base_with_none P = λ i c v. each c v i
     each c v = grind arith
 
 -- one more literal cuts once more
-pub base_with_more : (P : Network) (literals : List Literal) (l : Literal) → base_with P (literals ++ l ∷ []) ≡ cut (base_with P literals) l
+pub base_with_more : (P : Network) (literals : List Literal) (l : Literal) → base_with P (literals ++ l ∷ []) ≡ with_literal (base_with P literals) l
 base_with_more P literals l = λ i c v. each c v i
   where
     last : (a b c : Bool) → (a && (b && (c && true))) ≡ ((a && b) && c)
     last a b c = grind arith
 
-    each : (c v : ℕ) → base_with P (literals ++ l ∷ []) c v ≡ cut (base_with P literals) l c v
+    each : (c v : ℕ) → base_with P (literals ++ l ∷ []) c v ≡ with_literal (base_with P literals) l c v
     each c v =
         ap (λ b. in_base P c v && b) (list_all-append (λ m. leaves m c v) literals (l ∷ []))
         ∙ last (in_base P c v) (list_all (λ m. leaves m c v) literals) (leaves l c v)
@@ -78,30 +78,30 @@ pub lies_within : (a : List ℕ) (D E : Test) → Within D E → LiesIn a D → 
 lies_within a D E within lies c l = within c (slice_index a c) (lies c l)
 
 -- one that has the value lies in the domains cut to it
-pub lies_is : (a : List ℕ) (D : Test) (c v : ℕ) → LiesIn a D → slice_index a c ≡ v → LiesIn a (cut D (Is v c))
+pub lies_is : (a : List ℕ) (D : Test) (c v : ℕ) → LiesIn a D → slice_index a c ≡ v → LiesIn a (with_literal D (Is v c))
 lies_is a D c v lies is x l =
     and_from _ _ (lies x l) (let at : x ≡ c → slice_index a x ≡ v = λ f. ap (slice_index a) f ∙ is in grind (arith, nat_tests))
 
 -- and one that has another lies in those without it
-pub lies_not : (a : List ℕ) (D : Test) (c v : ℕ) → LiesIn a D → slice_index a c ≢ v → LiesIn a (cut D (Not v c))
+pub lies_not : (a : List ℕ) (D : Test) (c v : ℕ) → LiesIn a D → slice_index a c ≢ v → LiesIn a (with_literal D (Not v c))
 lies_not a D c v lies ne x l =
     and_from _ _ (lies x l) (let at : x ≡ c → slice_index a x ≢ v = λ f g. ne (sym (ap (slice_index a) f) ∙ g) in grind (arith, nat_tests))
 
 -- so it lies in the one or in the other
-pub lies_either : (a : List ℕ) (D : Test) (c v : ℕ) → LiesIn a D → LiesIn a (cut D (Is v c)) ⊎ LiesIn a (cut D (Not v c))
+pub lies_either : (a : List ℕ) (D : Test) (c v : ℕ) → LiesIn a D → LiesIn a (with_literal D (Is v c)) ⊎ LiesIn a (with_literal D (Not v c))
 lies_either a D c v lies = elim (cases_eq (slice_index a c) v) [ inl is ↦ inl (lies_is a D c v lies is) | inr ne ↦ inr (lies_not a D c v lies ne) ]
 
 -- what lies in the domains cut to a value has it
-pub lies_is_exact : (a : List ℕ) (D : Test) (c v : ℕ) → c < length a → LiesIn a (cut D (Is v c)) ↔ (LiesIn a D × (slice_index a c ≡ v))
+pub lies_is_exact : (a : List ℕ) (D : Test) (c v : ℕ) → c < length a → LiesIn a (with_literal D (Is v c)) ↔ (LiesIn a D × (slice_index a c ≡ v))
 lies_is_exact a D c v l = (
-  (λ lies. (lies_within a (cut D (Is v c)) D (cut_within D D (Is v c) (λ x w t. t)) lies, leaves_is c v (slice_index a c) (and_parts _ _ (lies c l)).1)),
+  (λ lies. (lies_within a (with_literal D (Is v c)) D (cut_within D D (Is v c) (λ x w t. t)) lies, leaves_is c v (slice_index a c) (and_parts _ _ (lies c l)).1)),
   (λ both. lies_is a D c v both.0 both.1),
 )
 
 -- and what lies in those without it has another
-pub lies_not_exact : (a : List ℕ) (D : Test) (c v : ℕ) → c < length a → LiesIn a (cut D (Not v c)) ↔ (LiesIn a D × (slice_index a c ≢ v))
+pub lies_not_exact : (a : List ℕ) (D : Test) (c v : ℕ) → c < length a → LiesIn a (with_literal D (Not v c)) ↔ (LiesIn a D × (slice_index a c ≢ v))
 lies_not_exact a D c v l = (
-  (λ lies. (lies_within a (cut D (Not v c)) D (cut_within D D (Not v c) (λ x w t. t)) lies, leaves_not c v (slice_index a c) (and_parts _ _ (lies c l)).1)),
+  (λ lies. (lies_within a (with_literal D (Not v c)) D (cut_within D D (Not v c) (λ x w t. t)) lies, leaves_not c v (slice_index a c) (and_parts _ _ (lies c l)).1)),
   (λ both. lies_not a D c v both.0 both.1),
 )
 
@@ -118,12 +118,12 @@ legal_supported P p D a legal lies c d n e =
 
 -- so none has a value without support
 pub lies_supported : (P : Network) → IsProblem P → (D : Test) (a : List ℕ) → IsLegalAssignment P a → LiesIn a D → (c v d : ℕ) → (IsSupported P D c v d → ⊥)
-    → LiesIn a (cut D (Not v c))
+    → LiesIn a (with_literal D (Not v c))
 lies_supported P p D a legal lies c v d bare =
     lies_not a D c v lies (λ is. bare (subst (λ (w : ℕ). IsSupported P D c w d) is (legal_supported P p D a legal lies c d)))
 
 -- and no consistent domains have it
-pub within_supported : (P : Network) (D E : Test) → Within E D → IsArcConsistent P E → (c v d : ℕ) → (IsSupported P D c v d → ⊥) → Within E (cut D (Not v c))
+pub within_supported : (P : Network) (D E : Test) → Within E D → IsArcConsistent P E → (c v d : ℕ) → (IsSupported P D c v d → ⊥) → Within E (with_literal D (Not v c))
 within_supported P D E within consistent c v d bare x w t =
     and_from (D x w) (leaves (Not v c) x w) (within x w t)
     (leaves_other c v x w (λ is same.

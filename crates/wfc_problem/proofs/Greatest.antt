@@ -2,7 +2,7 @@
 use Rattle.std.proofs.Common.{◌≡◌, ℕ, ◌+◌, ◌≤◌, true, List, [], ◌∷◌, ◌++◌, sym, ◌∙◌, ap, subst}
 use Rattle.std.proofs.lemmas.Bool.{and_parts, and_from}
 use Rattle.wfc_problem.specs.Assignment.{IsLegalAssignment, LiesIn}
-use Rattle.wfc_problem.specs.Domains.{Test, Within, IsSupported, IsArcConsistent, leaves, cut, base_with}
+use Rattle.wfc_problem.specs.Domains.{Test, Within, IsSupported, IsArcConsistent, leaves, with_literal, base_with}
 use Rattle.wfc_problem.specs.Network.{Network, IsProblem, in_base}
 use Rattle.wfc_problem.specs.Rounds.{greatest, pairs, depth_of}
 use Rattle.wfc_problem.specs.Sizes.{size_at, is_dead}
@@ -43,9 +43,9 @@ base_above P = record {
 }
 
 -- the greatest domains cut by one more literal are, with it
-pub cut_above : (P : Network) → IsProblem P → (ls : List Literal) (l : Literal) → IsAbove P (ls ++ l ∷ []) (cut (greatest P ls) l)
+pub cut_above : (P : Network) → IsProblem P → (ls : List Literal) (l : Literal) → IsAbove P (ls ++ l ∷ []) (with_literal (greatest P ls) l)
 cut_above P p ls l =
-    let Q : Test → Type 0 = λ B. Within (cut (greatest P ls) l) B × ((E : Test) → Within E B → IsArcConsistent P E → Within E (cut (greatest P ls) l)) in
+    let Q : Test → Type 0 = λ B. Within (with_literal (greatest P ls) l) B × ((E : Test) → Within E B → IsArcConsistent P E → Within E (with_literal (greatest P ls) l)) in
     let q : Q (base_with P (ls ++ l ∷ [])) = subst Q (sym (base_with_more P ls l)) (
       (cut_both (greatest P ls) (base_with P ls) l (greatest_within P ls (greatest P ls) (greatest_is P p ls))),
       (λ E within consistent c v t. let parts = and_parts (base_with P ls c v) (leaves l c v) (within c v t) in
@@ -59,7 +59,7 @@ above_consistent P p literals D above consistent =
     greatest_same P literals D (greatest P literals) (greatest_from_holding P literals D above.within consistent above.holds) (greatest_is P p literals)
 
 -- and a value without support can be left out
-pub above_without : (P : Network) (literals : List Literal) (D : Test) → IsAbove P literals D → (c v d : ℕ) → (IsSupported P D c v d → ⊥) → IsAbove P literals (cut D (Not v c))
+pub above_without : (P : Network) (literals : List Literal) (D : Test) → IsAbove P literals D → (c v d : ℕ) → (IsSupported P D c v d → ⊥) → IsAbove P literals (with_literal D (Not v c))
 above_without P literals D above c v d bare = record {
   within = cut_within D (base_with P literals) (Not v c) above.within;
   holds = λ E within consistent. within_supported P D E (above.holds E within consistent) consistent c v d bare;

@@ -6,7 +6,7 @@ use Rattle.std.proofs.lemmas.List.{get_or_past, get_or-take, get_or-drop, length
 use Rattle.std.proofs.Math.Nat.{mul-le-mul_right}
 use Rattle.wfc_lists.proofs.Tables.{row_below}
 use Rattle.wfc_problem.specs.declared.TheConstants.{NO_CELL}
-use Rattle.wfc_problem.specs.Network.{Network, values, neighbour, named, beside, supports_of, has_flag, in_base, IsProblem}
+use Rattle.wfc_problem.specs.Network.{Network, values, neighbour, entry_cell, beside, supports_of, has_flag, in_base, IsProblem}
 
 -- ---- neighbours and supports
 
@@ -19,17 +19,17 @@ pub record IsRead (P : Network) (c d n : ℕ) : Type 0 where
 pub neighbour_read : (P : Network) (c d n : ℕ) → neighbour P c d ≡ Some n → IsRead P c d n
 neighbour_read P c d n e = elim (cases_lt d P.dirs) [
   | inr ge ↦
-      let z : neighbour P c d ≡ None = cond-false _ (named (get_or P.neighbours (c * P.dirs + d) NO_CELL)) None (le-ltb d P.dirs ge) in
+      let z : neighbour P c d ≡ None = cond-false _ (entry_cell (get_or P.neighbours (c * P.dirs + d) NO_CELL)) None (le-ltb d P.dirs ge) in
       cc
   | inl l ↦
       let i = c * P.dirs + d in
-      let at : neighbour P c d ≡ named (get_or P.neighbours i NO_CELL) = cond-true _ _ None (lt-ltb d P.dirs l) in
+      let at : neighbour P c d ≡ entry_cell (get_or P.neighbours i NO_CELL) = cond-true _ _ None (lt-ltb d P.dirs l) in
       elim (cases_eq (get_or P.neighbours i NO_CELL) NO_CELL) [
         | inl none ↦
-            let z : named (get_or P.neighbours i NO_CELL) ≡ None = cond-true _ None (Some (get_or P.neighbours i NO_CELL)) (eq-eqb _ NO_CELL none) in
+            let z : entry_cell (get_or P.neighbours i NO_CELL) ≡ None = cond-true _ None (Some (get_or P.neighbours i NO_CELL)) (eq-eqb _ NO_CELL none) in
             cc
         | inr some ↦
-            let z : named (get_or P.neighbours i NO_CELL) ≡ Some (get_or P.neighbours i NO_CELL) = cond-false _ None (Some (get_or P.neighbours i NO_CELL)) (ne_eqb _ NO_CELL some) in
+            let z : entry_cell (get_or P.neighbours i NO_CELL) ≡ Some (get_or P.neighbours i NO_CELL) = cond-false _ None (Some (get_or P.neighbours i NO_CELL)) (ne_eqb _ NO_CELL some) in
             record {
               dir_in = l;
               inside = elim (cases_lt i (length P.neighbours)) [ inl m ↦ m | inr ge ↦ absurd (some (get_or_past P.neighbours i NO_CELL ge)) ];
@@ -42,13 +42,13 @@ neighbour_read P c d n e = elim (cases_lt d P.dirs) [
 pub neighbour_is : (P : Network) (c d : ℕ) → d < P.dirs → (get_or P.neighbours (c * P.dirs + d) NO_CELL ≡ NO_CELL → ⊥) → neighbour P c d ≡ Some (get_or P.neighbours (c * P.dirs + d) NO_CELL)
 neighbour_is P c d l some =
     let entry = get_or P.neighbours (c * P.dirs + d) NO_CELL in
-    cond-true _ (named entry) None (lt-ltb d P.dirs l) ∙ cond-false _ None (Some entry) (ne_eqb entry NO_CELL some)
+    cond-true _ (entry_cell entry) None (lt-ltb d P.dirs l) ∙ cond-false _ None (Some entry) (ne_eqb entry NO_CELL some)
 
 -- the entries for what is beside a cell name its neighbours
-pub beside_names : (P : Network) (c d : ℕ) → d < P.dirs → neighbour P c d ≡ named (get_or (beside P c) d NO_CELL)
+pub beside_names : (P : Network) (c d : ℕ) → d < P.dirs → neighbour P c d ≡ entry_cell (get_or (beside P c) d NO_CELL)
 beside_names P c d l =
-    cond-true _ (named (get_or P.neighbours (c * P.dirs + d) NO_CELL)) None (lt-ltb d P.dirs l)
-    ∙ ap named (sym (get_or-take P.dirs (drop (c * P.dirs) P.neighbours) d NO_CELL l ∙ get_or-drop (c * P.dirs) P.neighbours d NO_CELL))
+    cond-true _ (entry_cell (get_or P.neighbours (c * P.dirs + d) NO_CELL)) None (lt-ltb d P.dirs l)
+    ∙ ap entry_cell (sym (get_or-take P.dirs (drop (c * P.dirs) P.neighbours) d NO_CELL l ∙ get_or-drop (c * P.dirs) P.neighbours d NO_CELL))
 
 -- there is one for each direction
 pub beside_length : (P : Network) → IsProblem P → (c : ℕ) → c < P.cells → length (beside P c) ≡ P.dirs
@@ -79,7 +79,7 @@ pub neighbour_not_none : (P : Network) (c d n : ℕ) → neighbour P c d ≡ Som
 neighbour_not_none P c d n e none =
     let r = neighbour_read P c d n e in
     let entry = get_or P.neighbours (c * P.dirs + d) NO_CELL in
-    let z : neighbour P c d ≡ None = cond-true _ (named entry) None (lt-ltb d P.dirs r.dir_in) ∙ cond-true _ None (Some entry) (eq-eqb entry NO_CELL (r.entry ∙ none)) in
+    let z : neighbour P c d ≡ None = cond-true _ (entry_cell entry) None (lt-ltb d P.dirs r.dir_in) ∙ cond-true _ None (Some entry) (eq-eqb entry NO_CELL (r.entry ∙ none)) in
     cc
 
 -- a neighbour lies in a direction that there is

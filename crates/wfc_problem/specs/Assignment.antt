@@ -11,3 +11,7 @@ pub record IsLegalAssignment (P : Network) (a : List ℕ) : Type 0 where
 -- each cell's value stands in D
 abbrev pub LiesIn : List ℕ → (ℕ → ℕ → Bool) → Type 0
 LiesIn a D = (c : ℕ) → c < length a → IsTrue (D c (slice_index a c))
+
+-- a is a legal assignment, and lies within D
+abbrev pub IsLegalWithin : Network → (ℕ → ℕ → Bool) → List ℕ → Type 0
+IsLegalWithin P D a = IsLegalAssignment P a × LiesIn a D

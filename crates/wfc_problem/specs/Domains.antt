@@ -2,6 +2,7 @@
 use Rattle.std.specs.Prelude.{◌≡◌, ℕ, ◌<◌, ◌↔◌, Bool, not, ◌&&◌, ◌||◌, List, ◌==◌, Option, Some, None, count_by}
 use Rattle.std.specs.Prelude.{Contains, IsTrue, IsFalse, length, slice_index}
 use Rattle.std.specs.List.{list_all}
+use Rattle.wfc_problem.specs.Assignment.{IsLegalAssignment, LiesIn}
 use Rattle.wfc_problem.specs.Network.{Network, values, neighbour, supports_of, in_base}
 use Rattle.wfc_problem.specs.declared.Literal.{Literal}
 use Rattle.wfc_problem.specs.declared.Literal.TheVariants.{Is, Not}
@@ -25,8 +26,8 @@ abbrev pub leaves_all : List Literal → Test
 leaves_all literals c v = list_all (λ l. leaves l c v) literals
 
 -- D cut by a literal
-abbrev pub cut : Test → Literal → Test
-cut D l c v = D c v && leaves l c v
+abbrev pub with_literal : Test → Literal → Test
+with_literal D l c v = D c v && leaves l c v
 
 -- the base domains, cut by each literal
 abbrev pub base_with : Network → List Literal → Test
@@ -54,6 +55,18 @@ pub record IsInGreatest (P : Network) (literals : List Literal) (c v : ℕ) : Ty
 -- D is the union of all arc consistent domains within the cut base
 abbrev pub IsGreatest : Network → List Literal → Test → Type 0
 IsGreatest P literals D = (c v : ℕ) → IsTrue (D c v) ↔ IsInGreatest P literals c v
+
+-- E lies within the cut base and is arc consistent
+abbrev pub IsConsistentWithin : Network → List Literal → Test → Type 0
+IsConsistentWithin P literals E = Within E (base_with P literals) × IsArcConsistent P E
+
+-- the value that a list has for each cell stands there in such domains
+abbrev pub StandsInGreatest : Network → List Literal → List ℕ → Type 0
+StandsInGreatest P literals a = (c : ℕ) → c < P.cells → IsInGreatest P literals c (slice_index a c)
+
+-- no legal assignment lies within the cut base
+abbrev pub HasNoAssignment : Network → List Literal → Type 0
+HasNoAssignment P literals = (a : List ℕ) → IsLegalAssignment P a → LiesIn a (base_with P literals) → ⊥
 
 -- no value stands at c
 abbrev pub IsEmptyAt : Test → ℕ → Type 0

@@ -25,12 +25,12 @@ abbrev pub value_weight : Network → ℕ → ℕ
 value_weight P v = slice_index P.weights v
 
 -- the cell that an entry of the neighbour table names, if any
-abbrev pub named : ℕ → Option ℕ
-named n = if n == NO_CELL then None else Some n
+abbrev pub entry_cell : ℕ → Option ℕ
+entry_cell n = if n == NO_CELL then None else Some n
 
 -- the cell beside c in direction d, if there is one
 abbrev pub neighbour : Network → ℕ → ℕ → Option ℕ
-neighbour P c d = if nat_lt d P.dirs then named (slice_index_or P.neighbours (c * P.dirs + d) NO_CELL) else None
+neighbour P c d = if nat_lt d P.dirs then entry_cell (slice_index_or P.neighbours (c * P.dirs + d) NO_CELL) else None
 
 -- the entries of the table for what is beside c, one for each direction
 abbrev pub beside : Network → ℕ → List ℕ

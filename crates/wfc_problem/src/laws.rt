@@ -4,13 +4,14 @@ ghost use Rattle.std.specs.Prelude.{◌≡◌, ℕ, ◌<◌, ◌≤◌, ◌⊎�
 ghost use Rattle.std.specs.List.Sorted.{IsStrictlyIncreasing};
 ghost use Rattle.wfc_model.specs.Direction.{opposite};
 ghost use Rattle.wfc_problem.specs.declared.TheConstants.{MAX_PAIRS, MAX_VALUES, MAX_WEIGHT, NO_CELL};
-ghost use Rattle.wfc_problem.specs.Assignment.{IsLegalAssignment, LiesIn};
+ghost use Rattle.wfc_problem.specs.Assignment.{IsLegalAssignment, IsLegalWithin, LiesIn};
 ghost use Rattle.wfc_problem.specs.Domains.{Test, Within, IsSupported, IsArcConsistent, IsInGreatest, IsGreatest};
-ghost use Rattle.wfc_problem.specs.Domains.{IsDead, HasOnly, base_with, cut};
+ghost use Rattle.wfc_problem.specs.Domains.{IsConsistentWithin, IsDead, HasNoAssignment, HasOnly, StandsInGreatest, base_with, with_literal};
 ghost use Rattle.wfc_problem.specs.Network.{Network, IsProblem, in_base, ok};
 ghost use Rattle.wfc_problem.specs.Rounds.{rounds, depth_of, greatest};
 ghost use Rattle.wfc_problem.specs.Sizes.{is_dead, values_at};
 ghost use Rattle.wfc_problem.specs.declared.Literal.{Literal};
+ghost use Rattle.wfc_problem.specs.declared.Literal.TheVariants.{Is, Not};
 
 /// As many rounds as there are pairs of a cell and a base value, or more, give the greatest
 /// domains.
@@ -29,8 +30,7 @@ pub fn greatest_holds_all()
     ensures consistent { (P : Network) (literals : List Literal) (D : Test) →
         IsGreatest P literals D → IsArcConsistent P D }
     ensures largest { (P : Network) (literals : List Literal) (D E : Test) →
-        IsGreatest P literals D →
-        Within E (base_with P literals) → IsArcConsistent P E → Within E D }
+        IsGreatest P literals D → IsConsistentWithin P literals E → Within E D }
     ensures only { (P : Network) (literals : List Literal) (D E : Test) → IsGreatest P literals D →
         IsGreatest P literals E → D ≡ E }
 {}
@@ -38,15 +38,13 @@ pub fn greatest_holds_all()
 /// A legal assignment within the cut base lies within the greatest domains.
 pub fn assignments_stand()
     ensures stands { (P : Network) → IsProblem P → (literals : List Literal) (a : List ℕ) →
-        IsLegalAssignment P a → LiesIn a (base_with P literals) →
-        (c : ℕ) → c < P.cells → IsInGreatest P literals c (slice_index a c) }
+        IsLegalAssignment P a → LiesIn a (base_with P literals) → StandsInGreatest P literals a }
 {}
 
 /// Where the greatest domains are dead, no legal assignment lies within the cut base.
 pub fn dead_means_none()
     ensures none { (P : Network) → IsProblem P → (literals : List Literal) (D : Test) →
-        IsGreatest P literals D → IsDead P D →
-        (a : List ℕ) → IsLegalAssignment P a → LiesIn a (base_with P literals) → ⊥ }
+        IsGreatest P literals D → IsDead P D → HasNoAssignment P literals }
 {}
 
 /// Where each cell has one value in the greatest domains, these values are a legal assignment
@@ -74,28 +72,27 @@ pub fn supports_are_mutual()
 pub fn literals_cut_in_turn()
     ensures none { (P : Network) → base_with P [] ≡ in_base P }
     ensures more { (P : Network) (literals : List Literal) (l : Literal) →
-        base_with P (literals ++ l ∷ []) ≡ cut (base_with P literals) l }
+        base_with P (literals ++ l ∷ []) ≡ with_literal (base_with P literals) l }
 {}
 
 /// An assignment has a value at a cell, or it doesn't: it lies within domains cut by the one
 /// literal or by the other.
 pub fn one_literal_holds()
     ensures either { (D : Test) (a : List ℕ) (cell value : ℕ) → LiesIn a D →
-        LiesIn a (cut D (Literal.Is value cell)) ⊎ LiesIn a (cut D (Literal.Not value cell)) }
+        LiesIn a (with_literal D (Is value cell)) ⊎ LiesIn a (with_literal D (Not value cell)) }
     ensures is_exact { (D : Test) (a : List ℕ) (cell value : ℕ) → cell < length a →
-        LiesIn a (cut D (Literal.Is value cell)) ↔ (LiesIn a D × (slice_index a cell ≡ value)) }
+        LiesIn a (with_literal D (Is value cell)) ↔ (LiesIn a D × (slice_index a cell ≡ value)) }
     ensures not_exact { (D : Test) (a : List ℕ) (cell value : ℕ) → cell < length a →
-        LiesIn a (cut D (Literal.Not value cell)) ↔ (LiesIn a D × (slice_index a cell ≢ value)) }
+        LiesIn a (with_literal D (Not value cell)) ↔ (LiesIn a D × (slice_index a cell ≢ value)) }
 {}
 
 /// A value without support in some domains is in no legal assignment within them, and in no
 /// consistent domains within them.
 pub fn unsupported_values_go()
-    ensures legal { (P : Network) → IsProblem P → (D : Test) (a : List ℕ) →
-        IsLegalAssignment P a → LiesIn a D → (c v d : ℕ) → (IsSupported P D c v d → ⊥) →
-        LiesIn a (cut D (Literal.Not v c)) }
+    ensures legal { (P : Network) → IsProblem P → (D : Test) (a : List ℕ) (c v d : ℕ) →
+        IsLegalWithin P D a → (IsSupported P D c v d → ⊥) → LiesIn a (with_literal D (Not v c)) }
     ensures consistent { (P : Network) (D E : Test) → Within E D → IsArcConsistent P E →
-        (c v d : ℕ) → (IsSupported P D c v d → ⊥) → Within E (cut D (Literal.Not v c)) }
+        (c v d : ℕ) → (IsSupported P D c v d → ⊥) → Within E (with_literal D (Not v c)) }
 {}
 
 /// A legal assignment lies within the base.

@@ -2,7 +2,7 @@
 use Rattle.std.proofs.Common.{◌≡◌, Bool, true, false, List, [], ◌∷◌, ◌++◌, refl, sym, ◌∙◌, ap, subst, inl, inr, Option, Some, None, append_assoc, append-nil}
 use Rattle.std.proofs.lemmas.Bool.{cases_Bool}
 use Rattle.std.specs.Prelude.{◌↔◌, Result, Ok, Err, ⊤, ◌||◌}
-use Rattle.wfc_problem.specs.Domains.{Test, Within, cut}
+use Rattle.wfc_problem.specs.Domains.{Test, Within, with_literal}
 use Rattle.wfc_problem.specs.Network.{Network, IsProblem, in_base}
 use Rattle.wfc_problem.specs.declared.Literal.TheVariants.{Is, Not}
 use Rattle.wfc_proof.specs.Checker.{Point, after_close, node_fault, after_node, or_else, and_on, node_step, node_steps}
@@ -76,11 +76,11 @@ closed_forest P p (D ∷ waiting) inside (empties c ∷ ns) e =
     (empty c, accepted_empty P p D inside.0 c s.0, ns, refl, closed_forest P p waiting inside.1 ns s.1)
 closed_forest P p (D ∷ waiting) inside (removes c v d ∷ ns) e =
     let s = step_cases P D waiting (removes c v d) ns closed e in
-    let f = closed_forest P p (cut D (Not v c) ∷ waiting) (cut_within D (in_base P) (Not v c) inside.0, inside.1) ns s.1 in
+    let f = closed_forest P p (with_literal D (Not v c) ∷ waiting) (cut_within D (in_base P) (Not v c) inside.0, inside.1) ns s.1 in
     (remove c v d f.0, (accepted_removal P D c v d s.0, f.1), f.2, ap (λ (xs : List Node). removes c v d ∷ xs) f.3, f.4)
 closed_forest P p (D ∷ waiting) inside (splits c v ∷ ns) e =
     let s = step_cases P D waiting (splits c v) ns closed e in
-    let f = closed_forest P p (cut D (Is v c) ∷ cut D (Not v c) ∷ waiting)
+    let f = closed_forest P p (with_literal D (Is v c) ∷ with_literal D (Not v c) ∷ waiting)
     (cut_within D (in_base P) (Is v c) inside.0, (cut_within D (in_base P) (Not v c) inside.0, inside.1)) ns s.1 in
     let g = f.4 in
     let same : ns ≡ (nodes f.0 ++ nodes g.0) ++ g.2 = f.3 ∙ ap (λ (xs : List Node). nodes f.0 ++ xs) g.3 ∙ sym (append_assoc (nodes f.0) (nodes g.0) g.2) in
@@ -92,12 +92,12 @@ pub proof_accepted : (P : Network) → IsProblem P → (D : Test) (waiting : Lis
 proof_accepted P p D waiting within (empty c) (l, e) rest = step_on P D waiting (empties c) rest (empty_accepted P D c l e)
 proof_accepted P p D waiting within (remove c v d more) (h, closes) rest =
     step_on P D waiting (removes c v d) (nodes more ++ rest) (removal_accepted P p D within c v d h)
-    ∙ proof_accepted P p (cut D (Not v c)) waiting (cut_within D (in_base P) (Not v c) within) more closes rest
+    ∙ proof_accepted P p (with_literal D (Not v c)) waiting (cut_within D (in_base P) (Not v c) within) more closes rest
 proof_accepted P p D waiting within (split c v left right) (h, first, second) rest =
     step_on P D waiting (splits c v) ((nodes left ++ nodes right) ++ rest) (split_accepted P p D within c v h)
-    ∙ ap (λ (xs : List Node). node_steps P (going (cut D (Is v c)) (cut D (Not v c) ∷ waiting)) xs) (append_assoc (nodes left) (nodes right) rest)
-    ∙ proof_accepted P p (cut D (Is v c)) (cut D (Not v c) ∷ waiting) (cut_within D (in_base P) (Is v c) within) left first (nodes right ++ rest)
-    ∙ proof_accepted P p (cut D (Not v c)) waiting (cut_within D (in_base P) (Not v c) within) right second rest
+    ∙ ap (λ (xs : List Node). node_steps P (going (with_literal D (Is v c)) (with_literal D (Not v c) ∷ waiting)) xs) (append_assoc (nodes left) (nodes right) rest)
+    ∙ proof_accepted P p (with_literal D (Is v c)) (with_literal D (Not v c) ∷ waiting) (cut_within D (in_base P) (Is v c) within) left first (nodes right ++ rest)
+    ∙ proof_accepted P p (with_literal D (Not v c)) waiting (cut_within D (in_base P) (Not v c) within) right second rest
 proof_accepted P p D waiting within left_off closes rest = absurd closes
 
 -- ---- following
@@ -135,11 +135,11 @@ follow_forest P p (D ∷ waiting) inside (empties c ∷ ns) q e =
     (empty c, accepted_empty P p D inside.0 c s.0, tt, ns, refl, (λ f. cc), follow_forest P p waiting inside.1 ns q s.1)
 follow_forest P p (D ∷ waiting) inside (removes c v d ∷ ns) q e =
     let s = step_cases P D waiting (removes c v d) ns q e in
-    let f = follow_forest P p (cut D (Not v c) ∷ waiting) (cut_within D (in_base P) (Not v c) inside.0, inside.1) ns q s.1 in
+    let f = follow_forest P p (with_literal D (Not v c) ∷ waiting) (cut_within D (in_base P) (Not v c) inside.0, inside.1) ns q s.1 in
     (remove c v d f.0, (accepted_removal P D c v d s.0, f.1), f.2, f.3, ap (λ (xs : List Node). removes c v d ∷ xs) f.4, f.5, f.6)
 follow_forest P p (D ∷ waiting) inside (splits c v ∷ ns) q e =
     let s = step_cases P D waiting (splits c v) ns q e in
-    let f = follow_forest P p (cut D (Is v c) ∷ cut D (Not v c) ∷ waiting)
+    let f = follow_forest P p (with_literal D (Is v c) ∷ with_literal D (Not v c) ∷ waiting)
     (cut_within D (in_base P) (Is v c) inside.0, (cut_within D (in_base P) (Not v c) inside.0, inside.1)) ns q s.1 in
     let g = f.6 in
     let same : ns ≡ (nodes f.0 ++ nodes g.0) ++ g.3 = f.4 ∙ ap (λ (xs : List Node). nodes f.0 ++ xs) g.4 ∙ sym (append_assoc (nodes f.0) (nodes g.0) g.3) in
@@ -172,10 +172,10 @@ follow_proof P p D within ns q e =
 -- a proof that follows, of which nothing was left off, closes
 pub follows_closes : (P : Network) (D : Test) (proof : Proof) → FollowsFrom P D proof → is_left_off proof ≡ false → Closes P D proof
 follows_closes P D (empty c) h off = h
-follows_closes P D (remove c v d rest) h off = (h.0, follows_closes P (cut D (Not v c)) rest h.1 off)
+follows_closes P D (remove c v d rest) h off = (h.0, follows_closes P (with_literal D (Not v c)) rest h.1 off)
 follows_closes P D (split c v left right) h off =
     let both = or-parts (is_left_off left) (is_left_off right) off in
-    (h.0, follows_closes P (cut D (Is v c)) left h.1 both.0, follows_closes P (cut D (Not v c)) right h.2 both.1)
+    (h.0, follows_closes P (with_literal D (Is v c)) left h.1 both.0, follows_closes P (with_literal D (Not v c)) right h.2 both.1)
   where
     or-parts : (a b : Bool) → (a || b) ≡ false → (a ≡ false) × (b ≡ false)
     or-parts true b e = cc
@@ -187,11 +187,11 @@ left_accepted : (P : Network) → IsProblem P → (D : Test) (waiting : List Tes
     → (E : Test) × (more : List Test) × (node_steps P (going D waiting) (nodes proof) ≡ Ok (going E more))
 left_accepted P p D waiting within (empty c) h stops off = cc
 left_accepted P p D waiting within (remove c v d rest) h stops off =
-    let r = left_accepted P p (cut D (Not v c)) waiting (cut_within D (in_base P) (Not v c) within) rest h.1 stops off in
+    let r = left_accepted P p (with_literal D (Not v c)) waiting (cut_within D (in_base P) (Not v c) within) rest h.1 stops off in
     (r.0, r.1, step_on P D waiting (removes c v d) (nodes rest) (removal_accepted P p D within c v d h.0) ∙ r.2)
 left_accepted P p D waiting within (split c v left right) h stops off =
-    let E : Test = cut D (Is v c) in
-    let F : Test = cut D (Not v c) in
+    let E : Test = with_literal D (Is v c) in
+    let F : Test = with_literal D (Not v c) in
     let here = step_on P D waiting (splits c v) (nodes left ++ nodes right) (split_accepted P p D within c v h.0) in
     elim (cases_Bool (is_left_off left)) [
       | inl first ↦

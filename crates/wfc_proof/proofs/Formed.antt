@@ -2,7 +2,7 @@
 use Rattle.std.proofs.Common.{◌≡◌, ℕ, ◌<◌, ◌^◌, Bool, true, false, List, [], ◌∷◌, ◌++◌, refl, sym, ap, ◌∙◌, subst, arith}
 use Rattle.std.specs.List.{list_all}
 use Rattle.wfc_problem.proofs.CallerLemmas.{base_inside, cut_within, few_cells, few_dirs, few_values, neighbour_in}
-use Rattle.wfc_problem.specs.Domains.{Test, Within, cut}
+use Rattle.wfc_problem.specs.Domains.{Test, Within, with_literal}
 use Rattle.wfc_problem.specs.Network.{Network, IsProblem, in_base}
 use Rattle.wfc_problem.specs.declared.Literal.TheVariants.{Is, Not}
 use Rattle.wfc_proof.specs.Lines.{has_nodes, nodes_of_lines, SpellsNodes}
@@ -50,20 +50,20 @@ follows_fit P p D within (remove c v d rest) h =
     let here = stands_fit P p D within c v h.0.stands in
     let way = neighbour_in P p c d h.0.next h.0.beside in (
       (here.0, here.1, omega (arith, way.1, few_dirs P p)),
-      follows_fit P p (cut D (Not v c)) (cut_within D (in_base P) (Not v c) within) rest h.1,
+      follows_fit P p (with_literal D (Not v c)) (cut_within D (in_base P) (Not v c) within) rest h.1,
     )
 follows_fit P p D within (split c v left right) h = (
   stands_fit P p D within c v h.0.stands,
-  fit_both (nodes left) (nodes right) (follows_fit P p (cut D (Is v c)) (cut_within D (in_base P) (Is v c) within) left h.1)
-      (follows_fit P p (cut D (Not v c)) (cut_within D (in_base P) (Not v c) within) right h.2),
+  fit_both (nodes left) (nodes right) (follows_fit P p (with_literal D (Is v c)) (cut_within D (in_base P) (Is v c) within) left h.1)
+      (follows_fit P p (with_literal D (Not v c)) (cut_within D (in_base P) (Not v c) within) right h.2),
 )
 follows_fit P p D within left_off h = tt
 
 -- a proof that closes follows
 pub closes_follows : (P : Network) (D : Test) (proof : Proof) → Closes P D proof → FollowsFrom P D proof
 closes_follows P D (empty c) h = h
-closes_follows P D (remove c v d rest) h = (h.0, closes_follows P (cut D (Not v c)) rest h.1)
-closes_follows P D (split c v left right) h = (h.0, closes_follows P (cut D (Is v c)) left h.1, closes_follows P (cut D (Not v c)) right h.2)
+closes_follows P D (remove c v d rest) h = (h.0, closes_follows P (with_literal D (Not v c)) rest h.1)
+closes_follows P D (split c v left right) h = (h.0, closes_follows P (with_literal D (Is v c)) left h.1, closes_follows P (with_literal D (Not v c)) right h.2)
 closes_follows P D left_off h = absurd h
 
 -- ---- lines without a span

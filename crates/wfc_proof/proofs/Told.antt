@@ -3,7 +3,7 @@ use Rattle.std.proofs.Common.{◌≡◌, ◌≢◌, ℕ, suc, ◌+◌, ◌-◌, 
 use Rattle.std.specs.Prelude.{Result, Ok, ◌↔◌, nat_le}
 use Rattle.std.specs.List.{list_all, range_with_len}
 use Rattle.std.proofs.lemmas.Bool.{and_parts, and_from}
-use Rattle.wfc_problem.specs.Domains.{Test, Within, cut}
+use Rattle.wfc_problem.specs.Domains.{Test, Within, with_literal}
 use Rattle.wfc_problem.specs.Network.{Network, IsProblem, in_base}
 use Rattle.wfc_problem.specs.declared.Literal.TheVariants.{Is, Not}
 use Rattle.wfc_proof.specs.Checker.{Point, after_close, reject_unless, and_on, form_fault, nodes_unless, node_steps, line_step, line_steps}
@@ -162,9 +162,9 @@ nodes_go P (n ∷ ns) ended goes e = goes refl
 nodes_go P (empties c ∷ ns) (going D waiting) goes e =
     nodes_go P ns (after_close waiting) (after_goes waiting) (step_cases P D waiting (empties c) ns ended e).1
 nodes_go P (removes c v d ∷ ns) (going D waiting) goes e =
-    nodes_go P ns (going (cut D (Not v c)) waiting) (λ f. cc) (step_cases P D waiting (removes c v d) ns ended e).1
+    nodes_go P ns (going (with_literal D (Not v c)) waiting) (λ f. cc) (step_cases P D waiting (removes c v d) ns ended e).1
 nodes_go P (splits c v ∷ ns) (going D waiting) goes e =
-    nodes_go P ns (going (cut D (Is v c)) (cut D (Not v c) ∷ waiting)) (λ f. cc) (step_cases P D waiting (splits c v) ns ended e).1
+    nodes_go P ns (going (with_literal D (Is v c)) (with_literal D (Not v c) ∷ waiting)) (λ f. cc) (step_cases P D waiting (splits c v) ns ended e).1
 
 -- an end follows lines that close the proof
 pub lines_end : (P : Network) (m : Point) (lines : List Line) → m ≢ ended → line_steps P m lines ≡ Ok ended

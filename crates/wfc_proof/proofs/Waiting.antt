@@ -3,7 +3,7 @@ use Rattle.std.proofs.Common.{◌≡◌, ℕ, ◌+◌, ◌≤◌, true, List, []
 use Rattle.std.specs.Prelude.{Ok, ⊤}
 use Rattle.std.proofs.lemmas.Bool.{and_parts}
 use Rattle.std.proofs.lemmas.Bool.Decides.{nat_tests}
-use Rattle.wfc_problem.specs.Domains.{Test, Within, leaves, cut}
+use Rattle.wfc_problem.specs.Domains.{Test, Within, leaves, with_literal}
 use Rattle.wfc_problem.specs.Network.{Network, IsProblem, in_base}
 use Rattle.wfc_problem.specs.Rounds.{pairs, depth_of}
 use Rattle.wfc_problem.specs.declared.Literal.TheVariants.{Is, Not}
@@ -31,21 +31,21 @@ left_not : (c v w : ℕ) → leaves (Not v c) c w ≡ true → w ≡ v → ⊥
 left_not c v w t e = grind (arith, nat_tests)
 
 -- ruling out a value that stands takes a pair away
-pub not_less : (P : Network) → IsProblem P → (D : Test) → Within D (in_base P) → (c v : ℕ) → D c v ≡ true → pairs P (cut D (Not v c)) + 1 ≤ pairs P D
+pub not_less : (P : Network) → IsProblem P → (D : Test) → Within D (in_base P) → (c v : ℕ) → D c v ≡ true → pairs P (with_literal D (Not v c)) + 1 ≤ pairs P D
 not_less P p D within c v t =
     let inside = base_inside P p c v (within c v t) in
-    let less = size_at_without P p (cut D (Not v c)) D within c v t
+    let less = size_at_without P p (with_literal D (Not v c)) D within c v t
     (λ w s. let parts = and_parts (D c w) (leaves (Not v c) c w) s in (parts.0, left_not c v w parts.1)) in
-    let fewer = pairs_less P (cut D (Not v c)) D c (cut_within D D (Not v c) (λ x y s. s)) inside.0 (omega (arith, less)) in
+    let fewer = pairs_less P (with_literal D (Not v c)) D c (cut_within D D (Not v c) (λ x y s. s)) inside.0 (omega (arith, less)) in
     omega (arith, fewer)
 
 -- and so does choosing one beside another
-pub is_less : (P : Network) → IsProblem P → (D : Test) → Within D (in_base P) → (c v : ℕ) → IsSplit D c v → pairs P (cut D (Is v c)) + 1 ≤ pairs P D
+pub is_less : (P : Network) → IsProblem P → (D : Test) → Within D (in_base P) → (c v : ℕ) → IsSplit D c v → pairs P (with_literal D (Is v c)) + 1 ≤ pairs P D
 is_less P p D within c v h =
     let inside = base_inside P p c v (within c v h.stands) in
-    let less = size_at_without P p (cut D (Is v c)) D within c h.other h.also
+    let less = size_at_without P p (with_literal D (Is v c)) D within c h.other h.also
     (λ w s. let parts = and_parts (D c w) (leaves (Is v c) c w) s in (parts.0, (λ e. h.differs (sym e ∙ left_is c v w parts.1)))) in
-    let fewer = pairs_less P (cut D (Is v c)) D c (cut_within D D (Is v c) (λ x y s. s)) inside.0 (omega (arith, less)) in
+    let fewer = pairs_less P (with_literal D (Is v c)) D c (cut_within D D (Is v c) (λ x y s. s)) inside.0 (omega (arith, less)) in
     omega (arith, fewer)
 
 -- accepted nodes keep all within the base, and few enough
@@ -63,14 +63,14 @@ steps_fit P p n (D ∷ Ds) inside fits (empties c ∷ ns) E more e =
 steps_fit P p n (D ∷ Ds) inside fits (removes c v d ∷ ns) E more e =
     let s = step_cases P D Ds (removes c v d) ns (going E more) e in
     let h = accepted_removal P D c v d s.0 in
-    steps_fit P p n (cut D (Not v c) ∷ Ds) (cut_within D (in_base P) (Not v c) inside.0, inside.1)
+    steps_fit P p n (with_literal D (Not v c) ∷ Ds) (cut_within D (in_base P) (Not v c) inside.0, inside.1)
     (omega (arith, fits.0, not_less P p D inside.0 c v h.stands), fits.1) ns E more s.1
 steps_fit P p n (D ∷ Ds) inside fits (splits c v ∷ ns) E more e =
     let s = step_cases P D Ds (splits c v) ns (going E more) e in
     let h = accepted_split P D c v s.0 in
-    let first : pairs P (cut D (Is v c)) + length (cut D (Not v c) ∷ Ds) ≤ n = omega (arith, fits.0, is_less P p D inside.0 c v h) in
-    let second : pairs P (cut D (Not v c)) + length Ds ≤ n = omega (arith, fits.0, not_less P p D inside.0 c v h.stands) in
-    steps_fit P p n (cut D (Is v c) ∷ cut D (Not v c) ∷ Ds)
+    let first : pairs P (with_literal D (Is v c)) + length (with_literal D (Not v c) ∷ Ds) ≤ n = omega (arith, fits.0, is_less P p D inside.0 c v h) in
+    let second : pairs P (with_literal D (Not v c)) + length Ds ≤ n = omega (arith, fits.0, not_less P p D inside.0 c v h.stands) in
+    steps_fit P p n (with_literal D (Is v c) ∷ with_literal D (Not v c) ∷ Ds)
     (cut_within D (in_base P) (Is v c) inside.0, (cut_within D (in_base P) (Not v c) inside.0, inside.1)) (first, (second, fits.1)) ns E more s.1
 
 -- so fewer branches wait than the problem has pairs

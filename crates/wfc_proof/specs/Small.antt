@@ -1,6 +1,6 @@
 -- Two small problems, on which laws try the definitions, with a proof of the second, and small journals.
 use Rattle.std.specs.Prelude.{ℕ, Bool, true, false, List, [], ◌∷◌, Option, None, Some, Result, codes}
-use Rattle.wfc_problem.specs.Domains.{cut}
+use Rattle.wfc_problem.specs.Domains.{with_literal}
 use Rattle.wfc_problem.specs.Network.{Network, in_base}
 use Rattle.wfc_problem.specs.declared.Literal.{Literal}
 use Rattle.wfc_problem.specs.declared.TheConstants.{NO_CELL}
@@ -42,7 +42,7 @@ wide_fault node = node_fault wide (in_base wide) node
 
 -- the same, where a value was removed from the base of a cell, or all its other values were
 abbrev pub wide_fault_after : Literal → Node → Option Reject
-wide_fault_after literal node = node_fault wide (cut (in_base wide) literal) node
+wide_fault_after literal node = node_fault wide (with_literal (in_base wide) literal) node
 
 -- where these lines lead a checker that begins at the base of the second problem
 abbrev pub from_base : List Line → Result Point Reject

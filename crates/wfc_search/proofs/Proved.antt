@@ -18,7 +18,7 @@ use Rattle.wfc_lists.proofs.Counts.{count_by_pos}
 use Rattle.wfc_lists.proofs.Lists.{all_pass, one_fails, has_Contains}
 use Rattle.wfc_lists.proofs.Ranges.{range_Contains}
 use Rattle.wfc_problem.proofs.CallerLemmas.{base_inside, cut_within, greatest_base, greatest_is, greatest_same, greatest_within, size_at_one}
-use Rattle.wfc_problem.specs.Domains.{Test, Within, cut, leaves, leaves_all, base_with, count_at, IsGreatest}
+use Rattle.wfc_problem.specs.Domains.{Test, Within, with_literal, leaves, leaves_all, base_with, count_at, IsGreatest}
 use Rattle.wfc_problem.specs.Network.{Network, IsProblem, values, in_base, supports_of, ok}
 use Rattle.wfc_problem.specs.Rounds.{greatest}
 use Rattle.wfc_problem.specs.Sizes.{values_at, sizes_of, size_at, is_dead}
@@ -57,13 +57,13 @@ accepted m = Ok m
 -- of each choice the branch without its value, the last choice first, where domains are told of the literals before
 abbrev waits : (List Literal → Test) → List Literal → List Test
 waits G [] = []
-waits G (Is v c ∷ ls) = waits (λ later. G (Is v c ∷ later)) ls ++ cut (G []) (Not v c) ∷ []
+waits G (Is v c ∷ ls) = waits (λ later. G (Is v c ∷ later)) ls ++ with_literal (G []) (Not v c) ∷ []
 waits G (Not v c ∷ ls) = waits (λ later. G (Not v c ∷ later)) ls
 
 -- one more choice waits first
-waits_choice : (G : List Literal → Test) (ls : List Literal) (c v : ℕ) → waits G (ls ++ Is v c ∷ []) ≡ cut (G ls) (Not v c) ∷ waits G ls
+waits_choice : (G : List Literal → Test) (ls : List Literal) (c v : ℕ) → waits G (ls ++ Is v c ∷ []) ≡ with_literal (G ls) (Not v c) ∷ waits G ls
 waits_choice G [] c v = refl
-waits_choice G (Is y x ∷ ls) c v = ap (λ (Ds : List Test). Ds ++ cut (G []) (Not y x) ∷ []) (waits_choice (λ later. G (Is y x ∷ later)) ls c v)
+waits_choice G (Is y x ∷ ls) c v = ap (λ (Ds : List Test). Ds ++ with_literal (G []) (Not y x) ∷ []) (waits_choice (λ later. G (Is y x ∷ later)) ls c v)
 waits_choice G (Not y x ∷ ls) c v = waits_choice (λ later. G (Not y x ∷ later)) ls c v
 
 -- without a choice none waits
@@ -76,12 +76,12 @@ waits_nothing G (l ∷ ls) none =
 -- and none more waits
 waits_more : (G : List Literal → Test) (ls more : List Literal) → last_choice more ≡ None → waits G (ls ++ more) ≡ waits G ls
 waits_more G [] more none = waits_nothing G more none
-waits_more G (Is y x ∷ ls) more none = ap (λ (Ds : List Test). Ds ++ cut (G []) (Not y x) ∷ []) (waits_more (λ later. G (Is y x ∷ later)) ls more none)
+waits_more G (Is y x ∷ ls) more none = ap (λ (Ds : List Test). Ds ++ with_literal (G []) (Not y x) ∷ []) (waits_more (λ later. G (Is y x ∷ later)) ls more none)
 waits_more G (Not y x ∷ ls) more none = waits_more (λ later. G (Not y x ∷ later)) ls more none
 
 -- the branch of the last choice waits first
 waits_last : (G : List Literal → Test) (ls : List Literal) (last : Choice) → last_choice ls ≡ Some last
-    → waits G ls ≡ cut (G last.before) (Not last.value last.cell) ∷ waits G last.before
+    → waits G ls ≡ with_literal (G last.before) (Not last.value last.cell) ∷ waits G last.before
 waits_last G ls last found =
     let is : IsLast ls last = last_is ls last found in
     let joined : ls ≡ (last.before ++ Is last.value last.cell ∷ []) ++ is.after = is.whole ∙ sym (append_assoc last.before (Is last.value last.cell ∷ []) is.after) in
@@ -96,7 +96,7 @@ after_level P literals waiting dead = cond dead (after_close waiting) (going (gr
 -- removals that lead from D to E, each right at what those before it left
 abbrev LeadTo : Network → Test → List Node → Test → Type 0
 LeadTo P D [] E = D ≡ E
-LeadTo P D (removes c v d ∷ more) E = IsRemoval P D c v d × LeadTo P (cut D (Not v c)) more E
+LeadTo P D (removes c v d ∷ more) E = IsRemoval P D c v d × LeadTo P (with_literal D (Not v c)) more E
 LeadTo P D (splits c v ∷ more) E = ⊥
 LeadTo P D (empties c ∷ more) E = ⊥
 
@@ -106,7 +106,7 @@ removals_accepted : (P : Network) → IsProblem P → (D E : Test) (waiting : Li
 removals_accepted P p D E waiting within [] more lead = ap (λ (F : Test). node_steps P (going F waiting) more) lead
 removals_accepted P p D E waiting within (removes c v d ∷ removals) more lead =
     step_on P D waiting (removes c v d) (removals ++ more) (removal_accepted P p D within c v d lead.0)
-    ∙ removals_accepted P p (cut D (Not v c)) E waiting (cut_within D (in_base P) (Not v c) within) removals more lead.1
+    ∙ removals_accepted P p (with_literal D (Not v c)) E waiting (cut_within D (in_base P) (Not v c) within) removals more lead.1
 removals_accepted P p D E waiting within (splits c v ∷ removals) more lead = absurd lead
 removals_accepted P p D E waiting within (empties c ∷ removals) more lead = absurd lead
 
@@ -179,7 +179,7 @@ removed_lead P ls D (r ∷ rs) are = by r.cause are.0.cause (removed_lead P ls (
     by Assumed is rest = subst (λ E. LeadTo P E (nodes_of_lines (removal_lines rs)) (left_by ls (without D (r ∷ rs)))) (cut_away ls D r.cell r.value is) rest
     by (Arc d) is rest =
         let all : left_by ls D ≡ D = all_left P ls D is.0 in
-        let next : left_by ls (less D r.cell r.value) ≡ cut (left_by ls D) (Not r.value r.cell) =
+        let next : left_by ls (less D r.cell r.value) ≡ with_literal (left_by ls D) (Not r.value r.cell) =
         all_left P ls (less D r.cell r.value) (less_within D (base_with P ls) r.cell r.value is.0) ∙ ap (λ E. less E r.cell r.value) (sym all) in (
           subst (λ E. IsRemoval P E r.cell r.value d) (sym all) (unsupported P D r.cell r.value d are.0.stood is.1),
           subst (λ E. LeadTo P E (nodes_of_lines (removal_lines rs)) (left_by ls (without D (r ∷ rs)))) next rest,
@@ -254,7 +254,7 @@ leaves_last (first ∷ before) l c v = ap (λ b. leaves first c v && b) (leaves_
 
 -- where a level with a last literal begins
 level_begins : (P : Network) (before : List Literal) (l : Literal) (store : StoreView) → IsSound store → store.problem ≡ P → store.standing ≡ before ++ l ∷ []
-    → cut (greatest P before) l ≡ left_by store.standing (before_of store)
+    → with_literal (greatest P before) l ≡ left_by store.standing (before_of store)
 level_begins P before l store sound same standing =
     let p : IsProblem P = subst IsProblem same sound.problem in
     let some : 0 < length store.standing = omega (arith, ap length standing, length-append before (l ∷ [])) in
@@ -263,7 +263,7 @@ level_begins P before l store sound same standing =
     let first : IsGreatest P before (before_of store) = subst (λ X. IsGreatest X before (before_of store)) same (subst (λ ls. IsGreatest store.problem ls (before_of store)) front began.0) in
     let domains : before_of store ≡ greatest P before = greatest_same P before (before_of store) (greatest P before) first (greatest_is P p before) in
     let within = greatest_within P before (before_of store) first in
-    ap (λ (E : Test). cut E l) (sym domains)
+    ap (λ (E : Test). with_literal E l) (sym domains)
     ∙ (λ i c v. each (before_of store c v) (leaves_all before c v) (leaves l c v) (λ stands. (and_parts (in_base P c v) (leaves_all before c v) (within c v stands)).1) i)
     ∙ (λ i c v. before_of store c v && sym (leaves_last before l c v) i)
     ∙ ap (λ ls. left_by ls (before_of store)) (sym standing)
@@ -290,9 +290,9 @@ choice_told P p rule s store cell alive picks value draws at =
     (record { alive = alive; cell = cell; value = value; words = (next_u64 s.words).1; picks = picks; draws = draws; next = refl }) in
     ap (λ (b : Bool). node_steps P (after_level P s.standing W b) (nodes_of_lines (Try cell value ∷ level_lines store))) alive
     ∙ step_on P D W (splits cell value) (nodes_of_lines (level_lines store)) (split_accepted P p D within cell value (splits_two P p D within cell value cuts))
-    ∙ level_accepted P (cut D (Is value cell)) (cut D (Not value cell) ∷ W) store at.sound at.problem (level_begins P s.standing (Is value cell) store at.sound at.problem at.standing)
+    ∙ level_accepted P (with_literal D (Is value cell)) (with_literal D (Not value cell) ∷ W) store at.sound at.problem (level_begins P s.standing (Is value cell) store at.sound at.problem at.standing)
     (cut_within D (in_base P) (Is value cell) within)
-    ∙ ap (λ (later : List Literal). accepted (after_level P later (cut D (Not value cell) ∷ W) (is_dead P (greatest P later)))) at.standing
+    ∙ ap (λ (later : List Literal). accepted (after_level P later (with_literal D (Not value cell) ∷ W) (is_dead P (greatest P later)))) at.standing
     ∙ ap (λ (Ds : List Test). accepted (after_level P ls Ds (is_dead P (greatest P ls)))) (sym (waits_choice (greatest P) s.standing cell value))
 
 -- a retraction that is told
@@ -300,7 +300,7 @@ retraction_told : (P : Network) → IsProblem P → (s : State) (store : StoreVi
     → IsStoreAt P (after_retraction s last) store
     → node_steps P (point_of P s.standing) (nodes_of_lines (level_lines store)) ≡ Ok (point_of P (last.before ++ Not last.value last.cell ∷ []))
 retraction_told P p s store last dead found at =
-    let D : Test = cut (greatest P last.before) (Not last.value last.cell) in
+    let D : Test = with_literal (greatest P last.before) (Not last.value last.cell) in
     let ls : List Literal = last.before ++ Not last.value last.cell ∷ [] in
     let W : List Test = waits (greatest P) last.before in
     ap (λ (b : Bool). node_steps P (after_level P s.standing (waits (greatest P) s.standing) b) (nodes_of_lines (level_lines store))) dead
@@ -424,7 +424,7 @@ other_open P rule budget s outcome other is =
       | inr more ↦ elim more [
         | inl d ↦ absurd (other d.is)
         | inr a ↦
-            let E : Test = cut (greatest P a.last.before) (Not a.last.value a.last.cell) in
+            let E : Test = with_literal (greatest P a.last.before) (Not a.last.value a.last.cell) in
             let V : List Test = waits (greatest P) a.last.before in
             let first : W ≡ E ∷ V = waits_last (greatest P) s.standing a.last a.found in
             elim (cases_Bool (is_dead P D)) [

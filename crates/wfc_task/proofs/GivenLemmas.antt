@@ -14,7 +14,7 @@ use Rattle.wfc_overlap.specs.Built.{picture_problem, picture_pins, texts_of}
 use Rattle.wfc_overlap.specs.Sample.{Output, output_with, problem_of_sample}
 use Rattle.wfc_pattern.specs.Learning.{patterns_of}
 use Rattle.wfc_pattern.specs.Patterns.{PatternsView}
-use Rattle.wfc_picture.specs.Palette.{indexed}
+use Rattle.wfc_picture.specs.Palette.{picture_and_palette}
 use Rattle.wfc_picture.specs.declared.palette.PaletteFault.{PaletteFault}
 use Rattle.wfc_picture.specs.declared.symbol.Kind.{Kind}
 use Rattle.wfc_picture.specs.declared.symbol.Symbol.{Symbol}
@@ -92,7 +92,7 @@ sample_given asked files lesson is =
     let known = outcome_parts (step (patterns_taught asked seen.0.1)) (λ patterns. let end : Plan Taught = done (record { kind = seen.0.0; palette = seen.0.2; patterns = patterns }) in end) files lesson seen.2 in
     let same : record { kind = seen.0.0; palette = seen.0.2; patterns = known.0 } ≡ lesson = done_is _ lesson files known.2 in
     let pieces : (shown.0.kind, painted.0.0, painted.0.1) ≡ seen.0 = done_is _ seen.0 files painted.2 in
-    let numbers : indexed shown.0.symbols shown.0.width ≡ Ok painted.0 = unrefused refusals.Colours (indexed shown.0.symbols shown.0.width) painted.0 (step_ok (sample_in_numbers shown.0) files painted.0 painted.1) in
+    let numbers : picture_and_palette shown.0.symbols shown.0.width ≡ Ok painted.0 = unrefused refusals.Colours (picture_and_palette shown.0.symbols shown.0.width) painted.0 (step_ok (sample_in_numbers shown.0) files painted.0 painted.1) in
     subst (λ (lesson : Taught). IsSample asked files lesson.kind lesson.patterns lesson.palette) same (record {
       sampled = shown.0;
       file = sampled_given asked files shown.0 shown.1;
@@ -107,7 +107,7 @@ pub given_sample : (asked : RequestView) (files : List File) (kind : Kind) (patt
 given_sample asked files kind patterns palette sample =
     let sampled = sample.sampled in
     let coloured_as : outcome (step (sample_in_numbers sampled)) files ≡ Ok (sample.picture, palette)
-    = ok_step (sample_in_numbers sampled) files (sample.picture, palette) (ok_refused refusals.Colours (indexed sampled.symbols sampled.width) (sample.picture, palette) sample.numbered) in
+    = ok_step (sample_in_numbers sampled) files (sample.picture, palette) (ok_refused refusals.Colours (picture_and_palette sampled.symbols sampled.width) (sample.picture, palette) sample.numbered) in
     let seen : outcome (picture_plan asked) files ≡ Ok (kind, sample.picture, palette)
     = outcome_on (sampled_plan asked) behind_sampled files sampled (given_sampled asked files sampled sample.file)
     ∙ outcome_on (step (sample_in_numbers sampled)) (λ made. let end : Plan (Kind × Raster × List Symbol) = done (sampled.kind, made.0, made.1) in end) files (sample.picture, palette) coloured_as
@@ -131,7 +131,7 @@ pub sample_lesson : (asked : RequestView) (files : List File) (kind : Kind) (pat
 sample_lesson asked files kind patterns palette asks sample =
     let sampled = sample.sampled in
     let shows = file_sampled files asked.file sampled sample.file in
-    let of_palette = numbered_sample sampled (sample.picture, palette) shows (ok_refused refusals.Colours (indexed sampled.symbols sampled.width) (sample.picture, palette) sample.numbered) in
+    let of_palette = numbered_sample sampled (sample.picture, palette) shows (ok_refused refusals.Colours (picture_and_palette sampled.symbols sampled.width) (sample.picture, palette) sample.numbered) in
     let small = made_small sampled.symbols sampled.width (sample.picture, palette) (inl (sym sample.numbered)) shows.small in
     lesson_of asked kind sample.picture palette patterns asks (subst (λ kind. HasShownNumbers kind sample.picture palette) sample.same_kind of_palette) small
     (ok_refused refusals.Learn (patterns_of sample.picture (window_side_of asked.source) asked.symmetry asked.wrap_in) patterns sample.learned)

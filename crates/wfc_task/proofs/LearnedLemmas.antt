@@ -11,7 +11,7 @@ use Rattle.wfc_model.specs.Raster.{Raster}
 use Rattle.wfc_outside.specs.Folder.{File, FolderView}
 use Rattle.wfc_pattern.specs.Learning.{patterns_of}
 use Rattle.wfc_pattern.specs.Patterns.{PatternsView}
-use Rattle.wfc_picture.specs.Palette.{indexed}
+use Rattle.wfc_picture.specs.Palette.{picture_and_palette}
 use Rattle.wfc_picture.specs.Symbol.{is_shown, same_symbol}
 use Rattle.wfc_picture.specs.declared.symbol.Kind.{Kind}
 use Rattle.wfc_picture.specs.declared.symbol.Kind.TheVariants as kinds
@@ -38,7 +38,7 @@ pub record IsByRequest (asked : RequestView) (patterns : PatternsView) (palette 
   pub apart : IsDistinct same_symbol palette
 
 -- so it is of symbols that are numbered, and then learned from
-by_request : (asked : RequestView) (symbols : List Symbol) (width : ℕ) (made : Raster × List Symbol) (patterns : PatternsView) → indexed symbols width ≡ Ok made → patterns_of made.0 (window_side_of asked.source) asked.symmetry asked.wrap_in ≡ Ok patterns
+by_request : (asked : RequestView) (symbols : List Symbol) (width : ℕ) (made : Raster × List Symbol) (patterns : PatternsView) → picture_and_palette symbols width ≡ Ok made → patterns_of made.0 (window_side_of asked.source) asked.symmetry asked.wrap_in ≡ Ok patterns
     → IsByRequest asked patterns made.1
 by_request asked symbols width made patterns numbered learned = record {
   side = ap (λ (p : PatternsView). p.n) (learned_is made.0 (window_side_of asked.source) asked.symmetry asked.wrap_in patterns learned).2;
@@ -68,7 +68,7 @@ goes_by_request asked lesson before after (inl follows) =
     let same : made ≡ (sampled.kind, numbers.0, numbers.1) = cc (of_colours.2.1) in
     let is : lesson ≡ record { kind = made.0; palette = made.2; patterns = of_patterns.0 } = cc (of_patterns.2.1) in
     let learned = unrefused Learn (patterns_of made.1 (window_side_of asked.source) asked.symmetry asked.wrap_in) of_patterns.0 (step_follows (patterns_taught asked made.1) before before of_patterns.0 of_patterns.1) in
-    let numbered = unrefused Colours (indexed sampled.symbols sampled.width) numbers (step_follows (sample_in_numbers sampled) before before numbers of_colours.1) in
+    let numbered = unrefused Colours (picture_and_palette sampled.symbols sampled.width) numbers (step_follows (sample_in_numbers sampled) before before numbers of_colours.1) in
     subst (λ (l : Taught). IsByRequest asked l.patterns l.palette) (sym is)
     (subst (λ (m : Kind × Raster × List Symbol). IsByRequest asked of_patterns.0 m.2) (sym same)
     (by_request asked sampled.symbols sampled.width numbers of_patterns.0 numbered

@@ -26,7 +26,7 @@ use Rattle.wfc_pattern.specs.Patterns.{IsPatterns, PatternsView}
 use Rattle.wfc_pattern.specs.declared.TheConstants.{MAX_PATTERNS}
 use Rattle.wfc_pattern.specs.declared.learning.LearnFault.TheVariants.{SampleBelowN, TooManyPatterns}
 use Rattle.wfc_picture.proofs.CallerLemmas.{numbered_below}
-use Rattle.wfc_picture.specs.Palette.{first_past, indexed, numbered, palette_of, unless_past}
+use Rattle.wfc_picture.specs.Palette.{first_past, picture_and_palette, palette_numbers, palette_of, unless_past}
 use Rattle.wfc_picture.specs.Symbol.{same_symbol}
 use Rattle.wfc_picture.specs.declared.palette.PaletteFault.{PaletteFault}
 use Rattle.wfc_picture.specs.declared.palette.PaletteFault.TheVariants as palettes
@@ -53,10 +53,10 @@ use Rattle.wfc_task.specs.Steps.{sample_in_numbers, problem_of_lines, patterns_t
 use Rattle.wfc_words.specs.RequestView.{RequestView}
 
 -- the picture and the palette of symbols, where they have one
-pub indexed_is : (symbols : List Symbol) (width : ℕ) (made : Raster × List Symbol) → indexed symbols width ≡ Ok made → made ≡ (raster_of width (length symbols / width) (numbered symbols), palette_of symbols)
+pub indexed_is : (symbols : List Symbol) (width : ℕ) (made : Raster × List Symbol) → picture_and_palette symbols width ≡ Ok made → made ≡ (raster_of width (length symbols / width) (palette_numbers symbols), palette_of symbols)
 indexed_is symbols width made is = by_past (first_past MAX_COLOURS symbols) is
   where
-    by_past : (past : Option ℕ) → unless_past past symbols width ≡ Ok made → made ≡ (raster_of width (length symbols / width) (numbered symbols), palette_of symbols)
+    by_past : (past : Option ℕ) → unless_past past symbols width ≡ Ok made → made ≡ (raster_of width (length symbols / width) (palette_numbers symbols), palette_of symbols)
     by_past (Some at) is = absurd (cc)
     by_past None is = cc
 
@@ -127,19 +127,19 @@ pub numbered_sample : (sampled : SampledView) (made : Raster × List Symbol) →
 numbered_sample sampled made shows is =
     let symbols = sampled.symbols in
     let many : length symbols ≡ sampled.width * shows.height = shows.filled.as_many in
-    let same : made ≡ (raster_of sampled.width (length symbols / sampled.width) (numbered symbols), palette_of symbols) = indexed_is symbols sampled.width made (unrefused _ (indexed symbols sampled.width) made is) in
+    let same : made ≡ (raster_of sampled.width (length symbols / sampled.width) (palette_numbers symbols), palette_of symbols) = indexed_is symbols sampled.width made (unrefused _ (picture_and_palette symbols sampled.width) made is) in
     let high : length symbols / sampled.width ≡ shows.height = ap (λ m. m / sampled.width) many ∙ whole sampled.width shows.height shows.filled.some_column in
-    let as_many : length (numbered symbols) ≡ sampled.width * shows.height = length-map symbols _ ∙ many in
-    let filled : IsFilled sampled.width (length symbols / sampled.width) (numbered symbols)
-    = subst (λ h. IsFilled sampled.width h (numbered symbols)) (sym high) (record { some_column = shows.filled.some_column; some_row = shows.filled.some_row; as_many = as_many }) in
+    let as_many : length (palette_numbers symbols) ≡ sampled.width * shows.height = length-map symbols _ ∙ many in
+    let filled : IsFilled sampled.width (length symbols / sampled.width) (palette_numbers symbols)
+    = subst (λ h. IsFilled sampled.width h (palette_numbers symbols)) (sym high) (record { some_column = shows.filled.some_column; some_row = shows.filled.some_row; as_many = as_many }) in
     subst (λ (made : Raster × List Symbol). HasShownNumbers sampled.kind made.0 made.1) (sym same) (record {
-      raster = (IsSized-raster_of sampled.width (length symbols / sampled.width) (numbered symbols) filled).raster;
+      raster = (IsSized-raster_of sampled.width (length symbols / sampled.width) (palette_numbers symbols) filled).raster;
       shown = record {
         maxval = shows.maxval;
         symbols = All-unrepeated same_symbol (λ symbol. IsTrue (is_of_kind sampled.kind symbol)) symbols shows.symbols;
         some_symbol = some_unrepeated same_symbol symbols (sampled_some sampled shows);
       };
-      numbers = subst (λ ns. All (λ number. number < length (palette_of symbols)) ns) (sym (numbers_of-raster_of sampled.width (length symbols / sampled.width) (numbered symbols) filled.as_many)) (numbered_below symbols);
+      numbers = subst (λ ns. All (λ number. number < length (palette_of symbols)) ns) (sym (numbers_of-raster_of sampled.width (length symbols / sampled.width) (palette_numbers symbols) filled.as_many)) (numbered_below symbols);
     })
   where
     commute : (width height : ℕ) → width * height ≡ height * width + 0
@@ -188,17 +188,17 @@ posed_result asked patterns palette lines (Err refusal) are gives = tt
 posed_result asked patterns palette lines (Ok P) are gives = posed_of asked patterns palette lines P are (step_is (problem_of_lines asked patterns palette lines) P gives)
 
 -- a picture of numbered symbols has no more pixels than there are symbols
-pub made_small : (symbols : List Symbol) (width : ℕ) (made : Raster × List Symbol) → Gives palettes.NoMemory (λ made. made) (let given : Result (Raster × List Symbol) PaletteFault = Ok made in given) (indexed symbols width)
+pub made_small : (symbols : List Symbol) (width : ℕ) (made : Raster × List Symbol) → Gives palettes.NoMemory (λ made. made) (let given : Result (Raster × List Symbol) PaletteFault = Ok made in given) (picture_and_palette symbols width)
     → length symbols ≤ MAX_PIXELS → made.0.width * height_of made.0 ≤ MAX_PIXELS
 made_small symbols width made (inr is) few = absurd (cc)
 made_small symbols width made (inl is) few = by_past (first_past MAX_COLOURS symbols) is
   where
-    high : length (map (λ y. take width (drop (y * width) (numbered symbols))) (range_with_len 0 (length symbols / width))) ≡ length symbols / width
-    high = length-map-range_with_len (λ y. take width (drop (y * width) (numbered symbols))) 0 (length symbols / width)
+    high : length (map (λ y. take width (drop (y * width) (palette_numbers symbols))) (range_with_len 0 (length symbols / width))) ≡ length symbols / width
+    high = length-map-range_with_len (λ y. take width (drop (y * width) (palette_numbers symbols))) 0 (length symbols / width)
 
     by_past : (past : Option ℕ) → Ok made ≡ unless_past past symbols width → made.0.width * height_of made.0 ≤ MAX_PIXELS
     by_past (Some at) is = absurd (cc)
     by_past None is =
-        let same : made ≡ (raster_of width (length symbols / width) (numbered symbols), palette_of symbols) = cc in
+        let same : made ≡ (raster_of width (length symbols / width) (palette_numbers symbols), palette_of symbols) = cc in
         let fits : width * (length symbols / width) ≤ length symbols = mul-div-le (length symbols) width in
         subst (λ (m : Raster × List Symbol). m.0.width * height_of m.0 ≤ MAX_PIXELS) (sym same) (subst (λ h. width * h ≤ MAX_PIXELS) (sym high) (omega (arith, fits, few)))

@@ -8,7 +8,7 @@ use Rattle.wfc_model.specs.Raster.{Raster}
 use Rattle.wfc_outside.specs.Folder.{File}
 use Rattle.wfc_outside.specs.Gives.{result_map}
 use Rattle.wfc_pattern.specs.Learning.{patterns_of}
-use Rattle.wfc_picture.specs.Palette.{indexed}
+use Rattle.wfc_picture.specs.Palette.{picture_and_palette}
 use Rattle.wfc_picture.specs.declared.symbol.Kind.{Kind}
 use Rattle.wfc_picture.specs.declared.symbol.Symbol.{Symbol}
 use Rattle.wfc_plan.proofs.CallerLemmas.{Faults, Same, faults_as, faults_first, faults_group, faults_last, faults_none, faults_reading, faults_step, file_given, one_file, one_value, outcome_parts, same_known, step_ok, unrefused}
@@ -65,10 +65,10 @@ faults_picture asked files =
     faults_group (sampled_plan asked) behind_sampled files (IsReadingFault Sample files asked.file ∷ IsFormFault asked files ∷ []) (IsSymbolsFault asked files ∷ []) (faults_sampled asked files)
     (λ sampled was.
     faults_first (step (sample_in_numbers sampled)) (λ made. let end : Plan (Kind × Raster × List Symbol) = done (sampled.kind, made.0, made.1) in end) files (IsSymbolsFault asked files) []
-    (faults_as (step (sample_in_numbers sampled)) files (IsRefusal refusals.Colours (indexed sampled.symbols sampled.width)) (IsSymbolsFault asked files)
-    (same_known (λ other. IsSampleFile files asked.file other) (λ other. IsRefusal refusals.Colours (indexed other.symbols other.width)) sampled (sampled_given asked files sampled was)
+    (faults_as (step (sample_in_numbers sampled)) files (IsRefusal refusals.Colours (picture_and_palette sampled.symbols sampled.width)) (IsSymbolsFault asked files)
+    (same_known (λ other. IsSampleFile files asked.file other) (λ other. IsRefusal refusals.Colours (picture_and_palette other.symbols other.width)) sampled (sampled_given asked files sampled was)
     (λ other also. one_value (sampled_plan asked) files sampled other was (given_sampled asked files other also)))
-    (faults_step refusals.Colours (indexed sampled.symbols sampled.width) files))
+    (faults_step refusals.Colours (picture_and_palette sampled.symbols sampled.width) files))
     (λ made colours. faults_none (sampled.kind, made.0, made.1) files))
 
 -- the picture that a plan came to is the file's, and there is one
@@ -77,7 +77,7 @@ picture_given asked files made was =
     let shown = outcome_parts (sampled_plan asked) behind_sampled files made was in
     let painted = outcome_parts (step (sample_in_numbers shown.0)) (λ made. let end : Plan (Kind × Raster × List Symbol) = done (shown.0.kind, made.0, made.1) in end) files made shown.2 in
     let pieces : (shown.0.kind, painted.0.0, painted.0.1) ≡ made = cc (painted.2) in
-    let numbers : indexed shown.0.symbols shown.0.width ≡ Ok painted.0 = unrefused refusals.Colours (indexed shown.0.symbols shown.0.width) painted.0 (step_ok (sample_in_numbers shown.0) files painted.0 painted.1) in
+    let numbers : picture_and_palette shown.0.symbols shown.0.width ≡ Ok painted.0 = unrefused refusals.Colours (picture_and_palette shown.0.symbols shown.0.width) painted.0 (step_ok (sample_in_numbers shown.0) files painted.0 painted.1) in
     record {
       sampled = shown.0;
       file = sampled_given asked files shown.0 shown.1;
@@ -87,7 +87,7 @@ picture_given asked files made was =
 one_picture : (asked : RequestView) (files : List File) (made other : Raster × List Symbol) → IsReadPicture asked files made → IsReadPicture asked files other → other ≡ made
 one_picture asked files made other is also =
     let same : also.sampled ≡ is.sampled = one_value (sampled_plan asked) files is.sampled also.sampled (given_sampled asked files is.sampled is.file) (given_sampled asked files also.sampled also.file) in
-    let numbers : indexed is.sampled.symbols is.sampled.width ≡ Ok other = subst (λ (s : SampledView). indexed s.symbols s.width ≡ Ok other) same also.numbered in
+    let numbers : picture_and_palette is.sampled.symbols is.sampled.width ≡ Ok other = subst (λ (s : SampledView). picture_and_palette s.symbols s.width ≡ Ok other) same also.numbered in
     cc (numbers, is.numbered)
 
 -- of a sample and what it teaches

@@ -10,7 +10,7 @@ use Rattle.wfc_overlap.specs.Built.{picture_pins, texts_of}
 use Rattle.wfc_overlap.specs.Sample.{output_with, problem_of_sample}
 use Rattle.wfc_pattern.specs.Learning.{patterns_of}
 use Rattle.wfc_pattern.specs.Patterns.{PatternsView}
-use Rattle.wfc_picture.specs.Palette.{indexed}
+use Rattle.wfc_picture.specs.Palette.{picture_and_palette}
 use Rattle.wfc_picture.specs.declared.symbol.Kind.{Kind}
 use Rattle.wfc_picture.specs.declared.symbol.Symbol.{Symbol}
 use Rattle.wfc_pins.specs.PinView.{PinView}
@@ -59,7 +59,7 @@ pub record IsSample (asked : RequestView) (files : List File) (kind : Kind)
   pub file : IsSampleFile files asked.file sampled
   pub same_kind : sampled.kind ≡ kind
   pub picture : Raster
-  pub numbered : indexed sampled.symbols sampled.width ≡ Ok (picture, palette)
+  pub numbered : picture_and_palette sampled.symbols sampled.width ≡ Ok (picture, palette)
   pub learned : patterns_of picture (window_side_of asked.source) asked.symmetry asked.wrap_in ≡ Ok patterns
 
 -- whatever the kind of its symbols is

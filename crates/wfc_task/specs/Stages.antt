@@ -6,7 +6,7 @@ use Rattle.wfc_outside.specs.Folder.{File}
 use Rattle.wfc_overlap.specs.Bridge.{window_pair_count}
 use Rattle.wfc_overlap.specs.Built.{picture_pins, texts_of}
 use Rattle.wfc_pattern.specs.Learning.{patterns_of}
-use Rattle.wfc_picture.specs.Palette.{indexed}
+use Rattle.wfc_picture.specs.Palette.{picture_and_palette}
 use Rattle.wfc_picture.specs.declared.symbol.Symbol.{Symbol}
 use Rattle.wfc_pins.specs.PinView.{PinView}
 use Rattle.wfc_pins.specs.Pins.{pins_of}
@@ -45,14 +45,14 @@ IsFormFault asked files fault =
 abbrev pub IsSymbolsFault : RequestView → List File → TaskStage
 IsSymbolsFault asked files fault =
     (sampled : SampledView) × IsSampleFile files asked.file sampled
-    × IsRefusal refusals.Colours (indexed sampled.symbols sampled.width) fault
+    × IsRefusal refusals.Colours (picture_and_palette sampled.symbols sampled.width) fault
 
 -- the file shows a picture of these numbers, which have this palette
 pub record IsReadPicture (asked : RequestView) (files : List File) (made : Raster × List Symbol)
     : Type 0 where
   pub sampled : SampledView
   pub file : IsSampleFile files asked.file sampled
-  pub numbered : indexed sampled.symbols sampled.width ≡ Ok made
+  pub numbered : picture_and_palette sampled.symbols sampled.width ≡ Ok made
 
 -- nothing can be learned of the sample
 abbrev pub IsLearnFault : RequestView → List File → TaskStage

@@ -8,7 +8,7 @@ use Rattle.wfc_overlap.specs.Built.{picture_problem}
 use Rattle.wfc_overlap.specs.Sample.{output_with}
 use Rattle.wfc_pattern.specs.Learning.{patterns_of}
 use Rattle.wfc_pattern.specs.Patterns.{PatternsView}
-use Rattle.wfc_picture.specs.Palette.{indexed}
+use Rattle.wfc_picture.specs.Palette.{picture_and_palette}
 use Rattle.wfc_picture.specs.declared.symbol.Kind.{Kind}
 use Rattle.wfc_picture.specs.declared.symbol.Symbol.{Symbol}
 use Rattle.wfc_pins.specs.PinView.{PinView}
@@ -47,7 +47,7 @@ sampled_in asked text = shown_in (is_ppm_name asked.file) text
 
 -- the picture of a sample in numbers, and the palette that says what they stand for
 abbrev pub sample_in_numbers : SampledView → Result (Raster × List Symbol) Refusal
-sample_in_numbers sampled = or_refuse Colours (indexed sampled.symbols sampled.width)
+sample_in_numbers sampled = or_refuse Colours (picture_and_palette sampled.symbols sampled.width)
 
 -- what a picture teaches by a request
 abbrev pub patterns_taught : RequestView → Raster → Result PatternsView Refusal

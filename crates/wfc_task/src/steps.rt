@@ -7,7 +7,7 @@ ghost use Rattle.wfc_overlap.specs.Built.{picture_problem};
 ghost use Rattle.wfc_overlap.specs.Sample.{output_with};
 ghost use Rattle.wfc_pattern.specs.Learning.{patterns_of};
 ghost use Rattle.wfc_pattern.specs.Patterns.{IsPatterns};
-ghost use Rattle.wfc_picture.specs.Palette.{indexed};
+ghost use Rattle.wfc_picture.specs.Palette.{picture_and_palette};
 ghost use Rattle.wfc_plan.specs.Plan.{or_refuse};
 ghost use Rattle.wfc_plan.specs.declared.fault.Refusal.TheVariants.{Build, Colours, Learn};
 ghost use Rattle.wfc_task.specs.Asked.{IsOutputAsked, IsSampleAsked};
@@ -77,7 +77,7 @@ pub fn numbered_picture(
     requires some_pixel { 0 < length symbols.now }
     requires limit { length symbols.now ≤ MAX_PIXELS }
     ensures exact { Gives Refusal.NoMemory (λ made. made) result
-        (or_refuse Colours (indexed symbols.now width)) }
+        (or_refuse Colours (picture_and_palette symbols.now width)) }
     ensures small { IfOk result (λ made. made.0.width * height_of made.0 ≤ MAX_PIXELS) }
 {
     Ok(Palette::index(alloc, symbols, width)?)

@@ -13,7 +13,7 @@ use Rattle.wfc_problem.specs.Network.{Network, IsProblem, in_base}
 use Rattle.wfc_problem.proofs.CallerLemmas.{base_inside}
 use Rattle.wfc_problem.specs.Assignment.{IsLegalAssignment}
 use Rattle.wfc_places.specs.Marks.{suits}
-use Rattle.wfc_places.specs.Steps.{stepped, is_there, place_number}
+use Rattle.wfc_places.specs.Steps.{step_end, is_there, place_number}
 use Rattle.wfc_places.proofs.CallerLemmas.{suits-from, held-from_suits, stepped-is, exact, forth_there, stay_there, stayed}
 use Rattle.wfc_tileset.specs.Tiles.{TileSetView, variant_total, variant_at}
 use Rattle.wfc_tileset.specs.Allowed.{IsAcross, IsDown, across_pairs, down_pairs, may_be_above, may_be_left}
@@ -28,32 +28,32 @@ use Rattle.wfc_tiled.proofs.TileLemmas.{place_is, length-weights, neighbour-cell
 -- ---- steps
 
 -- a step forth that is there leads to the next
-forth_next : (count : ℕ) (wrap : Bool) (at : ℕ) → at < count → is_there count wrap 1 0 at ≡ true → IsNext count wrap at (stepped count 1 0 at)
+forth_next : (count : ℕ) (wrap : Bool) (at : ℕ) → at < count → is_there count wrap 1 0 at ≡ true → IsNext count wrap at (step_end count 1 0 at)
 forth_next count true at inside there =
     let s = stepped-is count 1 0 at inside (omega arith) in
     let below = s.below in
     (below, elim s.apart [ inl e ↦ inl (omega arith) | inr more ↦ elim more [ inl e ↦ inr (refl, omega arith, omega arith) | inr e ↦ absurd (omega arith) ] ])
 forth_next count false at inside there =
     let s = stepped-is count 1 0 at inside (omega arith) in
-    let e = exact count 1 0 at (stepped count 1 0 at) s there in
+    let e = exact count 1 0 at (step_end count 1 0 at) s there in
     (s.below, inl (omega arith))
 
 -- and a step back from the next
-back_next : (count : ℕ) (wrap : Bool) (at : ℕ) → at < count → is_there count wrap 0 1 at ≡ true → IsNext count wrap (stepped count 0 1 at) at
+back_next : (count : ℕ) (wrap : Bool) (at : ℕ) → at < count → is_there count wrap 0 1 at ≡ true → IsNext count wrap (step_end count 0 1 at) at
 back_next count true at inside there =
     let s = stepped-is count 0 1 at inside (omega arith) in
     let below = s.below in
     (inside, elim s.apart [ inl e ↦ inl (omega arith) | inr more ↦ elim more [ inl e ↦ absurd (omega arith) | inr e ↦ inr (refl, omega arith, omega arith) ] ])
 back_next count false at inside there =
     let s = stepped-is count 0 1 at inside (omega arith) in
-    let e = exact count 0 1 at (stepped count 0 1 at) s there in
+    let e = exact count 0 1 at (step_end count 0 1 at) s there in
     (inside, inl (omega arith))
 
 -- the next is one step forth
 next_there : (count : ℕ) (wrap : Bool) (at next : ℕ) → IsNext count wrap at next → is_there count wrap 1 0 at ≡ true
 next_there count wrap at next is = elim is.1 [ inl e ↦ forth_there count wrap at (inr (omega (arith, is.0))) | inr last ↦ forth_there count wrap at (inl last.0) ]
 
-next_is : (count : ℕ) (wrap : Bool) (at next : ℕ) → at < count → IsNext count wrap at next → stepped count 1 0 at ≡ next
+next_is : (count : ℕ) (wrap : Bool) (at next : ℕ) → at < count → IsNext count wrap at next → step_end count 1 0 at ≡ next
 next_is count wrap at next inside is =
     let s = stepped-is count 1 0 at inside (omega arith) in
     let below = s.below in
@@ -130,12 +130,12 @@ module _ (set : TileSetView) (mask : MaskView) (wrap : Bool) (pins : List Pin) w
         let x = place c % w in
         let y = place c / w in
         let here = place_is set mask wrap pins is c inside in
-        let u = stepped w 0 1 x in
+        let u = step_end w 0 1 x in
         let parts = and_parts (is_there w wrap 0 1 x) (is_there h wrap 0 0 y) step in
         let next = back_next w wrap x here.column parts.0 in
         let s = stepped-is w 0 1 x here.column (omega arith) in
-        let column : place n % w ≡ u = ap (λ k. k % w) at ∙ column_of w u (stepped h 0 0 y) s.below in
-        let row : place n / w ≡ y = ap (λ k. k / w) at ∙ row_of w u (stepped h 0 0 y) s.below ∙ stayed h y here.row in
+        let column : place n % w ≡ u = ap (λ k. k % w) at ∙ column_of w u (step_end h 0 0 y) s.below in
+        let row : place n / w ≡ y = ap (λ k. k / w) at ∙ row_of w u (step_end h 0 0 y) s.below ∙ stayed h y here.row in
         let there : get_or a n 0 ≡ number_at m u y = number n other ∙ ap (λ k. number_at m k (place n / w)) column ∙ ap (number_at m u) row in
         let placed : IsPlace mask u y = subst (λ k. IsPlace mask k y) column (subst (λ k. IsPlace mask (place n % w) k) row (is_place n other)) in
         ap (λ k. may_be_left set k (get_or a c 0)) there ∙ ap (may_be_left set (number_at m u y)) (number c inside)
@@ -144,13 +144,13 @@ module _ (set : TileSetView) (mask : MaskView) (wrap : Bool) (pins : List Pin) w
         let x = place c % w in
         let y = place c / w in
         let here = place_is set mask wrap pins is c inside in
-        let v = stepped h 1 0 y in
+        let v = step_end h 1 0 y in
         let parts = and_parts (is_there w wrap 0 0 x) (is_there h wrap 1 0 y) step in
         let next = forth_next h wrap y here.row parts.1 in
         let stay = stayed w x here.column in
         let s = stepped-is w 0 0 x here.column (omega arith) in
-        let column : place n % w ≡ x = ap (λ k. k % w) at ∙ column_of w (stepped w 0 0 x) v s.below ∙ stay in
-        let row : place n / w ≡ v = ap (λ k. k / w) at ∙ row_of w (stepped w 0 0 x) v s.below in
+        let column : place n % w ≡ x = ap (λ k. k % w) at ∙ column_of w (step_end w 0 0 x) v s.below ∙ stay in
+        let row : place n / w ≡ v = ap (λ k. k / w) at ∙ row_of w (step_end w 0 0 x) v s.below in
         let there : get_or a n 0 ≡ number_at m x v = number n other ∙ ap (λ k. number_at m k (place n / w)) column ∙ ap (number_at m x) row in
         let placed : IsPlace mask x v = subst (λ k. IsPlace mask k v) column (subst (λ k. IsPlace mask (place n % w) k) row (is_place n other)) in
         ap (may_be_above set (get_or a c 0)) there ∙ ap (λ k. may_be_above set k (number_at m x v)) (number c inside)
@@ -159,12 +159,12 @@ module _ (set : TileSetView) (mask : MaskView) (wrap : Bool) (pins : List Pin) w
         let x = place c % w in
         let y = place c / w in
         let here = place_is set mask wrap pins is c inside in
-        let u = stepped w 1 0 x in
+        let u = step_end w 1 0 x in
         let parts = and_parts (is_there w wrap 1 0 x) (is_there h wrap 0 0 y) step in
         let next = forth_next w wrap x here.column parts.0 in
         let s = stepped-is w 1 0 x here.column (omega arith) in
-        let column : place n % w ≡ u = ap (λ k. k % w) at ∙ column_of w u (stepped h 0 0 y) s.below in
-        let row : place n / w ≡ y = ap (λ k. k / w) at ∙ row_of w u (stepped h 0 0 y) s.below ∙ stayed h y here.row in
+        let column : place n % w ≡ u = ap (λ k. k % w) at ∙ column_of w u (step_end h 0 0 y) s.below in
+        let row : place n / w ≡ y = ap (λ k. k / w) at ∙ row_of w u (step_end h 0 0 y) s.below ∙ stayed h y here.row in
         let there : get_or a n 0 ≡ number_at m u y = number n other ∙ ap (λ k. number_at m k (place n / w)) column ∙ ap (number_at m u) row in
         let placed : IsPlace mask u y = subst (λ k. IsPlace mask k y) column (subst (λ k. IsPlace mask (place n % w) k) row (is_place n other)) in
         ap (may_be_left set (get_or a c 0)) there ∙ ap (λ k. may_be_left set k (number_at m u y)) (number c inside)
@@ -173,13 +173,13 @@ module _ (set : TileSetView) (mask : MaskView) (wrap : Bool) (pins : List Pin) w
         let x = place c % w in
         let y = place c / w in
         let here = place_is set mask wrap pins is c inside in
-        let v = stepped h 0 1 y in
+        let v = step_end h 0 1 y in
         let parts = and_parts (is_there w wrap 0 0 x) (is_there h wrap 0 1 y) step in
         let next = back_next h wrap y here.row parts.1 in
         let t = stepped-is h 0 1 y here.row (omega arith) in
         let s = stepped-is w 0 0 x here.column (omega arith) in
-        let column : place n % w ≡ x = ap (λ k. k % w) at ∙ column_of w (stepped w 0 0 x) v s.below ∙ stayed w x here.column in
-        let row : place n / w ≡ v = ap (λ k. k / w) at ∙ row_of w (stepped w 0 0 x) v s.below in
+        let column : place n % w ≡ x = ap (λ k. k % w) at ∙ column_of w (step_end w 0 0 x) v s.below ∙ stayed w x here.column in
+        let row : place n / w ≡ v = ap (λ k. k / w) at ∙ row_of w (step_end w 0 0 x) v s.below in
         let there : get_or a n 0 ≡ number_at m x v = number n other ∙ ap (λ k. number_at m k (place n / w)) column ∙ ap (number_at m x) row in
         let placed : IsPlace mask x v = subst (λ k. IsPlace mask k v) column (subst (λ k. IsPlace mask (place n % w) k) row (is_place n other)) in
         ap (λ k. may_be_above set k (get_or a c 0)) there ∙ ap (may_be_above set (number_at m x v)) (number c inside)
@@ -277,7 +277,7 @@ module _ (set : TileSetView) (mask : MaskView) (wrap : Bool) (pins : List Pin) w
         ∙ and_from _ _ (next_there w wrap x u next) (stay_there h wrap y row) in
         let leads : step_from mask (place c.0 % w) (place c.0 / w) 2 ≡ place_number w u y =
         ap (λ k. step_from mask k (place c.0 / w) 2) c.1.column ∙ ap (λ k. step_from mask x k 2) c.1.row
-        ∙ ap (λ k. place_number w k (stepped h 0 0 y)) (next_is w wrap x u column next) ∙ ap (place_number w u) (stayed h y row) in
+        ∙ ap (λ k. place_number w k (step_end h 0 0 y)) (next_is w wrap x u column next) ∙ ap (place_number w u) (stayed h y row) in
         let near = beside-neighbour set mask wrap pins is c.0 2 e.0 c.1.inside (record { dir = omega arith; there = step; cell = ap (cell_number mask) leads ∙ e.1.cell }) in
         let fit = (support-fits set mask wrap pins (get_or a c.0 0) (get_or a e.0 0) 2 (omega arith) (has_Contains _ (get_or a e.0 0) (legal.beside c.0 2 e.0 near))).fit in
         subst (λ k. IsAcross set (variant_at set.tiles k) (variant_at set.tiles (number_at m u y))) (sym c.1.tile)
@@ -292,7 +292,7 @@ module _ (set : TileSetView) (mask : MaskView) (wrap : Bool) (pins : List Pin) w
         ∙ and_from _ _ (stay_there w wrap x column) (next_there h wrap y v next) in
         let leads : step_from mask (place c.0 % w) (place c.0 / w) 1 ≡ place_number w x v =
         ap (λ k. step_from mask k (place c.0 / w) 1) c.1.column ∙ ap (λ k. step_from mask x k 1) c.1.row
-        ∙ ap (λ k. place_number w k (stepped h 1 0 y)) (stayed w x column) ∙ ap (place_number w x) (next_is h wrap y v row next) in
+        ∙ ap (λ k. place_number w k (step_end h 1 0 y)) (stayed w x column) ∙ ap (place_number w x) (next_is h wrap y v row next) in
         let near = beside-neighbour set mask wrap pins is c.0 1 e.0 c.1.inside (record { dir = omega arith; there = step; cell = ap (cell_number mask) leads ∙ e.1.cell }) in
         let fit = (support-fits set mask wrap pins (get_or a c.0 0) (get_or a e.0 0) 1 (omega arith) (has_Contains _ (get_or a e.0 0) (legal.beside c.0 1 e.0 near))).fit in
         subst (λ k. IsDown set (variant_at set.tiles k) (variant_at set.tiles (number_at m x v))) (sym c.1.tile)

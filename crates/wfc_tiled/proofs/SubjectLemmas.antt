@@ -7,7 +7,7 @@ use Rattle.wfc_model.specs.Direction.{left_by, down_by, right_by, up_by}
 use Rattle.wfc_model.specs.Legal.{Pin}
 use Rattle.wfc_problem.specs.Network.{neighbour, supports_of, in_base}
 use Rattle.wfc_places.specs.Marks.{suits}
-use Rattle.wfc_places.specs.Steps.{place_number, is_there, stepped, IsStepFrom}
+use Rattle.wfc_places.specs.Steps.{place_number, is_there, step_end, IsStepFrom}
 use Rattle.wfc_places.proofs.CallerLemmas.{suits-from, held-from_suits, one_across, one_down, stepped-is, apart-stepped, apart-there, same_column, same_row, step-apart, step_across, step_down, step_from}
 use Rattle.wfc_tileset.specs.Allowed.{IsAcross, IsDown, across_pairs, down_pairs}
 use Rattle.wfc_tileset.specs.Tiles.{TileSetView, variant_at, variant_total}
@@ -40,8 +40,8 @@ module _ (set : TileSetView) (mask : MaskView) (wrap : Bool) (pins : List Pin) w
       let u = cell_column mask m in
       let v = cell_row mask m in
       let near = neighbour-beside set mask wrap pins c d m at in
-      let p = stepped w (right_by d) (left_by d) x in
-      let q = stepped h (down_by d) (up_by d) y in
+      let p = step_end w (right_by d) (left_by d) x in
+      let q = step_end h (down_by d) (up_by d) y in
       let p_in : p < w = (stepped-is w (right_by d) (left_by d) x here.column (one_across d)).below in
       let same : place_number w u v ≡ place_number w p q = far.cell ∙ (stands mask.places (place_number w p q) m near.cell).1 in
       let column : p ≡ u = sym (same_column w u v p q far.column p_in same) in
@@ -65,10 +65,10 @@ module _ (set : TileSetView) (mask : MaskView) (wrap : Bool) (pins : List Pin) w
       let v = cell_row mask m in
       let across = step_across wrap w h d x y u v step in
       let down = step_down wrap w h d x y u v step in
-      let column : stepped w (right_by d) (left_by d) x ≡ u = apart-stepped wrap w (right_by d) (left_by d) x u here.column far.column (one_across d) across in
-      let row : stepped h (down_by d) (up_by d) y ≡ v = apart-stepped wrap h (down_by d) (up_by d) y v here.row far.row (one_down d) down in
-      let place : place_number w (stepped w (right_by d) (left_by d) x) (stepped h (down_by d) (up_by d) y) ≡ get_or mask.places m 0 =
-      ap (λ k. place_number w k (stepped h (down_by d) (up_by d) y)) column ∙ ap (place_number w u) row ∙ far.cell in
+      let column : step_end w (right_by d) (left_by d) x ≡ u = apart-stepped wrap w (right_by d) (left_by d) x u here.column far.column (one_across d) across in
+      let row : step_end h (down_by d) (up_by d) y ≡ v = apart-stepped wrap h (down_by d) (up_by d) y v here.row far.row (one_down d) down in
+      let place : place_number w (step_end w (right_by d) (left_by d) x) (step_end h (down_by d) (up_by d) y) ≡ get_or mask.places m 0 =
+      ap (λ k. place_number w k (step_end h (down_by d) (up_by d) y)) column ∙ ap (place_number w u) row ∙ far.cell in
       beside-neighbour set mask wrap pins is c d m inside (record {
         dir = dir;
         there = and_from _ _

@@ -12,7 +12,7 @@ use Rattle.wfc_model.proofs.CallerLemmas.{opposite_below, IsCell, cell_is}
 use Rattle.wfc_problem.specs.Network.{Network, IsProblem, neighbour, supports_of, in_base, has_flag}
 use Rattle.wfc_problem.specs.declared.TheConstants.{NO_CELL, MAX_PAIRS}
 use Rattle.wfc_problem.proofs.CallerLemmas.{neighbour_read, neighbour_not_none, neighbour_is, supports_inside, flag_at}
-use Rattle.wfc_places.specs.Steps.{stepped, is_there, place_number}
+use Rattle.wfc_places.specs.Steps.{step_end, is_there, place_number}
 use Rattle.wfc_places.proofs.CallerLemmas as shared
 use Rattle.wfc_places.proofs.CallerLemmas.{IsFitting, length-supports, supports_rise, stepped-is, stepped-stepped, there_again, one_across, one_down}
 use Rattle.wfc_tileset.specs.Tiles.{TileSetView, HasWeight, variant_total, variant_at, tile_at}
@@ -69,10 +69,10 @@ module _ (set : TileSetView) (mask : MaskView) (wrap : Bool) (pins : List Pin) w
   place c = get_or mask.places c 0
 
   abbrev across : ℕ → ℕ → ℕ
-  across x d = stepped mask.width (right_by d) (left_by d) x
+  across x d = step_end mask.width (right_by d) (left_by d) x
 
   abbrev down : ℕ → ℕ → ℕ
-  down y d = stepped mask.height (down_by d) (up_by d) y
+  down y d = step_end mask.height (down_by d) (up_by d) y
 
   pub place_is : IsMask mask → (c : ℕ) → c < P.cells → IsCell mask.width mask.height (place c) (place c % mask.width) (place c / mask.width)
   place_is is c inside = cell_is mask.width mask.height (place c) (omega (arith, is.inside c 0 inside))
@@ -147,9 +147,9 @@ module _ (set : TileSetView) (mask : MaskView) (wrap : Bool) (pins : List Pin) w
       ap (λ k. is_there h wrap k (up_by e) (down y d)) low ∙ ap (λ k. is_there h wrap (up_by d) k (down y d)) up
       ∙ there_again h wrap (down_by d) (up_by d) y at.row (one_down d) parts.1 in
       let back_x : across (across x d) e ≡ x =
-      ap (λ k. stepped w k (left_by e) (across x d)) right ∙ ap (λ k. stepped w (left_by d) k (across x d)) left ∙ stepped-stepped w (right_by d) (left_by d) x at.column (one_across d) in
+      ap (λ k. step_end w k (left_by e) (across x d)) right ∙ ap (λ k. step_end w (left_by d) k (across x d)) left ∙ stepped-stepped w (right_by d) (left_by d) x at.column (one_across d) in
       let back_y : down (down y d) e ≡ y =
-      ap (λ k. stepped h k (up_by e) (down y d)) low ∙ ap (λ k. stepped h (up_by d) k (down y d)) up ∙ stepped-stepped h (down_by d) (up_by d) y at.row (one_down d) in
+      ap (λ k. step_end h k (up_by e) (down y d)) low ∙ ap (λ k. step_end h (up_by d) k (down y d)) up ∙ stepped-stepped h (down_by d) (up_by d) y at.row (one_down d) in
       let there : is_step mask wrap (place m % w) (place m / w) e ≡ true =
       ap (λ k. is_step mask wrap k (place m / w) e) column ∙ ap (λ k. is_step mask wrap (across x d) k e) row ∙ and_from _ _ across_there down_there in
       let step : step_from mask (place m % w) (place m / w) e ≡ place c =

@@ -4,7 +4,7 @@ use Rattle.std.specs.List.{flat_map, list_all, range_with_len}
 use Rattle.wfc_model.specs.Direction.{left_by, down_by, right_by, up_by}
 use Rattle.wfc_model.specs.Legal.{Pin}
 use Rattle.wfc_places.specs.Marks.{suits}
-use Rattle.wfc_places.specs.Steps.{place_number, is_there, stepped}
+use Rattle.wfc_places.specs.Steps.{place_number, is_there, step_end}
 use Rattle.wfc_problem.specs.Network.{Network}
 use Rattle.wfc_problem.specs.declared.TheConstants.{NO_CELL}
 use Rattle.wfc_tileset.specs.Tiles.{TileView, TileSetView, variant_total, variant_at, tile_at}
@@ -19,7 +19,7 @@ is_step mask wrap x y d =
 -- the number of the place that it leads to, modulo the sides
 abbrev pub step_from : MaskView → ℕ → ℕ → ℕ → ℕ
 step_from mask x y d =
-    place_number mask.width (stepped mask.width (right_by d) (left_by d) x) (stepped mask.height (down_by d) (up_by d) y)
+    place_number mask.width (step_end mask.width (right_by d) (left_by d) x) (step_end mask.height (down_by d) (up_by d) y)
 
 -- the cell beside a place in a direction, where there is one that is no hole
 abbrev pub tile_beside : MaskView → Bool → ℕ → ℕ → ℕ → ℕ

@@ -24,8 +24,8 @@ loop-y-preserved c =
     ∙ ap (λ l. flat_map (F o) (range_with_len 0 y) ++ F l y) c.new-layout.ensures.output
     ∙ sym (lists_more (F o) y)
 
-pub filled-requires : goal.filled-requires
-filled-requires c =
+pub picture_from-requires : goal.picture_from-requires
+picture_from-requires c =
     let P = c.args.patterns.now in
     let a = c.args.assignment.now in
     let o = output_with c.args.width c.args.height c.args.wrap in
@@ -52,7 +52,7 @@ returns-clause-exact c =
     let last : c.loop-y.y ≡ c.args.height = omega arith in
     let wide : 0 < w = omega (arith, c.requires.wide, c.n.ensures.patterns.some_side) in
     let high : 0 < c.args.height = omega (arith, c.requires.high, c.n.ensures.patterns.some_side) in
-    c.filled.ensures.value ∙ painted_is w c.args.height R each c.loop-y.numbers.items wide high (c.loop-y.invariant ∙ ap (λ k. flat_map R (range_with_len 0 k)) last)
+    c.picture_from.ensures.value ∙ painted_is w c.args.height R each c.loop-y.numbers.items wide high (c.loop-y.invariant ∙ ap (λ k. flat_map R (range_with_len 0 k)) last)
 
 pub returns-clause-legal : goal.returns-clause-legal
 returns-clause-legal c = λ sample rules pins room by inside legal.

@@ -1,7 +1,7 @@
 -- Without the flags of a whole base the parts say the same problem.
 use Rattle.std.proofs.Common.{sym, ◌∙◌}
 use Rattle.wfc_problem.proofs.Whole.{kept_is, kept_whole}
-use Rattle.wfc_problem.proofs.Problem.kept.Goals as goal
+use Rattle.wfc_problem.proofs.Problem.from_parts.Goals as goal
 
 pub invariant_of-result : goal.invariant_of-result
 invariant_of-result c =

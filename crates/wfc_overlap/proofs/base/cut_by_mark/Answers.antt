@@ -2,7 +2,7 @@ use Rattle.std.specs.List.{list_all, range_with_len}
 use Rattle.wfc_overlap.specs.Layout.{output_of}
 use Rattle.wfc_overlap.specs.Sample.{window_suits_at}
 use Rattle.wfc_overlap.proofs.FlagLemmas.{all_more, cut_more}
-use Rattle.wfc_overlap.proofs.base.cut.Goals as goal
+use Rattle.wfc_overlap.proofs.base.cut_by_mark.Goals as goal
 
 pub loop-i-preserved : goal.loop-i-preserved
 loop-i-preserved c =
