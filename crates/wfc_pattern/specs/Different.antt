@@ -1,5 +1,7 @@
 -- The images that arise in a sample by their number, and which of them are kept as different.
-use Rattle.std.specs.Prelude.{◌≡◌, ℕ, ◌/◌, ◌%◌, List, map}
+use Rattle.std.specs.Prelude.{◌≡◌, ℕ, ◌/◌, ◌%◌, List, map, nat_eq}
+use Rattle.std.specs.Cmp.Lexicographic.{pointwise}
+use Rattle.wfc_lists.specs.Unrepeated.{with_new}
 use Rattle.wfc_model.specs.Raster.{Raster}
 use Rattle.wfc_model.specs.Window.{window}
 use Rattle.wfc_model.specs.Image.{image}
@@ -32,3 +34,7 @@ images_in arising numbers = images_of arising.picture.now arising.n arising.symm
 abbrev pub AreHashesIn : Arising → List ℕ → List ℕ → Type 0
 AreHashesIn arising numbers hashes =
     HashesAre arising.picture.now arising.n arising.symmetry arising.columns numbers hashes
+
+-- the images with these numbers and behind them the next one, where it is none of them
+abbrev pub images_with : Arising → List ℕ → ℕ → List (List ℕ)
+images_with arising numbers at = with_new (pointwise nat_eq) (images_in arising numbers) (image_in arising at)

@@ -4,5 +4,6 @@ pub mod Chains
 pub mod Different
 pub mod Learning
 pub mod Patterns
+pub mod Small
 pub mod Tally
 pub use Rattle.wfc_outside.specs.Gives

@@ -2,10 +2,10 @@
 ghost use Rattle.std.specs.Prelude.{◌≡◌, ℕ, ◌+◌, ◌*◌, ◌<◌, ◌≤◌, ◌^◌, [], length, IfOk, OnOk, nat_eq};
 ghost use Rattle.std.specs.List.{list_any, range_with_len};
 ghost use Rattle.std.specs.Cmp.Lexicographic.{pointwise};
-ghost use Rattle.wfc_lists.specs.Unrepeated.{unrepeated, with_new};
+ghost use Rattle.wfc_lists.specs.Unrepeated.{unrepeated};
 ghost use Rattle.wfc_model.specs.Image.{image, turned};
 ghost use Rattle.wfc_pattern.specs.Chains.{hash_of, hashes_of};
-ghost use Rattle.wfc_pattern.specs.Different.{image_in, images_in, AreHashesIn};
+ghost use Rattle.wfc_pattern.specs.Different.{image_in, images_in, images_with, AreHashesIn};
 
 use crate::chains::{Chains, hash_of};
 use std::alloc::Global;
@@ -98,8 +98,7 @@ impl Different {
         requires hashes { AreHashesIn arising.now self.old.numbers.items
             (hashes_of self.old.chains.links.items) }
         ensures kept { OnOk result (images_in arising.now self.new.numbers.items
-            ≡ with_new (pointwise nat_eq) (images_in arising.now self.old.numbers.items)
-            (image_in arising.now at)) }
+            ≡ images_with arising.now self.old.numbers.items at) }
         ensures hashes { OnOk result (AreHashesIn arising.now self.new.numbers.items
             (hashes_of self.new.chains.links.items)) }
         ensures room { OnOk result

@@ -9,6 +9,7 @@ ghost use Rattle.wfc_model.specs.Learned.{arising, learned};
 ghost use Rattle.wfc_pattern.specs.Agreement.{Agrees, agrees};
 ghost use Rattle.wfc_pattern.specs.Learning.{learned_patterns, learned_weights, patterns_of};
 ghost use Rattle.wfc_pattern.specs.Patterns.{PatternsView, IsPatterns};
+ghost use Rattle.wfc_pattern.specs.Small.{IsTeachable, column_patterns, last_column, wrapped_pair};
 ghost use Rattle.wfc_pattern.specs.declared.TheConstants.{MAX_PATTERNS, MAX_ARISING};
 ghost use Rattle.wfc_pattern.specs.declared.learning.LearnFault.{LearnFault};
 
@@ -40,22 +41,12 @@ pub fn agreement_of_two()
 
 /// A sample of four by two that teaches three patterns, and samples that are too small and not.
 pub fn small_samples()
-    ensures patterns { patterns_of (raster_of 4 2 (1 ∷ 1 ∷ 1 ∷ 2 ∷ 1 ∷ 1 ∷ 1 ∷ 2 ∷ [])) 2 2 false
-        ≡ Ok (record {
-          n = 2;
-          windows = (1 ∷ 1 ∷ 1 ∷ 1 ∷ []) ∷ (1 ∷ 2 ∷ 1 ∷ 2 ∷ [])
-              ∷ (2 ∷ 1 ∷ 2 ∷ 1 ∷ []) ∷ [];
-          weights = 4 ∷ 1 ∷ 1 ∷ [];
-        }) }
+    ensures patterns { patterns_of last_column 2 2 false ≡ Ok column_patterns }
     ensures narrow { patterns_of (raster_of 1 2 (1 ∷ 2 ∷ [])) 2 1 false
         ≡ Err LearnFault.SampleBelowN }
     ensures low { patterns_of (raster_of 2 1 (1 ∷ 2 ∷ [])) 2 1 false
         ≡ Err LearnFault.SampleBelowN }
-    ensures wrapped { patterns_of (raster_of 2 1 (1 ∷ 2 ∷ [])) 2 1 true ≡ Ok (record {
-      n = 2;
-      windows = (1 ∷ 2 ∷ 1 ∷ 2 ∷ []) ∷ (2 ∷ 1 ∷ 2 ∷ 1 ∷ []) ∷ [];
-      weights = 1 ∷ 1 ∷ [];
-    }) }
+    ensures wrapped { patterns_of (raster_of 2 1 (1 ∷ 2 ∷ [])) 2 1 true ≡ Ok wrapped_pair }
 {}
 
 /// Up to 4,096 patterns are taught. With one more there are too many, and the fault says how many.
@@ -70,9 +61,8 @@ pub fn too_many_patterns()
 
 /// What a sample teaches are patterns: 1 to 4,096 different windows with their weights.
 pub fn taught_patterns()
-    ensures taught { (sample : Raster) (n s : ℕ) (wrap : Bool) (patterns : PatternsView)
-        → IsRaster sample → 0 < n → n ≤ 6 → 0 < s → s ≤ 8 → sample.width * height_of sample
-        ≤ 1048576 → patterns_of sample n s wrap ≡ Ok patterns → IsPatterns patterns }
+    ensures taught { (sample : Raster) (n s : ℕ) (wrap : Bool) (patterns : PatternsView) →
+        IsTeachable sample n s → patterns_of sample n s wrap ≡ Ok patterns → IsPatterns patterns }
     ensures two { IsPatterns
         (record { n = 1; windows = (5 ∷ []) ∷ (6 ∷ []) ∷ []; weights = 3 ∷ 8388608 ∷ [] }) }
     ensures repeated { IsPatterns

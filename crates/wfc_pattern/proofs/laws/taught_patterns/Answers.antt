@@ -2,4 +2,5 @@ use Rattle.wfc_pattern.proofs.LearningLemmas.{taught_are_patterns}
 use Rattle.wfc_pattern.proofs.laws.taught_patterns.Goals as goal
 
 pub returns-clause-taught : goal.returns-clause-taught
-returns-clause-taught c = taught_are_patterns
+returns-clause-taught c sample n s wrap patterns fit =
+    taught_are_patterns sample n s wrap patterns fit.0 fit.1 fit.2 fit.3 fit.4 fit.5
