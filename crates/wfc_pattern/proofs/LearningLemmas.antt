@@ -22,19 +22,19 @@ use Rattle.wfc_pattern.specs.Patterns.{PatternsView, IsPatterns, AreDifferent}
 use Rattle.wfc_pattern.specs.declared.TheConstants.{MAX_PATTERNS}
 use Rattle.wfc_pattern.specs.declared.learning.LearnFault.{LearnFault}
 use Rattle.wfc_pattern.specs.declared.learning.LearnFault.TheVariants.{SampleBelowN, TooManyPatterns}
-use Rattle.wfc_pattern.specs.Tally.{noted, tallied, total, windows_of, weights_of, patterns_from}
+use Rattle.wfc_pattern.specs.Tally.{tally_with, window_counts, total, windows_of, weights_of, patterns_from}
 use Rattle.wfc_pattern.proofs.ArisingLemmas.{all_rows, length-rows}
 use Rattle.wfc_pattern.proofs.TallyLemmas.{tallied-fold, total-fold, whole}
 
 -- what is tallied are the windows and their numbers of times
-pub windows_of-tallied : (ws : List (List ℕ)) → windows_of (tallied ws) ≡ unrepeated (pointwise nat_eq) ws
+pub windows_of-tallied : (ws : List (List ℕ)) → windows_of (window_counts ws) ≡ unrepeated (pointwise nat_eq) ws
 windows_of-tallied ws = both (weight_of ws) (unrepeated (pointwise nat_eq) ws)
   where
     both : (c : List ℕ → ℕ) (ks : List (List ℕ)) → windows_of (map (λ (w : List ℕ). (w, c w)) ks) ≡ ks
     both c [] = refl
     both c (k ∷ ks) = ap (λ vs. k ∷ vs) (both c ks)
 
-pub weights_of-tallied : (ws : List (List ℕ)) → weights_of (tallied ws) ≡ map (weight_of ws) (unrepeated (pointwise nat_eq) ws)
+pub weights_of-tallied : (ws : List (List ℕ)) → weights_of (window_counts ws) ≡ map (weight_of ws) (unrepeated (pointwise nat_eq) ws)
 weights_of-tallied ws = both (weight_of ws) (unrepeated (pointwise nat_eq) ws)
   where
     both : (c : List ℕ → ℕ) (ks : List (List ℕ)) → weights_of (map (λ (w : List ℕ). (w, c w)) ks) ≡ map c ks
@@ -43,12 +43,12 @@ weights_of-tallied ws = both (weight_of ws) (unrepeated (pointwise nat_eq) ws)
 
 -- all rows of all places are all places
 pub tally_is : (sample : Raster) (n s : ℕ) (wrap : Bool) (columns rows y : ℕ) (es : List (List ℕ × ℕ)) → columns ≡ starts sample.width n wrap → rows ≡ starts (height_of sample) n wrap → y ≡ rows
-    → es ≡ fold noted [] (flat_map (images_in_row sample n s columns) (range_with_len 0 y)) → es ≡ tallied (arising sample n s wrap)
+    → es ≡ fold tally_with [] (flat_map (images_in_row sample n s columns) (range_with_len 0 y)) → es ≡ window_counts (arising sample n s wrap)
 tally_is sample n s wrap columns rows y es wide high last so_far =
     so_far
-    ∙ ap (λ k. fold noted [] (flat_map (images_in_row sample n s columns) (range_with_len 0 k))) (last ∙ high)
-    ∙ ap (λ k. fold noted [] (flat_map (images_in_row sample n s k) (range_with_len 0 (starts (height_of sample) n wrap)))) wide
-    ∙ ap (fold noted []) (all_rows sample n s (starts sample.width n wrap) (starts (height_of sample) n wrap))
+    ∙ ap (λ k. fold tally_with [] (flat_map (images_in_row sample n s columns) (range_with_len 0 k))) (last ∙ high)
+    ∙ ap (λ k. fold tally_with [] (flat_map (images_in_row sample n s k) (range_with_len 0 (starts (height_of sample) n wrap)))) wide
+    ∙ ap (fold tally_with []) (all_rows sample n s (starts sample.width n wrap) (starts (height_of sample) n wrap))
     ∙ tallied-fold [] (arising sample n s wrap)
 
 pub length-arising : (sample : Raster) (n s : ℕ) (wrap : Bool) → length (arising sample n s wrap) ≡ starts (height_of sample) n wrap * (starts sample.width n wrap * s)
@@ -116,7 +116,7 @@ pub learned_are_different : (sample : Raster) (n s : ℕ) (wrap : Bool) → AreD
 learned_are_different sample n s wrap = AllPairs-from_IsDistinct same_window-Decides (learned sample n s wrap) (IsDistinct-unrepeated (pointwise nat_eq) (arising sample n s wrap))
 
 -- as many are tallied as are learned, and they are few enough to be counted in 32 bits
-pub length-tallied : (ws : List (List ℕ)) → length (tallied ws) ≡ length (unrepeated (pointwise nat_eq) ws)
+pub length-tallied : (ws : List (List ℕ)) → length (window_counts ws) ≡ length (unrepeated (pointwise nat_eq) ws)
 length-tallied ws = length-map (unrepeated (pointwise nat_eq) ws) (λ w. (w, weight_of ws w))
 
 pub most_learned : (sample : Raster) (n s : ℕ) (wrap : Bool) → 0 < n → s ≤ 8 → sample.width * height_of sample ≤ 1048576 → length (learned sample n s wrap) ≤ 8388608
@@ -126,9 +126,9 @@ most_learned sample n s wrap some_side eight pixels =
     omega (arith, length-arising sample n s wrap, length-unrepeated (pointwise nat_eq) ws, most)
 
 -- what is tallied, as patterns
-pub patterns_from-tallied : (n : ℕ) (ws : List (List ℕ)) → patterns_from n (tallied ws) ≡ record { n = n; windows = unrepeated (pointwise nat_eq) ws; weights = map (weight_of ws) (unrepeated (pointwise nat_eq) ws) }
+pub patterns_from-tallied : (n : ℕ) (ws : List (List ℕ)) → patterns_from n (window_counts ws) ≡ record { n = n; windows = unrepeated (pointwise nat_eq) ws; weights = map (weight_of ws) (unrepeated (pointwise nat_eq) ws) }
 patterns_from-tallied n ws =
-    ap (λ vs. record { n = n; windows = vs; weights = weights_of (tallied ws) }) (windows_of-tallied ws)
+    ap (λ vs. record { n = n; windows = vs; weights = weights_of (window_counts ws) }) (windows_of-tallied ws)
     ∙ ap (λ ns. record { n = n; windows = unrepeated (pointwise nat_eq) ws; weights = ns }) (weights_of-tallied ws)
 
 -- what is learned of a sample with room for a window are patterns, where they are few enough
@@ -192,7 +192,7 @@ taught_are_patterns sample n s wrap patterns raster some_side small_side some ei
 -- the weights together are the length of the list
 pub sum-weights : (ws : List (List ℕ)) → sum (map (weight_of ws) (unrepeated (pointwise nat_eq) ws)) ≡ length ws
 sum-weights ws =
-    ap sum (sym (weights_of-tallied ws)) ∙ each (tallied ws) ∙ ap total (sym (tallied-fold [] ws)) ∙ total-fold [] ws ∙ zero-add (length ws)
+    ap sum (sym (weights_of-tallied ws)) ∙ each (window_counts ws) ∙ ap total (sym (tallied-fold [] ws)) ∙ total-fold [] ws ∙ zero-add (length ws)
   where
     each : (es : List (List ℕ × ℕ)) → sum (weights_of es) ≡ total es
     each [] = refl

@@ -2,13 +2,13 @@
 use Rattle.std.specs.Prelude.{◌≡◌, ◌≢◌, ℕ, ◌+◌, ◌-◌, ◌*◌, ◌/◌, ◌%◌, ◌^◌, ◌<◌, ◌≤◌, List, length, map, fold, slice_index, Option, None, Some}
 use Rattle.wfc_pattern.specs.declared.chains.Link.{Link}
 
--- a step of a linear congruential generator, into which a number is mixed
-abbrev pub mixed : ℕ → ℕ → ℕ
-mixed state number = ((state + number) % 2 ^ 64 * 6364136223846793005 % 2 ^ 64 + 1442695040888963407) % 2 ^ 64
+-- the state of a linear congruential generator after a step, into which a number is mixed
+abbrev pub next_state : ℕ → ℕ → ℕ
+next_state state number = ((state + number) % 2 ^ 64 * 6364136223846793005 % 2 ^ 64 + 1442695040888963407) % 2 ^ 64
 
 -- the hash of a list of numbers: the upper half of the state after all of them
 abbrev pub hash_of : List ℕ → ℕ
-hash_of numbers = fold mixed 0 numbers / 2 ^ 32
+hash_of numbers = fold next_state 0 numbers / 2 ^ 32
 
 -- the hashes that are kept
 abbrev pub hashes_of : List Link → List ℕ

@@ -5,18 +5,18 @@ use Rattle.wfc_lists.specs.Unrepeated.{unrepeated}
 use Rattle.wfc_model.specs.Learned.{weight_of}
 use Rattle.wfc_pattern.specs.Patterns.{PatternsView}
 
--- the counts after one more window: where it stood before, its count rises, else it goes last
-abbrev pub noted : List (List ℕ × ℕ) → List ℕ → List (List ℕ × ℕ)
-noted [] w = (w, 1) ∷ []
-noted (e ∷ es) w = if pointwise nat_eq w e.0 then (e.0, e.1 + 1) ∷ es else e ∷ noted es w
+-- the counts with one more window: where it stood before, its count rises, else it goes last
+abbrev pub tally_with : List (List ℕ × ℕ) → List ℕ → List (List ℕ × ℕ)
+tally_with [] w = (w, 1) ∷ []
+tally_with (e ∷ es) w = if pointwise nat_eq w e.0 then (e.0, e.1 + 1) ∷ es else e ∷ tally_with es w
 
 -- all counts together
 abbrev pub total : List (List ℕ × ℕ) → ℕ
 total es = sum_by (λ e. e.1) es
 
 -- the windows of a list, each once, with its number of times
-abbrev pub tallied : List (List ℕ) → List (List ℕ × ℕ)
-tallied ws = map (λ (w : List ℕ). (w, weight_of ws w)) (unrepeated (pointwise nat_eq) ws)
+abbrev pub window_counts : List (List ℕ) → List (List ℕ × ℕ)
+window_counts ws = map (λ (w : List ℕ). (w, weight_of ws w)) (unrepeated (pointwise nat_eq) ws)
 
 -- the windows alone, in their order
 abbrev pub windows_of : List (List ℕ × ℕ) → List (List ℕ)

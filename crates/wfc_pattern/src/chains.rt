@@ -1,6 +1,6 @@
 //! Hashes in the order in which they came, chained by buckets, so that all places of a hash are found from the last back.
 ghost use Rattle.std.specs.Prelude.{◌≡◌, ◌+◌, ◌-◌, ◌<◌, ◌≤◌, ◌%◌, ◌^◌, [], ◌∷◌, ◌++◌, length, slice_index, IfOk, OnOk};
-ghost use Rattle.wfc_pattern.specs.Chains.{IsChained, IsLastOf, mixed, hash_of, hashes_of};
+ghost use Rattle.wfc_pattern.specs.Chains.{IsChained, IsLastOf, next_state, hash_of, hashes_of};
 
 use std::alloc::Global;
 use wfc_outside::NoMemory;
@@ -90,15 +90,15 @@ pub fn hash_of(numbers: &[u32]) -> u32
 {
     let mut state = 0;
     for number in numbers {
-        state = mixed(state, *number);
+        state = next_state(state, *number);
     }
     (state >> 32) as u32
 }
 
 /// The state once a number is mixed in.
 #[inline]
-fn mixed(state: u64, number: u32) -> u64
-    ensures value { result ≡ mixed state number }
+fn next_state(state: u64, number: u32) -> u64
+    ensures value { result ≡ next_state state number }
 {
     state
         .wrapping_add(u64::from(number))

@@ -6,7 +6,7 @@ ghost use Rattle.wfc_model.specs.Raster.{IsRaster, height_of};
 ghost use Rattle.wfc_model.specs.Window.{starts};
 ghost use Rattle.wfc_model.specs.Learned.{arising, learned};
 ghost use Rattle.wfc_pattern.specs.Learning.{is_below_n, patterns_of};
-ghost use Rattle.wfc_pattern.specs.Tally.{tallied};
+ghost use Rattle.wfc_pattern.specs.Tally.{window_counts};
 ghost use Rattle.wfc_pattern.specs.declared.TheConstants.{MAX_PATTERNS};
 ghost use Rattle.wfc_pattern.specs.declared.learning.LearnFault.TheVariants.{NoMemory};
 
@@ -92,7 +92,7 @@ fn tally_of(
     requires limit { picture.now.width * height_of picture.now ≤ MAX_PIXELS }
     requires room { is_below_n picture.now n wrap ≡ false }
     ensures tallied { IfOk result (λ found. IfSome found (λ tally. tally
-        ≡ tallied (arising picture.now n symmetry wrap))) }
+        ≡ window_counts (arising picture.now n symmetry wrap))) }
     ensures few { IfOk result (λ found. IfSome found (λ tally. length tally ≤ MAX_PATTERNS)) }
     ensures many { IfOk result (λ found.
         IfNone found (MAX_PATTERNS < length (learned picture.now n symmetry wrap))) }
