@@ -1,9 +1,9 @@
 -- The pins and bans that a text writes, a line each.
-use Rattle.std.specs.Prelude.{ℕ, Bool, true, false, List, [], ◌∷◌, map, Option, None, Some, Result, codes, if◌then◌else◌}
+use Rattle.std.specs.Prelude.{◌≡◌, ℕ, Bool, true, false, List, [], ◌∷◌, map, Option, None, Some, Result, codes, if◌then◌else◌}
 use Rattle.std.specs.Option.{ok_or}
 use Rattle.std.specs.Str.{bytes_eq}
 use Rattle.wfc_text.specs.Line.{LineView}
-use Rattle.wfc_pins.specs.InOrder.{all_in_order}
+use Rattle.wfc_pins.specs.InOrder.{IsFirstWith, all_in_order}
 use Rattle.wfc_pins.specs.Words.{words_of, read_lines, number32}
 use Rattle.wfc_pins.specs.declared.pins.PinFault.{PinFault}
 use Rattle.wfc_pins.specs.declared.pins.PinFault.TheVariants.{BadLine}
@@ -37,3 +37,8 @@ pin_of line = ok_or (pin_said line) (BadLine line.number)
 -- the pins and bans of a text, or the first line at fault
 abbrev pub pins_of : List ℕ → Result (List PinView) PinFault
 pins_of text = all_in_order (map pin_of (read_lines text))
+
+-- the first line of a text that says no pin and no ban has this number
+abbrev pub HasFirstBad : List ℕ → ℕ → Type 0
+HasFirstBad text n =
+    (line : LineView) × (line.number ≡ n) × IsFirstWith (λ l. pin_said l ≡ None) (read_lines text) line

@@ -8,7 +8,7 @@ use Rattle.wfc_text.specs.Line.{LineView}
 use Rattle.wfc_problem.specs.Domains.{IsLiteralIn}
 use Rattle.wfc_problem.specs.Network.{Network, values}
 use Rattle.wfc_problem.specs.declared.Literal.TheVariants.{Is, Not}
-use Rattle.wfc_pins.specs.InOrder.{and_rest}
+use Rattle.wfc_pins.specs.InOrder.{IsFirstWith, and_rest}
 use Rattle.wfc_pins.specs.Words.{words_of, read_lines, number32, number16}
 use Rattle.wfc_pins.specs.declared.steps.Step.{Step}
 use Rattle.wfc_pins.specs.declared.steps.Step.TheVariants.{Assume, Undo}
@@ -69,6 +69,18 @@ abbrev pub steps_behind : List LineView → List LineView → Result (List StepL
 steps_behind before [] = Ok []
 steps_behind before (line ∷ lines) = and_rest (step_behind before line) (steps_behind (before ++ line ∷ []) lines)
 
+-- lines say these steps, and none of them is at fault
+abbrev pub AreSteps : List LineView → List StepLine → Type 0
+AreSteps lines steps = steps_behind [] lines ≡ Ok steps
+
+-- of these lines the one in the middle is the first at fault: it says no step
+abbrev pub IsNoStep : List LineView → LineView → List LineView → Type 0
+IsNoStep before line after = steps_behind [] (before ++ line ∷ after) ≡ Err (BadLine line.number)
+
+-- a line undoes, behind as many lines that undo as assume
+abbrev pub IsSpentUndo : List LineView → LineView → Type 0
+IsSpentUndo before line = (step_of_line line ≡ Some Undo) × (undos before ≡ assumptions before)
+
 -- of these lines the one in the middle is the first at fault: it undoes where nothing stands to be undone
 abbrev pub IsUndoTooMany : List LineView → LineView → List LineView → Type 0
 IsUndoTooMany before line after = steps_behind [] (before ++ line ∷ after) ≡ Err (NothingToUndo line.number)
@@ -93,3 +105,8 @@ abbrev pub range_fault : Network → List StepLine → Option RangeFault
 range_fault P steps =
     option_map (λ (line : StepLine). OutOfRange line.line)
     (find (λ (line : StepLine). not (step_fits P line.step)) steps)
+
+-- the first step that speaks of no cell and value of a problem stands in this line
+abbrev pub HasFirstPast : Network → List StepLine → ℕ → Type 0
+HasFirstPast P steps n =
+    (line : StepLine) × (line.line ≡ n) × IsFirstWith (λ (l : StepLine). IsStepIn P l.step → ⊥) steps line

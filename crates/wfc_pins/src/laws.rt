@@ -2,13 +2,12 @@
 
 ghost use Rattle.std.specs.Prelude.{◌≡◌, ◌↔◌, ℕ, All, IsTrue, map, true, false, List, [], ◌∷◌, ◌++◌, codes, Ok, Err, Some, None};
 ghost use Rattle.wfc_text.specs.Line.{LineView};
-ghost use Rattle.wfc_pins.specs.Small.{three_cells, three_steps};
+ghost use Rattle.wfc_pins.specs.Small.{pin_and_ban, steps_past, three_cells, three_kinds, three_steps};
 ghost use Rattle.wfc_pins.specs.Words.{is_skipped, read_lines, words_of};
-ghost use Rattle.wfc_pins.specs.InOrder.{IsFirstWith};
 ghost use Rattle.wfc_pins.specs.PinView.{PinView};
-ghost use Rattle.wfc_pins.specs.Pins.{pin_said, pins_of};
-ghost use Rattle.wfc_pins.specs.Steps.{IsStepIn, IsUndoTooMany, assumptions, range_fault, step_fits};
-ghost use Rattle.wfc_pins.specs.Steps.{step_of_line, steps_behind, steps_of, undos};
+ghost use Rattle.wfc_pins.specs.Pins.{HasFirstBad, pin_said, pins_of};
+ghost use Rattle.wfc_pins.specs.Steps.{AreSteps, HasFirstPast, IsNoStep, IsSpentUndo, IsStepIn, IsUndoTooMany};
+ghost use Rattle.wfc_pins.specs.Steps.{range_fault, step_fits, step_of_line, steps_of};
 ghost use Rattle.wfc_pins.specs.declared.pins.PinFault.TheVariants as pin_faults;
 ghost use Rattle.wfc_pins.specs.declared.steps.Step.{Step};
 ghost use Rattle.wfc_pins.specs.declared.steps.Step.TheVariants.{Assume, Undo};
@@ -31,17 +30,13 @@ pub fn words()
 
 /// A pin and a ban of two lines, between two that are passed over. The symbol is as it stands; the last line has no end.
 pub fn pins()
-    ensures read { pins_of (codes "#\npin 2 05 \\s\r\n\nban 1 0 9,9,9") ≡ Ok (
-        record { line = 2; keep = true; x = 2; y = 5; symbol = codes "\\s" } ∷
-        record { line = 4; keep = false; x = 1; y = 0; symbol = codes "9,9,9" } ∷ []) }
+    ensures read { pins_of (codes "#\npin 2 05 \\s\r\n\nban 1 0 9,9,9") ≡ Ok pin_and_ban }
     ensures bad { pins_of (codes "pin 0 1 a\npin 0 a\nban 0 0 a b") ≡ Err (pin_faults.BadLine 2) }
 {}
 
 /// Steps in order, and the faults of a line: no step, and an `undo` too many, whichever comes first.
 pub fn steps()
-    ensures read { steps_of (codes "choose 7 2\n\nforbid 1 3\nundo") ≡ Ok (
-        record { line = 1; step = Assume (Is 2 7) } ∷ record { line = 3; step = Assume (Not 3 1) } ∷
-        record { line = 4; step = Undo } ∷ []) }
+    ensures read { steps_of (codes "choose 7 2\n\nforbid 1 3\nundo") ≡ Ok three_kinds }
     ensures undone { steps_of (codes "choose 7 2\nundo\nundo\nundo 1")
         ≡ Err (step_faults.NothingToUndo 3) }
     ensures bad { steps_of (codes "choose 7 2\nundo 1\nundo\nundo") ≡ Err (step_faults.BadLine 2) }
@@ -49,12 +44,10 @@ pub fn steps()
 
 /// A step behind steps without a fault is at fault exactly where it says none, or undoes where as many undo as assume.
 pub fn faults_of_steps()
-    ensures bad { (before : List LineView) (line : LineView) (after : List LineView)
-        (steps : List StepLine) → steps_behind [] before ≡ Ok steps → step_of_line line ≡ None
-        → steps_behind [] (before ++ line ∷ after) ≡ Err (step_faults.BadLine line.number) }
-    ensures nothing { (before : List LineView) (line : LineView) (after : List LineView)
-        (steps : List StepLine) → steps_behind [] before ≡ Ok steps → step_of_line line ≡ Some Undo
-        → undos before ≡ assumptions before → IsUndoTooMany before line after }
+    ensures bad { (before after : List LineView) (line : LineView) (steps : List StepLine) →
+        AreSteps before steps → step_of_line line ≡ None → IsNoStep before line after }
+    ensures nothing { (before after : List LineView) (line : LineView) (steps : List StepLine) →
+        AreSteps before steps → IsSpentUndo before line → IsUndoTooMany before line after }
 {}
 
 /// A text is read as pins exactly where each of its lines says one, and else the first line that says none is at fault.
@@ -62,8 +55,7 @@ pub fn faults_of_pins()
     ensures each { (text : List ℕ) (pins : List PinView)
         → (pins_of text ≡ Ok pins) ↔ (map pin_said (read_lines text) ≡ map Some pins) }
     ensures first { (text : List ℕ) (n : ℕ) → (pins_of text ≡ Err (pin_faults.BadLine n))
-        ↔ ((line : LineView) × (line.number ≡ n)
-        × IsFirstWith (λ l. pin_said l ≡ None) (read_lines text) line) }
+        ↔ HasFirstBad text n }
 {}
 
 /// Steps fit a problem exactly where each speaks of its cells and values, and else the first line that doesn't is at fault.
@@ -72,15 +64,14 @@ pub fn steps_in_range()
     ensures all { (P : Network) (steps : List StepLine) →
         (range_fault P steps ≡ None) ↔ All (λ (l : StepLine). IsStepIn P l.step) steps }
     ensures first { (P : Network) (steps : List StepLine) (n : ℕ) →
-        (range_fault P steps ≡ Some (OutOfRange n)) ↔ ((line : StepLine) × (line.line ≡ n)
-        × IsFirstWith (λ (l : StepLine). IsStepIn P l.step → ⊥) steps line) }
+        (range_fault P steps ≡ Some (OutOfRange n)) ↔ HasFirstPast P steps n }
 {}
 
 /// In a problem of three cells and two values: the last cell and the last value, and what is past them.
 pub fn small_steps()
     ensures both { map (step_fits three_cells) (Assume (Is 1 2) ∷ Assume (Not 1 2) ∷ Undo ∷ [])
         ≡ true ∷ true ∷ true ∷ [] }
-    ensures past { map (step_fits three_cells) (Assume (Is 2 1) ∷ Assume (Not 2 1) ∷ Assume (Is 1 3)
-        ∷ Assume (Not 1 3) ∷ []) ≡ false ∷ false ∷ false ∷ false ∷ [] }
+    ensures past { map (step_fits three_cells) steps_past
+        ≡ false ∷ false ∷ false ∷ false ∷ [] }
     ensures first { range_fault three_cells three_steps ≡ Some (OutOfRange 5) }
 {}

@@ -3,6 +3,6 @@ use Rattle.wfc_pins.proofs.laws.faults_of_steps.Goals as goal
 
 pub returns : goal.returns
 returns c = record {
-  bad = λ before line after steps right is. fault_of_steps before line after steps _ right (bad_line before line is);
-  nothing = λ before line after steps right is level. fault_of_steps before line after steps _ right (nothing_to_undo before line is level);
+  bad = λ before after line steps right is. fault_of_steps before line after steps _ right (bad_line before line is);
+  nothing = λ before after line steps right spent. fault_of_steps before line after steps _ right (nothing_to_undo before line spent.0 spent.1);
 }
