@@ -10,7 +10,7 @@ use Rattle.wfc_model.specs.Raster.{Raster}
 use Rattle.wfc_model.specs.Window.{window}
 use Rattle.wfc_model.specs.Image.{image, turned, reflected, rotated}
 use Rattle.wfc_pattern.specs.Arising.{images_at, images_in_row}
-use Rattle.wfc_pattern.specs.Tally.{tally_with, total}
+use Rattle.wfc_pattern.specs.Tally.{recount, total}
 use Rattle.wfc_pattern.proofs.TallyLemmas.{total-fold, fold_grows}
 
 -- how often a window was turned before image k + 1
@@ -26,17 +26,17 @@ turned_more n w k v now so_far step = by (k % 2 == 0) refl
         step ∙ ap (λ b. if b then v else rotated n v) odd ∙ ap (rotated n) so_far ∙ ap (turned n w) half
 
 -- one more image is noted
-pub images_more : (n : ℕ) (w : List ℕ) (k : ℕ) (v : List ℕ) (start es now : List (List ℕ × ℕ)) → v ≡ turned n w (k / 2) → es ≡ fold tally_with start (map (image n w) (range_with_len 0 k))
-    → now ≡ tally_with es (if k % 2 == 0 then v else reflected n v) → now ≡ fold tally_with start (map (image n w) (range_with_len 0 (k + 1)))
+pub images_more : (n : ℕ) (w : List ℕ) (k : ℕ) (v : List ℕ) (start es now : List (List ℕ × ℕ)) → v ≡ turned n w (k / 2) → es ≡ fold recount start (map (image n w) (range_with_len 0 k))
+    → now ≡ recount es (if k % 2 == 0 then v else reflected n v) → now ≡ fold recount start (map (image n w) (range_with_len 0 (k + 1)))
 images_more n w k v start es now so_far before step =
     step
-    ∙ ap (λ u. tally_with es (if k % 2 == 0 then u else reflected n u)) so_far
-    ∙ ap (λ t. tally_with t (image n w k)) before
-    ∙ sym (fold_push tally_with start (map (image n w) (range_with_len 0 k)) (image n w k))
-    ∙ ap (fold tally_with start) (sym (map-range_with_len_more (image n w) 0 k k (omega arith)))
+    ∙ ap (λ u. recount es (if k % 2 == 0 then u else reflected n u)) so_far
+    ∙ ap (λ t. recount t (image n w k)) before
+    ∙ sym (fold_push recount start (map (image n w) (range_with_len 0 k)) (image n w k))
+    ∙ ap (fold recount start) (sym (map-range_with_len_more (image n w) 0 k k (omega arith)))
 
 -- how many were noted
-pub total-images : (f : ℕ → List ℕ) (k : ℕ) (start es : List (List ℕ × ℕ)) → es ≡ fold tally_with start (map f (range_with_len 0 k)) → total es ≡ total start + k
+pub total-images : (f : ℕ → List ℕ) (k : ℕ) (start es : List (List ℕ × ℕ)) → es ≡ fold recount start (map f (range_with_len 0 k)) → total es ≡ total start + k
 total-images f k start es before = ap total before ∙ total-fold start (map f (range_with_len 0 k)) ∙ ap (λ m. total start + m) (length-map-range_with_len f 0 k)
 
 -- the images of a place are as many as are taken
@@ -69,43 +69,43 @@ rows_more sample n s columns y =
     ∙ sym (flat_map_more (images_in_row sample n s columns) [] (range_with_len 0 y) y)
 
 -- a front of a row, and of the rows, has no more different images
-pub row_grows : (sample : Raster) (n s y : ℕ) (start : List (List ℕ × ℕ)) (x columns : ℕ) → x ≤ columns → length (fold tally_with start (images_in_row sample n s x y)) ≤ length (fold tally_with start (images_in_row sample n s columns y))
+pub row_grows : (sample : Raster) (n s y : ℕ) (start : List (List ℕ × ℕ)) (x columns : ℕ) → x ≤ columns → length (fold recount start (images_in_row sample n s x y)) ≤ length (fold recount start (images_in_row sample n s columns y))
 row_grows sample n s y start x columns upto = fold_grows (λ i. images_in_row sample n s i y) (λ i. images_at sample n s (i, y)) (λ i. row_more sample n s i y) start x columns upto
 
-pub rows_grow : (sample : Raster) (n s columns y rows : ℕ) → y ≤ rows → length (fold tally_with [] (flat_map (images_in_row sample n s columns) (range_with_len 0 y))) ≤ length (fold tally_with [] (flat_map (images_in_row sample n s columns) (range_with_len 0 rows)))
+pub rows_grow : (sample : Raster) (n s columns y rows : ℕ) → y ≤ rows → length (fold recount [] (flat_map (images_in_row sample n s columns) (range_with_len 0 y))) ≤ length (fold recount [] (flat_map (images_in_row sample n s columns) (range_with_len 0 rows)))
 rows_grow sample n s columns y rows upto =
     fold_grows (λ j. flat_map (images_in_row sample n s columns) (range_with_len 0 j)) (images_in_row sample n s columns) (rows_more sample n s columns) [] y rows upto
 
-pub place_noted : (sample : Raster) (n s x y : ℕ) (start es now : List (List ℕ × ℕ)) → es ≡ fold tally_with start (images_in_row sample n s x y) → now ≡ fold tally_with es (images_at sample n s (x, y)) → now ≡ fold tally_with start (images_in_row sample n s (x + 1) y)
+pub place_noted : (sample : Raster) (n s x y : ℕ) (start es now : List (List ℕ × ℕ)) → es ≡ fold recount start (images_in_row sample n s x y) → now ≡ fold recount es (images_at sample n s (x, y)) → now ≡ fold recount start (images_in_row sample n s (x + 1) y)
 place_noted sample n s x y start es now before step =
     step
-    ∙ ap (λ t. fold tally_with t (images_at sample n s (x, y))) before
-    ∙ sym (fold-append tally_with start (images_in_row sample n s x y) (images_at sample n s (x, y)))
-    ∙ ap (fold tally_with start) (sym (row_more sample n s x y))
+    ∙ ap (λ t. fold recount t (images_at sample n s (x, y))) before
+    ∙ sym (fold-append recount start (images_in_row sample n s x y) (images_at sample n s (x, y)))
+    ∙ ap (fold recount start) (sym (row_more sample n s x y))
 
 -- the same by the learner's own numbers
-pub one_place : (sample : Raster) (n s m t x y : ℕ) (start es now : List (List ℕ × ℕ)) → m ≡ n → t ≡ s → es ≡ fold tally_with start (images_in_row sample n s x y) → now ≡ fold tally_with es (images_at sample m t (x, y)) → now ≡ fold tally_with start (images_in_row sample n s (x + 1) y)
+pub one_place : (sample : Raster) (n s m t x y : ℕ) (start es now : List (List ℕ × ℕ)) → m ≡ n → t ≡ s → es ≡ fold recount start (images_in_row sample n s x y) → now ≡ fold recount es (images_at sample m t (x, y)) → now ≡ fold recount start (images_in_row sample n s (x + 1) y)
 one_place sample n s m t x y start es now side images before step =
-    place_noted sample n s x y start es now before (step ∙ ap (λ k. fold tally_with es (images_at sample k t (x, y))) side ∙ ap (λ k. fold tally_with es (images_at sample n k (x, y))) images)
+    place_noted sample n s x y start es now before (step ∙ ap (λ k. fold recount es (images_at sample k t (x, y))) side ∙ ap (λ k. fold recount es (images_at sample n k (x, y))) images)
 
-pub row_noted : (sample : Raster) (n s columns y : ℕ) (start es now : List (List ℕ × ℕ)) → es ≡ fold tally_with start (flat_map (images_in_row sample n s columns) (range_with_len 0 y)) → now ≡ fold tally_with es (images_in_row sample n s columns y)
-    → now ≡ fold tally_with start (flat_map (images_in_row sample n s columns) (range_with_len 0 (y + 1)))
+pub row_noted : (sample : Raster) (n s columns y : ℕ) (start es now : List (List ℕ × ℕ)) → es ≡ fold recount start (flat_map (images_in_row sample n s columns) (range_with_len 0 y)) → now ≡ fold recount es (images_in_row sample n s columns y)
+    → now ≡ fold recount start (flat_map (images_in_row sample n s columns) (range_with_len 0 (y + 1)))
 row_noted sample n s columns y start es now before step =
     step
-    ∙ ap (λ t. fold tally_with t (images_in_row sample n s columns y)) before
-    ∙ sym (fold-append tally_with start (flat_map (images_in_row sample n s columns) (range_with_len 0 y)) (images_in_row sample n s columns y))
-    ∙ ap (fold tally_with start) (sym (rows_more sample n s columns y))
+    ∙ ap (λ t. fold recount t (images_in_row sample n s columns y)) before
+    ∙ sym (fold-append recount start (flat_map (images_in_row sample n s columns) (range_with_len 0 y)) (images_in_row sample n s columns y))
+    ∙ ap (fold recount start) (sym (rows_more sample n s columns y))
 
-pub one_row : (sample : Raster) (n s m t columns y : ℕ) (start es now : List (List ℕ × ℕ)) → m ≡ n → t ≡ s → es ≡ fold tally_with start (flat_map (images_in_row sample n s columns) (range_with_len 0 y)) → now ≡ fold tally_with es (images_in_row sample m t columns y)
-    → now ≡ fold tally_with start (flat_map (images_in_row sample n s columns) (range_with_len 0 (y + 1)))
+pub one_row : (sample : Raster) (n s m t columns y : ℕ) (start es now : List (List ℕ × ℕ)) → m ≡ n → t ≡ s → es ≡ fold recount start (flat_map (images_in_row sample n s columns) (range_with_len 0 y)) → now ≡ fold recount es (images_in_row sample m t columns y)
+    → now ≡ fold recount start (flat_map (images_in_row sample n s columns) (range_with_len 0 (y + 1)))
 one_row sample n s m t columns y start es now side images before step =
-    row_noted sample n s columns y start es now before (step ∙ ap (λ k. fold tally_with es (images_in_row sample k t columns y)) side ∙ ap (λ k. fold tally_with es (images_in_row sample n k columns y)) images)
+    row_noted sample n s columns y start es now before (step ∙ ap (λ k. fold recount es (images_in_row sample k t columns y)) side ∙ ap (λ k. fold recount es (images_in_row sample n k columns y)) images)
 
-pub total-row : (sample : Raster) (n s x y : ℕ) (start es : List (List ℕ × ℕ)) → es ≡ fold tally_with start (images_in_row sample n s x y) → total es ≡ total start + x * s
+pub total-row : (sample : Raster) (n s x y : ℕ) (start es : List (List ℕ × ℕ)) → es ≡ fold recount start (images_in_row sample n s x y) → total es ≡ total start + x * s
 total-row sample n s x y start es before =
     ap total before ∙ total-fold start (images_in_row sample n s x y) ∙ ap (λ m. total start + m) (length-images_in_row sample n s x y)
 
-pub total-rows : (sample : Raster) (n s columns y : ℕ) (es : List (List ℕ × ℕ)) → es ≡ fold tally_with [] (flat_map (images_in_row sample n s columns) (range_with_len 0 y)) → total es ≡ y * (columns * s)
+pub total-rows : (sample : Raster) (n s columns y : ℕ) (es : List (List ℕ × ℕ)) → es ≡ fold recount [] (flat_map (images_in_row sample n s columns) (range_with_len 0 y)) → total es ≡ y * (columns * s)
 total-rows sample n s columns y es before =
     let all = flat_map (images_in_row sample n s columns) (range_with_len 0 y) in
     let none : total [] ≡ zero = refl in

@@ -22,7 +22,7 @@ use Rattle.wfc_pattern.specs.Patterns.{PatternsView, IsPatterns, AreDifferent}
 use Rattle.wfc_pattern.specs.declared.TheConstants.{MAX_PATTERNS}
 use Rattle.wfc_pattern.specs.declared.learning.LearnFault.{LearnFault}
 use Rattle.wfc_pattern.specs.declared.learning.LearnFault.TheVariants.{SampleBelowN, TooManyPatterns}
-use Rattle.wfc_pattern.specs.Tally.{tally_with, window_counts, total, windows_of, weights_of, patterns_from}
+use Rattle.wfc_pattern.specs.Tally.{recount, window_counts, total, windows_of, weights_of, patterns_from}
 use Rattle.wfc_pattern.proofs.ArisingLemmas.{all_rows, length-rows}
 use Rattle.wfc_pattern.proofs.TallyLemmas.{tallied-fold, total-fold, whole}
 
@@ -43,12 +43,12 @@ weights_of-tallied ws = both (weight_of ws) (unrepeated (pointwise nat_eq) ws)
 
 -- all rows of all places are all places
 pub tally_is : (sample : Raster) (n s : ℕ) (wrap : Bool) (columns rows y : ℕ) (es : List (List ℕ × ℕ)) → columns ≡ starts sample.width n wrap → rows ≡ starts (height_of sample) n wrap → y ≡ rows
-    → es ≡ fold tally_with [] (flat_map (images_in_row sample n s columns) (range_with_len 0 y)) → es ≡ window_counts (arising sample n s wrap)
+    → es ≡ fold recount [] (flat_map (images_in_row sample n s columns) (range_with_len 0 y)) → es ≡ window_counts (arising sample n s wrap)
 tally_is sample n s wrap columns rows y es wide high last so_far =
     so_far
-    ∙ ap (λ k. fold tally_with [] (flat_map (images_in_row sample n s columns) (range_with_len 0 k))) (last ∙ high)
-    ∙ ap (λ k. fold tally_with [] (flat_map (images_in_row sample n s k) (range_with_len 0 (starts (height_of sample) n wrap)))) wide
-    ∙ ap (fold tally_with []) (all_rows sample n s (starts sample.width n wrap) (starts (height_of sample) n wrap))
+    ∙ ap (λ k. fold recount [] (flat_map (images_in_row sample n s columns) (range_with_len 0 k))) (last ∙ high)
+    ∙ ap (λ k. fold recount [] (flat_map (images_in_row sample n s k) (range_with_len 0 (starts (height_of sample) n wrap)))) wide
+    ∙ ap (fold recount []) (all_rows sample n s (starts sample.width n wrap) (starts (height_of sample) n wrap))
     ∙ tallied-fold [] (arising sample n s wrap)
 
 pub length-arising : (sample : Raster) (n s : ℕ) (wrap : Bool) → length (arising sample n s wrap) ≡ starts (height_of sample) n wrap * (starts sample.width n wrap * s)

@@ -4,7 +4,7 @@ use Rattle.std.specs.Map.{lookup, set_value}
 use Rattle.std.proofs.lemmas.List.Sums.{sum_by-cons}
 use Rattle.indexmap.specs.IndexMap.{insert_entry}
 use Rattle.std.specs.Cmp.Lexicographic.{pointwise}
-use Rattle.wfc_pattern.specs.Tally.{tally_with, total}
+use Rattle.wfc_pattern.specs.Tally.{recount, total}
 
 one : (a b : ℕ) → (let some : Option ℕ = Some a in some) ≡ Some b → a ≡ b
 one a b same = cc
@@ -19,28 +19,28 @@ module _ {Z : Type 0} where
   holds w key = pointwise nat_eq w key.items
 
   -- where the window has a count, one more is noted
-  pub noted_there : (w : List ℕ) (es : List (Vec ℕ Z × ℕ)) (v : ℕ) → lookup (holds w) es ≡ Some v → seen (set_value (holds w) es (v + 1)) ≡ tally_with (seen es) w
+  pub noted_there : (w : List ℕ) (es : List (Vec ℕ Z × ℕ)) (v : ℕ) → lookup (holds w) es ≡ Some v → seen (set_value (holds w) es (v + 1)) ≡ recount (seen es) w
   noted_there w [] v found = cc
   noted_there w (e ∷ es) v found = by (holds w e.0) refl (noted_there w es v)
     where
-      by : (b : Bool) → holds w e.0 ≡ b → (lookup (holds w) es ≡ Some v → seen (set_value (holds w) es (v + 1)) ≡ tally_with (seen es) w) → seen (set_value (holds w) (e ∷ es) (v + 1)) ≡ tally_with (seen (e ∷ es)) w
+      by : (b : Bool) → holds w e.0 ≡ b → (lookup (holds w) es ≡ Some v → seen (set_value (holds w) es (v + 1)) ≡ recount (seen es) w) → seen (set_value (holds w) (e ∷ es) (v + 1)) ≡ recount (seen (e ∷ es)) w
       by true same rest =
           let count : e.1 ≡ v = one e.1 v (sym (ap (λ b. cond b (Some e.1) (lookup (holds w) es)) same) ∙ found) in
           ap (λ b. seen (cond b ((e.0, v + 1) ∷ es) (e ∷ set_value (holds w) es (v + 1)))) same
           ∙ ap (λ n. (e.0.items, n + 1) ∷ seen es) (sym count)
-          ∙ sym (ap (λ b. if b then (e.0.items, e.1 + 1) ∷ seen es else (e.0.items, e.1) ∷ tally_with (seen es) w) same)
+          ∙ sym (ap (λ b. if b then (e.0.items, e.1 + 1) ∷ seen es else (e.0.items, e.1) ∷ recount (seen es) w) same)
       by false other rest =
           ap (λ b. seen (cond b ((e.0, v + 1) ∷ es) (e ∷ set_value (holds w) es (v + 1)))) other
           ∙ ap (λ more. (e.0.items, e.1) ∷ more) (rest (sym (ap (λ b. cond b (Some e.1) (lookup (holds w) es)) other) ∙ found))
-          ∙ sym (ap (λ b. if b then (e.0.items, e.1 + 1) ∷ seen es else (e.0.items, e.1) ∷ tally_with (seen es) w) other)
+          ∙ sym (ap (λ b. if b then (e.0.items, e.1 + 1) ∷ seen es else (e.0.items, e.1) ∷ recount (seen es) w) other)
 
   -- where it has none, it goes last
-  pub noted_new : (w : List ℕ) (es : List (Vec ℕ Z × ℕ)) (key : Vec ℕ Z) → lookup (holds w) es ≡ None → key.items ≡ w → seen (insert_entry (λ k l. pointwise nat_eq k.items l.items) es key 1) ≡ tally_with (seen es) w
+  pub noted_new : (w : List ℕ) (es : List (Vec ℕ Z × ℕ)) (key : Vec ℕ Z) → lookup (holds w) es ≡ None → key.items ≡ w → seen (insert_entry (λ k l. pointwise nat_eq k.items l.items) es key 1) ≡ recount (seen es) w
   noted_new w [] key absent items = ap (λ v. (v, 1) ∷ []) items
   noted_new w (e ∷ es) key absent items = by (holds w e.0) refl (noted_new w es key)
     where
-      by : (b : Bool) → holds w e.0 ≡ b → (lookup (holds w) es ≡ None → key.items ≡ w → seen (insert_entry (λ k l. pointwise nat_eq k.items l.items) es key 1) ≡ tally_with (seen es) w)
-          → seen (insert_entry (λ k l. pointwise nat_eq k.items l.items) (e ∷ es) key 1) ≡ tally_with (seen (e ∷ es)) w
+      by : (b : Bool) → holds w e.0 ≡ b → (lookup (holds w) es ≡ None → key.items ≡ w → seen (insert_entry (λ k l. pointwise nat_eq k.items l.items) es key 1) ≡ recount (seen es) w)
+          → seen (insert_entry (λ k l. pointwise nat_eq k.items l.items) (e ∷ es) key 1) ≡ recount (seen (e ∷ es)) w
       by true same rest = absurd (no e.1 (sym (ap (λ b. cond b (Some e.1) (lookup (holds w) es)) same) ∙ absent))
         where
           no : (v : ℕ) → (let some : Option ℕ = Some v in some) ≡ None → ⊥
@@ -48,7 +48,7 @@ module _ {Z : Type 0} where
       by false other rest =
           ap (λ b. seen (if b then (e.0, 1) ∷ es else e ∷ insert_entry (λ k l. pointwise nat_eq k.items l.items) es key 1)) (ap (λ v. pointwise nat_eq v e.0.items) items ∙ other)
           ∙ ap (λ more. (e.0.items, e.1) ∷ more) (rest (sym (ap (λ b. cond b (Some e.1) (lookup (holds w) es)) other) ∙ absent) items)
-          ∙ sym (ap (λ b. if b then (e.0.items, e.1 + 1) ∷ seen es else (e.0.items, e.1) ∷ tally_with (seen es) w) other)
+          ∙ sym (ap (λ b. if b then (e.0.items, e.1 + 1) ∷ seen es else (e.0.items, e.1) ∷ recount (seen es) w) other)
 
   -- no count is above all counts together
   pub count_within : (w : List ℕ) (es : List (Vec ℕ Z × ℕ)) (v : ℕ) → lookup (holds w) es ≡ Some v → v ≤ total (seen es)

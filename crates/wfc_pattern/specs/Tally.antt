@@ -6,9 +6,9 @@ use Rattle.wfc_model.specs.Learned.{weight_of}
 use Rattle.wfc_pattern.specs.Patterns.{PatternsView}
 
 -- the counts with one more window: where it stood before, its count rises, else it goes last
-abbrev pub tally_with : List (List ℕ × ℕ) → List ℕ → List (List ℕ × ℕ)
-tally_with [] w = (w, 1) ∷ []
-tally_with (e ∷ es) w = if pointwise nat_eq w e.0 then (e.0, e.1 + 1) ∷ es else e ∷ tally_with es w
+abbrev pub recount : List (List ℕ × ℕ) → List ℕ → List (List ℕ × ℕ)
+recount [] w = (w, 1) ∷ []
+recount (e ∷ es) w = if pointwise nat_eq w e.0 then (e.0, e.1 + 1) ∷ es else e ∷ recount es w
 
 -- all counts together
 abbrev pub total : List (List ℕ × ℕ) → ℕ

@@ -1,7 +1,7 @@
 //! Windows, counted in the order of their first appearance.
 ghost use Rattle.std.specs.Prelude.{◌≡◌, ◌+◌, ◌<◌, ◌^◌, [], length, OnOk};
 ghost use Rattle.wfc_pattern.specs.Patterns.{IsPatterns};
-ghost use Rattle.wfc_pattern.specs.Tally.{tally_with, total, patterns_from};
+ghost use Rattle.wfc_pattern.specs.Tally.{recount, total, patterns_from};
 
 use crate::Patterns;
 use indexmap::IndexMap;
@@ -35,7 +35,7 @@ impl Tally {
     /// Takes memory for a window that is new.
     pub fn note(&mut self, alloc: Global, window: &[u32]) -> Result<(), NoMemory>
         requires fits { total self.old + 1 < 2 ^ 32 }
-        ensures noted { OnOk result (self.new ≡ tally_with self.old window.now) }
+        ensures noted { OnOk result (self.new ≡ recount self.old window.now) }
     {
         if let Some(count) = self.counts.get_mut(window) {
             *count += 1;

@@ -4,7 +4,7 @@ ghost use Rattle.std.specs.Bool.{OnTrue, OnFalse};
 ghost use Rattle.std.specs.List.{range_with_len};
 ghost use Rattle.wfc_model.specs.Image.{image, reflected, rotated};
 ghost use Rattle.wfc_pattern.specs.Arising.{images_at, images_in_row};
-ghost use Rattle.wfc_pattern.specs.Tally.{tally_with, total};
+ghost use Rattle.wfc_pattern.specs.Tally.{recount, total};
 
 use crate::MAX_PATTERNS;
 use crate::counts::Tally;
@@ -52,10 +52,10 @@ impl Learner {
         requires few { length self.old.tally ≤ MAX_PATTERNS }
         ensures n { self.new.n ≡ self.old.n }
         ensures symmetry { self.new.symmetry ≡ self.old.symmetry }
-        ensures noted { IfOk result (λ few. OnTrue few (self.new.tally ≡ fold tally_with self.old.tally
+        ensures noted { IfOk result (λ few. OnTrue few (self.new.tally ≡ fold recount self.old.tally
             (images_in_row picture.now self.old.n self.old.symmetry columns y))) }
         ensures few { IfOk result (λ few. OnTrue few (length self.new.tally ≤ MAX_PATTERNS)) }
-        ensures many { IfOk result (λ few. OnFalse few (MAX_PATTERNS < length (fold tally_with
+        ensures many { IfOk result (λ few. OnFalse few (MAX_PATTERNS < length (fold recount
             self.old.tally (images_in_row picture.now self.old.n self.old.symmetry columns y)))) }
     {
         for x in 0..columns {
@@ -79,7 +79,7 @@ impl Learner {
         requires fits { total self.old.tally + self.old.symmetry < 2 ^ 32 }
         ensures n { self.new.n ≡ self.old.n }
         ensures symmetry { self.new.symmetry ≡ self.old.symmetry }
-        ensures noted { OnOk result (self.new.tally ≡ fold tally_with self.old.tally
+        ensures noted { OnOk result (self.new.tally ≡ fold recount self.old.tally
             (images_at picture.now self.old.n self.old.symmetry (x, y))) }
     {
         picture.window_into(x, y, self.n, &mut self.window);
@@ -107,7 +107,7 @@ fn note_images(
     requires room { length spare.old ≡ n * n }
     requires fits { total tally.old + symmetry < 2 ^ 32 }
     ensures noted { OnOk result (tally.new
-        ≡ fold tally_with tally.old (map (image n window.old) (range_with_len 0 symmetry))) }
+        ≡ fold recount tally.old (map (image n window.old) (range_with_len 0 symmetry))) }
 {
     for k in 0..symmetry {
         note_image(alloc, tally, window, spare, n, k)?;
@@ -128,7 +128,7 @@ fn note_image(
     requires room { length spare.old ≡ n * n }
     requires fits { total tally.old + 1 < 2 ^ 32 }
     ensures noted { OnOk result (tally.new
-        ≡ tally_with tally.old (if k % 2 == 0 then window.old else reflected n window.old)) }
+        ≡ recount tally.old (if k % 2 == 0 then window.old else reflected n window.old)) }
     ensures turned { OnOk result
         (window.new ≡ (if k % 2 == 0 then window.old else rotated n window.old)) }
 {

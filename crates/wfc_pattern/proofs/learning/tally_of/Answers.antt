@@ -7,7 +7,7 @@ use Rattle.wfc_model.specs.Window.{starts}
 use Rattle.wfc_model.specs.Learned.{arising}
 use Rattle.wfc_pattern.specs.declared.TheConstants.{MAX_PATTERNS}
 use Rattle.wfc_pattern.specs.Arising.{images_in_row}
-use Rattle.wfc_pattern.specs.Tally.{tally_with, total}
+use Rattle.wfc_pattern.specs.Tally.{recount, total}
 use Rattle.wfc_pattern.proofs.ArisingLemmas.{one_row, rows_grow, total-rows}
 use Rattle.wfc_pattern.proofs.LearningLemmas.{tally_is, starts_within, most_arising, length-tallied}
 use Rattle.wfc_pattern.proofs.learning.tally_of.Goals as goal
@@ -31,8 +31,8 @@ loop-y-preserved c =
     let sample = c.args.picture.now in
     let columns = c.starts-columns.result in
     let learner = c.loop-y.learner in
-    let step : c.note_row.new.self.tally ≡ fold tally_with learner.tally (images_in_row sample learner.n learner.symmetry columns c.loop-y.y) =
-    subst (λ b. OnTrue b (c.note_row.new.self.tally ≡ fold tally_with learner.tally (images_in_row sample learner.n learner.symmetry columns c.loop-y.y))) c.if-not-branch.false c.in_ok-note_row.ensures.noted in
+    let step : c.note_row.new.self.tally ≡ fold recount learner.tally (images_in_row sample learner.n learner.symmetry columns c.loop-y.y) =
+    subst (λ b. OnTrue b (c.note_row.new.self.tally ≡ fold recount learner.tally (images_in_row sample learner.n learner.symmetry columns c.loop-y.y))) c.if-not-branch.false c.in_ok-note_row.ensures.noted in
     record {
       n = c.in_ok-note_row.ensures.n ∙ c.loop-y.invariant.n;
       symmetry = c.in_ok-note_row.ensures.symmetry ∙ c.loop-y.invariant.symmetry;
@@ -49,13 +49,13 @@ returns-then-not-branch-clause-many c =
     let columns = c.starts-columns.result in
     let rows = c.starts-y-end.result in
     let learner = c.loop-y.learner in
-    let now = fold tally_with learner.tally (images_in_row sample learner.n learner.symmetry columns c.loop-y.y) in
+    let now = fold recount learner.tally (images_in_row sample learner.n learner.symmetry columns c.loop-y.y) in
     let many : MAX_PATTERNS < length now = subst (λ b. OnFalse b (MAX_PATTERNS < length now)) c.if-not-branch.true c.in_ok-note_row.ensures.many in
     let so_far = one_row sample n s learner.n learner.symmetry columns c.loop-y.y [] learner.tally now c.loop-y.invariant.n c.loop-y.invariant.symmetry c.loop-y.invariant.noted refl in
     let grown = rows_grow sample n s columns (c.loop-y.y + 1) rows (omega arith) in
     let wide : columns ≡ starts sample.width n c.args.wrap = c.starts-columns.ensures.value ∙ ap (λ side. starts side n c.args.wrap) c.width.ensures.value in
     let high : rows ≡ starts (height_of sample) n c.args.wrap = c.starts-y-end.ensures.value ∙ ap (λ side. starts side n c.args.wrap) c.height.ensures.value in
-    let all = tally_is sample n s c.args.wrap columns rows rows (fold tally_with [] (flat_map (images_in_row sample n s columns) (range_with_len 0 rows))) wide high refl refl in
+    let all = tally_is sample n s c.args.wrap columns rows rows (fold recount [] (flat_map (images_in_row sample n s columns) (range_with_len 0 rows))) wide high refl refl in
     omega (arith, many, ap length so_far, grown, ap length all, length-tallied (arising sample n s c.args.wrap))
 
 pub returns-clause-tallied : goal.returns-clause-tallied

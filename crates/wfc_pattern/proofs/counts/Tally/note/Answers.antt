@@ -2,7 +2,7 @@ use Rattle.std.proofs.Common.{◌≡◌, ◌+◌, ◌≤◌, None, sym, ap, ◌�
 use Rattle.std.specs.Map.{lookup}
 use Rattle.indexmap.specs.IndexMap.{insert_entry}
 use Rattle.std.specs.Cmp.Lexicographic.{pointwise}
-use Rattle.wfc_pattern.specs.Tally.{tally_with, total}
+use Rattle.wfc_pattern.specs.Tally.{recount, total}
 use Rattle.wfc_pattern.proofs.NotedLemmas.{seen, holds, noted_there, noted_new, count_within}
 use Rattle.wfc_pattern.proofs.counts.Tally.note.Goals as goal
 
@@ -19,7 +19,7 @@ returns-in-Some c =
       noted =
           ap seen written.0
           ∙ noted_there w c.self.inside.counts.entries c.in-Some.count.now (sym c.in-Some.ensures.value)
-          ∙ ap (λ es. tally_with es w) c.self.view_is;
+          ∙ ap (λ es. recount es w) c.self.view_is;
     }
 
 pub returns : goal.returns
@@ -31,5 +31,5 @@ returns c =
           ap seen c.in_ok-insert.ensures.entries
           ∙ ap (λ m. seen (insert_entry (λ k l. pointwise nat_eq k.items l.items) m.entries c.in_ok-key.key 1)) c.get_mut.follows.holds-at-none
           ∙ noted_new w c.self.inside.counts.entries c.in_ok-key.key absent c.in_ok-key.ensures.items
-          ∙ ap (λ es. tally_with es w) c.self.view_is;
+          ∙ ap (λ es. recount es w) c.self.view_is;
     }
