@@ -2,7 +2,7 @@
 
 ghost use Rattle.std.specs.Prelude.{◌≡◌, ◌*◌, ◌+◌, ◌<◌, [], false, length, IfOk, slice_index_or};
 ghost use Rattle.std.specs.List.{All, flat_map};
-ghost use Rattle.wfc_tileset.specs.Tiles.{variant_total, moved_variant};
+ghost use Rattle.wfc_tileset.specs.Tiles.{variant_total, moved_pair};
 ghost use Rattle.wfc_tileset.specs.Allowed.{pairs_beside, upright_pairs, beside_by, stacked_by, IsPair};
 ghost use Rattle.wfc_tileset.specs.Numbers.{IsVariant, with_flag, all_marked, pair_table};
 
@@ -100,10 +100,7 @@ fn mark_image(flags: &mut [bool], variants: &Variants, v: (u32, u8), w: (u32, u8
     requires w { IsVariant variants.now w }
     requires action_in { k < 8 }
     requires square { length flags.old ≡ variant_total variants.now * variant_total variants.now }
-    ensures marked { flags.new ≡ with_flag variants.now flags.old (
-      moved_variant variants.now v k,
-      moved_variant variants.now w k,
-    ) }
+    ensures marked { flags.new ≡ with_flag variants.now flags.old (moved_pair variants.now v w k) }
 {
     mark(flags, variants, variants.moved(v, k), variants.moved(w, k));
 }
