@@ -134,15 +134,17 @@ impl TileSet {
     }
 
     /// The number of the variant that an action makes of the one that an end names.
-    pub fn turned(&self, end: End, k: u8) -> u16
+    pub fn image_of_end(&self, end: End, k: u8) -> u16
         requires end_in { IsPairEnd self.now.tiles end }
         requires action_in { k < 8 }
         ensures value { result ≡ variant_number self.now.tiles
             (moved_variant self.now.tiles (named_variant self.now.tiles end) k) }
         ensures number_in { result < variant_total self.now.tiles }
     {
-        self.variants
-            .number(self.variants.moved(self.variants.named(end), k))
+        self.variants.number(
+            self.variants
+                .moved_variant(self.variants.named_variant(end), k),
+        )
     }
 
     /// The variant that a word spells: the first, where several tiles have one name.
