@@ -1,5 +1,5 @@
 -- The first fault of a text that is read as a picture.
-use Rattle.std.specs.Prelude.{ℕ, ◌+◌, ◌*◌, ◌==◌, Bool, true, false, not, ◌||◌, nat_lt, List, [], ◌∷◌, codes, length}
+use Rattle.std.specs.Prelude.{◌≡◌, ℕ, ◌+◌, ◌*◌, ◌==◌, Bool, true, false, not, ◌||◌, nat_lt, List, [], ◌∷◌, codes, length}
 use Rattle.std.specs.Prelude.{take, drop, position, Option, None, Some, if◌then◌else◌, suc, zero}
 use Rattle.std.specs.Option.{option_or}
 use Rattle.std.specs.Str.{bytes_eq}
@@ -72,6 +72,10 @@ header_fault form total text =
 -- the first fault of the header of a whole text
 abbrev pub text_header_fault : PpmForm → List ℕ → Option PpmFault
 text_header_fault form text = header_fault form (length text) (drop 2 text)
+
+-- the first fault of a text's header stands at a place
+abbrev pub HasHeaderFault : PpmForm → List ℕ → ℕ → Type 0
+HasHeaderFault form text at = text_header_fault form text ≡ Some (Header at)
 
 -- maxval is 1 to 65,535
 abbrev pub maxval_fault : ℕ → Option PpmFault

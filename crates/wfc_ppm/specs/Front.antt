@@ -1,7 +1,8 @@
 -- The front of a picture's text: what stands before the samples, and what can still become it.
 use Rattle.std.specs.Prelude.{◌≡◌, ℕ, ◌+◌, ◌<◌, List, [], ◌∷◌, ◌++◌, codes, drop, length, take}
 use Rattle.wfc_ppm.specs.Field.{digits_of}
-use Rattle.wfc_ppm.specs.Spelling.{IsField, IsSeparator, IsSpace}
+use Rattle.wfc_ppm.specs.Ppm.{PpmView}
+use Rattle.wfc_ppm.specs.Spelling.{IsField, IsSeparator, IsSpace, SpellsPpm}
 use Rattle.wfc_ppm.specs.declared.reading.PpmForm.{PpmForm}
 use Rattle.wfc_ppm.specs.declared.reading.PpmForm.TheVariants.{Raw, Plain}
 
@@ -47,3 +48,7 @@ digits_end text at = at + length (digits_of (drop at text))
 -- the bytes of a text up to the one behind the digits that stand at a place
 abbrev pub through_digits : List ℕ → ℕ → List ℕ
 through_digits text at = take (digits_end text at + 1) text
+
+-- the bytes of a text up to the one behind those digits can't be continued to a picture
+abbrev pub HasNoPicture : List ℕ → ℕ → Type 0
+HasNoPicture text at = (rest : List ℕ) (ppm : PpmView) → SpellsPpm (through_digits text at ++ rest) ppm → ⊥

@@ -2,8 +2,8 @@
 
 ghost use Rattle.std.specs.Prelude.{◌≡◌, ◌↔◌, ℕ, ◌*◌, ◌<◌, ◌≤◌, List, [], ◌∷◌, ◌++◌, All, None, Some, codes, length, take, Ok, Err};
 ghost use Rattle.wfc_picture.specs.declared.palette.TheConstants.{MAX_PIXELS};
-ghost use Rattle.wfc_ppm.specs.Fault.{form_of, pairs_of, text_header_fault};
-ghost use Rattle.wfc_ppm.specs.Front.{HasWholeHead, IsHeadEnd, IsWholeHead, StartsHead, digits_end, through_digits};
+ghost use Rattle.wfc_ppm.specs.Fault.{HasHeaderFault, form_of, pairs_of, text_header_fault};
+ghost use Rattle.wfc_ppm.specs.Front.{HasNoPicture, HasWholeHead, IsHeadEnd, IsWholeHead, StartsHead, digits_end, through_digits};
 ghost use Rattle.wfc_ppm.specs.declared.reading.PpmForm.{PpmForm};
 ghost use Rattle.wfc_ppm.specs.declared.reading.PpmForm.TheVariants.{Raw, Plain};
 ghost use Rattle.wfc_ppm.specs.Ppm.{PpmView, p6_text, p3_text, raw_bytes};
@@ -79,11 +79,9 @@ pub fn heads_go_on_before_a_fault()
 /// stand there, as those of a side of 0, this is said of all of them and the byte behind them, since more digits could follow.
 pub fn no_head_goes_on_behind_a_fault()
     ensures heads { (form : PpmForm) (text : List ℕ) (at : ℕ) → digits_end text at < length text
-        → text_header_fault form text ≡ Some (Header at)
-        → StartsHead form (through_digits text at) → ⊥ }
+        → HasHeaderFault form text at → StartsHead form (through_digits text at) → ⊥ }
     ensures pictures { (form : PpmForm) (text : List ℕ) (at : ℕ) → form_of text ≡ Some form
-        → digits_end text at < length text → text_header_fault form text ≡ Some (Header at)
-        → (rest : List ℕ) (ppm : PpmView) → SpellsPpm (through_digits text at ++ rest) ppm → ⊥ }
+        → digits_end text at < length text → HasHeaderFault form text at → HasNoPicture text at }
     ensures here { digits_end (codes "P6 1 1x 0 ") 6 ≡ 6 }
     ensures zeros { digits_end (codes "P6 1 00 x") 5 ≡ 7 }
 {}

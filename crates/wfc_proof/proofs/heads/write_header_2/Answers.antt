@@ -16,6 +16,6 @@ returns-clause-bare g c =
     } in
     let numbers = with_line_end (numbers_text c.args.cells c.args.values) in
     let text =
-        c.as_slice.ensures.bytes ∙ c.gather_shape.ensures.gathered ∙ ap (λ t. t ++ with_line_end (shape_text shape)) (c.gather_numbers.ensures.gathered ∙ ap (λ t. t ++ numbers) c.gather_format.ensures.gathered)
-        ∙ append_assoc (with_line_end (format_text Two)) numbers (with_line_end (shape_text shape)) in
+    c.as_slice.ensures.bytes ∙ c.gather_shape.ensures.gathered ∙ ap (λ t. t ++ with_line_end (shape_text shape)) (c.gather_numbers.ensures.gathered ∙ ap (λ t. t ++ numbers) c.gather_format.ensures.gathered)
+    ∙ append_assoc (with_line_end (format_text Two)) numbers (with_line_end (shape_text shape)) in
     header_2_bare (g.S.Sink.seen c.args.sink.now) (g.S.Sink.seen c.write_all.new.sink) c.as_slice.result.now shape c.args.cells c.args.values c.write_all.result is (omega (arith, c.ranges.cells.fits)) (omega (arith, c.ranges.values.fits)) text c.write_all.ensures.put

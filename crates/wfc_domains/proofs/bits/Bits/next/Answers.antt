@@ -29,9 +29,9 @@ returns-then-bit-lt8 c =
       from = omega (arith, c.min.ensures, c.loop-at.invariant.0, c.next_bit-bit.ensures.from, c.requires.from_in);
       within = omega (arith, c.min.ensures);
       clear = λ k after before. elim (cases_lt k at) [
-          | inl early ↦ c.loop-at.invariant.1 k after early (omega (arith, before, c.min.ensures))
-          | inr late ↦ rw (← c.self.view_is) (clear k late (omega (arith, before, c.min.ensures)) (omega (arith, before, c.min.ensures, long)))
-        ];
+        | inl early ↦ c.loop-at.invariant.1 k after early (omega (arith, before, c.min.ensures))
+        | inr late ↦ rw (← c.self.view_is) (clear k late (omega (arith, before, c.min.ensures)) (omega (arith, before, c.min.ensures, long)))
+      ];
       set = λ low.
           let is : c.min.result ≡ at - at % 8 + bit = omega (arith, low, c.min.ensures) in
           rw is (rw (← c.self.view_is) (set-byte a.len a.bytes.items at bit c.if-bit-lt8.true (subst (λ b. bit_at b bit ≡ 1) read (c.next_bit-bit.ensures.set c.if-bit-lt8.true)) (omega (arith, is, low, long))));
