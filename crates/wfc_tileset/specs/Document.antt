@@ -128,12 +128,15 @@ tile_from before ms =
     if fits_first before picture then Ok (tile_with name class weight picture)
     else Err (fault.MixedKinds (length before))))))
 
+-- the tile that an element says, behind those before it
+abbrev pub tile_of_element : List TileView → Data → Result TileView TileFault
+tile_of_element before d = result_then (table_in (place.Tile (length before)) key.Tile d) (tile_from before)
+
 -- the tiles behind those before them
 abbrev pub tiles_from : List TileView → Items → Result (List TileView) TileFault
 tiles_from before no_items = Ok before
 tiles_from before (item d ds) =
-    result_then (result_then (table_in (place.Tile (length before)) key.Tile d) (tile_from before))
-    (λ tile. tiles_from (before ++ tile ∷ []) ds)
+    result_then (tile_of_element before d) (λ tile. tiles_from (before ++ tile ∷ []) ds)
 
 -- ---- pairs
 

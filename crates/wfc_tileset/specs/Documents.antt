@@ -1,13 +1,14 @@
 -- Small documents for laws.
-use Rattle.std.specs.Prelude.{ℕ, List, [], ◌∷◌, codes, pos, true, None, Result, Err}
-use Rattle.wfc_symmetry.specs.declared.class.Class.TheVariants.{F, T}
-use Rattle.wfc_tileset.specs.Document.{tile_with}
+use Rattle.std.specs.Prelude.{◌≡◌, ℕ, List, [], ◌∷◌, codes, pos, true, None, Some, Option, Result, Ok, Err}
+use Rattle.wfc_symmetry.specs.declared.class.Class.{Class}
+use Rattle.wfc_symmetry.specs.declared.class.Class.TheVariants.{X, I, L, T, F, Slash}
+use Rattle.wfc_tileset.specs.Document.{some_tiles, tile_with}
 use Rattle.wfc_tileset.specs.declared.fault.Place.TheVariants as place
 use Rattle.wfc_tileset.specs.declared.fault.Key.TheVariants as key
 use Rattle.wfc_tileset.specs.declared.fault.TileFault.{TileFault}
 use Rattle.wfc_tileset.specs.declared.fault.TileFault.TheVariants as fault
-use Rattle.wfc_tileset.specs.Tiles.{TileView, TileSetView}
-use Rattle.toml.specs.Data.{Data, string, integer, boolean, array, table, Items, no_items, item, Members, no_members, member}
+use Rattle.wfc_tileset.specs.Tiles.{TileView, TileSetView, variant_total}
+use Rattle.toml.specs.Data.{Data, string, integer, boolean, array, table, Items, no_items, item, Members, get_member, no_members, member}
 
 -- a tile with a name and a class
 abbrev pub tile_data : List ℕ → List ℕ → Data
@@ -105,3 +106,25 @@ wrong_tile_faults =
     ∷ Err (fault.BadClass 0) ∷ Err (fault.DoubleName 1) ∷ Err (fault.BadName 1)
     ∷ Err (fault.MissingKey (place.Tile 0) key.Name)
     ∷ Err (fault.BadWeight 0) ∷ Err (fault.MixedKinds 2) ∷ Err (fault.MixedKinds 1) ∷ []
+
+-- the two arrays of a document
+abbrev pub HasArrays : Members → Items → Items → Type 0
+HasArrays ms tiles pairs =
+    (get_member (codes "tile") ms ≡ Some (array tiles)) × (get_member (codes "pair") ms ≡ Some (array pairs))
+
+-- the elements of an array are tiles that have so many variants together
+abbrev pub HasVariants : Items → ℕ → Type 0
+HasVariants items count = (tiles : List TileView) × (some_tiles items ≡ Ok tiles) × (variant_total tiles ≡ count)
+
+-- the bytes just beside those of a name
+abbrev pub bytes_beside : List ℕ
+bytes_beside = codes "@[`{/: ."
+
+-- the six words that are classes, and three that are none
+abbrev pub class_words : List (List ℕ)
+class_words =
+    codes "X" ∷ codes "I" ∷ codes "L" ∷ codes "T" ∷ codes "F" ∷ (92 ∷ []) ∷ codes "x" ∷ codes "XX" ∷ [] ∷ []
+
+-- the class of each of them
+abbrev pub classes_of_words : List (Option Class)
+classes_of_words = Some X ∷ Some I ∷ Some L ∷ Some T ∷ Some F ∷ Some Slash ∷ None ∷ None ∷ None ∷ []

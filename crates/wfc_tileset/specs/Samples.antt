@@ -66,3 +66,9 @@ drawn_tile picture = record { name = []; class = X; weight = 1; picture = Some p
 -- two tiles with pictures of colours, of which the first is taken
 abbrev pub one_taken : TileSetView
 one_taken = record { tiles = drawn_tile (codes "a.ppm") ∷ drawn_tile (codes "b.PPM") ∷ []; pairs = []; pictures = one_colour 9 ∷ [] }
+
+-- files for the second of them: one that is no picture, one of another maxval, and one of another side
+abbrev pub faulty_files : List (List ℕ)
+faulty_files =
+    codes "P3 1 1 0 1 2 3" ∷ codes "P3 2 2 8 1 2 3 1 2 3 1 2 3 1 2 3"
+    ∷ codes "P3 2 2 9 1 2 3 1 2 3 1 2 3 1 2 3" ∷ []

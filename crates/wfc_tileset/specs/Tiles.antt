@@ -70,6 +70,10 @@ variant_at tiles v = slice_index_or (variants tiles) v (0, 0)
 abbrev pub moved_variant : List TileView → Variant → ℕ → Variant
 moved_variant tiles v k = (v.0, acted (tile_at tiles v.0).class v.1 k)
 
+-- what an action makes of each of two variants
+abbrev pub moved_pair : List TileView → Variant → Variant → ℕ → Variant × Variant
+moved_pair tiles v w k = (moved_variant tiles v k, moved_variant tiles w k)
+
 -- how a variant is spelled: the name of its tile, a slash and its number among the variants of that tile
 abbrev pub spelling : List TileView → Variant → List ℕ
 spelling tiles v = (tile_at tiles v.0).name ++ 47 ∷ (48 + v.1) ∷ []

@@ -1,16 +1,16 @@
 //! Laws of documents, each a function with no body whose contract is the law. They run nothing.
 
 ghost use Rattle.std.specs.Prelude.{◌≡◌, ℕ, List, [], ◌∷◌, map, replicate, codes, pos, negsuc, true, false, Some, None, Ok, Err};
-ghost use Rattle.toml.specs.Data.{Items, Members, array, get_member, no_members, member};
-ghost use Rattle.wfc_symmetry.specs.declared.class.Class.TheVariants.{X, I, L, T, F, Slash};
+ghost use Rattle.toml.specs.Data.{Items, Members, array, no_members, member};
+ghost use Rattle.wfc_symmetry.specs.declared.class.Class.TheVariants.{X, T, F};
 ghost use Rattle.wfc_tileset.specs.declared.fault.TileFault.TheVariants as fault;
 ghost use Rattle.wfc_tileset.specs.Tiles.{TileView, TileSetView, HasWeight, variant_total};
 ghost use Rattle.wfc_tileset.specs.Document.{parsed_document, set_from, set_of, symmetry_class, tile_weight, is_name, is_name_byte};
-ghost use Rattle.wfc_tileset.specs.Document.{same_kind, few_variants, some_tiles, tile_with, set_with, pair_with, pair_end_with};
+ghost use Rattle.wfc_tileset.specs.Document.{same_kind, few_variants, tile_with, set_with, pair_with, pair_end_with};
 ghost use Rattle.wfc_tileset.specs.Says.{AreNamedBehind, SaysEnd, SaysSet, SaysTile};
 ghost use Rattle.wfc_tileset.specs.Documents.{wrong_pairs, wrong_pair_faults, wrong_tiles, wrong_tile_faults};
 ghost use Rattle.wfc_tileset.specs.Documents.{two_tiles, table_of_tile, drawn_data, document_of, items_of};
-ghost use Rattle.wfc_tileset.specs.Documents.{tiles_f_t, with_pair};
+ghost use Rattle.wfc_tileset.specs.Documents.{HasArrays, HasVariants, bytes_beside, class_words, classes_of_words, tiles_f_t, with_pair};
 
 use crate::document::MAX_ELEMENTS;
 use crate::{HOLE, MAX_DOCUMENT_BYTES, MAX_VARIANTS};
@@ -35,10 +35,8 @@ pub fn faults_of_pairs()
 /// arrays, which come before any tile.
 pub fn faults_of_tiles()
     ensures first { map set_from wrong_tiles ≡ wrong_tile_faults }
-    ensures variants_before_pairs { (ms : Members) (items pairs : Items) (tiles : List TileView)
-        → get_member (codes "tile") ms ≡ Some (array items)
-        → get_member (codes "pair") ms ≡ Some (array pairs) → some_tiles items ≡ Ok tiles
-        → variant_total tiles ≡ 4097 → set_from ms ≡ Err (fault.TooManyVariants 4097) }
+    ensures variants_before_pairs { (ms : Members) (items pairs : Items) → HasArrays ms items pairs
+        → HasVariants items 4097 → set_from ms ≡ Err (fault.TooManyVariants 4097) }
 {}
 
 /// The limits are these numbers: the bytes of a document, the elements of an array, and the variants
@@ -69,14 +67,12 @@ pub fn names_of_tiles()
     ensures lengths { map (λ n. is_name (replicate n 97)) (0 ∷ 1 ∷ 64 ∷ 65 ∷ [])
         ≡ false ∷ true ∷ true ∷ false ∷ [] }
     ensures ends { is_name (codes "AZaz09_-") ≡ true }
-    ensures others { map is_name_byte (codes "@[`{/: .") ≡ replicate 8 false }
+    ensures others { map is_name_byte bytes_beside ≡ replicate 8 false }
 {}
 
 /// Classes by their letters.
 pub fn words_of_tiles()
-    ensures classes { map symmetry_class (codes "X" ∷ codes "I" ∷ codes "L" ∷ codes "T" ∷ codes "F"
-        ∷ (92 ∷ []) ∷ codes "x" ∷ codes "XX" ∷ [] ∷ [])
-        ≡ Some X ∷ Some I ∷ Some L ∷ Some T ∷ Some F ∷ Some Slash ∷ None ∷ None ∷ None ∷ [] }
+    ensures classes { map symmetry_class class_words ≡ classes_of_words }
 {}
 
 /// A tile set is read exactly where the document says it, key by key; so a document says no two.

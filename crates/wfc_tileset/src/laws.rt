@@ -1,7 +1,7 @@
 //! Laws of the allowed pairs, each a function with no body whose contract is the law. They run
 //! nothing.
 
-ghost use Rattle.std.specs.Prelude.{◌≡◌, ℕ, ◌<◌, List, [], ◌∷◌, length, Contains, None, Some, codes, map};
+ghost use Rattle.std.specs.Prelude.{◌≡◌, ℕ, ◌<◌, List, [], ◌∷◌, length, Contains, None, Some, codes, map, replicate};
 ghost use Rattle.std.specs.List.{range_with_len, All};
 ghost use Rattle.wfc_symmetry.specs.declared.class.Class.TheVariants.{X, I, L, T, F, Slash};
 ghost use Rattle.wfc_symmetry.specs.declared.class.Class.{Class};
@@ -34,17 +34,8 @@ pub fn spellings_by_example()
 
 /// Straight lines that may go on to the right: then they may go on below too, and nothing else may.
 pub fn lines_by_example()
-    ensures across { across_pairs straight_lines ≡ ((0, 0), (0, 0)) ∷ ((0, 0), (0, 0)) ∷ (
-      (0, 0),
-      (0, 0),
-    ) ∷ ((0, 0), (0, 0)) ∷ [] }
-    ensures down { down_pairs straight_lines ≡ ((0, 1), (0, 1)) ∷ ((0, 1), (0, 1)) ∷ (
-      (0, 1),
-      (
-        0,
-        1,
-      ),
-    ) ∷ ((0, 1), (0, 1)) ∷ [] }
+    ensures across { across_pairs straight_lines ≡ replicate 4 ((0, 0), (0, 0)) }
+    ensures down { down_pairs straight_lines ≡ replicate 4 ((0, 1), (0, 1)) }
 {}
 
 /// A tile without symmetry after action 5, to the left of a junction after a quarter turn.

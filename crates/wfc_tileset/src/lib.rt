@@ -2,21 +2,16 @@
 //! may therefore stand beside each other.
 #![tactic(auto)]
 
-ghost use Rattle.std.specs.Prelude.{◌≡◌, ℕ, ◌<◌, ◌≤◌, ◌↔◌, ◌⊎◌, [], true, length, IfOk, IfSome, IfNone, IsSome, IsTrue, None, OnErr};
-ghost use Rattle.std.specs.Option.{option_map};
-ghost use Rattle.wfc_outside.specs.Gives.{Gives};
-ghost use Rattle.wfc_picture.specs.declared.symbol.Kind.TheVariants as kinds;
+ghost use Rattle.std.specs.Prelude.{◌≡◌, ℕ, ◌<◌, ◌≤◌, ◌↔◌, [], length, IfOk, IfSome, IfNone, IsTrue};
 ghost use Rattle.wfc_tileset.specs.Tiles.{moved_variant, variant_total, variant_at, variant_of, tile_at, SpellsVariant};
 ghost use Rattle.wfc_tileset.specs.Allowed.{IsAcross, IsDown, IsPairEnd, may_be_above, may_be_left, named_variant};
 ghost use Rattle.wfc_tileset.specs.Names.{AreNames};
 ghost use Rattle.wfc_tileset.specs.Numbers.{variant_number};
-ghost use Rattle.wfc_tileset.specs.Pictures.{IsPicture, IsPictured, kind_of, next_name, picture_for, picture_name};
-ghost use Rattle.wfc_tileset.specs.Pictures.{picture_taken, pixel_at, side_of};
-ghost use Rattle.wfc_tileset.specs.Shown.{is_of_kind};
 ghost use Rattle.wfc_tileset.specs.TileSets.{IsTileSet};
 
 mod document;
 pub mod document_laws;
+mod drawing;
 mod fault;
 pub mod laws;
 mod marks;
@@ -37,7 +32,7 @@ use marks::{across_table, down_table, is_marked};
 pub use names::Names;
 use names::names_of;
 pub use picture::MAX_TILE_SIDE;
-use picture::{TilePicture, fitting_picture, kind_of, side_of};
+use picture::TilePicture;
 pub use reading::{MAX_DOCUMENT_BYTES, read};
 use std::alloc::Global;
 use std::marker::Model;
@@ -46,7 +41,6 @@ pub use tile::{End, Pair, Tile};
 pub use variants::MAX_VARIANTS;
 use variants::Variants;
 use wfc_outside::NoMemory;
-use wfc_picture::{Kind, Symbol};
 
 /// What a map of tiles has at a hole: no variant has this number.
 pub const HOLE: u32 = 65_535;
@@ -140,15 +134,17 @@ impl TileSet {
     }
 
     /// The number of the variant that an action makes of the one that an end names.
-    pub fn turned(&self, end: End, k: u8) -> u16
+    pub fn image_of_end(&self, end: End, k: u8) -> u16
         requires end_in { IsPairEnd self.now.tiles end }
         requires action_in { k < 8 }
         ensures value { result ≡ variant_number self.now.tiles
             (moved_variant self.now.tiles (named_variant self.now.tiles end) k) }
         ensures number_in { result < variant_total self.now.tiles }
     {
-        self.variants
-            .number(self.variants.moved(self.variants.named(end), k))
+        self.variants.number(
+            self.variants
+                .moved_variant(self.variants.named_variant(end), k),
+        )
     }
 
     /// The variant that a word spells: the first, where several tiles have one name.
@@ -195,107 +191,5 @@ impl TileSet {
         ensures value { result ≡ may_be_above self.now upper lower }
     {
         is_marked(&self.down, &self.variants, upper, lower)
-    }
-
-    /// The name of the file with a tile's picture, if it has one.
-    pub fn picture_name(&self, tile: u32) -> Option<&str>
-        ensures value { option_map (λ name. name.now) result ≡ picture_name self.now tile }
-    {
-        named_picture(self.variants.tiles(), tile)
-    }
-
-    /// How many pictures are taken: those of the first tiles.
-    pub fn pictures(&self) -> u32
-        ensures value { result ≡ length self.now.pictures }
-    {
-        self.pictures.len() as u32
-    }
-
-    /// Takes the picture of the next tile, which has to name one, by the bytes of its file.
-    ///
-    /// The fault is the first in this order: `BadPicture`, where there are more than 16,777,216 bytes,
-    /// or these are no PPM, or no grid where the file's name is not that of a PPM, or the picture is
-    /// not square or its side above 64; `MixedKinds`, where its maxval is not that of tile 0's; and
-    /// `SizeDiffers`, where its side is not that of tile 0's.
-    pub fn take_picture(&mut self, alloc: Global, bytes: &[u8]) -> Result<(), TileFault>
-        requires named { IsSome (picture_name self.old (length self.old.pictures)) }
-        ensures exact { Gives TileFault.NoMemory (λ _. self.new) result
-            (picture_taken self.old bytes.now) }
-        ensures unchanged { OnErr result (self.new ≡ self.old) }
-    {
-        let picture = self.next_picture(alloc, bytes)?;
-        self.pictures.push(picture)?;
-        Ok(())
-    }
-
-    /// The picture of the next tile, by the bytes of its file.
-    fn next_picture(&self, alloc: Global, bytes: &[u8]) -> Result<TilePicture, TileFault>
-        requires named { IsSome (picture_name self.now (length self.now.pictures)) }
-        ensures exact { Gives TileFault.NoMemory (λ picture. picture) result
-            (picture_for self.now bytes.now) }
-        ensures picture { IfOk result IsPicture }
-    {
-        let tile = self.pictures();
-        let name = self.next_name();
-        match TilePicture::of_file(alloc, name.as_bytes(), bytes)? {
-            Some(picture) => fitting_picture(&self.pictures, picture),
-            None => Err(TileFault::BadPicture { tile }),
-        }
-    }
-
-    /// The name of the file with the next tile's picture, and an empty one where it has none.
-    fn next_name(&self) -> &str
-        ensures value { result.now ≡ next_name self.now }
-    {
-        match self.picture_name(self.pictures()) {
-            Some(name) => name,
-            None => "",
-        }
-    }
-
-    /// What the pictures are, grids or PPM files of one maxval: `Plain` where none is taken.
-    pub fn kind(&self) -> Kind
-        ensures value { result ≡ kind_of self.now.pictures }
-        ensures complete { picture_name self.now (length self.now.pictures) ≡ None
-            → (result ≡ kinds.Plain) ⊎ IsPictured self.now }
-    {
-        kind_of(&self.pictures)
-    }
-
-    /// How long the side of a tile's picture is, in pixels; 1 where none is taken.
-    pub fn side(&self) -> u32
-        ensures value { result ≡ side_of self.now.pictures }
-        ensures some_side { 1 ≤ result }
-        ensures limit { result ≤ MAX_TILE_SIDE }
-    {
-        side_of(&self.pictures)
-    }
-
-    /// What a variant shows in a column of a row: its tile's picture, turned and reflected.
-    #[inline]
-    pub fn pixel(&self, v: u16, x: u32, y: u32) -> Symbol
-        requires v_in { v < variant_total self.now.tiles }
-        requires pictured { IsPictured self.now }
-        requires x_in { x < side_of self.now.pictures }
-        requires y_in { y < side_of self.now.pictures }
-        ensures exact { result ≡ pixel_at self.now v x y }
-        ensures shown { is_of_kind (kind_of self.now.pictures) result ≡ true }
-    {
-        let (tile, index) = self.variants.at(v);
-        let picture = &self.pictures[tile as usize];
-        picture.of_variant(index, x, y)
-    }
-}
-
-/// The name of the file with a tile's picture, if there is such a tile and it has one.
-fn named_picture(tiles: &[Tile], tile: u32) -> Option<&str>
-    ensures value { option_map (λ name. name.now) result ≡ (tile_at tiles.now tile).picture }
-{
-    match tiles.get(tile as usize) {
-        Some(tile) => match &tile.picture {
-            Some(name) => Some(name.as_str()),
-            None => None,
-        },
-        None => None,
     }
 }

@@ -2,7 +2,7 @@
 
 ghost use Rattle.std.specs.Prelude.{◌≡◌, ◌*◌, ◌+◌, ◌<◌, [], false, length, IfOk, slice_index_or};
 ghost use Rattle.std.specs.List.{All, flat_map};
-ghost use Rattle.wfc_tileset.specs.Tiles.{variant_total, moved_variant};
+ghost use Rattle.wfc_tileset.specs.Tiles.{variant_total, moved_pair};
 ghost use Rattle.wfc_tileset.specs.Allowed.{pairs_beside, upright_pairs, beside_by, stacked_by, IsPair};
 ghost use Rattle.wfc_tileset.specs.Numbers.{IsVariant, with_flag, all_marked, pair_table};
 
@@ -21,10 +21,10 @@ pub fn across_table(
     ensures exact { IfOk result (λ flags. flags.items
         ≡ pair_table variants.now (flat_map (beside_by variants.now) pairs.now)) }
 {
-    let mut flags = unmarked(alloc, variants)?;
+    let mut flags = blank_table(alloc, variants)?;
     for pair in pairs {
-        let left = variants.named(pair.left);
-        let right = variants.named(pair.right);
+        let left = variants.named_variant(pair.left);
+        let right = variants.named_variant(pair.right);
         mark_beside(&mut flags, variants, left, right);
     }
     Ok(flags)
@@ -36,10 +36,10 @@ pub fn down_table(alloc: Global, variants: &Variants, pairs: &[Pair]) -> Result<
     ensures exact { IfOk result (λ flags. flags.items
         ≡ pair_table variants.now (flat_map (stacked_by variants.now) pairs.now)) }
 {
-    let mut flags = unmarked(alloc, variants)?;
+    let mut flags = blank_table(alloc, variants)?;
     for pair in pairs {
-        let upper = variants.moved(variants.named(pair.right), 1);
-        let lower = variants.moved(variants.named(pair.left), 1);
+        let upper = variants.moved_variant(variants.named_variant(pair.right), 1);
+        let lower = variants.moved_variant(variants.named_variant(pair.left), 1);
         mark_stacked(&mut flags, variants, upper, lower);
     }
     Ok(flags)
@@ -58,7 +58,7 @@ pub fn is_marked(flags: &[bool], variants: &Variants, v: u16, w: u16) -> bool
 }
 
 /// A table without flags.
-fn unmarked(alloc: Global, variants: &Variants) -> Result<Vec<bool>, NoMemory>
+fn blank_table(alloc: Global, variants: &Variants) -> Result<Vec<bool>, NoMemory>
     ensures none { IfOk result (λ flags. flags.items ≡ pair_table variants.now []) }
 {
     let side = variants.count() as usize;
@@ -100,12 +100,14 @@ fn mark_image(flags: &mut [bool], variants: &Variants, v: (u32, u8), w: (u32, u8
     requires w { IsVariant variants.now w }
     requires action_in { k < 8 }
     requires square { length flags.old ≡ variant_total variants.now * variant_total variants.now }
-    ensures marked { flags.new ≡ with_flag variants.now flags.old (
-      moved_variant variants.now v k,
-      moved_variant variants.now w k,
-    ) }
+    ensures marked { flags.new ≡ with_flag variants.now flags.old (moved_pair variants.now v w k) }
 {
-    mark(flags, variants, variants.moved(v, k), variants.moved(w, k));
+    mark(
+        flags,
+        variants,
+        variants.moved_variant(v, k),
+        variants.moved_variant(w, k),
+    );
 }
 
 /// Sets the flag of two variants.

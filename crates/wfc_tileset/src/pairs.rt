@@ -82,7 +82,7 @@ fn pair_end_from(names: &Names, tiles: &[Tile], pair: u32, text: &str) -> Result
     ensures end { IfOk result (IsPairEnd tiles.now) }
 {
     let length = name_length(text.as_bytes());
-    let Some(tile) = named(names, tiles, &text[..length]) else {
+    let Some(tile) = named_tile(names, tiles, &text[..length]) else {
         return Err(TileFault::UnknownTile { pair });
     };
     match turn_digit(&text.as_bytes()[length..]) {
@@ -92,7 +92,7 @@ fn pair_end_from(names: &Names, tiles: &[Tile], pair: u32, text: &str) -> Result
 }
 
 /// The number of the first tile that has this name.
-fn named(names: &Names, _tiles: &[Tile], name: &str) -> Option<u32>
+fn named_tile(names: &Names, _tiles: &[Tile], name: &str) -> Option<u32>
     requires names { AreNames names.now _tiles.now }
     ensures value { result ≡ position (has_name name.now) _tiles.now }
     ensures tile_in { IfSome result (λ tile. tile < length _tiles.now) }

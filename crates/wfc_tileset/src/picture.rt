@@ -89,7 +89,7 @@ impl TilePicture {
 
     /// What it shows after so many quarter turns, counter-clockwise.
     #[inline]
-    fn turned(&self, turns: u8, x: u32, y: u32) -> Symbol
+    fn turned_pixel(&self, turns: u8, x: u32, y: u32) -> Symbol
         requires turns_in { turns < 4 }
         requires x_in { x < self.now.side }
         requires y_in { y < self.now.side }
@@ -115,9 +115,9 @@ impl TilePicture {
         ensures shown { is_of_kind self.now.kind result ≡ true }
     {
         if variant < 4 {
-            self.turned(variant, x, y)
+            self.turned_pixel(variant, x, y)
         } else {
-            self.turned(variant - 4, self.side() - 1 - x, y)
+            self.turned_pixel(variant - 4, self.side() - 1 - x, y)
         }
     }
 }

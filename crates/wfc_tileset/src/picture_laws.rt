@@ -6,7 +6,7 @@ ghost use Rattle.std.specs.List.{range_with_len};
 ghost use Rattle.wfc_grid.specs.Reading.{grid_of};
 ghost use Rattle.wfc_tileset.specs.declared.fault.TileFault.TheVariants as fault;
 ghost use Rattle.wfc_tileset.specs.Pictures.{if_read, is_tile_size, of_grid, tile_picture_of, picture_taken, pixel_at, with_picture};
-ghost use Rattle.wfc_tileset.specs.Samples.{four_characters, four_shown, four_variants, one_colour, one_taken};
+ghost use Rattle.wfc_tileset.specs.Samples.{faulty_files, four_characters, four_shown, four_variants, one_colour, one_taken};
 ghost use Rattle.wfc_tileset.specs.Tiles.{PictureView};
 
 use crate::MAX_TILE_SIDE;
@@ -46,7 +46,6 @@ pub fn files_by_example()
 pub fn taken_by_example()
     ensures taken { picture_taken one_taken (codes "P3 1 1 9 1 2 3")
         ≡ Ok (with_picture one_taken (one_colour 9)) }
-    ensures faults { map (picture_taken one_taken) (codes "P3 1 1 0 1 2 3"
-        ∷ codes "P3 2 2 8 1 2 3 1 2 3 1 2 3 1 2 3" ∷ codes "P3 2 2 9 1 2 3 1 2 3 1 2 3 1 2 3" ∷ [])
+    ensures faults { map (picture_taken one_taken) faulty_files
         ≡ Err (fault.BadPicture 1) ∷ Err (fault.MixedKinds 1) ∷ Err (fault.SizeDiffers 1) ∷ [] }
 {}

@@ -10,7 +10,7 @@ ghost use Rattle.wfc_tileset.specs.Tiles.{HasWeight};
 ghost use Rattle.wfc_tileset.specs.TileSets.{AreAlike};
 ghost use Rattle.wfc_tileset.specs.Names.{AreNames};
 ghost use Rattle.wfc_tileset.specs.Document.{result_then, table_in, name_in, class_in, weight_in, picture_in, same_kind};
-ghost use Rattle.wfc_tileset.specs.Document.{fits_first, tile_from, tiles_from, tile_with, has_name};
+ghost use Rattle.wfc_tileset.specs.Document.{fits_first, tile_from, tile_of_element, tiles_from, tile_with, has_name};
 ghost use Rattle.wfc_tileset.specs.declared.fault.Place.TheVariants as place;
 ghost use Rattle.wfc_tileset.specs.declared.fault.Key.TheVariants as key;
 
@@ -53,8 +53,7 @@ fn tile_in(
     requires few { length before.now ≤ MAX_ELEMENTS }
     requires names { AreNames names.now before.now }
     ensures exact { Gives TileFault.NoMemory (λ tile. tile) result
-        (result_then (table_in (place.Tile (length before.now)) key.Tile (view element.now))
-        (tile_from before.now)) }
+        (tile_of_element before.now (view element.now)) }
     ensures weighed { IfOk result HasWeight }
     ensures alike { IfOk result (λ tile. fits_first before.now tile.picture ≡ true) }
 {

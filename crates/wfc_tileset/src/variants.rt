@@ -108,7 +108,7 @@ impl Variants {
     }
 
     /// What action `k` makes of a variant.
-    pub fn moved(&self, variant: (u32, u8), k: u8) -> (u32, u8)
+    pub fn moved_variant(&self, variant: (u32, u8), k: u8) -> (u32, u8)
         requires variant { IsVariant self.now variant }
         requires action_in { k < 8 }
         ensures value { result ≡ moved_variant self.now variant k }
@@ -119,12 +119,12 @@ impl Variants {
     }
 
     /// The variant that one end of a declared pair names.
-    pub fn named(&self, end: End) -> (u32, u8)
+    pub fn named_variant(&self, end: End) -> (u32, u8)
         requires end_in { IsPairEnd self.now end }
         ensures value { result ≡ named_variant self.now end }
         ensures variant { IsVariant self.now result }
     {
-        self.moved((end.tile, 0), end.turn)
+        self.moved_variant((end.tile, 0), end.turn)
     }
 }
 

@@ -16,10 +16,10 @@ abbrev few_of : List TileView → ℕ → Result (List TileView) TileFault
 few_of tiles count = if nat_le count MAX_VARIANTS then Ok tiles else Err (fault.TooManyVariants count)
 
 pub returns-clause-variants_before_pairs : goal.returns-clause-variants_before_pairs
-returns-clause-variants_before_pairs c ms items pairs tiles tile_array pair_array some more =
-    then_ok (elements_in key.Tile (get_member (codes "tile") ms)) (behind_tile_items ms) items (ap (elements_in key.Tile) tile_array)
-    ∙ then_ok (elements_in key.Pair (get_member (codes "pair") ms)) (behind_arrays items) pairs (ap (elements_in key.Pair) pair_array)
-    ∙ ap (λ r. result_then r (behind_tiles pairs)) (then_ok (some_tiles items) few_variants tiles some ∙ ap (few_of tiles) more)
+returns-clause-variants_before_pairs c ms items pairs arrays many =
+    then_ok (elements_in key.Tile (get_member (codes "tile") ms)) (behind_tile_items ms) items (ap (elements_in key.Tile) arrays.0)
+    ∙ then_ok (elements_in key.Pair (get_member (codes "pair") ms)) (behind_arrays items) pairs (ap (elements_in key.Pair) arrays.1)
+    ∙ ap (λ r. result_then r (behind_tiles pairs)) (then_ok (some_tiles items) few_variants many.0 many.1 ∙ ap (few_of many.0) many.2)
 
 pub returns-clause-first : goal.returns-clause-first
 returns-clause-first c = refl
