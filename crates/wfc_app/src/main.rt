@@ -1,12 +1,11 @@
 //! The program `wfc`: a map generator in the manner of WaveFunctionCollapse.
 #![tactic(auto)]
 
-ghost use Rattle.std.specs.Prelude.{◌≡◌, IfOk, IfErr};
+ghost use Rattle.std.specs.Prelude.{◌≡◌, IfErr};
 ghost use Rattle.std.specs.Process.{exit_status};
 ghost use Rattle.std.specs.IoError.{error_kind};
 ghost use Rattle.wfc_cli.specs.Delivery.{Tells, said_of_words};
-ghost use Rattle.wfc_cli.specs.Promises.{KeepsPromises};
-ghost use Rattle.wfc_reply.specs.Call.{call_of};
+ghost use Rattle.wfc_app.specs.Keeping.{KeepsWhereRead};
 ghost use Rattle.wfc_app.specs.Unread.{unread_fault};
 
 #[cfg(test)]
@@ -46,9 +45,8 @@ fn program<F: Folder, O: Sink, E: Sink>(
     out: &mut O,
     err: &mut E,
 ) -> ExitCode
-    ensures promises { IfOk words (λ words. KeepsPromises (call_of
-        (λ chooser. (told chooser).rule) choosers.items words.items F.seen folder.old folder.new
-        O.seen out.old out.new E.seen err.old err.new (exit_status result))) }
+    ensures promises { KeepsWhereRead (λ c. (told c).rule) choosers.items words F.seen folder.old
+        folder.new O.seen out.old out.new E.seen err.old err.new (exit_status result) }
     ensures unread_status { IfErr words
         (λ e. exit_status result ≡ (said_of_words (unread_fault (error_kind e))).status) }
     ensures unread_line { IfErr words (λ e. Tells

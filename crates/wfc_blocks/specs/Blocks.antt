@@ -1,6 +1,6 @@
 -- Blocks: the parts of an area that are filled one after another. Those beside each other share so
 -- many columns or rows of pixels that each window lies in one of them.
-use Rattle.std.specs.Prelude.{ℕ, ◌+◌, ◌-◌, ◌*◌, ◌/◌, ◌%◌, ◌≤◌, Bool, false, ◌&&◌, nat_le, nat_lt, List, map, min}
+use Rattle.std.specs.Prelude.{◌≡◌, ℕ, ◌+◌, ◌-◌, ◌*◌, ◌/◌, ◌%◌, ◌<◌, ◌≤◌, Bool, true, false, ◌&&◌, nat_le, nat_lt, List, map, min}
 use Rattle.std.specs.Int.{div_ceil}
 use Rattle.std.specs.List.{range_with_len}
 use Rattle.wfc_model.specs.Window.{starts}
@@ -83,3 +83,21 @@ pub record HasWindow (n : ℕ) (block : Block) (x y : ℕ) : Type 0 where
 -- the output that a block is
 abbrev pub output_of_block : Block → Output
 output_of_block block = output_with block.width block.height false
+
+-- a block of the area has the window at this place
+abbrev pub HasBlock : ℕ → Area → ℕ → ℕ → Type 0
+HasBlock n area x y = (k : ℕ) × (k < block_count n area) × HasWindow n (block_at n area k) x y
+
+-- where a block's side holds a window, blocks that have the window at this place are one
+abbrev pub HasOneBlock : ℕ → Area → ℕ → ℕ → Type 0
+HasOneBlock n area x y =
+    (k l : ℕ) → n ≤ area.side → k < block_count n area → HasWindow n (block_at n area k) x y
+    → l < block_count n area → HasWindow n (block_at n area l) x y → k ≡ l
+
+-- a block of the area has this pixel
+abbrev pub HasPixelBlock : ℕ → Area → ℕ → ℕ → Type 0
+HasPixelBlock n area x y = (k : ℕ) × (k < block_count n area) × (lies_in (block_at n area k) x y ≡ true)
+
+-- the block with this number as an output
+abbrev pub output_at : ℕ → Area → ℕ → Output
+output_at n area k = output_of_block (block_at n area k)

@@ -1,8 +1,8 @@
 -- What growing answers: a fault, or how growth ended.
-use Rattle.std.specs.Prelude.{ℕ, ◌||◌, nat_lt, List, Result, Ok, Err, if◌then◌else◌}
+use Rattle.std.specs.Prelude.{◌≡◌, ℕ, ◌||◌, nat_lt, List, Result, Ok, Err, if◌then◌else◌}
 use Rattle.wfc_choose.specs.Pick.{Rule}
 use Rattle.wfc_model.specs.Legal.{Pin}
-use Rattle.wfc_outside.specs.Gives.{result_map}
+use Rattle.wfc_outside.specs.Gives.{Gives, result_map}
 use Rattle.wfc_pattern.specs.Patterns.{PatternsView}
 use Rattle.wfc_picture.specs.declared.symbol.Symbol.{Symbol}
 use Rattle.wfc_pins.specs.PinView.{PinView}
@@ -11,10 +11,15 @@ use Rattle.wfc_pins.specs.declared.fault.BuildFault.TheVariants as build
 use Rattle.wfc_problem.specs.declared.TheConstants.{MAX_PAIRS}
 use Rattle.wfc_overlap.specs.Bridge.{window_pair_count}
 use Rattle.wfc_overlap.specs.Built.{picture_pins, texts_of}
+use Rattle.wfc_runs.specs.Alike.{HaveRule}
 use Rattle.wfc_blocks.specs.Blocks.{Area, block_at, block_count, output_of_block}
-use Rattle.wfc_blocks.specs.Canvas.{canvas_picture, lines_of_block}
+use Rattle.wfc_blocks.specs.Canvas.{Canvas, canvas_picture, lines_of_block}
+use Rattle.wfc_blocks.specs.Covers.{area_of}
 use Rattle.wfc_blocks.specs.Growth.{Growth, Terms, full, growth_of, spent, stopped}
+use Rattle.wfc_blocks.specs.StuckView.{StuckView}
 use Rattle.wfc_blocks.specs.declared.TheConstants.{MAX_BLOCKS}
+use Rattle.wfc_blocks.specs.declared.block.Block.{Block}
+use Rattle.wfc_blocks.specs.declared.cover.Cover.{Cover}
 use Rattle.wfc_blocks.specs.declared.grown.Grown.{Grown}
 use Rattle.wfc_blocks.specs.declared.grown.Grown.TheVariants as grown
 use Rattle.wfc_blocks.specs.declared.grown.GrowFault.{GrowFault}
@@ -79,3 +84,26 @@ grown_of patterns palette area lines rule budget seed =
     (λ pins. shown_growth (texts_of palette) lines area
     (growth_of area (terms_with patterns rule budget seed pins)))
     (or_grow_fault (picture_pins (texts_of palette) area.width area.height lines))))
+
+-- a block that is stuck, with the lines of its pins
+abbrev pub stuck_in : List (List ℕ) → List PinView → Canvas → Block → StuckView
+stuck_in texts lines canvas block = record { block = block; pins = lines_of_block texts lines canvas block }
+
+-- growth by the lines of a pins file is the first refusal of them and of the area, or its end by the pins that they mean
+abbrev pub GoesByRefusals : PatternsView → List Symbol → Area → List PinView → Rule → Type 0
+GoesByRefusals patterns palette area lines rule =
+    (budget seed : ℕ)
+    → grown_of patterns palette area lines rule budget seed
+    ≡ result_map (λ pins. shown_by_pins patterns palette area lines rule budget seed pins)
+    (growable_of patterns palette area lines)
+
+-- by a rule as which all of these pick, the answer is what growth comes to, or memory ran out
+abbrev pub AnswersGrowth : List Rule → PatternsView → List Symbol → Area → List PinView → ℕ → ℕ → Result Grown GrowFault → Type 0
+AnswersGrowth rules patterns palette area lines budget seed result =
+    (rule : Rule) → HaveRule rules rule
+    → Gives fault.NoMemory (λ grown. grown) result (grown_of patterns palette area lines rule budget seed)
+
+-- this is how growth over the blocks of a cover by these pins ends
+abbrev pub IsShownBy : PatternsView → List Symbol → Cover → List PinView → Rule → ℕ → ℕ → List Pin → Grown → Type 0
+IsShownBy patterns palette cover lines rule budget seed pins grown =
+    grown ≡ shown_by_pins patterns palette (area_of cover) lines rule budget seed pins

@@ -1,17 +1,19 @@
 -- What growing promises in the words of maps: a map that is grown is legal, and a block at which it is stuck
 -- admits none.
-use Rattle.std.specs.Prelude.{◌≡◌, ◌<◌, List, length, All, Contains, IsTrue, Ok, ⊤}
+use Rattle.std.specs.Prelude.{◌≡◌, ℕ, ◌<◌, List, Some, length, All, Contains, IsTrue, Ok, ⊤}
 use Rattle.std.specs.List.{IsDistinct}
 use Rattle.wfc_model.specs.Legal.{Pin, Rules, IsLegalPicture}
-use Rattle.wfc_model.specs.Raster.{Raster}
-use Rattle.wfc_pattern.specs.Patterns.{PatternsView}
+use Rattle.wfc_model.specs.Raster.{Raster, number_at}
+use Rattle.wfc_pattern.specs.Patterns.{IsPatterns, PatternsView}
 use Rattle.wfc_picture.specs.Symbol.{is_shown, same_symbol}
 use Rattle.wfc_picture.specs.declared.symbol.Symbol.{Symbol}
 use Rattle.wfc_pins.specs.PinView.{PinView}
-use Rattle.wfc_overlap.specs.Bridge.{IsTaughtBy}
-use Rattle.wfc_overlap.specs.Built.{picture_pins, texts_of}
+use Rattle.wfc_overlap.specs.Bridge.{AreInside, IsTaughtBy}
+use Rattle.wfc_overlap.specs.Built.{picture_pins, picture_problem, texts_of}
+use Rattle.wfc_search.specs.declared.Outcome.TheVariants.{Spent}
 use Rattle.wfc_blocks.specs.Blocks.{Area, blocks_of, output_of_block, whole_of}
-use Rattle.wfc_blocks.specs.Growth.{AreNumbersBelow}
+use Rattle.wfc_blocks.specs.Canvas.{Canvas, canvas_picture, lines_of_block, pins_of_block}
+use Rattle.wfc_blocks.specs.Growth.{AreNumbersBelow, HasBlockOutcome, IsGrowable, IsStoppedAt, Terms, full, growth_of, problem_of_block}
 use Rattle.wfc_blocks.specs.StuckView.{StuckView}
 use Rattle.wfc_blocks.specs.declared.block.Block.{Block}
 use Rattle.wfc_blocks.specs.declared.grown.Grown.{Grown}
@@ -63,3 +65,56 @@ abbrev pub ShowsStuckBlock : PatternsView → List Symbol → Area → Grown →
 ShowsStuckBlock patterns palette area (grown.Stuck stuck) = IsStuck patterns palette area stuck
 ShowsStuckBlock patterns palette area (grown.Map m) = ⊤
 ShowsStuckBlock patterns palette area grown.Spent = ⊤
+
+-- where growth by a sample's patterns sets an area, what it sets is a legal map
+abbrev pub GrowsLegal : Raster → Rules → Area → Terms → Type 0
+GrowsLegal sample rules area terms =
+    (canvas : Canvas) → IsPatterns terms.patterns → IsTaughtBy sample rules terms.patterns (whole_of area)
+    → IsGrowable terms.patterns area → AreInside (whole_of area) terms.pins → growth_of area terms ≡ full canvas
+    → IsLegalPicture sample rules terms.pins area.width area.height (canvas_picture area canvas)
+
+-- and each pixel of the area is set, as its picture has it
+abbrev pub GrowsWhole : Raster → Rules → Area → Terms → Type 0
+GrowsWhole sample rules area terms =
+    (canvas : Canvas) (x y : ℕ) → IsPatterns terms.patterns → IsTaughtBy sample rules terms.patterns (whole_of area)
+    → IsGrowable terms.patterns area → growth_of area terms ≡ full canvas → x < area.width → y < area.height
+    → canvas x y ≡ Some (number_at (canvas_picture area canvas) x y)
+
+-- this holds wherever growth stops at a block, and what is set then
+abbrev pub HoldsOfStopped : (Area → Terms → Block → Canvas → Type 0) → Type 0
+HoldsOfStopped Holds =
+    (area : Area) (terms : Terms) (block : Block) (canvas : Canvas) → IsPatterns terms.patterns
+    → IsGrowable terms.patterns area → IsStoppedAt area terms block canvas → Holds area terms block canvas
+
+-- where growth by a sample's patterns stops at a block, its pins admit no map of it
+abbrev pub HasNoMapWhereStopped : Raster → Rules → Area → Terms → Type 0
+HasNoMapWhereStopped sample rules area terms =
+    (block : Block) (canvas : Canvas) (m : Raster) → IsPatterns terms.patterns
+    → IsTaughtBy sample rules terms.patterns (whole_of area) → IsGrowable terms.patterns area
+    → IsStoppedAt area terms block canvas
+    → IsLegalPicture sample rules (pins_of_block terms.pins canvas block) block.width block.height m → ⊥
+
+-- where growth by the lines of a pins file stops at a block, the block's lines mean its pins
+abbrev pub MeanStuckPins : List Symbol → List PinView → Area → Terms → Type 0
+MeanStuckPins palette lines area terms =
+    (block : Block) (canvas : Canvas) → IsNamedBy palette terms.patterns
+    → picture_pins (texts_of palette) area.width area.height lines ≡ Ok terms.pins
+    → IsStoppedAt area terms block canvas
+    → picture_pins (texts_of palette) block.width block.height (lines_of_block (texts_of palette) lines canvas block)
+    ≡ Ok (pins_of_block terms.pins canvas block)
+
+-- and what is built with them is the block's problem
+abbrev pub BuildStuckProblem : List Symbol → List PinView → Area → Terms → Type 0
+BuildStuckProblem palette lines area terms =
+    (block : Block) (canvas : Canvas) → IsNamedBy palette terms.patterns → IsPatterns terms.patterns
+    → IsGrowable terms.patterns area
+    → picture_pins (texts_of palette) area.width area.height lines ≡ Ok terms.pins
+    → IsStoppedAt area terms block canvas
+    → picture_problem terms.patterns palette (output_of_block block) (lines_of_block (texts_of palette) lines canvas block)
+    ≡ Ok (problem_of_block terms canvas block)
+
+-- the run of one of the area's blocks is spent, where something is set
+abbrev pub HasSpentBlock : Area → Terms → Type 0
+HasSpentBlock area terms =
+    (block : Block) × (canvas : Canvas) × Contains (blocks_of terms.patterns.n area) block
+    × HasBlockOutcome terms canvas block Spent

@@ -1,6 +1,7 @@
 -- A small area, a canvas without symmetry, texts and patterns that the laws speak of.
 use Rattle.std.specs.Prelude.{ℕ, ◌+◌, true, false, List, [], ◌∷◌, codes, map}
 use Rattle.std.specs.List.{range_with_len}
+use Rattle.wfc_model.specs.Legal.{Pin, banned_pin, kept_pin}
 use Rattle.wfc_model.specs.Raster.{Raster, raster_of}
 use Rattle.wfc_pattern.specs.Patterns.{PatternsView}
 use Rattle.wfc_picture.specs.declared.symbol.Symbol.{Symbol}
@@ -10,6 +11,7 @@ use Rattle.wfc_pins.specs.PinView.{PinView}
 use Rattle.wfc_blocks.specs.Blocks.{Area, area_with, block_at}
 use Rattle.wfc_blocks.specs.declared.block.Block.{Block}
 use Rattle.wfc_blocks.specs.Canvas.{Canvas, empty_canvas, with_block}
+use Rattle.wfc_blocks.specs.StuckView.{StuckView}
 
 -- five columns and four rows in blocks of three
 abbrev pub five_by_four : Area
@@ -51,3 +53,28 @@ two_boards = record {
 -- the first of them alone
 abbrev pub one_board : PatternsView
 one_board = record { n = 2; windows = (0 ∷ 1 ∷ 1 ∷ 0 ∷ []) ∷ []; weights = 1 ∷ [] }
+
+-- a ban and a pin of the area
+abbrev pub two_pins : List Pin
+two_pins = banned_pin 4 1 7 ∷ kept_pin 1 3 5 ∷ []
+
+-- the same, and a pin where two blocks meet
+abbrev pub three_pins : List Pin
+three_pins = banned_pin 4 1 7 ∷ kept_pin 1 3 5 ∷ kept_pin 2 2 9 ∷ []
+
+-- the lines of the block to the right: its first column is set, and the file bans a letter in it
+abbrev pub right_block_lines : List PinView
+right_block_lines =
+    window_pin_line 0 true 0 0 (codes "n") ∷ window_pin_line 0 true 0 1 (codes "q")
+    ∷ window_pin_line 0 true 0 2 (codes "t") ∷ window_pin_line 7 false 2 1 (codes "z") ∷ []
+
+-- a line of a pins file that makes the first pixel an `a`
+abbrev pub first_is_a : List PinView
+first_is_a = window_pin_line 1 true 0 0 (codes "a") ∷ []
+
+-- the second block of a row, stuck at a first column of `b` above `a`
+abbrev pub stuck_board : StuckView
+stuck_board = record {
+  block = block_with 1 1 0 2 2;
+  pins = window_pin_line 0 true 0 0 (codes "b") ∷ window_pin_line 0 true 0 1 (codes "a") ∷ [];
+}

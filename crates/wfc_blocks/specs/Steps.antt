@@ -1,12 +1,19 @@
 -- What filling a block does, and how the code holds the end of growth.
-use Rattle.std.specs.Prelude.{◌≡◌, ℕ, Some, ⊤}
+use Rattle.std.specs.Prelude.{◌≡◌, ℕ, List, Some, ⊤}
+use Rattle.wfc_choose.specs.Pick.{Rule}
+use Rattle.wfc_model.specs.Legal.{Pin}
+use Rattle.wfc_pattern.specs.Patterns.{PatternsView}
 use Rattle.wfc_search.specs.Run.{State}
 use Rattle.wfc_search.specs.declared.Outcome.{Outcome}
 use Rattle.wfc_search.specs.declared.Outcome.TheVariants as outcome
+use Rattle.wfc_blocks.specs.Blocks.{blocks_of}
 use Rattle.wfc_blocks.specs.Canvas.{Canvas, with_block}
-use Rattle.wfc_blocks.specs.CanvasView.{LiesWithin}
-use Rattle.wfc_blocks.specs.Growth.{Growth, Terms, full, spent, stopped, block_end, picture_of_block}
+use Rattle.wfc_blocks.specs.CanvasView.{CanvasView, LiesWithin, canvas_of}
+use Rattle.wfc_blocks.specs.Covers.{area_of}
+use Rattle.wfc_blocks.specs.Grown.{terms_with}
+use Rattle.wfc_blocks.specs.Growth.{Growth, Terms, full, spent, stopped, block_end, growth_over, picture_of_block}
 use Rattle.wfc_blocks.specs.declared.block.Block.{Block}
+use Rattle.wfc_blocks.specs.declared.cover.Cover.{Cover}
 use Rattle.wfc_blocks.specs.declared.ends.BlockEnd.{BlockEnd}
 use Rattle.wfc_blocks.specs.declared.ends.BlockEnd.TheVariants.{Map, NoMap, Spent}
 use Rattle.wfc_blocks.specs.declared.growing.Halt.{Halt}
@@ -44,3 +51,9 @@ abbrev pub HaltsWithin : ℕ → ℕ → Halt → Type 0
 HaltsWithin width height (halt.At block) = LiesWithin width height block
 HaltsWithin width height halt.Full = ⊤
 HaltsWithin width height halt.Spent = ⊤
+
+-- growth over the blocks of a cover by these terms, from where this is set on, halts so, where that is set
+abbrev pub GrowsAs : PatternsView → Rule → ℕ → ℕ → List Pin → Cover → CanvasView → CanvasView → Halt → Type 0
+GrowsAs patterns rule budget seed pins cover old new halt =
+    growth_over (terms_with patterns rule budget seed pins) (blocks_of cover.n (area_of cover)) (canvas_of old)
+    ≡ growth_at halt (canvas_of new)

@@ -12,8 +12,8 @@ ghost use Rattle.wfc_blocks.specs.Canvas.{empty_canvas, canvas_picture, lines_of
 ghost use Rattle.wfc_search.specs.Small.{scanline};
 ghost use Rattle.wfc_blocks.specs.Growth.{AreNumbersBelow, seed_of_block};
 ghost use Rattle.wfc_blocks.specs.Grown.{grown_of};
-ghost use Rattle.wfc_blocks.specs.Small.{block_with, first_set, five_by_four, nine_set, one_board};
-ghost use Rattle.wfc_blocks.specs.Small.{twenty_texts, two_boards, two_file_lines, two_letters};
+ghost use Rattle.wfc_blocks.specs.Small.{block_with, first_is_a, first_set, five_by_four, nine_set, one_board, right_block_lines};
+ghost use Rattle.wfc_blocks.specs.Small.{stuck_board, three_pins, twenty_texts, two_boards, two_file_lines, two_letters, two_pins};
 ghost use Rattle.wfc_blocks.specs.declared.grown.Grown.TheVariants as grown;
 ghost use Rattle.wfc_blocks.specs.declared.grown.GrowFault.TheVariants as faults;
 
@@ -77,12 +77,10 @@ pub fn set_pixels()
 /// The pins of the block to the right: what is set in its first column, from above, and then the
 /// file's pin and ban that lie in it, all seen from its first pixel. Below, the first row is set.
 pub fn pins_of_blocks()
-    ensures right { pins_of_block (banned_pin 4 1 7 ∷ kept_pin 1 3 5 ∷ kept_pin 2 2 9 ∷ [])
-        first_set (block_at 2 five_by_four 1) ≡ kept_pin 0 0 13 ∷ kept_pin 0 1 16 ∷ kept_pin 0 2 19
-        ∷ banned_pin 2 1 7 ∷ kept_pin 0 2 9 ∷ [] }
-    ensures below { pins_of_block (banned_pin 4 1 7 ∷ kept_pin 1 3 5 ∷ []) first_set
-        (block_at 2 five_by_four 2) ≡ kept_pin 0 0 17 ∷ kept_pin 1 0 18 ∷ kept_pin 2 0 19
-        ∷ kept_pin 1 1 5 ∷ [] }
+    ensures right { pins_of_block three_pins first_set (block_at 2 five_by_four 1) ≡ kept_pin 0 0 13
+        ∷ kept_pin 0 1 16 ∷ kept_pin 0 2 19 ∷ banned_pin 2 1 7 ∷ kept_pin 0 2 9 ∷ [] }
+    ensures below { pins_of_block two_pins first_set (block_at 2 five_by_four 2)
+        ≡ kept_pin 0 0 17 ∷ kept_pin 1 0 18 ∷ kept_pin 2 0 19 ∷ kept_pin 1 1 5 ∷ [] }
     ensures corner { pins_of_block [] first_set (block_at 2 five_by_four 3) ≡ kept_pin 0 0 19 ∷ [] }
     ensures first { pins_of_block (kept_pin 2 1 4 ∷ []) empty_canvas (block_at 2 five_by_four 0)
         ≡ kept_pin 2 1 4 ∷ [] }
@@ -95,8 +93,7 @@ pub fn pins_of_blocks()
 pub fn lines_of_blocks()
     ensures set { set_line twenty_texts 2 1 19 ≡ window_pin_line 0 true 2 1 (codes "t") }
     ensures right { lines_of_block twenty_texts two_file_lines first_set (block_at 2 five_by_four 1)
-        ≡ window_pin_line 0 true 0 0 (codes "n") ∷ window_pin_line 0 true 0 1 (codes "q")
-        ∷ window_pin_line 0 true 0 2 (codes "t") ∷ window_pin_line 7 false 2 1 (codes "z") ∷ [] }
+        ≡ right_block_lines }
 {}
 
 /// The seed of a block is the seed and its number, modulo 2^64.
@@ -109,15 +106,10 @@ pub fn seeds_of_blocks()
 /// Where one board alone was learned, the second block is stuck at what the first set: `b` above
 /// `a`.
 pub fn grown_boards()
-    ensures map { grown_of two_boards two_letters (area_with 3 3 2)
-        (window_pin_line 1 true 0 0 (codes "a") ∷ []) scanline 0 7
+    ensures map { grown_of two_boards two_letters (area_with 3 3 2) first_is_a scanline 0 7
         ≡ Ok (grown.Map (raster_of 3 3 (0 ∷ 1 ∷ 0 ∷ 1 ∷ 0 ∷ 1 ∷ 0 ∷ 1 ∷ 0 ∷ []))) }
-    ensures stuck { grown_of one_board two_letters (area_with 3 2 2) [] scanline 0 7 ≡ Ok
-        (grown.Stuck (record {
-          block = block_with 1 1 0 2 2;
-          pins = window_pin_line 0 true 0 0
-              (codes "b") ∷ window_pin_line 0 true 0 1 (codes "a") ∷ [];
-        })) }
+    ensures stuck { grown_of one_board two_letters (area_with 3 2 2) [] scanline 0 7
+        ≡ Ok (grown.Stuck stuck_board) }
     ensures below { AreNumbersBelow 2 two_boards }
     ensures not_below { AreNumbersBelow 1 two_boards → ⊥ }
 {}

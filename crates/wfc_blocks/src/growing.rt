@@ -5,12 +5,12 @@ ghost use Rattle.wfc_choose.specs.Pick.{Rule};
 ghost use Rattle.wfc_overlap.specs.Bridge.{IsRoom};
 ghost use Rattle.wfc_pattern.specs.Patterns.{IsPatterns};
 ghost use Rattle.wfc_blocks.specs.BlockEnds.{AreSupportsOf, FitsBlock};
-ghost use Rattle.wfc_blocks.specs.Blocks.{block_count, blocks_of, output_of_block};
+ghost use Rattle.wfc_blocks.specs.Blocks.{block_count, output_of_block};
 ghost use Rattle.wfc_blocks.specs.CanvasView.{HaveSameSides, LiesWithin, canvas_of};
 ghost use Rattle.wfc_blocks.specs.Covers.{area_of};
 ghost use Rattle.wfc_blocks.specs.Grown.{terms_with};
-ghost use Rattle.wfc_blocks.specs.Growth.{AreNumbersBelow, IsGrowable, growth_over};
-ghost use Rattle.wfc_blocks.specs.Steps.{HaltsWithin, IsBlockStep, IsSetBy, growth_at};
+ghost use Rattle.wfc_blocks.specs.Growth.{AreNumbersBelow, IsGrowable};
+ghost use Rattle.wfc_blocks.specs.Steps.{HaltsWithin, IsBlockStep, IsSetBy, GrowsAs};
 ghost use Rattle.wfc_blocks.specs.declared.TheConstants.{UNSET};
 ghost use Rattle.wfc_runs.specs.Alike.{HaveRule};
 
@@ -79,9 +79,8 @@ fn fill_block<L: Ledger>(
     requires width_limit { canvas.old.width ≤ MAX_OUTPUT_SIDE }
     requires height_limit { canvas.old.height ≤ MAX_OUTPUT_SIDE }
     requires within { LiesWithin canvas.old.width canvas.old.height block }
-    ensures step { IfOk result (λ outcome. IsBlockStep
-        (terms_with patterns.now (told chooser).rule budget seed marks.now) (canvas_of canvas.old)
-        block outcome (canvas_of canvas.new)) }
+    ensures step { IfOk result (λ o. IsBlockStep (terms_with patterns.now (told chooser).rule budget
+        seed marks.now) (canvas_of canvas.old) block o (canvas_of canvas.new)) }
     ensures supports { OnOk result
         (AreSupportsOf patterns.now (map (λ list. list.items) supports.new.items)) }
     ensures alike { HaveSameSides canvas.old canvas.new }
@@ -127,11 +126,8 @@ pub(crate) fn fill_blocks<L: Ledger>(
     requires width { canvas.old.width ≡ cover.width }
     requires height { canvas.old.height ≡ cover.height }
     requires enough { block_count cover.n (area_of cover) ≤ length choosers.old.items }
-    ensures growth { (rule : Rule) →
-        HaveRule (map (λ chooser. (told chooser).rule) choosers.old.items) rule →
-        IfOk result (λ halt. growth_over (terms_with patterns.now rule budget seed marks.now)
-        (blocks_of cover.n (area_of cover)) (canvas_of canvas.old)
-        ≡ growth_at halt (canvas_of canvas.new)) }
+    ensures growth { (rule : Rule) → HaveRule (map (λ c. (told c).rule) choosers.old.items) rule →
+        IfOk result (GrowsAs patterns.now rule budget seed marks.now cover canvas.old canvas.new) }
     ensures within { IfOk result (HaltsWithin cover.width cover.height) }
     ensures alike { HaveSameSides canvas.old canvas.new }
 {

@@ -7,10 +7,9 @@ ghost use Rattle.wfc_overlap.specs.Bridge.{window_pair_count};
 ghost use Rattle.wfc_overlap.specs.Built.{picture_pins, texts_of};
 ghost use Rattle.wfc_pattern.specs.Patterns.{IsPatterns};
 ghost use Rattle.wfc_blocks.specs.Blocks.{area_with, block_count, output_of_block};
-ghost use Rattle.wfc_blocks.specs.Canvas.{lines_of_block};
 ghost use Rattle.wfc_blocks.specs.CanvasView.{LiesWithin, canvas_of};
 ghost use Rattle.wfc_blocks.specs.Covers.{area_of};
-ghost use Rattle.wfc_blocks.specs.Grown.{grow_fault, grown_of, or_grow_fault, shown_by_pins, shown_growth};
+ghost use Rattle.wfc_blocks.specs.Grown.{grow_fault, or_grow_fault, shown_growth, AnswersGrowth, IsShownBy, stuck_in};
 ghost use Rattle.wfc_blocks.specs.Growth.{AreNumbersBelow, IsGrowable};
 ghost use Rattle.wfc_blocks.specs.Promises.{ShowsLegalMap, ShowsStuckBlock};
 ghost use Rattle.wfc_blocks.specs.Steps.{HaltsWithin, growth_at};
@@ -66,10 +65,8 @@ pub fn grow<L: Ledger>(
     requires small { AreNumbersBelow MAX_COLOURS patterns.now }
     requires choosers { MAX_BLOCKS ≤ length choosers.items }
     requires alike { PickAlike (map (λ chooser. (told chooser).rule) choosers.items) }
-    ensures exact { (rule : Rule) →
-        HaveRule (map (λ chooser. (told chooser).rule) choosers.items) rule →
-        Gives GrowFault.NoMemory (λ grown. grown) result (grown_of patterns.now palette.now
-        (area_with width height side) pins.now rule budget seed) }
+    ensures exact { AnswersGrowth (map (λ c. (told c).rule) choosers.items) patterns.now palette.now
+        (area_with width height side) pins.now budget seed result }
     ensures legal { IfOk result
         (ShowsLegalMap patterns.now palette.now (area_with width height side) pins.now) }
     ensures stuck { IfOk result
@@ -158,10 +155,8 @@ fn grown_area<L: Ledger>(
     requires small { AreNumbersBelow UNSET patterns.now }
     requires growable { IsGrowable patterns.now (area_of cover) }
     requires enough { block_count cover.n (area_of cover) ≤ length choosers.items }
-    ensures grown { (rule : Rule) →
-        HaveRule (map (λ chooser. (told chooser).rule) choosers.items) rule →
-        IfOk result (λ grown. grown ≡ shown_by_pins patterns.now palette.now (area_of cover)
-        pins.now rule budget seed marks.now) }
+    ensures grown { (rule : Rule) → HaveRule (map (λ c. (told c).rule) choosers.items) rule →
+        IfOk result (IsShownBy patterns.now palette.now cover pins.now rule budget seed marks.now) }
 {
     let mut choosers = choosers;
     let mut canvas = Canvas::new(alloc, cover.width, cover.height)?;
@@ -211,10 +206,8 @@ fn stuck(
     requires width_limit { canvas.now.width ≤ MAX_OUTPUT_SIDE }
     requires height_limit { canvas.now.height ≤ MAX_OUTPUT_SIDE }
     requires within { LiesWithin canvas.now.width canvas.now.height block }
-    ensures value { IfOk result (λ stuck. stuck ≡ record {
-      block = block;
-      pins = lines_of_block (texts_of palette.now) pins.now (canvas_of canvas.now) block;
-    }) }
+    ensures value { IfOk result (λ stuck. stuck
+        ≡ stuck_in (texts_of palette.now) pins.now (canvas_of canvas.now) block) }
 {
     let texts = symbol_texts(alloc, palette)?;
     Ok(Stuck {

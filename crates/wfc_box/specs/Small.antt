@@ -1,12 +1,15 @@
 -- Small tile sets, frames and boxes without symmetry, on which laws try the definitions.
-use Rattle.std.specs.Prelude.{ℕ, Bool, true, false, List, [], ◌∷◌, codes}
+use Rattle.std.specs.Prelude.{ℕ, Bool, true, false, List, [], ◌∷◌, codes, Result}
 use Rattle.toml.specs.Data.{Data, Members, array, member, no_members, string, table}
 use Rattle.wfc_tileset.specs.Documents.{items_of}
 use Rattle.wfc_box.specs.BoxPinView.{BoxPinView}
 use Rattle.wfc_model.specs.Legal.{banned_pin, kept_pin}
 use Rattle.wfc_model.specs.Raster.{Raster, raster_of}
+use Rattle.wfc_pins.specs.declared.fault.BuildFault.{BuildFault}
+use Rattle.wfc_tiled.specs.Small.{line_and_cross}
 use Rattle.wfc_tileset.specs.Samples.{small_pair_end}
 use Rattle.wfc_box.specs.Boxes.{LayerPin, frame_of}
+use Rattle.wfc_box.specs.Built.{box_pins_in}
 use Rattle.wfc_box.specs.declared.frame.Frame.{Frame}
 use Rattle.wfc_box.specs.declared.stack.Stack.{Stack}
 
@@ -63,3 +66,15 @@ single number = raster_of 1 1 (number ∷ [])
 -- two layers of one place
 abbrev pub pillar : Frame
 pillar = frame_of 1 1 2 false
+
+-- a line that keeps a straight line after a quarter turn, and one that bans a crossing
+abbrev pub two_box_lines : List BoxPinView
+two_box_lines = box_line 4 true 2 0 3 (codes "line/1") ∷ box_line 7 false 0 1 2 (codes "x/0") ∷ []
+
+-- what a line alone means in a box of straight lines and crossings
+abbrev pub pins_of_one : BoxPinView → Result (List LayerPin) BuildFault
+pins_of_one line = box_pins_in line_and_cross.tiles flat (line ∷ [])
+
+-- a stack of a document that has no upper end
+abbrev pub lower_alone : Data
+lower_alone = table (member (codes "lower") (string (codes "x")) no_members)

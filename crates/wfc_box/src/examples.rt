@@ -2,10 +2,10 @@
 //! contract is the law.
 
 ghost use Rattle.std.specs.Prelude.{◌≡◌, ℕ, List, [], ◌∷◌, map, true, false, codes, None, Some, Ok, Err};
-ghost use Rattle.toml.specs.Data.{member, no_members, string, table};
+ghost use Rattle.toml.specs.Data.{member, no_members, string};
 ghost use Rattle.wfc_model.specs.Raster.{raster_of};
 ghost use Rattle.wfc_picture.specs.declared.symbol.Kind.TheVariants as kinds;
-ghost use Rattle.wfc_pins.specs.declared.fault.BuildFault.TheVariants as build_faults;
+ghost use Rattle.wfc_pins.specs.declared.fault.BuildFault.TheVariants as build;
 ghost use Rattle.wfc_pins.specs.declared.pins.PinFault.TheVariants as pin_faults;
 ghost use Rattle.wfc_render.specs.declared.form.Form.TheVariants.{P6, Grid, Cells};
 ghost use Rattle.wfc_render.specs.declared.form.RenderFault.TheVariants as render_faults;
@@ -18,8 +18,8 @@ ghost use Rattle.wfc_box.specs.BoxText.{box_layout_of, box_text};
 ghost use Rattle.wfc_box.specs.Boxes.{IsLegalBox, box_of, box_cell, frame_of, number_in_box, numbers_of_box, places_in};
 ghost use Rattle.wfc_box.specs.Built.{box_pins_in};
 ghost use Rattle.wfc_box.specs.Small.{banned_in, bad_box_lines, flat, kept_in, box_line, one_stack, pillar, single};
-ghost use Rattle.wfc_box.specs.Small.{stack_data, twelve, two_by_two, with_stacks, wrapped};
-ghost use Rattle.wfc_box.specs.StackDocument.{stacks_in};
+ghost use Rattle.wfc_box.specs.Small.{lower_alone, pins_of_one, stack_data, twelve, two_box_lines, two_by_two, with_stacks, wrapped};
+ghost use Rattle.wfc_box.specs.StackDocument.{stack_with, stacks_in};
 ghost use Rattle.wfc_box.specs.Stacks.{IsStacked, stacked_pairs};
 ghost use Rattle.wfc_box.specs.declared.fault.StackFault.TheVariants as stack_faults;
 ghost use Rattle.wfc_box.specs.declared.fault.StackKey.TheVariants as keys;
@@ -64,12 +64,10 @@ pub fn pins_by_example()
     ensures read { box_pins_of (codes "#\npin 2 05 1 x/0\r\n\nban 1 0 3 y") ≡ Ok
         (box_line 2 true 2 5 1 (codes "x/0") ∷ box_line 4 false 1 0 3 (codes "y") ∷ []) }
     ensures bad { box_pins_of (codes "pin 0 1 2 a\npin 0 1 a") ≡ Err (pin_faults.BadLine 2) }
-    ensures meant { box_pins_in line_and_cross.tiles flat
-        (box_line 4 true 2 0 3 (codes "line/1") ∷ box_line 7 false 0 1 2 (codes "x/0") ∷ [])
+    ensures meant { box_pins_in line_and_cross.tiles flat two_box_lines
         ≡ Ok (kept_in 2 0 3 1 ∷ banned_in 0 1 2 2 ∷ []) }
-    ensures faults { map (λ line. box_pins_in line_and_cross.tiles flat (line ∷ [])) bad_box_lines
-        ≡ Err (build_faults.PinOutside 1) ∷ Err (build_faults.PinOutside 2)
-        ∷ Err (build_faults.PinOutside 3) ∷ Err (build_faults.UnknownSymbol 5) ∷ [] }
+    ensures faults { map pins_of_one bad_box_lines ≡ Err (build.PinOutside 1)
+        ∷ Err (build.PinOutside 2) ∷ Err (build.PinOutside 3) ∷ Err (build.UnknownSymbol 5) ∷ [] }
 {}
 
 /// What stands where in a box, and that a box and its numbers give each other.
@@ -84,15 +82,13 @@ pub fn boxes_by_example()
 /// The stacks of documents, and their faults: in a stack the lower end is looked at first.
 pub fn documents_by_example()
     ensures none { stacks_in line_and_cross.tiles (Some no_members) ≡ Ok [] }
-    ensures read { stacks_in line_and_cross.tiles
-        (Some (with_stacks (stack_data (codes "line 1") (codes "x") ∷ [])))
-        ≡ Ok (record { lower = small_pair_end 0 1; upper = small_pair_end 1 0 } ∷ []) }
+    ensures read { stacks_in line_and_cross.tiles (Some (with_stacks (stack_data (codes "line 1")
+        (codes "x") ∷ []))) ≡ Ok (stack_with (small_pair_end 0 1) (small_pair_end 1 0) ∷ []) }
     ensures not_array { stacks_in line_and_cross.tiles
         (Some (member (codes "stack") (string []) no_members)) ≡ Err stack_faults.NotArray }
     ensures not_table { stacks_in line_and_cross.tiles (Some (with_stacks
         (stack_data (codes "x") (codes "x") ∷ string [] ∷ []))) ≡ Err (stack_faults.NotTable 1) }
-    ensures missing { stacks_in line_and_cross.tiles
-        (Some (with_stacks (table (member (codes "lower") (string (codes "x")) no_members) ∷ [])))
+    ensures missing { stacks_in line_and_cross.tiles (Some (with_stacks (lower_alone ∷ [])))
         ≡ Err (stack_faults.MissingKey 0 keys.Upper) }
     ensures unknown { stacks_in line_and_cross.tiles (Some (with_stacks
         (stack_data (codes "y") (codes "x 9") ∷ []))) ≡ Err (stack_faults.UnknownTile 0) }

@@ -1,10 +1,9 @@
 //! Reading the stacks that a tile set's document declares.
 
-ghost use Rattle.std.specs.Prelude.{◌≡◌, ◌<◌, ◌≤◌, [], length, codes, position, IfOk, IfSome, Ok};
+ghost use Rattle.std.specs.Prelude.{◌≡◌, ◌<◌, ◌≤◌, [], length, position, IfOk, IfSome, Ok, Some};
 ghost use Rattle.std.specs.List.{All};
 ghost use Rattle.std.specs.Option.{option_map};
 ghost use Rattle.wfc_outside.specs.Gives.{Gives, result_map};
-ghost use Rattle.toml.specs.Data.{get_member};
 ghost use Rattle.toml.specs.View.{view, table_view, items_view};
 ghost use Rattle.wfc_tileset.specs.Allowed.{IsPairEnd};
 ghost use Rattle.wfc_tileset.specs.Document.{has_name};
@@ -70,8 +69,7 @@ fn document(alloc: Global, bytes: &[u8]) -> Result<Option<Table>, StackFault>
 /// The stacks of a table.
 fn stacks_in(alloc: Global, tiles: &TileSet, table: &Table) -> Result<Vec<Stack>, StackFault>
     ensures exact { Gives StackFault.NoMemory (λ stacks. stacks.items) result
-        (then_stack (stack_elements (get_member (codes "stack") (table_view table.now)))
-        (stacks_from tiles.now.tiles [])) }
+        (stacks_in tiles.now.tiles (Some (table_view table.now))) }
     ensures stacks { IfOk result (λ stacks. All (IsStack tiles.now.tiles) stacks.items) }
 {
     let elements = elements_in(member(table, "stack"))?;

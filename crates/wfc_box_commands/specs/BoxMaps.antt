@@ -1,5 +1,5 @@
 -- Boxes of tiles as a kind of maps.
-use Rattle.std.specs.Prelude.{List, Ok, ◌≡◌}
+use Rattle.std.specs.Prelude.{List, Ok, ℕ, ◌≡◌}
 use Rattle.wfc_box.specs.BoxText.{box_layout_of, box_text}
 use Rattle.wfc_box.specs.Boxes.{IsLegalBox, box_of}
 use Rattle.wfc_box_commands.specs.BoxGiven.{IsBoxProblemOf, IsStackedSetOf}
@@ -7,6 +7,7 @@ use Rattle.wfc_box_commands.specs.BoxPlans.{StackedSet}
 use Rattle.wfc_box_commands.specs.BoxSteps.{frame_asked}
 use Rattle.wfc_model.specs.Raster.{Raster}
 use Rattle.wfc_outside.specs.Folder.{File}
+use Rattle.wfc_problem.specs.Assignment.{IsLegalAssignment}
 use Rattle.wfc_problem.specs.Network.{Network}
 use Rattle.wfc_render.specs.declared.form.Form.{Form}
 use Rattle.wfc_task.specs.MapKind.{MapKind}
@@ -31,6 +32,16 @@ IsBoxLaid asked files P of form =
 abbrev pub IsBoxAsked : (asked : RequestView) (files : List File) (P : Network)
     → OfBox asked files P → List Raster → Type 0
 IsBoxAsked asked files P of box = IsLegalBox of.made.0 of.made.1 (frame_asked asked) of.problem.pins box
+
+-- each legal assignment of the problem makes a box that is asked for
+abbrev pub MakesBoxes : {asked : RequestView} {files : List File} {P : Network} → OfBox asked files P → Type 0
+MakesBoxes {asked} {files} {P} of =
+    (a : List ℕ) → IsLegalAssignment P a → IsBoxAsked asked files P of (box_of (frame_asked asked) a)
+
+-- where there is a box that is asked for, the problem has a legal assignment
+abbrev pub AssignsBoxes : {asked : RequestView} {files : List File} {P : Network} → OfBox asked files P → Type 0
+AssignsBoxes {asked} {files} {P} of =
+    (box : List Raster) → IsBoxAsked asked files P of box → (a : List ℕ) × IsLegalAssignment P a
 
 -- boxes of tiles, layer upon layer
 abbrev pub box_maps : MapKind

@@ -1,23 +1,47 @@
--- Small requests for boxes, whose files have several faults at once.
-use Rattle.std.specs.Prelude.{List, None, Result, [], true, ◌∷◌, ◌≡◌}
+-- Small requests for boxes, whose files have several faults at once, and what `box-fill` and other plans come to for them.
+use Rattle.std.specs.Prelude.{Bool, Err, List, None, Option, Result, [], false, true, ℕ, ◌∷◌, ◌≡◌}
 use Rattle.wfc_box.specs.BoxText.{box_layout_of}
+use Rattle.wfc_box.specs.StackDocument.{stacks_of}
+use Rattle.wfc_box.specs.declared.fault.StackFault.{StackFault}
 use Rattle.wfc_box_commands.specs.BoxFillTask.{BoxFillTask, box_fill_plan}
 use Rattle.wfc_box_commands.specs.BoxGiven.{IsStackedSetOf}
 use Rattle.wfc_box_commands.specs.BoxPlans.{StackedSet}
+use Rattle.wfc_choose.specs.declared.RuleKind.{RuleKind}
 use Rattle.wfc_choose.specs.declared.RuleKind.TheVariants.{Fewest}
 use Rattle.wfc_outside.specs.Folder.{File}
-use Rattle.wfc_plan.specs.Plan.{outcome}
+use Rattle.wfc_plan.specs.Files.{IsFile}
+use Rattle.wfc_plan.specs.Kinds.{HasChoosers}
+use Rattle.wfc_plan.specs.Plan.{Plan, outcome}
+use Rattle.wfc_plan.specs.Refusing.{IsPlanRefused}
 use Rattle.wfc_plan.specs.declared.fault.Fault.{Fault}
+use Rattle.wfc_plan.specs.declared.fault.Refusal.{Refusal}
+use Rattle.wfc_proof.specs.declared.heads.Shape.{Shape}
 use Rattle.wfc_render.specs.declared.form.Form.{Form}
 use Rattle.wfc_render.specs.declared.form.RenderFault.{RenderFault}
-use Rattle.wfc_task.specs.Small.{asked_of}
+use Rattle.wfc_task.specs.Small.{AreBeside, asked_of}
+use Rattle.wfc_task.specs.TileGiven.{IsTileSetOf}
+use Rattle.wfc_tileset.specs.Document.{set_of}
 use Rattle.wfc_tileset.specs.Pictures.{kind_of, side_of}
+use Rattle.wfc_tileset.specs.Tiles.{TileSetView}
+use Rattle.wfc_tileset.specs.declared.fault.TileFault.{TileFault}
 use Rattle.wfc_words.specs.RequestView.{RequestView}
 use Rattle.wfc_words.specs.declared.kinds.SourceModel.TheVariants.{Tiles}
 
 -- a box of two by one by three of the tile set `a`, with the pins of `p` and the refutation `r`
 abbrev pub small_box : RequestView
 small_box = record (asked_of Tiles None) { depth = 3; wrap_out = true; wrap_in = true; symmetry = 8; budget = 7 }
+
+-- the shape of a box of this width, height and depth, whose layers wrap or not: no windows, and no images of a sample
+abbrev pub shape_of_box : ℕ → ℕ → ℕ → Bool → Shape
+shape_of_box width height depth wrap = record {
+  n = 0;
+  width = width;
+  height = height;
+  depth = depth;
+  symmetry = 1;
+  wrap_in = false;
+  wrap_out = wrap;
+}
 
 -- the layout of a box of this tile set, or why it has none
 abbrev pub box_laid : RequestView → StackedSet → Result Form RenderFault
@@ -33,3 +57,30 @@ pub record IsStackedAnd (asked : RequestView) (files : List File) (made : Stacke
 -- what `box-fill` comes to with one chooser
 abbrev pub box_filled_by_one : RequestView → List File → Result BoxFillTask Fault
 box_filled_by_one asked files = outcome (box_fill_plan (Fewest ∷ []) asked) files
+
+-- what `box-fill` goes by for the small box, with one chooser
+abbrev pub small_fill_plan : Plan BoxFillTask
+small_fill_plan = box_fill_plan (Fewest ∷ []) small_box
+
+-- over any files of the small box, with this layout or none and these pins or none, the plan has this fault
+abbrev pub HasBoxFault : {T : Type 0} → Plan T → Result Form RenderFault → Option (List ℕ) → Fault → Type 0
+HasBoxFault plan laid pins fault =
+    (files : List File) (made : StackedSet) → IsStackedAnd small_box files made laid → AreBeside files pins
+    → outcome plan files ≡ Err fault
+
+-- the file asked for is no document of a tile set
+pub record HasBadTiles (asked : RequestView) (files : List File) (why : TileFault) : Type 0 where
+  pub bytes : List ℕ
+  pub file : IsFile files asked.file bytes
+  pub is : set_of bytes ≡ Err why
+
+-- the file asked for spells a tile set, whose stacks are at fault
+pub record HasBadStacks (asked : RequestView) (files : List File) (why : StackFault) : Type 0 where
+  pub set : TileSetView
+  pub tiles : IsTileSetOf asked files set
+  pub is : stacks_of set.tiles tiles.bytes ≡ Err why
+
+-- where a chooser is there, `box-fill` is refused with this over these files
+abbrev pub IsBoxFillRefused : RequestView → List File → Refusal → Type 0
+IsBoxFillRefused asked files refusal =
+    (kinds : List RuleKind) → HasChoosers 1 kinds asked.rule → IsPlanRefused (box_fill_plan kinds asked) files refusal

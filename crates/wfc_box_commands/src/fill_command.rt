@@ -1,18 +1,17 @@
 //! The command `box-fill`: the box that a run ends in.
 
-ghost use Rattle.std.specs.Prelude.{IfOk, Some, map, ◌≡◌};
+ghost use Rattle.std.specs.Prelude.{IfOk, map, ◌≡◌};
 ghost use Rattle.wfc_box.specs.Boxes.{IsFrame};
-ghost use Rattle.wfc_box_commands.specs.BoxFillAnswer.{layers_text};
+ghost use Rattle.wfc_box_commands.specs.BoxFillAnswer.{box_filling_answer, layers_text};
 ghost use Rattle.wfc_box_commands.specs.BoxFillCommand.{box_fill_command};
 ghost use Rattle.wfc_box_commands.specs.BoxFilling.{IsBoxFilling};
 ghost use Rattle.wfc_box_commands.specs.BoxSteps.{frame_asked};
-ghost use Rattle.wfc_map_commands.specs.FillAnswer.{fill_by};
 ghost use Rattle.wfc_plan.specs.Kinds.{HasChoosers};
 ghost use Rattle.wfc_problem.specs.Assignment.{IsLegalAssignment};
 ghost use Rattle.wfc_reply.specs.Choosers.{kinds_of};
 ghost use Rattle.wfc_reply.specs.Ends.{EndsBy};
 ghost use Rattle.wfc_reply.specs.Reply.{done_with};
-ghost use Rattle.wfc_reply.specs.ReplyView.{answer_view, reply_view};
+ghost use Rattle.wfc_reply.specs.ReplyView.{IsAnsweredAs, answer_view, reply_view};
 
 use crate::filling::{BoxFilling, box_fill_task};
 use std::alloc::Global;
@@ -52,9 +51,8 @@ fn answer(
         (kinds_of (map (λ chooser. (told chooser).rule) choosers.items)) request.now.rule }
     requires frame { IsFrame (frame_asked request.now) }
     requires filling { IsBoxFilling request.now filling.now }
-    ensures answers { IfOk result (λ answer. fill_by (map (λ chooser. (told chooser).rule)
-        choosers.items) request.now (layers_text request.now filling.now.tiles filling.now.form)
-        filling.now.problem ≡ Some (answer_view answer)) }
+    ensures answers { IfOk result (IsAnsweredAs
+        (box_filling_answer (map (λ c. (told c).rule) choosers.items) request.now filling.now)) }
 {
     let chooser = first_chooser(alloc, choosers, request.rule)?;
     let ran = run(

@@ -1,35 +1,29 @@
 //! Laws of the order of refusals, each a function with no body whose contract is the law. They run nothing.
 
-ghost use Rattle.std.specs.Prelude.{Err, List, None, Ok, Some, [], codes, ℕ, ◌∷◌, ◌≡◌};
-ghost use Rattle.wfc_box.specs.StackDocument.{stacks_of};
+ghost use Rattle.std.specs.Prelude.{Err, List, None, Ok, Some, [], codes, ◌∷◌, ◌≡◌};
 ghost use Rattle.wfc_box.specs.declared.fault.StackFault.{StackFault};
 ghost use Rattle.wfc_box_commands.specs.BoxFillTask.{box_fill_plan};
 ghost use Rattle.wfc_box_commands.specs.BoxOrder.{box_fill_order, box_order};
-ghost use Rattle.wfc_box_commands.specs.BoxPlans.{StackedSet, box_plan};
+ghost use Rattle.wfc_box_commands.specs.BoxPlans.{box_plan};
+ghost use Rattle.wfc_box_commands.specs.BoxProofCommands.{box_refute_command};
 ghost use Rattle.wfc_box_commands.specs.BoxProofs.{box_proofs};
-ghost use Rattle.wfc_box_commands.specs.Small.{IsStackedAnd, box_filled_by_one, small_box};
+ghost use Rattle.wfc_box_commands.specs.Small.{HasBadStacks, HasBadTiles, HasBoxFault, IsBoxFillRefused, box_filled_by_one, small_box, small_fill_plan};
 ghost use Rattle.wfc_choose.specs.declared.RuleKind.{RuleKind};
 ghost use Rattle.wfc_choose.specs.declared.RuleKind.TheVariants.{Fewest};
 ghost use Rattle.wfc_outside.specs.Folder.{File};
 ghost use Rattle.wfc_outside.specs.declared.whole.ReadFault.TheVariants.{Missing};
 ghost use Rattle.wfc_pins.specs.declared.pins.PinFault.TheVariants as pins;
-ghost use Rattle.wfc_plan.specs.Files.{IsFile};
-ghost use Rattle.wfc_plan.specs.Kinds.{HasChoosers};
 ghost use Rattle.wfc_plan.specs.Plan.{outcome};
-ghost use Rattle.wfc_plan.specs.Refusing.{IsMadeInOrder, IsRefusedInOrder};
+ghost use Rattle.wfc_plan.specs.Refusing.{IsMadeInOrder, IsPlanRefused, IsRefusedInOrder};
 ghost use Rattle.wfc_plan.specs.declared.fault.Fault.TheVariants.{Refused, Unread};
 ghost use Rattle.wfc_plan.specs.declared.fault.Refusal.TheVariants as refusals;
 ghost use Rattle.wfc_plan.specs.declared.fault.Source.TheVariants.{Pins, Sample};
 ghost use Rattle.wfc_proof_commands.specs.CheckOrder.{check_order};
 ghost use Rattle.wfc_proof_commands.specs.CheckTask.{check_plan};
-ghost use Rattle.wfc_proof_commands.specs.RefuteOrder.{refute_order};
 ghost use Rattle.wfc_proof_commands.specs.RefuteTask.{refute_plan};
 ghost use Rattle.wfc_render.specs.declared.form.Form.{Form};
 ghost use Rattle.wfc_render.specs.declared.form.RenderFault.{RenderFault};
-ghost use Rattle.wfc_task.specs.Small.{AreBeside};
-ghost use Rattle.wfc_task.specs.TileGiven.{IsTileSetOf};
-ghost use Rattle.wfc_tileset.specs.Document.{set_of};
-ghost use Rattle.wfc_tileset.specs.Tiles.{TileSetView};
+ghost use Rattle.wfc_reply.specs.Command.{IsMadeByOrder, IsRefusedByOrder};
 ghost use Rattle.wfc_tileset.specs.declared.fault.TileFault.{TileFault};
 ghost use Rattle.wfc_words.specs.RequestView.{RequestView};
 
@@ -52,11 +46,8 @@ pub fn box_fill_refuses_in_order()
 
 /// So it is with `box-refute`: the chooser before the problem.
 pub fn box_refute_refuses_in_order()
-    ensures refused { (kinds : List RuleKind) (asked : RequestView) (files : List File) →
-        IsRefusedInOrder (refute_plan box_proofs kinds asked) files
-        (refute_order box_proofs kinds asked files) }
-    ensures made { (kinds : List RuleKind) (asked : RequestView) (files : List File) → IsMadeInOrder
-        (refute_plan box_proofs kinds asked) files (refute_order box_proofs kinds asked files) }
+    ensures refused { IsRefusedByOrder box_refute_command }
+    ensures made { IsMadeByOrder box_refute_command }
 {}
 
 /// So it is with `box-check`: the problem before the refutation.
@@ -79,35 +70,25 @@ pub fn first_faults()
 
 /// Of a document with two faults that of its tile set is named, and one of its stacks before the layout and the pins.
 pub fn first_of_several_faults_of_documents()
-    ensures tiles_and_stacks { (asked : RequestView) (files : List File) (bytes : List ℕ)
-        (why : TileFault) → IsFile files asked.file bytes → set_of bytes ≡ Err why →
-        outcome (box_plan asked) files ≡ Err (Refused (refusals.Tiles why)) }
-    ensures stacks_and_layout { (kinds : List RuleKind) (asked : RequestView) (files : List File)
-        (set : TileSetView) (why : StackFault) (tiles : IsTileSetOf asked files set) →
-        HasChoosers 1 kinds asked.rule → stacks_of set.tiles tiles.bytes ≡ Err why →
-        outcome (box_fill_plan kinds asked) files ≡ Err (Refused (refusals.Stacks why)) }
-    ensures stacks_and_pins { (asked : RequestView) (files : List File) (set : TileSetView)
-        (why : StackFault) (tiles : IsTileSetOf asked files set) →
-        stacks_of set.tiles tiles.bytes ≡ Err why →
-        outcome (box_plan asked) files ≡ Err (Refused (refusals.Stacks why)) }
+    ensures tiles_and_stacks { (asked : RequestView) (files : List File) (why : TileFault) →
+        HasBadTiles asked files why → IsPlanRefused (box_plan asked) files (refusals.Tiles why) }
+    ensures stacks_and_layout { (asked : RequestView) (files : List File) (why : StackFault) →
+        HasBadStacks asked files why → IsBoxFillRefused asked files (refusals.Stacks why) }
+    ensures stacks_and_pins { (asked : RequestView) (files : List File) (why : StackFault) →
+        HasBadStacks asked files why → IsPlanRefused (box_plan asked) files (refusals.Stacks why) }
 {}
 
 /// Of several faults behind a tile set with its stacks the first in the order is named: the layout before the pins, and
 /// the pins before what they mean. No layout is looked at where no box is written.
 pub fn first_of_several_faults()
-    ensures layout_and_pins { (files : List File) (made : StackedSet) (why : RenderFault) →
-        IsStackedAnd small_box files made (Err why) → AreBeside files None →
-        box_filled_by_one small_box files ≡ Err (Refused (refusals.Render why)) }
-    ensures pins { (files : List File) (made : StackedSet) (form : Form) →
-        IsStackedAnd small_box files made (Ok form) → AreBeside files None →
-        box_filled_by_one small_box files ≡ Err (Unread Pins Missing) }
-    ensures lines { (files : List File) (made : StackedSet) (form : Form) →
-        IsStackedAnd small_box files made (Ok form) → AreBeside files (Some (codes "pin 0 0 x\n"))
-        → box_filled_by_one small_box files ≡ Err (Refused (refusals.Pins (pins.BadLine 1))) }
-    ensures refute { (files : List File) (made : StackedSet) (why : RenderFault) →
-        IsStackedAnd small_box files made (Err why) → AreBeside files None → outcome
-        (refute_plan box_proofs (Fewest ∷ []) small_box) files ≡ Err (Unread Pins Missing) }
-    ensures check { (files : List File) (made : StackedSet) (why : RenderFault) →
-        IsStackedAnd small_box files made (Err why) → AreBeside files None →
-        outcome (check_plan box_proofs small_box) files ≡ Err (Unread Pins Missing) }
+    ensures layout_and_pins { (why : RenderFault) →
+        HasBoxFault small_fill_plan (Err why) None (Refused (refusals.Render why)) }
+    ensures pins { (form : Form) →
+        HasBoxFault small_fill_plan (Ok form) None (Unread Pins Missing) }
+    ensures lines { (form : Form) → HasBoxFault small_fill_plan (Ok form)
+        (Some (codes "pin 0 0 x\n")) (Refused (refusals.Pins (pins.BadLine 1))) }
+    ensures refute { (why : RenderFault) → HasBoxFault
+        (refute_plan box_proofs (Fewest ∷ []) small_box) (Err why) None (Unread Pins Missing) }
+    ensures check { (why : RenderFault) →
+        HasBoxFault (check_plan box_proofs small_box) (Err why) None (Unread Pins Missing) }
 {}

@@ -33,9 +33,8 @@ pub fn box_refute<F: Folder, O: Sink>(
     out: &mut O,
 ) -> Result<CommandVerdict, Stop>
     requires frame { IsFrame (frame_asked request.now) }
-    ensures ends { EndsAs box_refute_command (map (λ chooser. (told chooser).rule) choosers.items)
-        request.now (F.seen folder.old) (F.seen folder.new)
-        (O.seen out.old) (O.seen out.new) result }
+    ensures ends { EndsAs box_refute_command (map (λ c. (told c).rule) choosers.items) request.now
+        (F.seen folder.old) (F.seen folder.new) (O.seen out.old) (O.seen out.new) result }
 {
     let kinds = kinds(alloc, &choosers)?;
     let problem = box_refute_task(alloc, request, &kinds, folder)?;

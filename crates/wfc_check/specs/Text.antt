@@ -85,6 +85,14 @@ abbrev pub place_after_line : Network → ℕ → Format → Point → Result Li
 place_after_line P number format point (Ok line) = place_after_step number format (line_step P point line)
 place_after_line P number format point (Err fault) = Err (BadLine number)
 
+-- where the bytes of a line lead, or their fault
+abbrev pub place_after_bytes : Network → ℕ → Format → Point → List ℕ → Result TextPlace CheckFault
+place_after_bytes P number format point line = place_after_line P number format point (line_in format line)
+
+-- the place among the lines of the proof, in this format
+abbrev pub proving_place : Format → Point → TextPlace
+proving_place format point = staged_place (Proving format) point
+
 -- ---- any line
 
 -- a line of a head leaves the proof where it is

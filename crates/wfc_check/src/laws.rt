@@ -29,12 +29,10 @@ pub fn refutations_are_accepted()
 /// A fault is at the first line that isn't right: the lines before it alone are accepted, or answered that they don't end
 /// the proof, and with it they are answered its fault.
 pub fn faults_are_at_the_first_line()
-    ensures here { (P : Network) (small_shape : Shape) (text : List ℕ) (fault : CheckFault) (k : ℕ)
-        → IsAtFault P small_shape text fault k → checked P small_shape (first_lines k text) ≡ Err
-        fault }
-    ensures before { (P : Network) (small_shape : Shape) (text : List ℕ) (fault : CheckFault) (k n :
-        ℕ) → IsAtFault P small_shape text fault k → 0 < n → n < k → IsRightSoFar P small_shape
-        (first_lines n text) }
+    ensures here { (P : Network) (shape : Shape) (text : List ℕ) (fault : CheckFault) (k : ℕ) →
+        IsAtFault P shape text fault k → checked P shape (first_lines k text) ≡ Err fault }
+    ensures before { (P : Network) (shape : Shape) (text : List ℕ) (fault : CheckFault) (k n : ℕ) →
+        IsAtFault P shape text fault k → 0 < n → n < k → IsRightSoFar P shape (first_lines n text) }
 {}
 
 /// The first lines of a text, and which line each fault of a text is at.

@@ -1,11 +1,13 @@
 //! Why a node of a proof is refused, and where an accepted one leads.
 
-ghost use Rattle.std.specs.Prelude.{◌≡◌, ℕ, ◌<◌, ◌≤◌, ◌+◌, ◌-◌, ◌==◌, ◌||◌, ◌&&◌, not, map, All, IsTrue, Ok, length};
+ghost use Rattle.std.specs.Prelude.{◌≡◌, ◌<◌, ◌≤◌, ◌+◌, ◌-◌, ◌==◌, ◌||◌, ◌&&◌, not, All, IsTrue, Ok, length};
 ghost use Rattle.std.specs.List.{find, list_all, range_with_len};
 ghost use Rattle.wfc_problem.specs.Network.{values, IsProblem};
 ghost use Rattle.wfc_problem.specs.Rounds.{depth_of, pairs};
 ghost use Rattle.wfc_proof.specs.Checker.{node_fault, node_step, node_steps};
+ghost use Rattle.wfc_proof.specs.Lines.{nodes_of};
 ghost use Rattle.wfc_proof.specs.Proof.Node.{removes, splits, empties};
+ghost use Rattle.wfc_proof.specs.declared.Line.TheVariants.{Span};
 ghost use Rattle.wfc_check.specs.Entries.{standing, waits_of, Branches};
 ghost use Rattle.wfc_check.specs.Checker.{point_at, IsTaken};
 ghost use Rattle.wfc_check.specs.declared.progress.Progress.TheVariants.{Going};
@@ -155,8 +157,7 @@ pub fn remove_span(
 ) -> Result<Progress, Reject>
     requires whole { first ≤ last }
     ensures taken { IsTaken (node_steps trail.old.problem (point_at Going trail.old)
-        (map (λ value. removes cell value dir) (range_with_len first (last + 1 - first))))
-        trail.old trail.new result }
+        (nodes_of (Span cell first last dir))) trail.old trail.new result }
 {
     let mark = trail.len();
     for value in u32::from(first)..u32::from(last) + 1 {

@@ -3,10 +3,9 @@
 ghost use Rattle.std.specs.Prelude.{◌≡◌, ◌+◌, ◌-◌, ◌^◌, ◌<◌, IfOk, OnOk};
 ghost use Rattle.wfc_proof.specs.Heads.{format_of, head_numbers, shape_of};
 ghost use Rattle.wfc_check.specs.Checker.{checker_problem, point_of};
-ghost use Rattle.wfc_check.specs.Text.{after_first, after_numbers, after_shape, line_in, line_led};
-ghost use Rattle.wfc_check.specs.Text.{place_after_line, stage_answer, staged_place};
+ghost use Rattle.wfc_check.specs.Text.{after_first, after_numbers, after_shape, line_in, line_led, place_after_bytes, proving_place};
+ghost use Rattle.wfc_check.specs.Text.{stage_answer};
 ghost use Rattle.wfc_check.specs.Text.{IsStaged, Leads, answer_at_end, at_start};
-ghost use Rattle.wfc_check.specs.declared.reading.Stage.TheVariants.{Proving};
 
 use crate::checker::Checker;
 use crate::fault::CheckFault;
@@ -186,9 +185,8 @@ fn place_after_line(
     number: u64,
     line: &[u8],
 ) -> Result<(), CheckFault>
-    ensures led { Leads (place_after_line (checker_problem checker.old) number format (point_of
-        checker.old) (line_in format line.now)) (staged_place (Proving format) (point_of
-        checker.new)) result }
+    ensures led { Leads (place_after_bytes (checker_problem checker.old) number format
+        (point_of checker.old) line.now) (proving_place format (point_of checker.new)) result }
     ensures same { checker_problem checker.new ≡ checker_problem checker.old }
 {
     let Ok(line) = line_in(format, line) else {

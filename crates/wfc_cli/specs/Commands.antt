@@ -8,7 +8,8 @@ use Rattle.wfc_map_commands.specs.DemoCommand.{demo_command}
 use Rattle.wfc_map_commands.specs.DomainsCommand.{domains_command}
 use Rattle.wfc_map_commands.specs.FillCommand.{fill_command}
 use Rattle.wfc_map_commands.specs.LearnCommand.{learn_command}
-use Rattle.wfc_outside.specs.Folder.{File}
+use Rattle.wfc_outside.specs.Folder.{File, FolderView}
+use Rattle.wfc_outside.specs.Sink.{SinkView}
 use Rattle.wfc_plan.specs.Plan.{Plan, outcome}
 use Rattle.wfc_plan.specs.declared.fault.Fault.{Fault}
 use Rattle.wfc_proof_commands.specs.CheckCommand.{check_command}
@@ -16,7 +17,10 @@ use Rattle.wfc_proof_commands.specs.RefuteCommand.{refute_command}
 use Rattle.wfc_proof_commands.specs.UpgradeCommand.{upgrade_command}
 use Rattle.wfc_reply.specs.Choosers.{kinds_of}
 use Rattle.wfc_reply.specs.Command.{Command}
+use Rattle.wfc_reply.specs.Ending.{EndsAs}
 use Rattle.wfc_reply.specs.Reply.{Answered}
+use Rattle.wfc_reply.specs.declared.reply.CommandVerdict.{CommandVerdict}
+use Rattle.wfc_reply.specs.declared.reply.Stop.{Stop}
 use Rattle.wfc_run_commands.specs.ExplainCommand.{explain_command}
 use Rattle.wfc_run_commands.specs.RaceCommand.{race_command}
 use Rattle.wfc_words.specs.RequestView.{RequestView}
@@ -54,3 +58,8 @@ AnswersTask rules asked = (asked_command asked).Answers rules asked
 -- its task over these files
 abbrev pub task_of : List Rule → (asked : RequestView) → List File → Result (asked_command asked).Task Fault
 task_of rules asked files = outcome (plan_of rules asked) files
+
+-- the command of a request may end so
+abbrev pub EndsAsked : List Rule → RequestView → FolderView → FolderView → SinkView → SinkView → Result CommandVerdict Stop
+    → Type 0
+EndsAsked rules asked before after old new ended = EndsAs (asked_command asked) rules asked before after old new ended

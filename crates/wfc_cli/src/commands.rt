@@ -1,8 +1,7 @@
 //! The commands.
 
 ghost use Rattle.std.specs.Prelude.{map};
-ghost use Rattle.wfc_cli.specs.Commands.{asked_command};
-ghost use Rattle.wfc_reply.specs.Ending.{EndsAs};
+ghost use Rattle.wfc_cli.specs.Commands.{EndsAsked};
 ghost use Rattle.wfc_words.specs.InRange.{IsInRange};
 
 use crate::deliver::put_answer;
@@ -26,8 +25,7 @@ pub(crate) fn run<F: Folder, O: Sink>(
     out: &mut O,
 ) -> Result<CommandVerdict, Stop>
     requires in_range { IsInRange request.now }
-    ensures ends { EndsAs (asked_command request.now)
-        (map (λ chooser. (told chooser).rule) choosers.items) request.now
+    ensures ends { EndsAsked (map (λ c. (told c).rule) choosers.items) request.now
         (F.seen folder.old) (F.seen folder.new) (O.seen out.old) (O.seen out.new) result }
 {
     match request.command {

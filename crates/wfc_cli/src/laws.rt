@@ -27,12 +27,12 @@ ghost use Rattle.wfc_pins.specs.declared.steps.StepFault.TheVariants.{NothingToU
 ghost use Rattle.wfc_plan.specs.declared.fault.Fault.TheVariants.{Refused, Unread};
 ghost use Rattle.wfc_plan.specs.declared.fault.Refusal.TheVariants as refusals;
 ghost use Rattle.wfc_plan.specs.declared.fault.Source.TheVariants as sources;
-ghost use Rattle.wfc_plan.specs.Refusing.{IsMadeInOrder, IsRefusedInOrder};
 ghost use Rattle.wfc_ppm.specs.declared.reading.PpmFault.TheVariants.{Header};
 ghost use Rattle.wfc_proof_commands.specs.Checking.{flat_proofs};
 ghost use Rattle.wfc_proof_commands.specs.CheckTask.{check_plan};
 ghost use Rattle.wfc_proof_commands.specs.RefuteTask.{refute_plan};
 ghost use Rattle.wfc_proof_commands.specs.UpgradeTask.{upgrade_plan};
+ghost use Rattle.wfc_reply.specs.Command.{IsMadeByOrder, IsRefusedByOrder};
 ghost use Rattle.wfc_run_commands.specs.ExplainTask.{explain_plan};
 ghost use Rattle.wfc_run_commands.specs.RaceTask.{race_plan};
 ghost use Rattle.wfc_task.specs.Small.{tiles_asked};
@@ -53,12 +53,8 @@ pub fn lines_are_told_by_example()
 
 /// Each command is refused for the first of its stages that has a fault, in its order, and comes to a task where none has.
 pub fn commands_refuse_in_order()
-    ensures refused { (kind : CommandKind) (kinds : List RuleKind) (asked : RequestView)
-        (files : List File) → IsRefusedInOrder ((command_of kind).plan kinds asked) files
-        ((command_of kind).order kinds asked files) }
-    ensures made { (kind : CommandKind) (kinds : List RuleKind) (asked : RequestView)
-        (files : List File) → IsMadeInOrder ((command_of kind).plan kinds asked) files
-        ((command_of kind).order kinds asked files) }
+    ensures refused { (kind : CommandKind) → IsRefusedByOrder (command_of kind) }
+    ensures made { (kind : CommandKind) → IsMadeByOrder (command_of kind) }
 {}
 
 /// Which command each kind has, by its plan, its budget and its line.

@@ -29,9 +29,8 @@ pub fn run<F: Folder, O: Sink, E: Sink>(
     err: &mut E,
     choosers: Vec<Box<dyn Chooser>>,
 ) -> u8
-    ensures promises { KeepsPromises (call_of (λ chooser. (told chooser).rule) choosers.items
-        words.now F.seen folder.old folder.new O.seen out.old out.new
-        E.seen err.old err.new result) }
+    ensures promises { KeepsPromises (call_of (λ c. (told c).rule) choosers.items words.now
+        F.seen folder.old folder.new O.seen out.old out.new E.seen err.old err.new result) }
 {
     answer(alloc, words, folder, out, err, choosers)
 }

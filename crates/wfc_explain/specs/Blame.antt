@@ -1,11 +1,11 @@
 -- What an explanation says of the maps.
-use Rattle.std.specs.Prelude.{◌≡◌, ℕ, ◌<◌, ◌==◌, Bool, List, All, Contains, map}
+use Rattle.std.specs.Prelude.{◌≡◌, ℕ, ◌<◌, ◌==◌, Bool, List, All, Contains, length, map}
 use Rattle.std.specs.List.{list_any, range_with_len}
 use Rattle.std.specs.List.Sorted.{IsStrictlyIncreasing}
 use Rattle.wfc_problem.specs.Assignment.{IsLegalAssignment}
 use Rattle.wfc_problem.specs.Network.{Network}
 use Rattle.wfc_explain.specs.Trials.{all_lines, lines_without}
-use Rattle.wfc_explain.specs.Pinned.{PinnedView}
+use Rattle.wfc_explain.specs.Pinned.{IsFewer, PinnedView}
 use Rattle.wfc_explain.specs.declared.explained.Explained.{Explained}
 use Rattle.wfc_explain.specs.declared.explained.Explained.TheVariants.{Core, MapExists, Spent}
 use Rattle.wfc_explain.specs.declared.explained.Kept.{Kept}
@@ -37,3 +37,9 @@ abbrev pub IsTrueExplained : PinnedView → Explained → Type 0
 IsTrueExplained v (Core core) = IsTrueCore v core
 IsTrueExplained v MapExists = HasMap (v.problem_of (all_lines v.lines))
 IsTrueExplained v Spent = Unit {0}
+
+-- where more of its lines have a map, fewer have it too
+abbrev pub KeepsMaps : PinnedView → Type 0
+KeepsMaps v =
+    (fewer more : List Bool) → length fewer ≡ v.lines → length more ≡ v.lines → IsFewer fewer more
+    → HasMap (v.problem_of more) → HasMap (v.problem_of fewer)

@@ -1,5 +1,5 @@
 -- The two pinned problems: that of a sample and that of a tile set.
-use Rattle.std.specs.Prelude.{◌≤◌, Bool, List, length, Result}
+use Rattle.std.specs.Prelude.{◌≡◌, ◌≤◌, Bool, List, length, Result, Ok}
 use Rattle.wfc_model.specs.Legal.{Pin}
 use Rattle.wfc_model.specs.declared.TheConstants.{MAX_OUTPUT_SIDE}
 use Rattle.wfc_outside.specs.Gives.{result_map}
@@ -79,3 +79,29 @@ pub record IsTilesPins (s : TilesPins) : Type 0 where
   pub few_pairs : tiled.tile_pair_count s.tiles s.mask ≤ MAX_PAIRS
   pub placed : ArePlaced s.mask s.pins
   pub few_lines : length s.pins ≤ 4294967295
+
+-- ---- lines that are kept
+
+-- this holds of what the lines of a pins file mean for a sample
+abbrev pub HoldsOfSamplePins : (PatternsView → List Symbol → Output → List PinView → SamplePins → Type 0) → Type 0
+HoldsOfSamplePins Holds =
+    (patterns : PatternsView) (palette : List Symbol) (output : Output) (lines : List PinView) (s : SamplePins)
+    → sample_pins patterns palette output lines ≡ Ok s → Holds patterns palette output lines s
+
+-- the problem that is built of the lines that are kept is that of their pins
+abbrev pub IsSampleKept : PatternsView → List Symbol → Output → List PinView → SamplePins → Type 0
+IsSampleKept patterns palette output lines s =
+    (keep : List Bool)
+    → overlap.picture_problem patterns palette output (kept_of keep lines) ≡ Ok ((pinned_sample s).problem_of keep)
+
+-- this holds of what the lines of a pins file mean for a tile set
+abbrev pub HoldsOfTilesPins : (TileSetView → MaskView → Bool → List PinView → TilesPins → Type 0) → Type 0
+HoldsOfTilesPins Holds =
+    (tiles : TileSetView) (mask : MaskView) (wrap : Bool) (lines : List PinView) (s : TilesPins)
+    → tiles_pins tiles mask wrap lines ≡ Ok s → Holds tiles mask wrap lines s
+
+-- the problem that is built of the lines that are kept is that of their pins
+abbrev pub IsTilesKept : TileSetView → MaskView → Bool → List PinView → TilesPins → Type 0
+IsTilesKept tiles mask wrap lines s =
+    (keep : List Bool)
+    → tiled.tile_map_problem tiles mask wrap (kept_of keep lines) ≡ Ok ((pinned_tiles s).problem_of keep)

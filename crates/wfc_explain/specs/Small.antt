@@ -8,6 +8,7 @@ use Rattle.wfc_search.specs.Small.{pair, ring}
 use Rattle.wfc_tiled.specs.Small.{line_and_cross, tile_pin_line as tile_line, two_holes}
 use Rattle.wfc_explain.specs.Pinned.{PinnedView}
 use Rattle.wfc_explain.specs.Problems.{SamplePins, TilesPins}
+use Rattle.wfc_explain.specs.Trials.{TrialView}
 use Rattle.wfc_explain.specs.declared.explained.Kept.{Kept}
 use Rattle.wfc_explain.specs.declared.explained.Mark.{Mark}
 
@@ -63,3 +64,11 @@ blank_line = sample_line 4 true 1 0 (codes "\\s")
 -- line 4 of a pins file keeps a straight line after a quarter turn in this column and row
 abbrev pub turned_line : ℕ → ℕ → PinView
 turned_line x y = tile_line 4 true x y (codes "line/1")
+
+-- of three lines the second alone, the first two, and the first and the last
+abbrev pub three_choices : List (List Bool)
+three_choices = (false ∷ true ∷ false ∷ []) ∷ (true ∷ true ∷ false ∷ []) ∷ (true ∷ false ∷ true ∷ []) ∷ []
+
+-- of three lines the first two are still kept, and these stay
+abbrev pub two_of_three : List Kept → TrialView
+two_of_three core = record { keep = true ∷ true ∷ false ∷ []; core = core }

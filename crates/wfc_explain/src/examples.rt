@@ -18,7 +18,7 @@ ghost use Rattle.wfc_explain.specs.Outcomes.{outcome_with};
 ghost use Rattle.wfc_explain.specs.Pinned.{IsAlike, IsFewer};
 ghost use Rattle.wfc_explain.specs.Problems.{pinned_sample, pinned_tiles, sample_pins, tiles_pins};
 ghost use Rattle.wfc_explain.specs.Small.{blank_line, kept, no_lines, one_line, two_cells_with, ring_with};
-ghost use Rattle.wfc_explain.specs.Small.{three_lines, turned_line, two_sample_lines, two_tile_lines};
+ghost use Rattle.wfc_explain.specs.Small.{three_choices, three_lines, turned_line, two_of_three, two_sample_lines, two_tile_lines};
 ghost use Rattle.wfc_explain.specs.Trials.{all_lines, core_of, trial_with, explanation_of, outcome_mark, lines_without};
 ghost use Rattle.wfc_explain.specs.declared.explained.Explained.TheVariants.{Core, MapExists, Spent};
 ghost use Rattle.wfc_explain.specs.declared.explained.Mark.TheVariants.{Needed, Undecided};
@@ -38,8 +38,7 @@ pub fn small_explanations()
 /// The outcomes of runs: of the second line alone, of it and the first, and of the first and the
 /// third.
 pub fn small_outcomes()
-    ensures outcomes { map (outcome_with three_lines scanline 0 twos)
-        ((false ∷ true ∷ false ∷ []) ∷ (true ∷ true ∷ false ∷ []) ∷ (true ∷ false ∷ true ∷ []) ∷ [])
+    ensures outcomes { map (outcome_with three_lines scanline 0 twos) three_choices
         ≡ outcome.Map ∷ outcome.NoMap ∷ outcome.Map ∷ [] }
     ensures marks { map outcome_mark (outcome.Map ∷ outcome.NoMap ∷ outcome.Spent ∷ [])
         ≡ Some Needed ∷ None ∷ Some Undecided ∷ [] }
@@ -49,12 +48,10 @@ pub fn small_outcomes()
 pub fn lines_are_decided()
     ensures all { all_lines 2 ≡ true ∷ true ∷ [] }
     ensures without { lines_without (true ∷ true ∷ false ∷ []) 0 ≡ false ∷ true ∷ false ∷ [] }
-    ensures dropped { trial_with
-        (record { keep = true ∷ true ∷ false ∷ []; core = kept 5 Needed ∷ [] }) 1 None
+    ensures dropped { trial_with (two_of_three (kept 5 Needed ∷ [])) 1 None
         ≡ record { keep = true ∷ false ∷ false ∷ []; core = kept 5 Needed ∷ [] } }
-    ensures stays { trial_with
-        (record { keep = true ∷ true ∷ false ∷ []; core = kept 5 Needed ∷ [] }) 1 (Some Undecided)
-        ≡ record { keep = true ∷ true ∷ false ∷ []; core = kept 5 Needed ∷ kept 1 Undecided ∷ [] } }
+    ensures stays { trial_with (two_of_three (kept 5 Needed ∷ [])) 1 (Some Undecided)
+        ≡ two_of_three (kept 5 Needed ∷ kept 1 Undecided ∷ []) }
     ensures only { core_lines 4 (kept 1 Needed ∷ kept 3 Undecided ∷ [])
         ≡ false ∷ true ∷ false ∷ true ∷ [] }
 {}

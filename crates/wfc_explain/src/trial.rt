@@ -39,10 +39,8 @@ pub fn explain<M: PinnedProblem, L: Ledger>(
     requires limit { budget ≤ MAX_BUDGET }
 
     // It is what leaving lines out in turn gives, each run by the rule of the choosers.
-    ensures exact { (rule : Rule) →
-        HaveRule (map (λ chooser. (told chooser).rule) choosers.items) rule →
-        IfOk result (λ explained. explained ≡ explanation_of
-        (M.seen pinned.now) rule budget (words_of_seed seed)) }
+    ensures exact { (rule : Rule) → HaveRule (map (λ c. (told c).rule) choosers.items) rule →
+        IfOk result (λ e. e ≡ explanation_of (M.seen pinned.now) rule budget (words_of_seed seed)) }
 
     // The core admits no map, and without a line that is needed it admits one.
     ensures blamed { IfOk result (IsTrueExplained (M.seen pinned.now)) }
@@ -78,8 +76,7 @@ fn leave_out_in_turn<M: PinnedProblem, L: Ledger>(
     steps: &mut Steps<L>,
 ) -> Result<Core, NoMemory>
     requires choosers { vec_len choosers ≡ (M.seen pinned.now).lines }
-    ensures exact { (rule : Rule) →
-        HaveRule (map (λ chooser. (told chooser).rule) choosers.items) rule →
+    ensures exact { (rule : Rule) → HaveRule (map (λ c. (told c).rule) choosers.items) rule →
         IfOk result (λ core. core ≡ core_of (M.seen pinned.now) rule budget (words_of_seed seed)) }
 {
     let lines = pinned.lines();
@@ -132,9 +129,8 @@ impl Trial {
     ) -> Result<(), NoMemory>
         requires each_line { length self.old.keep ≡ (M.seen pinned.now).lines }
         requires line_in { line < length self.old.keep }
-        ensures tried { OnOk result (self.new ≡ next_trial
-            (outcome_with (M.seen pinned.now) (told chooser).rule budget (words_of_seed seed))
-            self.old line) }
+        ensures tried { OnOk result (self.new ≡ next_trial (outcome_with (M.seen pinned.now)
+            (told chooser).rule budget (words_of_seed seed)) self.old line) }
     {
         self.keep[line as usize] = false;
         let outcome = outcome_with(alloc, pinned, &self.keep, chooser, seed, budget, steps)?;

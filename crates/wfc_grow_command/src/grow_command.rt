@@ -1,22 +1,20 @@
 //! The command `grow`: the map that growth ends in, or the block at which it is stuck.
 
 ghost use Rattle.std.specs.Prelude.{IfOk, Some, length, map, ◌<◌, ◌≡◌, ◌≤◌};
-ghost use Rattle.wfc_blocks.specs.Grown.{grown_of};
 ghost use Rattle.wfc_blocks.specs.declared.TheConstants.{MAX_BLOCKS};
 ghost use Rattle.wfc_blocks.specs.declared.grown.Grown.TheVariants as grown;
 ghost use Rattle.wfc_choose.specs.Pick.{Rule};
 ghost use Rattle.wfc_grow_command.specs.GrowAnswer.{GrowsBy};
 ghost use Rattle.wfc_grow_command.specs.GrowCommand.{GrowAnswers, grow_command};
 ghost use Rattle.wfc_grow_command.specs.GrowGiven.{IsGrowAsked};
-ghost use Rattle.wfc_grow_command.specs.GrowTask.{area_asked, grow_refusal, growing_plan, growing_view};
-ghost use Rattle.wfc_grow_command.specs.Growing.{CanBePut, IsGrowing, PutsGrown};
+ghost use Rattle.wfc_grow_command.specs.GrowTask.{grow_refusal, growing_view};
+ghost use Rattle.wfc_grow_command.specs.Growing.{CanBePut, EndsGrowing, IsGrowing, PutsGrown, growing_end};
 ghost use Rattle.wfc_grow_command.specs.declared.growing.TheConstants.{GROW_CHOOSERS};
-ghost use Rattle.wfc_outside.specs.Folder.{FolderView};
 ghost use Rattle.wfc_outside.specs.Gives.{Gives};
 ghost use Rattle.wfc_plan.specs.Kinds.{HasChoosers};
 ghost use Rattle.wfc_render.specs.Map.{IsWritten};
 ghost use Rattle.wfc_reply.specs.Choosers.{kinds_of};
-ghost use Rattle.wfc_reply.specs.Ending.{EndsAs, EndsPut};
+ghost use Rattle.wfc_reply.specs.Ending.{EndsAs};
 ghost use Rattle.wfc_runs.specs.Alike.{HaveRule, PickAlike};
 ghost use Rattle.wfc_task.specs.Asked.{IsOutputAsked, IsSampleAsked};
 
@@ -46,9 +44,8 @@ pub fn grow<F: Folder, O: Sink>(
 ) -> Result<CommandVerdict, Stop>
     requires output { IsOutputAsked request.now }
     requires asked { IsGrowAsked request.now }
-    ensures ends { EndsAs grow_command (map (λ chooser. (told chooser).rule) choosers.items)
-        request.now (F.seen folder.old) (F.seen folder.new)
-        (O.seen out.old) (O.seen out.new) result }
+    ensures ends { EndsAs grow_command (map (λ c. (told c).rule) choosers.items) request.now
+        (F.seen folder.old) (F.seen folder.new) (O.seen out.old) (O.seen out.new) result }
 {
     let kinds = kinds(alloc, &choosers)?;
     let growing = growing_task(alloc, request, &kinds, folder)?;
@@ -68,9 +65,8 @@ fn grown_from<O: Sink>(
     requires choosers { HasChoosers GROW_CHOOSERS
         (kinds_of (map (λ chooser. (told chooser).rule) choosers.items)) request.now.rule }
     requires growing { IsGrowing request.now growing.now }
-    ensures ends { (folder : FolderView) → EndsPut (growing_plan request.now growing.now)
-        (GrowAnswers (map (λ chooser. (told chooser).rule) choosers.items) request.now)
-        folder folder (O.seen out.old) (O.seen out.new) result }
+    ensures ends { EndsGrowing (GrowAnswers (map (λ c. (told c).rule) choosers.items) request.now)
+        request.now growing.now (O.seen out.old) (O.seen out.new) result }
 {
     let mut taken = first_many(alloc, choosers, request.rule, GROW_CHOOSERS)?;
     let chooser = taken.remove(0);
@@ -92,9 +88,8 @@ fn grown_with<O: Sink>(
     requires have { HaveRule (map (λ chooser. (told chooser).rule) choosers.items)
         (told chooser).rule }
     requires enough { MAX_BLOCKS ≤ length choosers.items }
-    ensures ends { (folder : FolderView) → EndsPut (growing_plan request.now growing.now)
-        (GrowsBy (Some (told chooser).rule) request.now)
-        folder folder (O.seen out.old) (O.seen out.new) result }
+    ensures ends { EndsGrowing (GrowsBy (Some (told chooser).rule) request.now)
+        request.now growing.now (O.seen out.old) (O.seen out.new) result }
 {
     match made::<Brand>(alloc, request, growing, choosers, Blank::new(1)) {
         Ok(made) => put_grown(alloc, request, growing, &made, chooser, out),
@@ -122,10 +117,8 @@ fn made<L: Ledger>(
     requires growing { IsGrowing request.now growing.now }
     requires choosers { MAX_BLOCKS ≤ length choosers.items }
     requires alike { PickAlike (map (λ chooser. (told chooser).rule) choosers.items) }
-    ensures exact { (rule : Rule) → HaveRule (map (λ chooser. (told chooser).rule) choosers.items)
-        rule → Gives GrowFault.NoMemory (λ made. made) result
-        (grown_of growing.now.taught.patterns growing.now.taught.palette (area_asked request.now)
-        growing.now.lines.items rule request.now.budget request.now.seed) }
+    ensures exact { (rule : Rule) → HaveRule (map (λ c. (told c).rule) choosers.items) rule →
+        Gives GrowFault.NoMemory (λ m. m) result (growing_end rule request.now growing.now) }
 {
     // The proof knows how few symbols there are where they are counted.
     let _few = growing.taught.palette.len();

@@ -1,6 +1,6 @@
 //! Laws of the definitions, each a function with no body whose contract is the law. They run nothing.
 
-ghost use Rattle.std.specs.Prelude.{List, Ok, [], codes, false, true, ◌++◌, ◌↔◌, ◌∷◌, ◌≡◌};
+ghost use Rattle.std.specs.Prelude.{List, Ok, [], codes, false, true, ◌++◌, ◌∷◌, ◌≡◌};
 ghost use Rattle.wfc_blocks.specs.Blocks.{area_with};
 ghost use Rattle.wfc_blocks.specs.Small.{block_with};
 ghost use Rattle.wfc_blocks.specs.declared.grown.GrowFault.TheVariants as faults;
@@ -8,14 +8,13 @@ ghost use Rattle.wfc_choose.specs.declared.RuleKind.{RuleKind};
 ghost use Rattle.wfc_grow_command.specs.GrowAnswer.{stuck_verdict};
 ghost use Rattle.wfc_grow_command.specs.GrowClaims.{grow_rules};
 ghost use Rattle.wfc_grow_command.specs.GrowGiven.{IsGrowTask};
-ghost use Rattle.wfc_grow_command.specs.GrowTask.{GrowTask, area_asked, grow_plan, grow_refusal};
-ghost use Rattle.wfc_grow_command.specs.Small.{pin_line};
+ghost use Rattle.wfc_grow_command.specs.GrowTask.{area_asked, grow_plan, grow_refusal};
+ghost use Rattle.wfc_grow_command.specs.Small.{ban_of_b, flat_shape, pin_of_a, seeded_asked, stuck_of_two};
 ghost use Rattle.wfc_grow_command.specs.StuckText.{block_writing, pin_text, stuck_text};
 ghost use Rattle.wfc_grow_command.specs.declared.growing.TheConstants.{GROW_CHOOSERS};
-ghost use Rattle.wfc_outside.specs.Folder.{File};
 ghost use Rattle.wfc_pins.specs.Pins.{pins_of};
 ghost use Rattle.wfc_pins.specs.declared.fault.BuildFault.TheVariants as builds;
-ghost use Rattle.wfc_plan.specs.Plan.{outcome};
+ghost use Rattle.wfc_plan.specs.Refusing.{IsMadeWhere};
 ghost use Rattle.wfc_plan.specs.declared.fault.Refusal.TheVariants as refusals;
 ghost use Rattle.wfc_render.specs.declared.form.Form.TheVariants.{P6};
 ghost use Rattle.wfc_reply.specs.declared.reply.CommandVerdict.TheVariants as verdicts;
@@ -25,9 +24,8 @@ ghost use Rattle.wfc_words.specs.RequestView.{RequestView};
 /// `grow` comes to this task exactly where a chooser is there for each block that a map may have and one more, the sample,
 /// the layout and the lines of pins are those of the request, and the map can be grown.
 pub fn grow_tasks_are_given()
-    ensures task { (kinds : List RuleKind) (asked : RequestView) (files : List File)
-        (task : GrowTask) → (outcome (grow_plan kinds asked) files ≡ Ok task)
-        ↔ IsGrowTask kinds asked files task }
+    ensures task { (kinds : List RuleKind) (asked : RequestView) →
+        IsMadeWhere (grow_plan kinds asked) (IsGrowTask kinds asked) }
     ensures choosers { GROW_CHOOSERS ≡ 65 }
 {}
 
@@ -52,30 +50,12 @@ pub fn growth_is_asked_so()
 
 /// What is written of a stuck block, by example: its lines are those of a pins file.
 pub fn stuck_blocks_are_written_so()
-    ensures text { stuck_text (record {
-      block = block_with 5 12 7 3 4;
-      pins = pin_line 0 true 1 10 (codes "a") ∷ pin_line 6 false 2 0 (codes "1,2,3") ∷ [];
-    })
+    ensures text { stuck_text stuck_of_two
         ≡ codes "stuck 12 7 3 4 pins 2\npin 1 10 a\nban 2 0 1,2,3\n" }
-    ensures read { pins_of (pin_text (pin_line 0 true 1 10 (codes "a"))
-        ++ pin_text (pin_line 6 false 2 0 (codes "b")))
-        ≡ Ok (pin_line 1 true 1 10 (codes "a") ∷ pin_line 2 false 2 0 (codes "b") ∷ []) }
+    ensures read { pins_of (pin_text (pin_of_a 0) ++ pin_text (ban_of_b 6))
+        ≡ Ok (pin_of_a 1 ∷ ban_of_b 2 ∷ []) }
     ensures verdict { stuck_verdict (record { block = block_with 5 12 7 3 4; pins = [] })
         ≡ verdicts.Stuck 12 7 }
-    ensures writing { block_writing
-        (record (sample_asked 2 P6) { seed = 100; budget = 9; symmetry = 8 })
-        (block_with 5 12 7 3 4) ≡ record {
-          format = 2;
-          shape = record {
-            n = 2;
-            width = 3;
-            height = 4;
-            depth = 1;
-            symmetry = 8;
-            wrap_in = false;
-            wrap_out = false;
-          };
-          budget = 9;
-          seed = 105;
-        } }
+    ensures writing { block_writing seeded_asked (block_with 5 12 7 3 4)
+        ≡ record { format = 2; shape = flat_shape 2 3 4 8; budget = 9; seed = 105 } }
 {}

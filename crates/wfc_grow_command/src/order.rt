@@ -2,15 +2,12 @@
 
 ghost use Rattle.std.specs.Prelude.{Err, List, [], codes, ◌≡◌};
 ghost use Rattle.wfc_choose.specs.declared.RuleKind.{RuleKind};
-ghost use Rattle.wfc_choose.specs.declared.RuleKind.TheVariants.{Fewest};
 ghost use Rattle.wfc_grow_command.specs.GrowOrder.{grow_order};
 ghost use Rattle.wfc_grow_command.specs.GrowTask.{grow_plan};
-ghost use Rattle.wfc_grow_command.specs.Small.{blocks_asked};
-ghost use Rattle.wfc_grow_command.specs.declared.growing.TheConstants.{GROW_CHOOSERS};
+ghost use Rattle.wfc_grow_command.specs.Small.{HasGrowFault, blocks_asked};
 ghost use Rattle.wfc_outside.specs.Folder.{File};
 ghost use Rattle.wfc_outside.specs.declared.whole.ReadFault.TheVariants.{Missing};
 ghost use Rattle.wfc_pins.specs.declared.fault.BuildFault.TheVariants as builds;
-ghost use Rattle.wfc_plan.specs.Kinds.{HasChoosers};
 ghost use Rattle.wfc_plan.specs.Plan.{outcome};
 ghost use Rattle.wfc_plan.specs.Refusing.{IsMadeInOrder, IsRefusedInOrder};
 ghost use Rattle.wfc_plan.specs.declared.fault.Fault.TheVariants.{Refused, Unread};
@@ -39,21 +36,15 @@ pub fn choosers_come_first()
 /// Of several faults at once the first in the order is named: the layout before the pins file, and behind its form the size of
 /// the map, how many blocks it has, and what the lines mean.
 pub fn first_of_several_faults()
-    ensures file_and_pins { (kinds : List RuleKind) → HasChoosers GROW_CHOOSERS kinds Fewest →
-        outcome (grow_plan kinds (sample_asked 1 P6)) [] ≡ Err (Unread Sample Missing) }
-    ensures layout_and_pins { (kinds : List RuleKind) → HasChoosers GROW_CHOOSERS kinds Fewest →
-        outcome (grow_plan kinds (sample_asked 1 P6)) (with_sample [])
-        ≡ Err (Refused (refusals.Render FormDiffers)) }
-    ensures pins_and_size { (kinds : List RuleKind) → HasChoosers GROW_CHOOSERS kinds Fewest →
-        outcome (grow_plan kinds (sample_asked 2 Grid)) (with_sample [])
-        ≡ Err (Unread Pins Missing) }
-    ensures size_and_pin { (kinds : List RuleKind) → HasChoosers GROW_CHOOSERS kinds Fewest →
-        outcome (grow_plan kinds (sample_asked 2 Grid)) (with_pins (codes "pin 99 9 x\n"))
-        ≡ Err (Refused (refusals.Build builds.SizeBelowN)) }
-    ensures blocks_and_pin { (kinds : List RuleKind) → HasChoosers GROW_CHOOSERS kinds Fewest →
-        outcome (grow_plan kinds blocks_asked) (with_pins (codes "pin 99 9 x\n"))
-        ≡ Err (Refused (refusals.TooManyBlocks 65)) }
-    ensures pin { (kinds : List RuleKind) → HasChoosers GROW_CHOOSERS kinds Fewest →
-        outcome (grow_plan kinds (sample_asked 1 Grid)) (with_pins (codes "pin 99 9 x\n"))
-        ≡ Err (Refused (refusals.Build (builds.PinOutside 1))) }
+    ensures file_and_pins { HasGrowFault (sample_asked 1 P6) [] (Unread Sample Missing) }
+    ensures layout_and_pins { HasGrowFault (sample_asked 1 P6) (with_sample [])
+        (Refused (refusals.Render FormDiffers)) }
+    ensures pins_and_size { HasGrowFault (sample_asked 2 Grid) (with_sample [])
+        (Unread Pins Missing) }
+    ensures size_and_pin { HasGrowFault (sample_asked 2 Grid) (with_pins (codes "pin 99 9 x\n"))
+        (Refused (refusals.Build builds.SizeBelowN)) }
+    ensures blocks_and_pin { HasGrowFault blocks_asked (with_pins (codes "pin 99 9 x\n"))
+        (Refused (refusals.TooManyBlocks 65)) }
+    ensures pin { HasGrowFault (sample_asked 1 Grid) (with_pins (codes "pin 99 9 x\n"))
+        (Refused (refusals.Build (builds.PinOutside 1))) }
 {}

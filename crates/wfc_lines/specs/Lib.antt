@@ -17,3 +17,4 @@ pub mod Race
 pub mod Stacks
 pub mod Explain
 pub mod Grow
+pub mod Small

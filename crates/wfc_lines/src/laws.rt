@@ -5,7 +5,6 @@ ghost use Rattle.wfc_choose.specs.declared.RuleKind.TheVariants as rules;
 ghost use Rattle.wfc_grid.specs.declared.reading.GridFault.TheVariants as grids;
 ghost use Rattle.wfc_box.specs.declared.fault.StackFault.TheVariants as stacks;
 ghost use Rattle.wfc_box.specs.declared.fault.StackKey.TheVariants as ends;
-ghost use Rattle.wfc_check.specs.Cases.{small_shape};
 ghost use Rattle.wfc_check.specs.declared.fault.CheckFault.TheVariants as checks;
 ghost use Rattle.wfc_lines.specs.Build.{text_of_build};
 ghost use Rattle.wfc_lines.specs.Check.{text_of_check};
@@ -23,6 +22,7 @@ ghost use Rattle.wfc_lines.specs.Ppm.{text_of_ppm};
 ghost use Rattle.wfc_lines.specs.Race.{text_of_race};
 ghost use Rattle.wfc_lines.specs.Reading.{text_of_reading};
 ghost use Rattle.wfc_lines.specs.Render.{text_of_render};
+ghost use Rattle.wfc_lines.specs.Small.{shape_differs};
 ghost use Rattle.wfc_lines.specs.Stacks.{text_of_stacks};
 ghost use Rattle.wfc_lines.specs.Steps.{text_of_range, text_of_steps};
 ghost use Rattle.wfc_lines.specs.Tiles.{text_of_tiles};
@@ -129,9 +129,8 @@ pub fn texts_of_checks_by_example()
         ≡ codes "check BadLine line=41 file=r" }
     ensures header { text_of_check (checks.HeaderDiffers 3 2) (codes "r")
         ≡ codes "check HeaderDiffers cells=3 values=2 file=r" }
-    ensures options { text_of_check (checks.OptionsDiffer small_shape) (codes "r")
-        ≡ codes "check OptionsDiffer n=2 width=3 height=4 depth=1 symmetry=8"
-        ++ codes " wrap_in=1 wrap_out=0 file=r" }
+    ensures options { text_of_check shape_differs (codes "r") ≡ codes "check OptionsDiffer n=2"
+        ++ codes " width=3 height=4 depth=1 symmetry=8 wrap_in=1 wrap_out=0 file=r" }
     ensures too_long { text_of_check checks.TooLong (codes "r") ≡ codes "file TooLong file=r" }
 {}
 

@@ -1,9 +1,12 @@
 -- The answer of `demo` to its task.
 use Rattle.std.specs.Prelude.{List, None, Option, Some, codes, decimal, length, true, ℕ, ◌++◌}
+use Rattle.wfc_choose.specs.Pick.{Rule}
+use Rattle.wfc_choose.specs.declared.RuleKind.TheVariants.{Fewest}
 use Rattle.wfc_pattern.specs.Patterns.{PatternsView}
 use Rattle.wfc_problem.specs.Network.{Network}
 use Rattle.wfc_reply.specs.Outcomes.{outcome_status, verdict_of}
 use Rattle.wfc_reply.specs.Reply.{Answered}
+use Rattle.wfc_reply.specs.RunEnds.{end_of}
 use Rattle.wfc_reply.specs.declared.reply.CommandVerdict.{CommandVerdict}
 use Rattle.wfc_reply.specs.declared.reply.CommandVerdict.TheVariants.{Done, NoMap, Spent}
 use Rattle.wfc_runs.specs.declared.runs.RunEnd.{RunEnd}
@@ -24,6 +27,10 @@ demo_text patterns cells retractions status =
 -- the budget of a demonstration
 abbrev pub demo_budget : ℕ
 demo_budget = 1000
+
+-- how the run of a demonstration of this number ends by these rules
+abbrev pub demo_end : List Rule → Network → ℕ → Option (Outcome × State)
+demo_end rules P number = end_of rules Fewest P demo_budget number
 
 -- the answer of `demo`, where its run has this end
 abbrev pub demo_answer : PatternsView → Network → Option (Outcome × State) → Option Answered

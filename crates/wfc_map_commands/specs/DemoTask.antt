@@ -23,6 +23,10 @@ demo_plan kinds asked =
     and_then (step (enough 1 kinds rules.Fewest))
     (λ _. done (demo (demo_patterns asked.number) (demo_problem asked.number)))
 
+-- what `demo` of this number works on
+abbrev pub demo_work : ℕ → DemoTask
+demo_work number = demo (demo_patterns number) (demo_problem number)
+
 -- what the code makes for `demo`, as its task, or the fault
 abbrev pub demo_made : Result Demonstration Fault → Result DemoTask Fault
 demo_made (Ok made) = Ok (demo made.patterns made.problem)

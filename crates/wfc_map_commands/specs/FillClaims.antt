@@ -60,6 +60,12 @@ pub record IsFoundMap {maps : MapKind} {rules : List Rule} {files : List File} (
   pub ends : end_of rules asked.rule work.P asked.budget asked.seed ≡ Some (outcome.Map, state)
   pub made : m ≡ maps.map_of asked files work.P work.posed (assignment_of work.P state.standing)
 
+-- the map in which the run of this work ends is one map
+abbrev pub HasOneMap : {maps : MapKind} {rules : List Rule} {files : List File} (asked : RequestView)
+    → FillWork maps rules asked files → Type 0
+HasOneMap {maps = maps} asked work =
+    (m other : maps.Map) → IsFoundMap asked work m → IsFoundMap asked work other → m ≡ other
+
 -- status 5 of `fill`: nothing was written, or a front of the text of the map in which the run ends,
 -- and that map is legal
 abbrev pub WritesFront : MapKind → Call → RequestView → List File → Type 0

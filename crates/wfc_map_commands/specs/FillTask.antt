@@ -3,6 +3,7 @@ use Rattle.std.specs.Prelude.{Err, List, Ok, Result}
 use Rattle.wfc_choose.specs.declared.RuleKind.{RuleKind}
 use Rattle.wfc_map_commands.specs.declared.filling.Filled.{Filled}
 use Rattle.wfc_map_commands.specs.declared.filling.Filled.TheVariants as filled
+use Rattle.wfc_map_commands.specs.declared.filling.TileFilling.{TileFilling}
 use Rattle.wfc_pattern.specs.Patterns.{PatternsView}
 use Rattle.wfc_picture.specs.declared.symbol.Symbol.{Symbol}
 use Rattle.wfc_plan.specs.Kinds.{enough}
@@ -51,10 +52,14 @@ fill_plan_by Tiles asked = fill_tiles_plan asked
 abbrev pub fill_plan : List RuleKind → RequestView → Plan FillTask
 fill_plan kinds asked = and_then (step (enough 1 kinds asked.rule)) (λ _. fill_plan_by asked.source asked)
 
+-- what the code keeps of a tile set, as what `fill` works on
+abbrev pub tiles_filled : RequestView → TileFilling → FillTask
+tiles_filled asked made = fill_tiles made.tiles (mask_or_whole asked made.mask) made.layout made.problem
+
 -- what `fill` works on, by what its map is made of
 abbrev pub filled_by : RequestView → Filled → FillTask
 filled_by asked (filled.Windows made) = fill made.patterns made.palette made.layout made.problem
-filled_by asked (filled.Tiles made) = fill_tiles made.tiles (mask_or_whole asked made.mask) made.layout made.problem
+filled_by asked (filled.Tiles made) = tiles_filled asked made
 
 -- what the code makes for `fill`, as its task, or the fault
 abbrev pub fill_made : RequestView → Result Filled Fault → Result FillTask Fault

@@ -6,6 +6,7 @@ pub mod FillTask
 pub mod Filling
 pub mod FillGiven
 pub mod LearnTask
+pub mod LearnGiven
 pub mod FillOrder
 pub mod LearnOrder
 pub mod DomainsOrder

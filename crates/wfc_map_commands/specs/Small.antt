@@ -1,12 +1,16 @@
 -- What `fill` comes to with one chooser, and the steps of a file.
-use Rattle.std.specs.Prelude.{List, Result, [], ℕ, ◌∷◌}
+use Rattle.std.specs.Prelude.{Err, List, Option, Result, [], ℕ, ◌∷◌, ◌≡◌}
 use Rattle.wfc_choose.specs.declared.RuleKind.TheVariants.{Fewest}
 use Rattle.wfc_map_commands.specs.FillTask.{FillTask, fill_plan}
 use Rattle.wfc_outside.specs.Folder.{File}
 use Rattle.wfc_pins.specs.declared.steps.Step.{Step}
+use Rattle.wfc_pins.specs.declared.steps.Step.TheVariants.{Assume, Undo}
 use Rattle.wfc_pins.specs.declared.steps.StepLine.{StepLine}
 use Rattle.wfc_plan.specs.Plan.{outcome}
 use Rattle.wfc_plan.specs.declared.fault.Fault.{Fault}
+use Rattle.wfc_problem.specs.declared.Literal.TheVariants.{Is, Not}
+use Rattle.wfc_task.specs.Small.{AreBeside, IsLaid, tiles_asked}
+use Rattle.wfc_tileset.specs.Tiles.{TileSetView}
 use Rattle.wfc_words.specs.RequestView.{RequestView}
 
 -- what `fill` comes to with one chooser
@@ -16,3 +20,13 @@ fill_outcome asked files = outcome (fill_plan (Fewest ∷ []) asked) files
 -- a step, and the number of the line of a steps file that says it
 abbrev pub step_line : ℕ → Step → StepLine
 step_line line step = record { line = line; step = step }
+
+-- two assumptions, and an undo
+abbrev pub two_and_undo : List StepLine
+two_and_undo = step_line 1 (Assume (Is 0 0)) ∷ step_line 2 (Assume (Not 1 2)) ∷ step_line 5 Undo ∷ []
+
+-- over any files of a tile set, with these pins or none and no mask, `fill` has this fault
+abbrev pub HasTilesFault : Option (List ℕ) → Fault → Type 0
+HasTilesFault pins fault =
+    (files : List File) (set : TileSetView) → IsLaid tiles_asked files set → AreBeside files pins
+    → fill_outcome tiles_asked files ≡ Err fault

@@ -1,14 +1,15 @@
 -- Where the steps of `domains` have led.
-use Rattle.std.specs.Prelude.{List, [], drop, length, map, take, true, ℕ, ◌++◌, ◌+◌, ◌<◌, ◌∷◌, ◌≡◌}
+use Rattle.std.specs.Prelude.{List, Result, [], drop, length, map, take, true, ℕ, ◌++◌, ◌+◌, ◌<◌, ◌∷◌, ◌≡◌}
 use Rattle.wfc_domains.specs.Store.{IsSound, StoreView}
 use Rattle.wfc_map_commands.specs.DomainsAnswer.{after_step, literals_after_steps, shown_domains}
+use Rattle.wfc_outside.specs.Sink.{Puts, SinkView}
 use Rattle.wfc_pins.specs.declared.steps.Step.{Step}
 use Rattle.wfc_pins.specs.declared.steps.StepLine.{StepLine}
 use Rattle.wfc_problem.specs.Network.{Network}
 use Rattle.wfc_problem.specs.Rounds.{greatest}
 use Rattle.wfc_problem.specs.Sizes.{is_dead}
 use Rattle.wfc_problem.specs.declared.Literal.{Literal}
-use Rattle.wfc_render.specs.Block.{blocks_from}
+use Rattle.wfc_render.specs.Block.{block_text, blocks_from}
 
 -- an engine has the first of the literals that stand; the others were assumed while some cell had no value
 pub record IsWalk (v : StoreView) (beside : ℕ) (standing : List Literal) : Type 0 where
@@ -17,6 +18,12 @@ pub record IsWalk (v : StoreView) (beside : ℕ) (standing : List Literal) : Typ
   pub stands : standing ≡ v.standing ++ extra
   pub many : length extra ≡ beside
   pub dead : 0 < beside → is_dead v.problem (greatest v.problem v.standing) ≡ true
+
+-- where steps led to this engine, with so many literals beside it, the block of this number was put
+abbrev pub PutsWalk : {T E : Type 0} → StoreView → ℕ → ℕ → ℕ → ℕ → SinkView → SinkView → Result T E → Type 0
+PutsWalk v beside number count cells old new result =
+    (standing : List Literal) → IsWalk v beside standing
+    → Puts old new (block_text number (shown_domains v.problem standing) count cells) result
 
 -- a step leads from there to there
 abbrev pub WalksTo : StoreView → ℕ → StoreView → ℕ → Step → Type 0

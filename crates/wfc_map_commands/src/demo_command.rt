@@ -3,12 +3,11 @@
 ghost use Rattle.wfc_plan.specs.Kinds.{HasChoosers};
 ghost use Rattle.std.specs.Prelude.{IfOk, OnOk, Some, map, ◌++◌, ◌≡◌};
 ghost use Rattle.wfc_choose.specs.declared.RuleKind.TheVariants.{Fewest};
-ghost use Rattle.wfc_map_commands.specs.DemoAnswer.{count_line, demo_answer, demo_budget, demo_text, demo_verdict};
+ghost use Rattle.wfc_map_commands.specs.DemoAnswer.{count_line, demo_answer, demo_end, demo_text, demo_verdict};
 ghost use Rattle.wfc_map_commands.specs.DemoCommand.{demo_command};
 ghost use Rattle.wfc_reply.specs.Choosers.{kinds_of};
 ghost use Rattle.wfc_reply.specs.Ends.{EndsBy};
-ghost use Rattle.wfc_reply.specs.ReplyView.{answer_view, reply_view};
-ghost use Rattle.wfc_reply.specs.RunEnds.{end_of};
+ghost use Rattle.wfc_reply.specs.ReplyView.{IsAnsweredAs, reply_view};
 
 use crate::demonstration::{Demonstration, demo_task};
 use std::alloc::Global;
@@ -48,9 +47,8 @@ fn answer(
 ) -> Result<Answer, NoMemory>
     requires chooser { HasChoosers 1
         (kinds_of (map (λ chooser. (told chooser).rule) choosers.items)) Fewest }
-    ensures answers { IfOk result (λ answer. demo_answer task.now.patterns task.now.problem
-        (end_of (map (λ chooser. (told chooser).rule) choosers.items) Fewest task.now.problem
-        demo_budget request.now.number) ≡ Some (answer_view answer)) }
+    ensures answers { IfOk result (IsAnsweredAs (demo_answer task.now.patterns task.now.problem
+        (demo_end (map (λ c. (told c).rule) choosers.items) task.now.problem request.now.number))) }
 {
     let chooser = first_chooser(alloc, choosers, RuleKind::Fewest)?;
     let ran = run(

@@ -10,7 +10,7 @@ ghost use Rattle.wfc_problem.specs.Assignment.{IsLegalAssignment};
 ghost use Rattle.wfc_reply.specs.Choosers.{kinds_of};
 ghost use Rattle.wfc_reply.specs.Ends.{EndsBy};
 ghost use Rattle.wfc_reply.specs.Reply.{done_with};
-ghost use Rattle.wfc_reply.specs.ReplyView.{answer_view, reply_view};
+ghost use Rattle.wfc_reply.specs.ReplyView.{IsAnsweredAs, answer_view, reply_view};
 ghost use Rattle.wfc_task.specs.Asked.{IsOutputAsked, IsSourceAsked};
 ghost use Rattle.wfc_task.specs.Tiling.{mask_or_whole};
 ghost use Rattle.wfc_tiled.specs.Maps.{tile_map};
@@ -58,9 +58,8 @@ fn answer(
         (kinds_of (map (λ chooser. (told chooser).rule) choosers.items)) request.now.rule }
     requires output { IsOutputAsked request.now }
     requires filling { IsFillingBy request.now filled.now }
-    ensures answers { IfOk result (λ answer. fill_by (map (λ chooser. (told chooser).rule)
-        choosers.items) request.now (text_of_assignment request.now filled.now) (problem_in
-        filled.now) ≡ Some (answer_view answer)) }
+    ensures answers { IfOk result (IsAnsweredAs (fill_by (map (λ c. (told c).rule) choosers.items)
+        request.now (text_of_assignment request.now filled.now) (problem_in filled.now))) }
 {
     let chooser = first_chooser(alloc, choosers, request.rule)?;
     let problem = problem_in(filled);

@@ -2,12 +2,11 @@
 
 ghost use Rattle.wfc_plan.specs.Kinds.{HasChoosers};
 ghost use Rattle.std.specs.Prelude.{IfOk, OnOk};
-ghost use Rattle.wfc_map_commands.specs.FillTask.{fill, fill_made, fill_plan, fill_plan_by, fill_sample_plan, fill_tiles, fill_tiles_plan};
+ghost use Rattle.wfc_map_commands.specs.FillTask.{fill, fill_made, fill_plan, fill_plan_by, fill_sample_plan, fill_tiles_plan, tiles_filled};
 ghost use Rattle.wfc_map_commands.specs.Filling.{IsFilling, IsFillingBy, IsTileFilling};
 ghost use Rattle.wfc_outside.specs.Gives.{result_map};
 ghost use Rattle.wfc_plan.specs.Plan.{Goes};
 ghost use Rattle.wfc_task.specs.Asked.{AskedBy, IsOutputAsked, IsSampleAsked, IsSourceAsked};
-ghost use Rattle.wfc_task.specs.Tiling.{mask_or_whole};
 
 use std::alloc::Global;
 use wfc_choose::RuleKind;
@@ -118,8 +117,7 @@ fn tile_filling<F: Folder>(
 ) -> Result<TileFilling, Fault>
     requires output { IsOutputAsked request.now }
     ensures goes { Goes (fill_tiles_plan request.now) (F.seen folder.old) (F.seen folder.new)
-        (result_map (λ made. fill_tiles made.tiles (mask_or_whole request.now made.mask) made.layout
-        made.problem) result) }
+        (result_map (tiles_filled request.now) result) }
     ensures filling { IfOk result (IsTileFilling request.now) }
 {
     let tiles = tile_set(alloc, request, folder)?;

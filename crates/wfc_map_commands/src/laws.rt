@@ -1,106 +1,86 @@
 //! Laws of the definitions, each a function with no body whose contract is the law. They run nothing.
 
 ghost use Rattle.wfc_plan.specs.Kinds.{HasChoosers};
-ghost use Rattle.std.specs.Prelude.{Err, List, Ok, [], codes, false, true, ◌↔◌, ◌∷◌, ◌≡◌};
+ghost use Rattle.std.specs.Prelude.{Err, List, Ok, [], codes, false, true, ◌∷◌, ◌≡◌};
 ghost use Rattle.wfc_choose.specs.Pick.{Rule};
 ghost use Rattle.wfc_choose.specs.declared.RuleKind.{RuleKind};
 ghost use Rattle.wfc_choose.specs.declared.RuleKind.TheVariants.{Fewest};
 ghost use Rattle.wfc_map_commands.specs.DemoAnswer.{demo_budget, demo_text};
-ghost use Rattle.wfc_map_commands.specs.DemoTask.{demo, demo_made, demo_plan};
-ghost use Rattle.wfc_map_commands.specs.Demonstration.{demo_output, demo_patterns, demo_problem, demo_side, demo_symbol};
+ghost use Rattle.wfc_map_commands.specs.DemoTask.{demo, demo_made, demo_plan, demo_work};
+ghost use Rattle.wfc_map_commands.specs.Demonstration.{demo_output, demo_side, demo_symbol};
 ghost use Rattle.wfc_map_commands.specs.DomainsAnswer.{standings};
-ghost use Rattle.wfc_map_commands.specs.DomainsGiven.{IsDomainsTask};
+ghost use Rattle.wfc_map_commands.specs.DomainsGiven.{IsDomainsMade};
 ghost use Rattle.wfc_map_commands.specs.DomainsTask.{domains, domains_made, domains_plan};
-ghost use Rattle.wfc_map_commands.specs.FillClaims.{FillWork, IsFoundMap};
-ghost use Rattle.wfc_map_commands.specs.FillGiven.{IsFillTask, IsTileFillTask};
-ghost use Rattle.wfc_map_commands.specs.FillTask.{fill, fill_made, fill_plan, fill_tiles};
-ghost use Rattle.wfc_map_commands.specs.LearnTask.{learn, learn_made, learn_plan, learn_tiles};
-ghost use Rattle.wfc_map_commands.specs.Small.{step_line};
+ghost use Rattle.wfc_map_commands.specs.FillClaims.{FillWork, HasOneMap};
+ghost use Rattle.wfc_map_commands.specs.FillGiven.{IsFillMade, IsTileFillMade};
+ghost use Rattle.wfc_map_commands.specs.FillTask.{fill, fill_made, fill_plan, tiles_filled};
+ghost use Rattle.wfc_map_commands.specs.LearnGiven.{IsLearnMade};
+ghost use Rattle.wfc_map_commands.specs.LearnTask.{learn_made, learn_plan, learn_tiles};
+ghost use Rattle.wfc_map_commands.specs.Small.{step_line, two_and_undo};
 ghost use Rattle.wfc_map_commands.specs.declared.demonstration.Demonstration.{Demonstration};
 ghost use Rattle.wfc_map_commands.specs.declared.filling.Filled.TheVariants as filled;
 ghost use Rattle.wfc_map_commands.specs.declared.filling.Filling.{Filling};
 ghost use Rattle.wfc_map_commands.specs.declared.filling.TileFilling.{TileFilling};
 ghost use Rattle.wfc_map_commands.specs.declared.learning.Learned.TheVariants as learned;
 ghost use Rattle.wfc_map_commands.specs.declared.stepping.Stepping.{Stepping};
-ghost use Rattle.wfc_model.specs.Raster.{Raster};
 ghost use Rattle.wfc_outside.specs.Folder.{File};
 ghost use Rattle.wfc_outside.specs.declared.whole.ReadFault.TheVariants.{Missing};
-ghost use Rattle.wfc_pattern.specs.Patterns.{PatternsView};
-ghost use Rattle.wfc_picture.specs.declared.symbol.Symbol.{Symbol};
 ghost use Rattle.wfc_picture.specs.declared.symbol.Symbol.TheVariants.{Char};
 ghost use Rattle.wfc_pins.specs.declared.steps.Step.TheVariants.{Assume, Undo};
-ghost use Rattle.wfc_pins.specs.declared.steps.StepLine.{StepLine};
 ghost use Rattle.wfc_plan.specs.Plan.{outcome};
+ghost use Rattle.wfc_plan.specs.Refusing.{IsMadeOf};
 ghost use Rattle.wfc_plan.specs.declared.fault.Fault.TheVariants.{Refused, Unread};
 ghost use Rattle.wfc_plan.specs.declared.fault.Fault.{Fault};
 ghost use Rattle.wfc_plan.specs.declared.fault.Refusal.TheVariants.{Chooser};
 ghost use Rattle.wfc_plan.specs.declared.fault.Source.TheVariants.{Sample};
-ghost use Rattle.wfc_problem.specs.Network.{Network};
 ghost use Rattle.wfc_problem.specs.declared.Literal.TheVariants.{Is, Not};
-ghost use Rattle.wfc_render.specs.declared.form.Layout.{Layout};
-ghost use Rattle.wfc_task.specs.Given.{IsTaught};
 ghost use Rattle.wfc_task.specs.Maps.{flat_maps};
 ghost use Rattle.wfc_task.specs.Sources.{is_of_windows};
 ghost use Rattle.wfc_task.specs.TileGiven.{IsTileSetOf};
-ghost use Rattle.wfc_task.specs.Tiling.{mask_or_whole};
-ghost use Rattle.wfc_tiled.specs.Mask.{MaskView};
 ghost use Rattle.wfc_tileset.specs.Tiles.{TileSetView};
 ghost use Rattle.wfc_words.specs.RequestView.{RequestView};
 
 /// `learn` of a sample comes to these patterns and this palette exactly where the file spells a sample that teaches them.
 pub fn learn_tasks_are_given()
-    ensures task { (asked : RequestView) (files : List File) (patterns : PatternsView)
-        (palette : List Symbol) → is_of_windows asked.source ≡ true →
-        (outcome (learn_plan asked) files ≡ Ok (learn patterns palette))
-        ↔ IsTaught asked files patterns palette }
+    ensures task { (asked : RequestView) →
+        is_of_windows asked.source ≡ true → IsLearnMade asked }
 {}
 
 /// `learn` of tiles comes to this tile set exactly where the file spells it, with the pictures that it names.
 pub fn learn_tasks_of_tiles_are_given()
-    ensures task { (asked : RequestView) (files : List File) (set : TileSetView) →
-        is_of_windows asked.source ≡ false →
-        (outcome (learn_plan asked) files ≡ Ok (learn_tiles set)) ↔ IsTileSetOf asked files set }
+    ensures task { (asked : RequestView) → is_of_windows asked.source ≡ false →
+        IsMadeOf (learn_plan asked) learn_tiles (IsTileSetOf asked) }
 {}
 
 /// `fill` of a sample comes to this task exactly where a chooser is there, the sample teaches the patterns, the map has the layout,
 /// and the problem is that of the patterns, the output and the pins.
 pub fn fill_tasks_are_given()
-    ensures task { (kinds : List RuleKind) (asked : RequestView) (files : List File)
-        (patterns : PatternsView) (palette : List Symbol) (layout : Layout) (P : Network) →
-        is_of_windows asked.source ≡ true →
-        (outcome (fill_plan kinds asked) files ≡ Ok (fill patterns palette layout P))
-        ↔ IsFillTask kinds asked files patterns palette layout P }
+    ensures task { (kinds : List RuleKind) (asked : RequestView) →
+        is_of_windows asked.source ≡ true → IsFillMade kinds asked }
 {}
 
 /// `fill` of tiles comes to this task exactly where a chooser is there, the file spells the tile set, the map has the layout,
 /// and the problem is that of the tile set, the mask, the output and the pins.
 pub fn fill_tasks_of_tiles_are_given()
-    ensures task { (kinds : List RuleKind) (asked : RequestView) (files : List File)
-        (set : TileSetView) (mask : MaskView) (layout : Layout) (P : Network) →
-        is_of_windows asked.source ≡ false →
-        (outcome (fill_plan kinds asked) files ≡ Ok (fill_tiles set mask layout P))
-        ↔ IsTileFillTask kinds asked files set mask layout P }
+    ensures task { (kinds : List RuleKind) (asked : RequestView) →
+        is_of_windows asked.source ≡ false → IsTileFillMade kinds asked }
 {}
 
 /// `domains` comes to this task exactly where the problem is that of the request and the steps are those of the file.
 pub fn domains_tasks_are_given()
-    ensures task { (asked : RequestView) (files : List File) (P : Network) (steps : List StepLine) →
-        (outcome (domains_plan asked) files ≡ Ok (domains P steps))
-        ↔ IsDomainsTask asked files P steps }
+    ensures task { (asked : RequestView) → IsDomainsMade asked }
 {}
 
 /// `demo` comes to its task wherever a chooser of the fewest values is there, whatever its number and the files are.
 pub fn demo_tasks_are_given()
-    ensures task { (kinds : List RuleKind) (asked : RequestView) (files : List File) →
-        HasChoosers 1 kinds Fewest → outcome (demo_plan kinds asked) files
-        ≡ Ok (demo (demo_patterns asked.number) (demo_problem asked.number)) }
+    ensures task { (kinds : List RuleKind) (asked : RequestView) (files : List File) → HasChoosers 1
+        kinds Fewest → outcome (demo_plan kinds asked) files ≡ Ok (demo_work asked.number) }
 {}
 
 /// What stands before steps and after each, by example: an undo takes the last literal that stands.
 pub fn standings_by_example()
     ensures none { standings [] [] ≡ [] ∷ [] }
-    ensures undone { standings []
-        (step_line 1 (Assume (Is 0 0)) ∷ step_line 2 (Assume (Not 1 2)) ∷ step_line 5 Undo ∷ [])
+    ensures undone { standings [] two_and_undo
         ≡ [] ∷ (Is 0 0 ∷ []) ∷ (Is 0 0 ∷ Not 1 2 ∷ []) ∷ (Is 0 0 ∷ []) ∷ [] }
     ensures all_undone { standings (Is 3 7 ∷ []) (step_line 1 Undo
         ∷ step_line 2 (Assume (Is 0 1)) ∷ []) ≡ (Is 3 7 ∷ []) ∷ [] ∷ (Is 0 1 ∷ []) ∷ [] }
@@ -115,8 +95,7 @@ pub fn demonstrations_by_example()
 /// The map in which a run ends is one map.
 pub fn found_maps_are_one()
     ensures one { (rules : List Rule) (asked : RequestView) (files : List File)
-        (work : FillWork flat_maps rules asked files) (m other : Raster) →
-        IsFoundMap asked work m → IsFoundMap asked work other → m ≡ other }
+        (work : FillWork flat_maps rules asked files) → HasOneMap asked work }
 {}
 
 /// The pixels of demonstrations, by example.
@@ -143,12 +122,10 @@ pub fn tasks_are_made_of_answers()
     ensures learn { (set : TileSetView) →
         learn_made (Ok (learned.Tiles set)) ≡ Ok (learn_tiles set) }
     ensures learn_fault { (fault : Fault) → learn_made (Err fault) ≡ Err fault }
-    ensures fill { (asked : RequestView) (made : Filling) →
-        fill_made asked (Ok (filled.Windows made))
-        ≡ Ok (fill made.patterns made.palette made.layout made.problem) }
+    ensures fill { (asked : RequestView) (made : Filling) → fill_made asked
+        (Ok (filled.Windows made)) ≡ Ok (fill made.patterns made.palette made.layout made.problem) }
     ensures fill_tiles { (asked : RequestView) (made : TileFilling) →
-        fill_made asked (Ok (filled.Tiles made))
-        ≡ Ok (fill_tiles made.tiles (mask_or_whole asked made.mask) made.layout made.problem) }
+        fill_made asked (Ok (filled.Tiles made)) ≡ Ok (tiles_filled asked made) }
     ensures fill_fault { (asked : RequestView) (fault : Fault) →
         fill_made asked (Err fault) ≡ Err fault }
     ensures domains { (made : Stepping) →

@@ -11,7 +11,7 @@ ghost use Rattle.wfc_map_commands.specs.FillOrder.{fill_order};
 ghost use Rattle.wfc_map_commands.specs.FillTask.{fill_plan};
 ghost use Rattle.wfc_map_commands.specs.LearnOrder.{learn_order};
 ghost use Rattle.wfc_map_commands.specs.LearnTask.{learn_plan};
-ghost use Rattle.wfc_map_commands.specs.Small.{fill_outcome};
+ghost use Rattle.wfc_map_commands.specs.Small.{HasTilesFault, fill_outcome};
 ghost use Rattle.wfc_outside.specs.Folder.{File};
 ghost use Rattle.wfc_outside.specs.declared.whole.ReadFault.TheVariants.{Missing};
 ghost use Rattle.wfc_pattern.specs.declared.learning.LearnFault.TheVariants.{SampleBelowN};
@@ -24,8 +24,7 @@ ghost use Rattle.wfc_plan.specs.declared.fault.Refusal.TheVariants as refusals;
 ghost use Rattle.wfc_plan.specs.declared.fault.Source.TheVariants.{Mask, Pins, Sample, Steps};
 ghost use Rattle.wfc_render.specs.declared.form.Form.TheVariants.{Grid, P6};
 ghost use Rattle.wfc_render.specs.declared.form.RenderFault.TheVariants.{FormDiffers};
-ghost use Rattle.wfc_task.specs.Small.{AreBeside, IsLaid, sample_asked, tiles_asked, with_pins, with_sample};
-ghost use Rattle.wfc_tileset.specs.Tiles.{TileSetView};
+ghost use Rattle.wfc_task.specs.Small.{sample_asked, with_pins, with_sample};
 ghost use Rattle.wfc_words.specs.RequestView.{RequestView};
 
 /// `fill` has a fault exactly where it is that of the first stage at fault, and comes to a task exactly where all are in order.
@@ -81,14 +80,10 @@ pub fn first_of_several_faults()
 
 /// And of a tile set, whatever the tile set is: the pins before the mask, and the mask before what the pins mean.
 pub fn first_of_several_faults_of_tiles()
-    ensures pins_and_mask { (files : List File) (set : TileSetView) → IsLaid tiles_asked files set →
-        AreBeside files None → fill_outcome tiles_asked files ≡ Err (Unread Pins Missing) }
-    ensures lines_and_mask { (files : List File) (set : TileSetView) →
-        IsLaid tiles_asked files set → AreBeside files (Some (codes "pin\n")) →
-        fill_outcome tiles_asked files ≡ Err (Refused (refusals.Pins (pins.BadLine 1))) }
-    ensures mask_and_pin { (files : List File) (set : TileSetView) →
-        IsLaid tiles_asked files set → AreBeside files (Some (codes "pin 9 9 x\n")) →
-        fill_outcome tiles_asked files ≡ Err (Unread Mask Missing) }
+    ensures pins_and_mask { HasTilesFault None (Unread Pins Missing) }
+    ensures lines_and_mask { HasTilesFault (Some (codes "pin\n"))
+        (Refused (refusals.Pins (pins.BadLine 1))) }
+    ensures mask_and_pin { HasTilesFault (Some (codes "pin 9 9 x\n")) (Unread Mask Missing) }
 {}
 
 /// And of what stands behind a problem: the problem before the steps, which no layout is looked at for.

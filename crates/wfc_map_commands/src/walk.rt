@@ -1,17 +1,15 @@
 //! Where the steps of `domains` have led.
 
-ghost use Rattle.std.specs.Prelude.{All, IfOk, IsTrue, List, OnOk, [], length, ◌+◌, ◌<◌, ◌^◌, ◌↔◌, ◌≡◌, ◌≤◌};
+ghost use Rattle.std.specs.Prelude.{All, IfOk, IsTrue, OnOk, [], length, ◌+◌, ◌<◌, ◌^◌, ◌↔◌, ◌≡◌, ◌≤◌};
 ghost use Rattle.wfc_domains.specs.Store.{IsOpened};
 ghost use Rattle.wfc_domains.specs.declared.Verdict.TheVariants.{Alive};
-ghost use Rattle.wfc_map_commands.specs.DomainsAnswer.{root_verdict, shown_domains};
-ghost use Rattle.wfc_map_commands.specs.Walk.{IsWalk, WalksTo, left_text};
+ghost use Rattle.wfc_map_commands.specs.DomainsAnswer.{root_verdict};
+ghost use Rattle.wfc_map_commands.specs.Walk.{IsWalk, PutsWalk, WalksTo, left_text};
 ghost use Rattle.wfc_outside.specs.Sink.{Puts};
 ghost use Rattle.wfc_pins.specs.Steps.{IsStepIn};
 ghost use Rattle.wfc_pins.specs.declared.steps.StepLine.{StepLine};
 ghost use Rattle.wfc_problem.specs.Domains.{IsLiteralIn};
 ghost use Rattle.wfc_problem.specs.Network.{values};
-ghost use Rattle.wfc_problem.specs.declared.Literal.{Literal};
-ghost use Rattle.wfc_render.specs.Block.{block_text};
 
 use crate::stepping::Stepping;
 use std::alloc::Global;
@@ -79,9 +77,8 @@ impl<'p> Walk<'p> {
     ) -> Result<(), SinkFault>
         requires values { count ≡ values self.now.engine.problem }
         requires cells { cells ≡ self.now.engine.problem.cells }
-        ensures put { (standing : List Literal) → IsWalk self.now.engine self.now.beside standing →
-            Puts (O.seen out.old) (O.seen out.new) (block_text number (shown_domains
-            self.now.engine.problem standing) count cells) result }
+        ensures put { PutsWalk self.now.engine self.now.beside number count cells
+            (O.seen out.old) (O.seen out.new) result }
     {
         if self.is_alive() {
             write_block(out, number, Some(self.engine.domains()), count, cells)
@@ -138,9 +135,8 @@ impl<'p> Walk<'p> {
         ensures problem { self.new.engine.problem ≡ self.old.engine.problem }
         ensures spare { self.old.engine.spare ≤ self.new.engine.spare + 1 }
         ensures beside { self.new.beside ≤ self.old.beside + 1 }
-        ensures put { (standing : List Literal) → IsWalk self.new.engine self.new.beside standing →
-            Puts (O.seen out.old) (O.seen out.new) (block_text number (shown_domains
-            self.new.engine.problem standing) count cells) result }
+        ensures put { PutsWalk self.new.engine self.new.beside number count cells
+            (O.seen out.old) (O.seen out.new) result }
     {
         self.step(step, steps);
         self.put(out, number, count, cells)

@@ -1,8 +1,9 @@
 -- A plan of two files with its order, folders, and a refusal of each kind of step, that the laws speak of.
-use Rattle.std.specs.Prelude.{List, Some, [], ℕ, ◌∷◌}
+use Rattle.std.specs.Prelude.{List, Some, [], ℕ, ◌∷◌, ◌≡◌}
 use Rattle.wfc_box.specs.declared.fault.StackFault.TheVariants as stacks
 use Rattle.wfc_grid.specs.declared.reading.GridFault.TheVariants as grids
 use Rattle.wfc_outside.specs.Folder.{File, FolderView}
+use Rattle.wfc_outside.specs.declared.whole.ReadFault.TheVariants.{Missing}
 use Rattle.wfc_pattern.specs.declared.learning.LearnFault.{LearnFault}
 use Rattle.wfc_pattern.specs.declared.learning.LearnFault.TheVariants as learning
 use Rattle.wfc_picture.specs.declared.palette.PaletteFault.TheVariants as palettes
@@ -12,6 +13,7 @@ use Rattle.wfc_pins.specs.declared.steps.StepFault.TheVariants as steps
 use Rattle.wfc_plan.specs.Fault.{IsRefusedAs}
 use Rattle.wfc_plan.specs.Plan.{Plan, done, most_bytes, read}
 use Rattle.wfc_plan.specs.Stages.{IsReadingFault, TaskStage}
+use Rattle.wfc_plan.specs.declared.fault.Fault.TheVariants.{Unread}
 use Rattle.wfc_plan.specs.declared.fault.Refusal.{Refusal}
 use Rattle.wfc_plan.specs.declared.fault.Refusal.TheVariants as refusals
 use Rattle.wfc_plan.specs.declared.fault.Source.TheVariants.{Mask, Pins, Sample}
@@ -39,6 +41,10 @@ second_file = record { name = 98 ∷ []; bytes = [] }
 -- the folder that tells these files, and has counted no fault
 abbrev pub folder_telling : List File → FolderView
 folder_telling files = record { contents = Some files; faults = λ name. 0 }
+
+-- stages that are both at fault: the pins file is missing, and then the sample
+abbrev pub two_missing_order : List TaskStage
+two_missing_order = (λ f. f ≡ Unread Pins Missing) ∷ (λ f. f ≡ Unread Sample Missing) ∷ []
 
 -- what a fault of learning becomes
 abbrev pub IsLearnRefusal : LearnFault → Refusal → Type 0

@@ -1,26 +1,25 @@
 //! Laws of the definitions, each a function with no body whose contract is the law. They run nothing.
 
-ghost use Rattle.std.specs.Prelude.{Err, List, Ok, Some, [], length, map, ℕ, ◌∷◌, ◌≡◌, ◌⊎◌};
+ghost use Rattle.std.specs.Prelude.{Err, List, Ok, Some, [], map, ◌∷◌, ◌≡◌, ◌⊎◌};
 ghost use Rattle.wfc_choose.specs.declared.RuleKind.TheVariants.{Fewest, Ranked, Scanline};
-ghost use Rattle.wfc_outside.specs.Folder.{File, file_of};
+ghost use Rattle.wfc_outside.specs.Folder.{File};
 ghost use Rattle.wfc_outside.specs.declared.whole.ReadFault.TheVariants.{Failed, Missing, TooLong};
 ghost use Rattle.wfc_outside.specs.declared.whole.ReadFault.TheVariants as reading;
 ghost use Rattle.wfc_pattern.specs.declared.learning.LearnFault.TheVariants as learning;
 ghost use Rattle.wfc_pattern.specs.declared.learning.LearnFault.TheVariants.{SampleBelowN};
 ghost use Rattle.wfc_plan.specs.Fault.{class_of, status_of};
-ghost use Rattle.wfc_plan.specs.Files.{file_plan};
+ghost use Rattle.wfc_plan.specs.Files.{AreReadAs};
 ghost use Rattle.wfc_plan.specs.Kinds.{HasChoosers, enough};
 ghost use Rattle.wfc_plan.specs.Order.{AreInOrder, IsFirstFault};
-ghost use Rattle.wfc_plan.specs.Plan.{Goes, most_bytes, outcome};
+ghost use Rattle.wfc_plan.specs.Plan.{Goes, most_bytes};
 ghost use Rattle.wfc_plan.specs.Reaching.{Reaches};
 ghost use Rattle.wfc_plan.specs.Refusing.{IsMadeInOrder, IsRefusedInOrder};
 ghost use Rattle.wfc_plan.specs.Small.{first_file, folder_telling, second_file, two_files_order, two_files_plan};
-ghost use Rattle.wfc_plan.specs.Small.{IsLearnRefusal, wrong_refusals};
+ghost use Rattle.wfc_plan.specs.Small.{IsLearnRefusal, two_missing_order, wrong_refusals};
 ghost use Rattle.wfc_plan.specs.declared.fault.Fault.{Fault};
 ghost use Rattle.wfc_plan.specs.declared.fault.Fault.TheVariants.{Refused, Unread};
 ghost use Rattle.wfc_plan.specs.declared.fault.FaultClass.TheVariants.{Input};
 ghost use Rattle.wfc_plan.specs.declared.fault.Refusal.TheVariants as refusals;
-ghost use Rattle.wfc_plan.specs.declared.fault.Source.{Source};
 ghost use Rattle.wfc_plan.specs.declared.fault.Source.TheVariants.{Pins, Sample};
 
 /// How many choosers are enough, by example.
@@ -84,8 +83,7 @@ pub fn two_files_are_refused_in_order()
 /// The first fault of some stages is that of the first at fault, by example.
 pub fn first_faults_by_example()
     ensures first { (fault : Fault) →
-        IsFirstFault ((λ f. f ≡ Unread Pins Missing) ∷ (λ f. f ≡ Unread Sample Missing) ∷ []) fault
-        → fault ≡ Unread Pins Missing }
+        IsFirstFault two_missing_order fault → fault ≡ Unread Pins Missing }
     ensures second { IsFirstFault ((λ f. ⊥) ∷ (λ f. f ≡ Unread Sample Missing) ∷ [])
         (Unread Sample Missing) }
     ensures past { (fault : Fault) → IsFirstFault ((λ f. ⊥) ∷ []) fault → ⊥ }
@@ -104,10 +102,6 @@ pub fn files_are_reached_by_example()
 /// A file that is read whole has at most 16,777,216 bytes, whatever it is read for; one with a byte more is too long.
 pub fn files_have_a_limit()
     ensures bytes { most_bytes ≡ Some 16777216 }
-    ensures most { (files : List File) (source : Source) (name bytes : List ℕ) →
-        file_of files name ≡ Some bytes → length bytes ≡ 16777216 →
-        outcome (file_plan source name) files ≡ Ok bytes }
-    ensures more { (files : List File) (source : Source) (name bytes : List ℕ) →
-        file_of files name ≡ Some bytes → length bytes ≡ 16777217 →
-        outcome (file_plan source name) files ≡ Err (Unread source TooLong) }
+    ensures most { AreReadAs 16777216 (λ source bytes. Ok bytes) }
+    ensures more { AreReadAs 16777217 (λ source bytes. Err (Unread source TooLong)) }
 {}

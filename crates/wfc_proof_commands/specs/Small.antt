@@ -1,5 +1,7 @@
--- A small request, and a shape of its size.
-use Rattle.std.specs.Prelude.{Bool, true, ℕ}
+-- A small request, a shape of its size, and lines that a run tells.
+use Rattle.std.specs.Prelude.{Bool, List, [], true, ℕ, ◌∷◌}
+use Rattle.wfc_proof.specs.declared.Line.{Line}
+use Rattle.wfc_proof.specs.declared.Line.TheVariants.{Empty, End, Remove, Try}
 use Rattle.wfc_proof.specs.declared.heads.Shape.{Shape}
 use Rattle.wfc_words.specs.RequestView.{RequestView, default_request}
 use Rattle.wfc_words.specs.declared.kinds.CommandKind.TheVariants.{Check}
@@ -28,3 +30,8 @@ five_by_seven_shape n symmetry wrap_in wrap_out = record {
   wrap_in = wrap_in;
   wrap_out = wrap_out;
 }
+
+-- a choice, removals by three cells and directions, of which two follow each other once, and the end
+abbrev pub removals_told : List Line
+removals_told =
+    Try 1 3 ∷ Remove 0 0 2 ∷ Remove 0 1 2 ∷ Remove 0 2 1 ∷ Remove 4 3 1 ∷ Remove 4 5 1 ∷ Empty 0 ∷ End ∷ []

@@ -1,12 +1,11 @@
 //! Laws of the definitions, each a function with no body whose contract is the law. They run nothing.
 
-ghost use Rattle.std.specs.Prelude.{Err, List, None, Ok, Option, Some, [], codes, false, true, ℕ, ◌↔◌, ◌∷◌, ◌≡◌};
+ghost use Rattle.std.specs.Prelude.{Err, List, None, Ok, Option, Some, [], codes, false, true, ℕ, ◌∷◌, ◌≡◌};
 ghost use Rattle.wfc_check.specs.declared.fault.CheckFault.{CheckFault};
 ghost use Rattle.wfc_check.specs.declared.fault.CheckFault.TheVariants as faults;
 ghost use Rattle.wfc_choose.specs.declared.RuleKind.{RuleKind};
-ghost use Rattle.wfc_outside.specs.Folder.{File};
 ghost use Rattle.wfc_outside.specs.declared.whole.ReadFault.TheVariants.{Failed, Missing};
-ghost use Rattle.wfc_plan.specs.Plan.{outcome};
+ghost use Rattle.wfc_plan.specs.Refusing.{IsMadeOf};
 ghost use Rattle.wfc_plan.specs.declared.fault.Fault.{Fault};
 ghost use Rattle.wfc_plan.specs.declared.fault.Fault.TheVariants.{Refused, Unread};
 ghost use Rattle.wfc_plan.specs.declared.fault.Refusal.TheVariants as refusals;
@@ -25,9 +24,9 @@ ghost use Rattle.wfc_proof_commands.specs.RefuteGiven.{IsRefuteTask};
 ghost use Rattle.wfc_proof_commands.specs.RefuteTask.{refute, refute_made, refute_plan};
 ghost use Rattle.wfc_reply.specs.Outcomes.{refute_verdict};
 ghost use Rattle.wfc_reply.specs.RunText.{format_lines, written_format};
-ghost use Rattle.wfc_proof_commands.specs.Small.{five_by_seven, five_by_seven_shape};
-ghost use Rattle.wfc_proof_commands.specs.UpgradeGiven.{IsUpgradeTask};
-ghost use Rattle.wfc_proof_commands.specs.UpgradeTask.{upgrade, upgrade_made, upgrade_plan};
+ghost use Rattle.wfc_proof_commands.specs.Small.{five_by_seven, five_by_seven_shape, removals_told};
+ghost use Rattle.wfc_proof_commands.specs.UpgradeGiven.{IsUpgradeMade};
+ghost use Rattle.wfc_proof_commands.specs.UpgradeTask.{upgrade, upgrade_made};
 ghost use Rattle.wfc_proof_commands.specs.declared.upgrading.Upgrading.{Upgrading};
 ghost use Rattle.wfc_reply.specs.Reply.{done_with, verdict_status};
 ghost use Rattle.wfc_reply.specs.declared.reply.CommandVerdict.TheVariants as verdicts;
@@ -37,24 +36,20 @@ ghost use Rattle.wfc_words.specs.declared.kinds.SourceModel.TheVariants.{Overlap
 
 /// `refute` comes to this task exactly where a chooser is there and the problem is that of the request.
 pub fn refute_tasks_are_given()
-    ensures task { (kinds : List RuleKind) (asked : RequestView) (files : List File) (P : Network) →
-        (outcome (refute_plan flat_proofs kinds asked) files ≡ Ok (refute P))
-        ↔ IsRefuteTask flat_proofs kinds asked files P }
+    ensures task { (kinds : List RuleKind) (asked : RequestView) → IsMadeOf
+        (refute_plan flat_proofs kinds asked) refute (IsRefuteTask flat_proofs kinds asked) }
 {}
 
 /// `upgrade` comes to this task exactly where the problem is that of the request, and the file of the refutation has these bytes.
 pub fn upgrade_tasks_are_given()
-    ensures task { (asked : RequestView) (files : List File) (P : Network) (bytes : List ℕ) →
-        (outcome (upgrade_plan asked) files ≡ Ok (upgrade P bytes))
-        ↔ IsUpgradeTask asked files P bytes }
+    ensures task { (asked : RequestView) → IsUpgradeMade asked }
 {}
 
 /// `check` comes to this task exactly where the problem is that of the request, and this is what the file of the refutation is
 /// answered.
 pub fn check_tasks_are_given()
-    ensures task { (asked : RequestView) (files : List File) (found : Option CheckFault) →
-        (outcome (check_plan flat_proofs asked) files ≡ Ok (check found))
-        ↔ IsCheckTask flat_proofs asked files found }
+    ensures task { (asked : RequestView) →
+        IsMadeOf (check_plan flat_proofs asked) check (IsCheckTask flat_proofs asked) }
 {}
 
 /// What `refute` writes and how it ends, by example: removals of one cell and direction whose values follow are one line of format 2.
@@ -63,8 +58,7 @@ pub fn refutations_by_example()
     ensures two { written_format 2 ≡ Two }
     ensures plain { format_lines One (Remove 0 0 2 ∷ Remove 0 1 2 ∷ Empty 0 ∷ [])
         ≡ Remove 0 0 2 ∷ Remove 0 1 2 ∷ Empty 0 ∷ [] }
-    ensures joined { format_lines Two (Try 1 3 ∷ Remove 0 0 2 ∷ Remove 0 1 2 ∷ Remove 0 2 1
-        ∷ Remove 4 3 1 ∷ Remove 4 5 1 ∷ Empty 0 ∷ End ∷ [])
+    ensures joined { format_lines Two removals_told
         ≡ Try 1 3 ∷ Span 0 0 1 2 ∷ Span 0 2 2 1 ∷ Span 4 3 3 1 ∷ Span 4 5 5 1 ∷ Empty 0 ∷ End ∷ [] }
     ensures map { verdict_status (refute_verdict 7 outcomes.Map) ≡ 1 }
     ensures no_map { verdict_status (refute_verdict 7 outcomes.NoMap) ≡ 0 }

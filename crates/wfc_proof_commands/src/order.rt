@@ -1,7 +1,6 @@
 //! Laws of the order of refusals, each a function with no body whose contract is the law. They run nothing.
 
 ghost use Rattle.std.specs.Prelude.{Err, List, [], codes, ◌≡◌};
-ghost use Rattle.wfc_choose.specs.declared.RuleKind.{RuleKind};
 ghost use Rattle.wfc_choose.specs.declared.RuleKind.TheVariants.{Fewest};
 ghost use Rattle.wfc_outside.specs.Folder.{File};
 ghost use Rattle.wfc_outside.specs.declared.whole.ReadFault.TheVariants.{Missing};
@@ -14,21 +13,19 @@ ghost use Rattle.wfc_plan.specs.declared.fault.Source.TheVariants.{Pins, Refutat
 ghost use Rattle.wfc_proof_commands.specs.Checking.{flat_proofs};
 ghost use Rattle.wfc_proof_commands.specs.CheckOrder.{check_order};
 ghost use Rattle.wfc_proof_commands.specs.CheckTask.{check_plan};
-ghost use Rattle.wfc_proof_commands.specs.RefuteOrder.{refute_order};
+ghost use Rattle.wfc_proof_commands.specs.RefuteCommand.{refute_command};
 ghost use Rattle.wfc_proof_commands.specs.RefuteTask.{refute_plan};
 ghost use Rattle.wfc_proof_commands.specs.UpgradeOrder.{upgrade_order};
 ghost use Rattle.wfc_proof_commands.specs.UpgradeTask.{upgrade_plan};
 ghost use Rattle.wfc_render.specs.declared.form.Form.TheVariants.{P6};
+ghost use Rattle.wfc_reply.specs.Command.{IsMadeByOrder, IsRefusedByOrder};
 ghost use Rattle.wfc_task.specs.Small.{sample_asked, with_pins, with_sample};
 ghost use Rattle.wfc_words.specs.RequestView.{RequestView};
 
 /// So it is with `refute`: the chooser before the problem.
 pub fn refute_refuses_in_order()
-    ensures refused { (kinds : List RuleKind) (asked : RequestView) (files : List File) →
-        IsRefusedInOrder (refute_plan flat_proofs kinds asked) files
-        (refute_order flat_proofs kinds asked files) }
-    ensures made { (kinds : List RuleKind) (asked : RequestView) (files : List File) → IsMadeInOrder
-        (refute_plan flat_proofs kinds asked) files (refute_order flat_proofs kinds asked files) }
+    ensures refused { IsRefusedByOrder refute_command }
+    ensures made { IsMadeByOrder refute_command }
 {}
 
 /// So it is with `check`: the problem before the refutation.

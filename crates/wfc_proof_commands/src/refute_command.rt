@@ -29,9 +29,8 @@ pub fn refute<F: Folder, O: Sink>(
 ) -> Result<CommandVerdict, Stop>
     requires source { IsSourceAsked request.now }
     requires output { IsOutputAsked request.now }
-    ensures ends { EndsAs refute_command (map (λ chooser. (told chooser).rule) choosers.items)
-        request.now (F.seen folder.old) (F.seen folder.new)
-        (O.seen out.old) (O.seen out.new) result }
+    ensures ends { EndsAs refute_command (map (λ c. (told c).rule) choosers.items) request.now
+        (F.seen folder.old) (F.seen folder.new) (O.seen out.old) (O.seen out.new) result }
 {
     let kinds = kinds(alloc, &choosers)?;
     let problem = refute_task(alloc, request, &kinds, folder)?;

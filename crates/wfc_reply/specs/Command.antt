@@ -4,6 +4,7 @@ use Rattle.wfc_choose.specs.Pick.{Rule}
 use Rattle.wfc_choose.specs.declared.RuleKind.{RuleKind}
 use Rattle.wfc_outside.specs.Folder.{File}
 use Rattle.wfc_plan.specs.Plan.{Plan}
+use Rattle.wfc_plan.specs.Refusing.{IsMadeInOrder, IsRefusedInOrder}
 use Rattle.wfc_plan.specs.Stages.{TaskStage}
 use Rattle.wfc_reply.specs.Reply.{Answered}
 use Rattle.wfc_words.specs.RequestView.{RequestView}
@@ -18,3 +19,15 @@ pub record Command : Type 1 where
   pub Answers : List Rule → RequestView → Task → Answered → Type 0
   pub IsNo : List Rule → RequestView → List File → List ℕ → Type 0
   pub budget : RequestView → ℕ
+
+-- by its plan the command has a fault exactly where it is that of the first stage of its order that has one
+abbrev pub IsRefusedByOrder : Command → Type 0
+IsRefusedByOrder command =
+    (kinds : List RuleKind) (asked : RequestView) (files : List File)
+    → IsRefusedInOrder (command.plan kinds asked) files (command.order kinds asked files)
+
+-- by its plan the command comes to something exactly where none of the stages of its order has a fault
+abbrev pub IsMadeByOrder : Command → Type 0
+IsMadeByOrder command =
+    (kinds : List RuleKind) (asked : RequestView) (files : List File)
+    → IsMadeInOrder (command.plan kinds asked) files (command.order kinds asked files)

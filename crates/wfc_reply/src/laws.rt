@@ -17,7 +17,7 @@ ghost use Rattle.wfc_reply.specs.FileNames.{name_of};
 ghost use Rattle.wfc_reply.specs.Outcomes.{outcome_status, refute_status, refute_verdict, verdict_of};
 ghost use Rattle.wfc_reply.specs.Reply.{Answered, CutsOff, HasAnswer, done_with, verdict_status, verdict_text};
 ghost use Rattle.wfc_reply.specs.RunText.{writing_text};
-ghost use Rattle.wfc_reply.specs.Small.{named_files, writing_in};
+ghost use Rattle.wfc_reply.specs.Small.{fewest_rule, named_files, ranked_rule, writing_in};
 ghost use Rattle.wfc_reply.specs.declared.reply.CommandVerdict.{CommandVerdict};
 ghost use Rattle.wfc_reply.specs.declared.reply.CommandVerdict.TheVariants as verdicts;
 ghost use Rattle.wfc_reply.specs.declared.reply.Stop.TheVariants.{Cut, Unanswered};
@@ -87,9 +87,8 @@ pub fn replies_are_left_whole()
         (after_finish (after_bytes old text)) (Ok verdicts.Done) }
     ensures verdict { (text : List ℕ) (old new : SinkView) →
         Leaves (Ok (done_with text)) old new (Ok verdicts.NoMap) → ⊥ }
-    ensures put { (text : List ℕ) (old new : SinkView) →
-        Leaves (Ok (done_with text)) old new (Ok verdicts.Done) →
-        new ≡ after_finish (after_bytes old text) }
+    ensures put { (text : List ℕ) (old new : SinkView) → Leaves (Ok (done_with text)) old new
+        (Ok verdicts.Done) → new ≡ after_finish (after_bytes old text) }
     ensures answered { (answered : Answered) (fault : Fault) (old new : SinkView) →
         Leaves (Ok answered) old new (Err (Unanswered fault)) → ⊥ }
     ensures fault { (fault other : Fault) (old new : SinkView) →
@@ -112,16 +111,13 @@ pub fn writings_by_example()
 
 /// The first rule of a kind is used, by example.
 pub fn first_rules_are_taken()
-    ensures first { first_rule rules.Fewest (rule_with rules.Ranked (5 ∷ [])
-        ∷ rule_with rules.Fewest (1 ∷ []) ∷ rule_with rules.Fewest (2 ∷ []) ∷ [])
-        ≡ Some (rule_with rules.Fewest (1 ∷ [])) }
+    ensures first { first_rule rules.Fewest
+        (ranked_rule 5 ∷ fewest_rule 1 ∷ fewest_rule 2 ∷ []) ≡ Some (fewest_rule 1) }
     ensures none { first_rule rules.Scanline (rule_with rules.Fewest [] ∷ []) ≡ None }
-    ensures two { first_rules 2 rules.Fewest (rule_with rules.Fewest (1 ∷ [])
-        ∷ rule_with rules.Ranked (5 ∷ []) ∷ rule_with rules.Fewest (2 ∷ [])
-        ∷ rule_with rules.Fewest (3 ∷ []) ∷ [])
-        ≡ rule_with rules.Fewest (1 ∷ []) ∷ rule_with rules.Fewest (2 ∷ []) ∷ [] }
-    ensures few { first_rules 3 rules.Ranked (rule_with rules.Fewest (1 ∷ [])
-        ∷ rule_with rules.Ranked (5 ∷ []) ∷ []) ≡ rule_with rules.Ranked (5 ∷ []) ∷ [] }
+    ensures two { first_rules 2 rules.Fewest (fewest_rule 1 ∷ ranked_rule 5 ∷ fewest_rule 2
+        ∷ fewest_rule 3 ∷ []) ≡ fewest_rule 1 ∷ fewest_rule 2 ∷ [] }
+    ensures few { first_rules 3 rules.Ranked (fewest_rule 1 ∷ ranked_rule 5 ∷ [])
+        ≡ ranked_rule 5 ∷ [] }
 {}
 
 /// What a call is made of: its devices are seen before it and after it, in their order, and another error stream changes nothing else.

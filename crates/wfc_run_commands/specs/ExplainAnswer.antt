@@ -9,6 +9,7 @@ use Rattle.wfc_explain.specs.declared.explained.Explained.TheVariants as explain
 use Rattle.wfc_explain.specs.declared.explained.Kept.{Kept}
 use Rattle.wfc_explain.specs.declared.explained.Mark.{Mark}
 use Rattle.wfc_explain.specs.declared.explained.Mark.TheVariants.{Needed, Undecided}
+use Rattle.wfc_reply.specs.Choosers.{first_rule}
 use Rattle.wfc_reply.specs.Reply.{Answered}
 use Rattle.wfc_reply.specs.declared.reply.CommandVerdict.{CommandVerdict}
 use Rattle.wfc_reply.specs.declared.reply.CommandVerdict.TheVariants.{Done, MapExists, Spent}
@@ -67,3 +68,11 @@ answer_to asked numbers said =
 abbrev pub explain_answer : RequestView → List ℕ → Option Explained → Option Answered
 explain_answer asked numbers None = None
 explain_answer asked numbers (Some said) = Some (answer_to asked numbers said)
+
+-- the explanation by this rule, with the budget and the words of the seed asked for
+abbrev pub explanation_asked : Rule → RequestView → PinnedView → Explained
+explanation_asked rule asked v = explanation_of v rule asked.budget (words_of_seed asked.seed)
+
+-- the answer by these rules, where the lines that can be left out have these numbers
+abbrev pub explained_by : List Rule → RequestView → List ℕ → PinnedView → Option Answered
+explained_by rules asked numbers v = explain_answer asked numbers (asked_explanation (first_rule asked.rule rules) asked v)

@@ -1,20 +1,33 @@
 -- A race of seeds, and how the code holds its end.
 use Rattle.std.specs.List.{slice_get}
-use Rattle.std.specs.Prelude.{List, Some, [], ℕ, ⊤, ◌+◌, ◌∷◌, ◌≡◌}
+use Rattle.std.specs.Prelude.{List, Some, [], map, ℕ, ⊤, ◌+◌, ◌∷◌, ◌≡◌}
+use Rattle.rand_pcg.specs.Lcg.{Lcg}
 use Rattle.wfc_choose.specs.Pick.{Rule}
+use Rattle.wfc_choose.specs.Told.{Told}
+use Rattle.wfc_domains.specs.Store.{StoreView}
 use Rattle.wfc_problem.specs.Network.{Network}
 use Rattle.wfc_race.specs.Racers.{Racer, new_racer}
 use Rattle.wfc_race.specs.Rounds.{round_end_of}
+use Rattle.wfc_race.specs.Seen.{racer_of, racers_of, seen}
 use Rattle.wfc_race.specs.declared.RaceEnd.{RaceEnd}
 use Rattle.wfc_race.specs.declared.RaceEnd.TheVariants as end
+use Rattle.wfc_race.specs.declared.runner.Runner.{Runner}
 use Rattle.wfc_run_commands.specs.declared.races.Raced.{Raced}
 use Rattle.wfc_run_commands.specs.declared.races.Raced.TheVariants as raced
-use Rattle.wfc_runs.specs.Words.{words_of_seed}
+use Rattle.wfc_runs.specs.Words.{generator_words, words_of_seed}
 
 -- one runner for each of these rules, with the words of a seed, of the next one, and so on
 abbrev pub entrants : List Rule → ℕ → ℕ → List Racer
 entrants [] budget seed = []
 entrants (rule ∷ rules) budget seed = new_racer rule budget (words_of_seed seed) ∷ entrants rules budget (seed + 1)
+
+-- a runner of the code as a racer: `told` says what its chooser is
+abbrev pub racer_seen : {D : Type 0} {V : D → Type 0} → ((v : D) → V v → Told) → Runner StoreView Lcg D V → Racer
+racer_seen told it = racer_of (seen (λ store. store) generator_words told it)
+
+-- some runners of the code as racers
+abbrev pub racers_seen : {D : Type 0} {V : D → Type 0} → ((v : D) → V v → Told) → List (Runner StoreView Lcg D V) → List Racer
+racers_seen told runners = racers_of (map (seen (λ store. store) generator_words told) runners)
 
 -- the runner in this place of the runners at the end has made so many retractions
 abbrev pub IsRacerWith : List Racer → ℕ → ℕ → Type 0

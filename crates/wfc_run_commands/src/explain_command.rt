@@ -3,17 +3,15 @@
 ghost use Rattle.std.specs.Prelude.{IfOk, Some, length, map, ◌+◌, ◌<◌, ◌≡◌, ◌≤◌};
 ghost use Rattle.wfc_choose.specs.Pick.{Rule};
 ghost use Rattle.wfc_explain.specs.Blame.{IsTrueExplained};
-ghost use Rattle.wfc_explain.specs.Trials.{explanation_of};
 ghost use Rattle.wfc_plan.specs.Kinds.{HasChoosers};
-ghost use Rattle.wfc_reply.specs.Choosers.{first_rule, kinds_of};
-ghost use Rattle.wfc_reply.specs.Ends.{MayReply, EndsBy};
-ghost use Rattle.wfc_reply.specs.ReplyView.{answer_view, reply_view};
-ghost use Rattle.wfc_run_commands.specs.ExplainAnswer.{AreLines, answer_to, asked_explanation, explain_answer};
-ghost use Rattle.wfc_run_commands.specs.ExplainCommand.{ExplainAnswers, explain_command};
+ghost use Rattle.wfc_reply.specs.Choosers.{kinds_of};
+ghost use Rattle.wfc_reply.specs.Ends.{EndsBy};
+ghost use Rattle.wfc_reply.specs.ReplyView.{IsAnsweredAs, answer_view, reply_view};
+ghost use Rattle.wfc_run_commands.specs.ExplainAnswer.{AreLines, answer_to, explained_by, explanation_asked};
+ghost use Rattle.wfc_run_commands.specs.ExplainCommand.{ExplainsBy, explain_command};
 ghost use Rattle.wfc_run_commands.specs.ExplainGiven.{IsExplainAsked};
 ghost use Rattle.wfc_run_commands.specs.ExplainTask.{explain_plan_by, explain_sample_plan, explain_tiles_plan, line_numbers};
 ghost use Rattle.wfc_runs.specs.Alike.{HaveRule, PickAlike};
-ghost use Rattle.wfc_runs.specs.Words.{words_of_seed};
 ghost use Rattle.wfc_search.specs.declared.TheConstants.{MAX_BUDGET};
 ghost use Rattle.wfc_task.specs.Asked.{AskedBy, IsOutputAsked, IsSampleAsked, IsSourceAsked};
 
@@ -63,9 +61,8 @@ fn explain_by<F: Folder>(
     requires asked { IsExplainAsked request.now }
     requires choosers { HasChoosers EXPLAIN_CHOOSERS
         (kinds_of (map (λ chooser. (told chooser).rule) choosers.items)) request.now.rule }
-    ensures ends { MayReply (explain_plan_by source request.now)
-        (ExplainAnswers (map (λ chooser. (told chooser).rule) choosers.items) request.now)
-        (F.seen folder.old) (F.seen folder.new) (reply_view result) }
+    ensures ends { ExplainsBy (explain_plan_by source) (map (λ c. (told c).rule) choosers.items)
+        request.now (F.seen folder.old) (F.seen folder.new) (reply_view result) }
 {
     match source {
         SourceModel::Overlap { .. } => explain_sample(alloc, request, choosers, folder),
@@ -85,9 +82,8 @@ fn explain_sample<F: Folder>(
     requires asked { IsExplainAsked request.now }
     requires choosers { HasChoosers EXPLAIN_CHOOSERS
         (kinds_of (map (λ chooser. (told chooser).rule) choosers.items)) request.now.rule }
-    ensures ends { MayReply (explain_sample_plan request.now)
-        (ExplainAnswers (map (λ chooser. (told chooser).rule) choosers.items) request.now)
-        (F.seen folder.old) (F.seen folder.new) (reply_view result) }
+    ensures ends { ExplainsBy explain_sample_plan (map (λ c. (told c).rule) choosers.items)
+        request.now (F.seen folder.old) (F.seen folder.new) (reply_view result) }
 {
     let taught = sample(alloc, request, folder)?;
     let lines = lines(alloc, request, folder)?;
@@ -107,9 +103,8 @@ fn explain_tiles<F: Folder>(
     requires asked { IsExplainAsked request.now }
     requires choosers { HasChoosers EXPLAIN_CHOOSERS
         (kinds_of (map (λ chooser. (told chooser).rule) choosers.items)) request.now.rule }
-    ensures ends { MayReply (explain_tiles_plan request.now)
-        (ExplainAnswers (map (λ chooser. (told chooser).rule) choosers.items) request.now)
-        (F.seen folder.old) (F.seen folder.new) (reply_view result) }
+    ensures ends { ExplainsBy explain_tiles_plan (map (λ c. (told c).rule) choosers.items)
+        request.now (F.seen folder.old) (F.seen folder.new) (reply_view result) }
 {
     let tiles = tile_set(alloc, request, folder)?;
     let lines = lines(alloc, request, folder)?;
@@ -132,9 +127,8 @@ fn answer<M: PinnedProblem>(
         (kinds_of (map (λ chooser. (told chooser).rule) choosers.items)) request.now.rule }
     requires few { length lines.now + 1 ≤ EXPLAIN_CHOOSERS }
     requires each_line { (M.seen pinned.now).lines ≡ length lines.now }
-    ensures answers { IfOk result (λ answer. explain_answer request.now (line_numbers lines.now)
-        (asked_explanation (first_rule request.now.rule (map (λ chooser. (told chooser).rule)
-        choosers.items)) request.now (M.seen pinned.now)) ≡ Some (answer_view answer)) }
+    ensures answers { IfOk result (IsAnsweredAs (explained_by (map (λ c. (told c).rule)
+        choosers.items) request.now (line_numbers lines.now) (M.seen pinned.now))) }
 {
     let many = pinned.lines() + 1;
     let taken = first_many(alloc, choosers, request.rule, many)?;
@@ -156,9 +150,8 @@ fn run_explanation<M: PinnedProblem, L: Ledger>(
     requires choosers { length choosers.items ≡ (M.seen pinned.now).lines + 1 }
     requires alike { PickAlike (map (λ chooser. (told chooser).rule) choosers.items) }
     requires budget { request.now.budget ≤ MAX_BUDGET }
-    ensures exact { (rule : Rule) → HaveRule (map (λ chooser. (told chooser).rule) choosers.items)
-        rule → IfOk result (λ said. said ≡ explanation_of (M.seen pinned.now) rule
-        request.now.budget (words_of_seed request.now.seed)) }
+    ensures exact { (rule : Rule) → HaveRule (map (λ c. (told c).rule) choosers.items) rule →
+        IfOk result (λ said. said ≡ explanation_asked rule request.now (M.seen pinned.now)) }
     ensures blamed { IfOk result (IsTrueExplained (M.seen pinned.now)) }
 {
     let mut steps = Steps::<L>::new(blank);

@@ -10,6 +10,7 @@ ghost use Rattle.wfc_lines.specs.Explain.{text_of_many_pins};
 ghost use Rattle.wfc_outside.specs.Folder.{File};
 ghost use Rattle.wfc_pins.specs.PinView.{PinView};
 ghost use Rattle.wfc_plan.specs.Plan.{outcome};
+ghost use Rattle.wfc_plan.specs.Refusing.{IsMadeWhere};
 ghost use Rattle.wfc_plan.specs.declared.fault.Refusal.TheVariants.{RaceTooLarge, TooManyPins};
 ghost use Rattle.wfc_problem.specs.Network.{Network, values};
 ghost use Rattle.wfc_race.specs.Racers.{new_racer};
@@ -18,12 +19,12 @@ ghost use Rattle.wfc_render.specs.declared.form.Form.TheVariants.{P6};
 ghost use Rattle.wfc_reply.specs.declared.reply.CommandVerdict.TheVariants.{Done, MapExists, NoMap, Spent};
 ghost use Rattle.wfc_run_commands.specs.ExplainAnswer.{answer_to, core_text};
 ghost use Rattle.wfc_run_commands.specs.ExplainGiven.{IsExplainAsked, IsExplainTask};
-ghost use Rattle.wfc_run_commands.specs.ExplainTask.{ExplainTask, explain_plan, few_lines};
+ghost use Rattle.wfc_run_commands.specs.ExplainTask.{explain_plan, few_lines};
 ghost use Rattle.wfc_run_commands.specs.RaceGiven.{IsRaceTask};
 ghost use Rattle.wfc_run_commands.specs.RaceTask.{race, race_fits, race_plan};
 ghost use Rattle.wfc_run_commands.specs.Races.{entrants};
 ghost use Rattle.wfc_run_commands.specs.Racing.{IsRaceAsked, race_answer, race_line};
-ghost use Rattle.wfc_run_commands.specs.Small.{answer_with, answer_without, small_race, small_racers};
+ghost use Rattle.wfc_run_commands.specs.Small.{answer_with, answer_without, second_needed, small_race, small_racers};
 ghost use Rattle.wfc_run_commands.specs.declared.explaining.TheConstants.{EXPLAIN_CHOOSERS, MAX_LINES};
 ghost use Rattle.wfc_run_commands.specs.declared.racing.TheConstants.{MAX_RACE};
 ghost use Rattle.wfc_runs.specs.Words.{words_of_seed};
@@ -41,9 +42,8 @@ pub fn race_tasks_are_given()
 /// `explain` comes to this task exactly where a chooser is there for each line that it may take and one more, the problem is
 /// that of the request, and its lines aren't too many; then it is that problem, with the numbers of these lines.
 pub fn explain_tasks_are_given()
-    ensures task { (kinds : List RuleKind) (asked : RequestView) (files : List File)
-        (task : ExplainTask) → (outcome (explain_plan kinds asked) files ≡ Ok task)
-        ↔ IsExplainTask kinds asked files task }
+    ensures task { (kinds : List RuleKind) (asked : RequestView) →
+        IsMadeWhere (explain_plan kinds asked) (IsExplainTask kinds asked) }
     ensures lines { MAX_LINES ≡ 64 }
     ensures choosers { EXPLAIN_CHOOSERS ≡ 65 }
 {}
@@ -91,10 +91,8 @@ pub fn race_ends_are_answered_by_example()
 
 /// So of an explanation: a core alone has a text.
 pub fn explanations_are_answered_by_example()
-    ensures core { answer_to small_race (3 ∷ 4 ∷ []) (said.Core (record {
-      index = 1;
-      mark = Needed;
-    } ∷ [])) ≡ answer_with Done (codes "core 1\nneeded 4\n") }
+    ensures core { answer_to small_race (3 ∷ 4 ∷ []) (said.Core second_needed)
+        ≡ answer_with Done (codes "core 1\nneeded 4\n") }
     ensures map_exists { answer_to small_race (3 ∷ []) said.MapExists ≡ answer_without MapExists }
     ensures spent { answer_to small_race (3 ∷ []) said.Spent ≡ answer_without (Spent 50) }
 {}

@@ -5,7 +5,6 @@ ghost use Rattle.wfc_choose.specs.declared.RuleKind.{RuleKind};
 ghost use Rattle.wfc_choose.specs.declared.RuleKind.TheVariants.{Fewest};
 ghost use Rattle.wfc_outside.specs.Folder.{File, file_of};
 ghost use Rattle.wfc_outside.specs.declared.whole.ReadFault.TheVariants.{Missing};
-ghost use Rattle.wfc_plan.specs.Kinds.{HasChoosers};
 ghost use Rattle.wfc_plan.specs.Plan.{outcome};
 ghost use Rattle.wfc_plan.specs.Refusing.{IsMadeInOrder, IsRefusedInOrder};
 ghost use Rattle.wfc_plan.specs.declared.fault.Fault.TheVariants.{Refused, Unread};
@@ -16,13 +15,10 @@ ghost use Rattle.wfc_run_commands.specs.ExplainOrder.{explain_order};
 ghost use Rattle.wfc_run_commands.specs.ExplainTask.{explain_plan};
 ghost use Rattle.wfc_run_commands.specs.RaceOrder.{race_order};
 ghost use Rattle.wfc_run_commands.specs.RaceTask.{race_plan};
-ghost use Rattle.wfc_run_commands.specs.Small.{HasLineTooMany};
-ghost use Rattle.wfc_run_commands.specs.declared.explaining.TheConstants.{EXPLAIN_CHOOSERS};
+ghost use Rattle.wfc_run_commands.specs.Small.{AreTooManyLines, HasExplainFault, HoldsOfTiles, two_seeds_asked};
 ghost use Rattle.wfc_task.specs.Small.{AreBeside, sample_asked, tiles_asked, with_sample};
 ghost use Rattle.wfc_task.specs.Stages.{Teaches};
-ghost use Rattle.wfc_task.specs.TileGiven.{IsTileSetOf};
 ghost use Rattle.wfc_task.specs.declared.lesson.Taught.{Taught};
-ghost use Rattle.wfc_tileset.specs.Tiles.{TileSetView};
 ghost use Rattle.wfc_words.specs.RequestView.{RequestView};
 
 /// `race` has a fault exactly where it is that of the first stage at fault, and comes to a task exactly where all are in
@@ -44,12 +40,10 @@ pub fn explain_refuses_in_order()
 
 /// Of several faults at once the first in the order is named.
 pub fn first_of_several_faults()
-    ensures chooser_and_pins { outcome
-        (race_plan (Fewest ∷ []) (record (sample_asked 2 P6) { seeds = 2 })) (with_sample [])
+    ensures chooser_and_pins { outcome (race_plan (Fewest ∷ []) two_seeds_asked) (with_sample [])
         ≡ Err (Refused (refusals.Chooser Fewest)) }
-    ensures pins { outcome
-        (race_plan (Fewest ∷ Fewest ∷ []) (record (sample_asked 2 P6) { seeds = 2 }))
-        (with_sample []) ≡ Err (Unread Pins Missing) }
+    ensures pins { outcome (race_plan (Fewest ∷ Fewest ∷ []) two_seeds_asked) (with_sample [])
+        ≡ Err (Unread Pins Missing) }
     ensures nothing { (asked : RequestView) (files : List File) → 1 ≤ asked.seeds →
         outcome (race_plan [] asked) files ≡ Err (Refused (refusals.Chooser asked.rule)) }
 {}
@@ -58,16 +52,10 @@ pub fn first_of_several_faults()
 pub fn first_of_several_faults_of_lines()
     ensures nothing { (asked : RequestView) (files : List File) →
         outcome (explain_plan [] asked) files ≡ Err (Refused (refusals.Chooser asked.rule)) }
-    ensures lines_and_size { (kinds : List RuleKind) (files : List File) (lesson : Taught) →
-        Teaches (sample_asked 2 P6) files lesson → HasLineTooMany kinds (sample_asked 2 P6) files →
-        outcome (explain_plan kinds (sample_asked 2 P6)) files
-        ≡ Err (Refused (refusals.TooManyPins 65)) }
-    ensures pins_and_mask { (kinds : List RuleKind) (files : List File) (set : TileSetView) →
-        HasChoosers EXPLAIN_CHOOSERS kinds Fewest → IsTileSetOf tiles_asked files set →
-        AreBeside files None → outcome (explain_plan kinds tiles_asked) files
-        ≡ Err (Unread Pins Missing) }
-    ensures lines_and_mask { (kinds : List RuleKind) (files : List File) (set : TileSetView) →
-        IsTileSetOf tiles_asked files set → HasLineTooMany kinds tiles_asked files →
-        file_of files (codes "m") ≡ None → outcome (explain_plan kinds tiles_asked) files
-        ≡ Err (Refused (refusals.TooManyPins 65)) }
+    ensures lines_and_size { (files : List File) (lesson : Taught) →
+        Teaches (sample_asked 2 P6) files lesson → AreTooManyLines (sample_asked 2 P6) files }
+    ensures pins_and_mask { HoldsOfTiles (λ files. AreBeside files None →
+        HasExplainFault tiles_asked files (Unread Pins Missing)) }
+    ensures lines_and_mask { HoldsOfTiles (λ files. file_of files (codes "m") ≡ None →
+        AreTooManyLines tiles_asked files) }
 {}

@@ -5,7 +5,7 @@ ghost use Rattle.wfc_plan.specs.Kinds.{HasChoosers};
 ghost use Rattle.wfc_race.specs.declared.TheConstants.{MAX_RUNNERS};
 ghost use Rattle.wfc_reply.specs.Choosers.{kinds_of};
 ghost use Rattle.wfc_reply.specs.Ends.{EndsBy};
-ghost use Rattle.wfc_reply.specs.ReplyView.{answer_view, reply_view};
+ghost use Rattle.wfc_reply.specs.ReplyView.{IsAnsweredAs, answer_view, reply_view};
 ghost use Rattle.wfc_run_commands.specs.RaceCommand.{race_command};
 ghost use Rattle.wfc_run_commands.specs.Races.{IsRaced};
 ghost use Rattle.wfc_run_commands.specs.Racing.{IsRaceAsked, IsSeedIn, race_answer, race_end, race_line, raced_answer};
@@ -55,9 +55,8 @@ fn answer(
     requires runners { IsRaceAsked request.now }
     requires choosers { HasChoosers request.now.seeds
         (kinds_of (map (λ chooser. (told chooser).rule) choosers.items)) request.now.rule }
-    ensures answers { IfOk result (λ answer. race_answer request.now
-        (race_end (map (λ chooser. (told chooser).rule) choosers.items) request.now problem.now)
-        ≡ Some (answer_view answer)) }
+    ensures answers { IfOk result (IsAnsweredAs (race_answer request.now
+        (race_end (map (λ c. (told c).rule) choosers.items) request.now problem.now))) }
 {
     let runners = first_many(alloc, choosers, request.rule, request.seeds)?;
     let raced = run_race::<Brand>(alloc, request, problem, runners, Blank::new(1))?;

@@ -2,10 +2,10 @@
 
 ghost use Rattle.std.specs.Prelude.{All, IfOk, length, map, ◌+◌, ◌-◌, ◌<◌, ◌^◌, ◌≡◌, ◌≤◌};
 ghost use Rattle.wfc_race.specs.Racers.{new_racer};
-ghost use Rattle.wfc_race.specs.Seen.{IsRunner, racer_of, racers_of, seen, seens};
+ghost use Rattle.wfc_race.specs.Seen.{IsRunner, racers_of, seen, seens};
 ghost use Rattle.wfc_race.specs.Standing.{EndsTruly};
 ghost use Rattle.wfc_race.specs.declared.TheConstants.{MAX_RUNNERS};
-ghost use Rattle.wfc_run_commands.specs.Races.{AnswersTo, IsRaced, entrants};
+ghost use Rattle.wfc_run_commands.specs.Races.{AnswersTo, IsRaced, entrants, racer_seen, racers_seen};
 ghost use Rattle.wfc_runs.specs.Words.{generator_words, words_of_seed};
 
 use rand_pcg::Pcg64;
@@ -41,9 +41,8 @@ fn runner<'p>(
 ) -> Result<Runner<'p, Ac4<'p>, Pcg64>, NoMemory>
     ensures runner { IfOk result (λ made. IsRunner problem.now
         (seen (λ store. store) generator_words (λ v. (⟦<dyn Chooser as Chooser>⟧ v).told) made)) }
-    ensures entered { IfOk result (λ made. racer_of
-        (seen (λ store. store) generator_words (λ v. (⟦<dyn Chooser as Chooser>⟧ v).told) made)
-        ≡ new_racer (told chooser).rule budget (words_of_seed seed)) }
+    ensures entered { IfOk result (λ made. racer_seen (λ v. (⟦<dyn Chooser as Chooser>⟧ v).told)
+        made ≡ new_racer (told chooser).rule budget (words_of_seed seed)) }
 {
     let Ok(store) = Ac4::open(alloc, problem, problem.depth()) else {
         return Err(NoMemory);
@@ -66,9 +65,8 @@ fn runners<'p>(
     requires fits { seed + length choosers.items ≤ 2 ^ 64 }
     ensures runners { IfOk result (λ made. All (IsRunner problem.now) (map (seen (λ store. store)
         generator_words (λ v. (⟦<dyn Chooser as Chooser>⟧ v).told)) made.items)) }
-    ensures entered { IfOk result (λ made. racers_of (map (seen (λ store. store) generator_words (λ
-        v. (⟦<dyn Chooser as Chooser>⟧ v).told)) made.items) ≡ entrants (map (λ chooser. (told
-        chooser).rule) choosers.items) budget seed) }
+    ensures entered { IfOk result (λ made. racers_seen (λ v. (⟦<dyn Chooser as Chooser>⟧ v).told)
+        made.items ≡ entrants (map (λ c. (told c).rule) choosers.items) budget seed) }
 {
     let mut choosers = choosers;
     let count = choosers.len() as u64;

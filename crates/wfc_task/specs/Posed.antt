@@ -6,6 +6,7 @@ use Rattle.wfc_picture.specs.declared.symbol.Kind.{Kind}
 use Rattle.wfc_picture.specs.declared.symbol.Symbol.{Symbol}
 use Rattle.wfc_plan.specs.Plan.{Plan, and_then, done}
 use Rattle.wfc_problem.specs.Network.{Network}
+use Rattle.wfc_task.specs.Asked.{IsOutputAsked, IsSourceAsked}
 use Rattle.wfc_task.specs.Given.{IsProblemOf, IsSample}
 use Rattle.wfc_task.specs.SamplePlans.{problem_plan, sample_plan}
 use Rattle.wfc_task.specs.TileGiven.{IsTileProblemOf, IsTileSetOf}
@@ -56,3 +57,9 @@ PosedBy Tiles asked files P = OfTiles asked files P
 -- this is the problem of the request over these files
 abbrev pub Posed : RequestView → List File → Network → Type 0
 Posed asked files P = PosedBy asked.source asked files P
+
+-- this holds of the problem of any request for a map, over any files
+abbrev pub HoldsOfPosed : ((asked : RequestView) (files : List File) (P : Network) → Posed asked files P → Type 0) → Type 0
+HoldsOfPosed Holds =
+    (asked : RequestView) (files : List File) (P : Network) (posed : Posed asked files P)
+    → IsSourceAsked asked → IsOutputAsked asked → Holds asked files P posed

@@ -1,8 +1,12 @@
 -- Small requests, whose files have several faults at once.
-use Rattle.std.specs.Prelude.{List, None, Ok, Option, Some, [], codes, length, true, ℕ, ◌∷◌, ◌≡◌}
+use Rattle.std.specs.Prelude.{Err, List, None, Ok, Option, Some, [], codes, length, true, ℕ, ◌∷◌, ◌≡◌}
 use Rattle.wfc_outside.specs.Folder.{File, file_of}
+use Rattle.wfc_outside.specs.declared.whole.ReadFault.TheVariants.{TooLong}
 use Rattle.wfc_picture.specs.declared.symbol.Kind.TheVariants as kinds
 use Rattle.wfc_picture.specs.declared.symbol.Symbol.TheVariants.{Char}
+use Rattle.wfc_plan.specs.Plan.{Plan, outcome}
+use Rattle.wfc_plan.specs.declared.fault.Fault.TheVariants.{Unread}
+use Rattle.wfc_plan.specs.declared.fault.Source.{Source}
 use Rattle.wfc_render.specs.Layout.{layout_of}
 use Rattle.wfc_render.specs.declared.form.Form.{Form}
 use Rattle.wfc_render.specs.declared.form.Layout.{Layout}
@@ -106,3 +110,7 @@ pub record IsLong (files : List File) (name : List ℕ) : Type 0 where
   pub bytes : List ℕ
   pub there : file_of files name ≡ Some bytes
   pub long : length bytes ≡ 16777217
+
+-- over these files the plan is at fault, since the file of this role is too long
+abbrev pub IsReadTooLong : {T : Type 0} → Plan T → List File → Source → Type 0
+IsReadTooLong plan files source = outcome plan files ≡ Err (Unread source TooLong)

@@ -5,7 +5,7 @@ use Rattle.wfc_grid.specs.Reading.{grid_of}
 use Rattle.wfc_model.specs.Raster.{Raster}
 use Rattle.wfc_outside.specs.Gives.{result_map}
 use Rattle.wfc_overlap.specs.Built.{picture_problem}
-use Rattle.wfc_overlap.specs.Sample.{output_with}
+use Rattle.wfc_overlap.specs.Sample.{Output, output_with}
 use Rattle.wfc_pattern.specs.Learning.{patterns_of}
 use Rattle.wfc_pattern.specs.Patterns.{PatternsView}
 use Rattle.wfc_picture.specs.Palette.{picture_and_palette}
@@ -25,6 +25,7 @@ use Rattle.wfc_render.specs.Layout.{layout_of}
 use Rattle.wfc_render.specs.declared.form.Layout.{Layout}
 use Rattle.wfc_task.specs.Sampled.{SampledView, shown_by_grid, shown_by_ppm}
 use Rattle.wfc_task.specs.Sources.{window_side_of}
+use Rattle.wfc_task.specs.declared.steps.AskedOutput.{AskedOutput}
 use Rattle.wfc_tileset.specs.Document.{is_ppm_name}
 use Rattle.wfc_words.specs.RequestView.{RequestView}
 
@@ -65,3 +66,7 @@ read_pin_lines text = or_refuse Pins (pins_of text)
 abbrev pub problem_of_lines : RequestView → PatternsView → List Symbol → List PinView → Result Network Refusal
 problem_of_lines asked patterns palette lines =
     or_refuse Build (picture_problem patterns palette (output_with asked.width asked.height asked.wrap_out) lines)
+
+-- the output that is asked for: its size, and whether it wraps
+abbrev pub output_of_asked : AskedOutput → Output
+output_of_asked output = output_with output.width output.height output.wrap

@@ -12,11 +12,10 @@ ghost use Rattle.wfc_plan.specs.declared.fault.Source.TheVariants.{Mask, Picture
 ghost use Rattle.wfc_problem.specs.Assignment.{IsLegalAssignment};
 ghost use Rattle.wfc_problem.specs.Network.{Network};
 ghost use Rattle.wfc_render.specs.declared.form.Form.TheVariants.{Grid};
-ghost use Rattle.wfc_task.specs.Asked.{IsOutputAsked, IsSourceAsked};
 ghost use Rattle.wfc_task.specs.Maps.{IsLegal, asked_output, map_of, rules_of};
-ghost use Rattle.wfc_task.specs.Posed.{Posed, posed_plan};
+ghost use Rattle.wfc_task.specs.Posed.{HoldsOfPosed, Posed, posed_plan};
 ghost use Rattle.wfc_task.specs.SamplePlans.{pins_plan, sample_plan, sampled_plan};
-ghost use Rattle.wfc_task.specs.Small.{IsLong, file, sample_asked, tiles_asked, wide_asked, windows_asked, with_pins, with_sample};
+ghost use Rattle.wfc_task.specs.Small.{IsLong, IsReadTooLong, file, sample_asked, tiles_asked, wide_asked, windows_asked, with_pins, with_sample};
 ghost use Rattle.wfc_task.specs.Small.{inner_windows, reflected_windows, small_lesson, wrapped_windows};
 ghost use Rattle.wfc_task.specs.Sources.{window_side_of};
 ghost use Rattle.wfc_tileset.specs.Document.{is_ppm_name};
@@ -44,12 +43,10 @@ pub fn picture_names_by_example()
 /// A legal assignment of the problem of a request makes a legal map, and where there is a legal map there is a legal
 /// assignment, whatever the map is made of.
 pub fn maps_are_assignments()
-    ensures made { (asked : RequestView) (files : List File) (P : Network)
-        (posed : Posed asked files P) (a : List ℕ) → IsSourceAsked asked → IsOutputAsked asked →
-        IsLegalAssignment P a → IsLegal asked files P posed (map_of asked files P posed a) }
-    ensures there { (asked : RequestView) (files : List File) (P : Network)
-        (posed : Posed asked files P) (m : Raster) → IsSourceAsked asked → IsOutputAsked asked →
-        IsLegal asked files P posed m → (a : List ℕ) × IsLegalAssignment P a }
+    ensures made { HoldsOfPosed (λ asked files P posed. (a : List ℕ) → IsLegalAssignment P a →
+        IsLegal asked files P posed (map_of asked files P posed a)) }
+    ensures there { HoldsOfPosed (λ asked files P posed. (m : Raster) →
+        IsLegal asked files P posed m → (a : List ℕ) × IsLegalAssignment P a) }
 {}
 
 /// A file with a byte more than 16,777,216 is refused as too long in each role: a sample, a tile set, the picture of a tile, a
@@ -60,8 +57,7 @@ pub fn long_files_are_refused()
     ensures document { (asked : RequestView) (files : List File) → IsLong files asked.file
         → outcome (document_plan asked) files ≡ Err (Unread Sample TooLong) }
     ensures picture { (set : TileSetView) (files : List File) (name : List ℕ) → IsLong files name
-        → outcome (picture_plan (Some name) set) files
-        ≡ Err (Unread (Picture (length set.pictures)) TooLong) }
+        → IsReadTooLong (picture_plan (Some name) set) files (Picture (length set.pictures)) }
     ensures pins { (files : List File) (name : List ℕ) → IsLong files name
         → outcome (pins_plan (Some name)) files ≡ Err (Unread Pins TooLong) }
     ensures mask { (asked : RequestView) (files : List File) (name : List ℕ) → IsLong files name

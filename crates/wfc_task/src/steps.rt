@@ -4,7 +4,6 @@ ghost use Rattle.std.specs.Prelude.{IfOk, length, ◌%◌, ◌*◌, ◌<◌, ◌
 ghost use Rattle.wfc_model.specs.Raster.{height_of};
 ghost use Rattle.wfc_outside.specs.Gives.{Gives};
 ghost use Rattle.wfc_overlap.specs.Built.{picture_problem};
-ghost use Rattle.wfc_overlap.specs.Sample.{output_with};
 ghost use Rattle.wfc_pattern.specs.Learning.{patterns_of};
 ghost use Rattle.wfc_pattern.specs.Patterns.{IsPatterns};
 ghost use Rattle.wfc_picture.specs.Palette.{picture_and_palette};
@@ -13,7 +12,7 @@ ghost use Rattle.wfc_plan.specs.declared.fault.Refusal.TheVariants.{Build, Colou
 ghost use Rattle.wfc_task.specs.Asked.{IsOutputAsked, IsSampleAsked};
 ghost use Rattle.wfc_task.specs.Lesson.{HasShownNumbers, IsPosed, IsSampled};
 ghost use Rattle.wfc_task.specs.Sampled.{sampled_view};
-ghost use Rattle.wfc_task.specs.Steps.{grid_in, patterns_taught, ppm_of_file, problem_of_lines};
+ghost use Rattle.wfc_task.specs.Steps.{grid_in, output_of_asked, patterns_taught, ppm_of_file, problem_of_lines};
 ghost use Rattle.wfc_task.specs.Steps.{read_pin_lines, sample_in_numbers, sample_layout};
 
 use crate::lesson::Taught;
@@ -174,9 +173,8 @@ pub fn posed_for(
     requires some_height { 0 < output.height }
     requires width_limit { output.width ≤ MAX_OUTPUT_SIDE }
     requires height_limit { output.height ≤ MAX_OUTPUT_SIDE }
-    ensures exact { Gives Refusal.NoMemory (λ made. made) result
-        (or_refuse Build (picture_problem patterns.now palette.now
-        (output_with output.width output.height output.wrap) lines.now)) }
+    ensures exact { Gives Refusal.NoMemory (λ m. m) result (or_refuse Build
+        (picture_problem patterns.now palette.now (output_of_asked output) lines.now)) }
 {
     let AskedOutput {
         width,

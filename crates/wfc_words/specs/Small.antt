@@ -1,5 +1,6 @@
--- Small requests, for laws.
-use Rattle.std.specs.Prelude.{true, false, [], codes, None, Some}
+-- Small requests, and the words that ask for them, for laws.
+use Rattle.clap.specs.Walk.{Text}
+use Rattle.std.specs.Prelude.{true, false, List, [], ◌∷◌, codes, None, Some}
 use Rattle.wfc_choose.specs.declared.RuleKind.TheVariants as rules
 use Rattle.wfc_render.specs.declared.form.Form.TheVariants as forms
 use Rattle.wfc_words.specs.RequestView.{RequestView, default_request}
@@ -175,3 +176,51 @@ bare_learn_request = record {
   block = 512;
   depth = 0;
 }
+
+-- the words that ask for a fill with pins, its seed, its rule and its form
+abbrev pub fill_words : List Text
+fill_words =
+    codes "fill" ∷ codes "--pins=p.txt" ∷ codes "a.txt" ∷ codes "3" ∷ codes "--wrap-out" ∷ codes "40"
+    ∷ codes "007" ∷ codes "--seed" ∷ codes "12" ∷ codes "--rule=scanline" ∷ codes "--form=cells" ∷ []
+
+-- the words that ask for a refutation in format 1
+abbrev pub refute_words : List Text
+refute_words =
+    codes "refute" ∷ codes "a" ∷ codes "tiles" ∷ codes "3" ∷ codes "4" ∷ codes "--format=1"
+    ∷ codes "--budget=0" ∷ codes "--rule" ∷ codes "ranked" ∷ []
+
+-- the words that ask for a check with a mask
+abbrev pub check_words : List Text
+check_words =
+    codes "check" ∷ codes "a" ∷ codes "tiles" ∷ codes "5" ∷ codes "6" ∷ codes "r.txt" ∷ codes "--symmetry"
+    ∷ codes "8" ∷ codes "--wrap-in" ∷ codes "--mask" ∷ codes "m" ∷ []
+
+-- the words that ask for a race of eight seeds
+abbrev pub race_words : List Text
+race_words =
+    codes "race" ∷ codes "a" ∷ codes "2" ∷ codes "9" ∷ codes "8" ∷ codes "--quantum=30" ∷ codes "--seeds"
+    ∷ codes "8" ∷ codes "--seed=18446744073709551608" ∷ codes "--rule=scanline" ∷ []
+
+-- the words that ask for an explanation of the lines of `p`
+abbrev pub explain_words : List Text
+explain_words =
+    codes "explain" ∷ codes "a" ∷ codes "tiles" ∷ codes "4" ∷ codes "5" ∷ codes "--mask=m" ∷ codes "--pins"
+    ∷ codes "p" ∷ codes "--wrap-in" ∷ codes "--seed=7" ∷ []
+
+-- the words that ask for a growth in blocks of two
+abbrev pub grow_words : List Text
+grow_words =
+    codes "grow" ∷ codes "a" ∷ codes "2" ∷ codes "90" ∷ codes "80" ∷ codes "--block=2" ∷ codes "--pins"
+    ∷ codes "p" ∷ codes "--wrap-in" ∷ codes "--form=p3" ∷ []
+
+-- the words that ask for a box of 256 layers that wrap
+abbrev pub box_fill_words : List Text
+box_fill_words =
+    codes "box-fill" ∷ codes "a" ∷ codes "7" ∷ codes "6" ∷ codes "256" ∷ codes "--wrap-out"
+    ∷ codes "--rule=ranked" ∷ codes "--form" ∷ codes "grid" ∷ []
+
+-- the words that ask for a refutation of a box in format 1
+abbrev pub box_refute_words : List Text
+box_refute_words =
+    codes "box-refute" ∷ codes "a" ∷ codes "--format=1" ∷ codes "7" ∷ codes "6" ∷ codes "5"
+    ∷ codes "--pins=p" ∷ codes "--seed=9" ∷ codes "--budget" ∷ codes "3" ∷ []

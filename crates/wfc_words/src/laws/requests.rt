@@ -9,6 +9,8 @@ ghost use Rattle.wfc_words.specs.RequestView.{RequestView, default_request};
 ghost use Rattle.wfc_words.specs.Small.{box_check_request, box_fill_request, box_refute_request, check_request};
 ghost use Rattle.wfc_words.specs.Small.{domains_request, explain_request, fill_request, grow_request};
 ghost use Rattle.wfc_words.specs.Small.{learn_request, race_request, refute_request, upgrade_request};
+ghost use Rattle.wfc_words.specs.Small.{box_fill_words, box_refute_words, check_words, explain_words};
+ghost use Rattle.wfc_words.specs.Small.{fill_words, grow_words, race_words, refute_words};
 ghost use Rattle.wfc_words.specs.declared.fault.CommandFault.TheVariants.{Refused};
 ghost use Rattle.wfc_words.specs.declared.kinds.CommandKind.TheVariants as kinds;
 
@@ -28,36 +30,20 @@ pub fn requests_hold_defaults()
 pub fn requests_by_example()
     ensures learn { request_of (codes "learn" ∷ codes "a" ∷ codes "6" ∷ codes "--symmetry=2" ∷ [])
         ≡ Ok learn_request }
-    ensures fill { request_of (codes "fill" ∷ codes "--pins=p.txt" ∷ codes "a.txt" ∷ codes "3"
-        ∷ codes "--wrap-out" ∷ codes "40" ∷ codes "007" ∷ codes "--seed" ∷ codes "12"
-        ∷ codes "--rule=scanline" ∷ codes "--form=cells" ∷ []) ≡ Ok fill_request }
+    ensures fill { request_of fill_words ≡ Ok fill_request }
     ensures domains { request_of (codes "domains" ∷ codes "a" ∷ codes "2" ∷ codes "3" ∷ codes "4096"
         ∷ codes "--steps=s" ∷ []) ≡ Ok domains_request }
-    ensures refute { request_of (codes "refute" ∷ codes "a" ∷ codes "tiles" ∷ codes "3" ∷ codes "4"
-        ∷ codes "--format=1" ∷ codes "--budget=0" ∷ codes "--rule" ∷ codes "ranked" ∷ [])
-        ≡ Ok refute_request }
-    ensures check { request_of (codes "check" ∷ codes "a" ∷ codes "tiles" ∷ codes "5" ∷ codes "6"
-        ∷ codes "r.txt" ∷ codes "--symmetry" ∷ codes "8" ∷ codes "--wrap-in" ∷ codes "--mask"
-        ∷ codes "m" ∷ []) ≡ Ok check_request }
+    ensures refute { request_of refute_words ≡ Ok refute_request }
+    ensures check { request_of check_words ≡ Ok check_request }
     ensures upgrade { request_of (codes "upgrade" ∷ codes "a" ∷ codes "1" ∷ codes "5" ∷ codes "6"
         ∷ codes "r" ∷ codes "--pins" ∷ codes "q" ∷ []) ≡ Ok upgrade_request }
     ensures demo { request_of (codes "demo" ∷ codes "17" ∷ [])
         ≡ Ok (record (default_request kinds.Demo) { number = 17 }) }
-    ensures race { request_of (codes "race" ∷ codes "a" ∷ codes "2" ∷ codes "9" ∷ codes "8"
-        ∷ codes "--quantum=30" ∷ codes "--seeds" ∷ codes "8" ∷ codes "--seed=18446744073709551608"
-        ∷ codes "--rule=scanline" ∷ []) ≡ Ok race_request }
-    ensures explain { request_of (codes "explain" ∷ codes "a" ∷ codes "tiles" ∷ codes "4"
-        ∷ codes "5" ∷ codes "--mask=m" ∷ codes "--pins" ∷ codes "p" ∷ codes "--wrap-in"
-        ∷ codes "--seed=7" ∷ []) ≡ Ok explain_request }
-    ensures grow { request_of (codes "grow" ∷ codes "a" ∷ codes "2" ∷ codes "90" ∷ codes "80"
-        ∷ codes "--block=2" ∷ codes "--pins" ∷ codes "p" ∷ codes "--wrap-in" ∷ codes "--form=p3"
-        ∷ []) ≡ Ok grow_request }
-    ensures box_fill { request_of (codes "box-fill" ∷ codes "a" ∷ codes "7" ∷ codes "6"
-        ∷ codes "256" ∷ codes "--wrap-out" ∷ codes "--rule=ranked" ∷ codes "--form" ∷ codes "grid"
-        ∷ []) ≡ Ok box_fill_request }
-    ensures box_refute { request_of (codes "box-refute" ∷ codes "a" ∷ codes "--format=1" ∷ codes "7"
-        ∷ codes "6" ∷ codes "5" ∷ codes "--pins=p" ∷ codes "--seed=9" ∷ codes "--budget" ∷ codes "3"
-        ∷ []) ≡ Ok box_refute_request }
+    ensures race { request_of race_words ≡ Ok race_request }
+    ensures explain { request_of explain_words ≡ Ok explain_request }
+    ensures grow { request_of grow_words ≡ Ok grow_request }
+    ensures box_fill { request_of box_fill_words ≡ Ok box_fill_request }
+    ensures box_refute { request_of box_refute_words ≡ Ok box_refute_request }
     ensures box_check { request_of (codes "box-check" ∷ codes "a" ∷ codes "7" ∷ codes "6"
         ∷ codes "5" ∷ codes "r" ∷ codes "--wrap-out" ∷ []) ≡ Ok box_check_request }
 {}

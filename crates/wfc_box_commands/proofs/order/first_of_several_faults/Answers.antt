@@ -28,18 +28,18 @@ behind_stacks : (files : List File) (made : StackedSet) (tiles : IsStackedSetOf 
 behind_stacks files made tiles fault is = outcome_on (stacked_plan small_box) (box_problem_plan small_box) files made (given_box_set small_box files made tiles) ∙ is
 
 pub returns-clause-layout_and_pins : goal.returns-clause-layout_and_pins
-returns-clause-layout_and_pins c = λ files made why laid beside.
+returns-clause-layout_and_pins c = λ why files made laid beside.
     outcome_on (stacked_plan small_box) (behind_stacked_set small_box) files made (given_box_set small_box files made laid.tiles)
     ∙ outcome_out (step (box_form made.0 small_box)) (behind_box_layout small_box made) files (Refused (refusals.Render why)) (ap (λ r. outcome (step (or_refuse refusals.Render r)) files) laid.layout)
 
 pub returns-clause-pins : goal.returns-clause-pins
-returns-clause-pins c = λ files made form laid beside. behind_laid files made form laid _ (rw beside.pins_file refl)
+returns-clause-pins c = λ form files made laid beside. behind_laid files made form laid _ (rw beside.pins_file refl)
 
 pub returns-clause-lines : goal.returns-clause-lines
-returns-clause-lines c = λ files made form laid beside. behind_laid files made form laid _ (rw beside.pins_file refl)
+returns-clause-lines c = λ form files made laid beside. behind_laid files made form laid _ (rw beside.pins_file refl)
 
 pub returns-clause-refute : goal.returns-clause-refute
-returns-clause-refute c = λ files made why laid beside. outcome_out (box_plan small_box) behind_refuted files _ (behind_stacks files made laid.tiles _ (rw beside.pins_file refl))
+returns-clause-refute c = λ why files made laid beside. outcome_out (box_plan small_box) behind_refuted files _ (behind_stacks files made laid.tiles _ (rw beside.pins_file refl))
 
 pub returns-clause-check : goal.returns-clause-check
-returns-clause-check c = λ files made why laid beside. outcome_out (box_plan small_box) (behind_checked_problem box_proofs small_box) files _ (behind_stacks files made laid.tiles _ (rw beside.pins_file refl))
+returns-clause-check c = λ why files made laid beside. outcome_out (box_plan small_box) (behind_checked_problem box_proofs small_box) files _ (behind_stacks files made laid.tiles _ (rw beside.pins_file refl))

@@ -41,12 +41,12 @@ no_stacks asked files set why tiles is =
     ∙ outcome_out (step (stacked_in set tiles.bytes)) (behind_stacked set) files (Refused (refusals.Stacks why)) (ap (λ r. outcome (step (or_refuse refusals.Stacks (result_map (stacked_pairs set.tiles) r))) files) is)
 
 pub returns-clause-tiles_and_stacks : goal.returns-clause-tiles_and_stacks
-returns-clause-tiles_and_stacks c = λ asked files bytes why file is. outcome_out (stacked_plan asked) (box_problem_plan asked) files (Refused (refusals.Tiles why)) (no_tiles asked files bytes why file is)
+returns-clause-tiles_and_stacks c = λ asked files why bad. outcome_out (stacked_plan asked) (box_problem_plan asked) files (Refused (refusals.Tiles why)) (no_tiles asked files bad.bytes why bad.file bad.is)
 
 pub returns-clause-stacks_and_layout : goal.returns-clause-stacks_and_layout
-returns-clause-stacks_and_layout c = λ kinds asked files set why tiles there is.
+returns-clause-stacks_and_layout c = λ asked files why bad kinds there.
     outcome_on (step (enough 1 kinds asked.rule)) (λ _. box_filling_plan asked) files tt (ok_step (enough 1 kinds asked.rule) files tt (given_choosers 1 kinds asked.rule there))
-    ∙ outcome_out (stacked_plan asked) (behind_stacked_set asked) files (Refused (refusals.Stacks why)) (no_stacks asked files set why tiles is)
+    ∙ outcome_out (stacked_plan asked) (behind_stacked_set asked) files (Refused (refusals.Stacks why)) (no_stacks asked files bad.set why bad.tiles bad.is)
 
 pub returns-clause-stacks_and_pins : goal.returns-clause-stacks_and_pins
-returns-clause-stacks_and_pins c = λ asked files set why tiles is. outcome_out (stacked_plan asked) (box_problem_plan asked) files (Refused (refusals.Stacks why)) (no_stacks asked files set why tiles is)
+returns-clause-stacks_and_pins c = λ asked files why bad. outcome_out (stacked_plan asked) (box_problem_plan asked) files (Refused (refusals.Stacks why)) (no_stacks asked files bad.set why bad.tiles bad.is)

@@ -10,7 +10,7 @@ use Rattle.wfc_render.specs.declared.form.Layout.{Layout}
 
 pub returns : goal.returns
 returns c = record {
-  task = λ kinds asked files patterns palette layout P windows. (
+  task = λ kinds asked windows files patterns palette layout P. (
     λ is.
         let given = fill_given kinds asked files (fill patterns palette layout P) windows is in
         let same : given.0 ≡ patterns = cc (given.4) in

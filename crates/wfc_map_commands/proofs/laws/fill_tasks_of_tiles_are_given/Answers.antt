@@ -10,7 +10,7 @@ use Rattle.wfc_tileset.specs.Tiles.{TileSetView}
 
 pub returns : goal.returns
 returns c = record {
-  task = λ kinds asked files set mask layout P tiles. (
+  task = λ kinds asked tiles files set mask layout P. (
     λ is.
         let given = fill_tiles_given kinds asked files (fill_tiles set mask layout P) tiles is in
         let same : given.0 ≡ set = cc (given.4) in

@@ -8,7 +8,7 @@ use Rattle.wfc_task.specs.Given.{IsTaught}
 
 pub returns : goal.returns
 returns c = record {
-  task = λ asked files patterns palette windows. (
+  task = λ asked windows files patterns palette. (
     λ is.
         let given = learn_given asked files (learn patterns palette) windows is in
         let same : given.0 ≡ patterns = cc (given.2) in

@@ -7,7 +7,7 @@ use Rattle.wfc_tileset.specs.Tiles.{TileSetView}
 
 pub returns : goal.returns
 returns c = record {
-  task = λ asked files set tiles. (
+  task = λ asked tiles files set. (
     λ is.
         let given = learn_tiles_given asked files (learn_tiles set) tiles is in
         let same : given.0 ≡ set = cc (given.1) in

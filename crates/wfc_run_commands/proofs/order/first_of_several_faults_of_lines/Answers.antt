@@ -34,20 +34,20 @@ too_many kinds asked files has =
     ∙ outcome_out (step (few_lines has.lines)) (λ _. done has.lines) files (Refused (refusals.TooManyPins 65)) (rw (has.many) refl)
 
 pub returns-clause-lines_and_size : goal.returns-clause-lines_and_size
-returns-clause-lines_and_size c = λ kinds files lesson teaches has.
+returns-clause-lines_and_size c = λ files lesson teaches kinds has.
     let asked = sample_asked 2 P6 in
     behind_choosers kinds asked files has.choosers
     ∙ outcome_on (sample_plan asked) (behind_lesson asked) files lesson (given_sample asked files lesson.kind lesson.patterns lesson.palette teaches)
     ∙ outcome_out (lines_plan asked) (behind_lines asked lesson) files (Refused (refusals.TooManyPins 65)) (too_many kinds asked files has)
 
 pub returns-clause-pins_and_mask : goal.returns-clause-pins_and_mask
-returns-clause-pins_and_mask c = λ kinds files set choosers tiles beside.
+returns-clause-pins_and_mask c = λ files set tiles beside kinds choosers.
     behind_choosers kinds tiles_asked files choosers
     ∙ outcome_on (tiles_plan tiles_asked) (behind_set tiles_asked) files set (given_tiles tiles_asked files set tiles)
     ∙ outcome_out (lines_plan tiles_asked) (behind_tile_lines tiles_asked set) files _ (rw beside.pins_file refl)
 
 pub returns-clause-lines_and_mask : goal.returns-clause-lines_and_mask
-returns-clause-lines_and_mask c = λ kinds files set tiles has unmasked.
+returns-clause-lines_and_mask c = λ files set tiles unmasked kinds has.
     behind_choosers kinds tiles_asked files has.choosers
     ∙ outcome_on (tiles_plan tiles_asked) (behind_set tiles_asked) files set (given_tiles tiles_asked files set tiles)
     ∙ outcome_out (lines_plan tiles_asked) (behind_tile_lines tiles_asked set) files (Refused (refusals.TooManyPins 65)) (too_many kinds tiles_asked files has)
