@@ -1,7 +1,7 @@
 //! The literals that stand, with room for a fixed number of them.
 
 ghost use Rattle.std.specs.Prelude.{◌≡◌, ◌<◌, [], length, IfOk};
-ghost use Rattle.wfc_domains.specs.Levels.{with_literal, without_literal, without_literals};
+ghost use Rattle.wfc_domains.specs.Levels.{with_level, without_level, without_levels};
 ghost use Rattle.wfc_domains.specs.Log.{Heights};
 ghost use Rattle.wfc_domains.specs.Store.{level_mark};
 
@@ -74,7 +74,7 @@ impl Levels {
     /// Puts a literal on.
     pub fn push(&mut self, literal: Literal, mark: u32)
         requires spare { 0 < self.old.spare }
-        ensures more { self.new ≡ with_literal self.old literal mark }
+        ensures more { self.new ≡ with_level self.old literal mark }
     {
         self.standing.push_reserved(literal);
         self.marks.push_reserved(mark);
@@ -84,7 +84,7 @@ impl Levels {
     /// Takes the last literal away.
     pub fn pop(&mut self)
         requires some { 0 < length self.old.standing }
-        ensures less { self.new ≡ without_literal self.old }
+        ensures less { self.new ≡ without_level self.old }
     {
         let _ = self.standing.pop();
         let _ = self.marks.pop();
@@ -93,7 +93,7 @@ impl Levels {
 
     /// Takes all literals away.
     pub fn clear(&mut self)
-        ensures none { self.new ≡ without_literals self.old }
+        ensures none { self.new ≡ without_levels self.old }
     {
         self.spare += self.standing.len() as u32;
         self.standing.clear();
