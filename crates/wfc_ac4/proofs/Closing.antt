@@ -4,7 +4,7 @@ use Rattle.std.specs.Prelude.{slice_get}
 use Rattle.std.proofs.lemmas.List.{take-append-le, length-drop, get_or-drop}
 use Rattle.std.proofs.lemmas.Option.{slice_get-get_or}
 use Rattle.wfc_problem.specs.Network.{Network}
-use Rattle.wfc_domains.specs.declared.Removal.{Removal}
+use Rattle.wfc_log.specs.declared.Removal.{Removal}
 use Rattle.wfc_domains.specs.declared.board.Board.{Board}
 use Rattle.wfc_domains.specs.Board.{IsBoard, Grows}
 use Rattle.wfc_domains.specs.Counters.{cost_of}

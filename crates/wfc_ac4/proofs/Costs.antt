@@ -7,7 +7,7 @@ use Rattle.std.proofs.lemmas.List.Sums.{sum_by_push, sum_by-take-drop}
 use Rattle.wfc_lists.proofs.Ranges.{range_more}
 use Rattle.wfc_model.specs.Direction.{opposite}
 use Rattle.wfc_problem.specs.Network.{Network, neighbour, supports_of}
-use Rattle.wfc_domains.specs.declared.Removal.{Removal}
+use Rattle.wfc_log.specs.declared.Removal.{Removal}
 use Rattle.wfc_domains.specs.Counters.{supports_at, cost_at, cost_of, counter_place}
 use Rattle.wfc_ac4.specs.Places.{side_places, places_upto, counter_places}
 

@@ -3,14 +3,14 @@ use Rattle.std.proofs.Common.{◌≡◌, ℕ, ◌+◌, List, [], ◌++◌, lengt
 use Rattle.std.proofs.lemmas.List.{take_all, take-append-le, length-append}
 use Rattle.wfc_problem.specs.Network.{neighbour, in_base}
 use Rattle.wfc_problem.specs.Domains.{Within, IsArcConsistent}
-use Rattle.wfc_domains.specs.declared.Removal.{Removal}
-use Rattle.wfc_domains.specs.declared.Verdict.TheVariants.{Alive}
+use Rattle.wfc_log.specs.declared.Removal.{Removal}
+use Rattle.wfc_log.specs.declared.Verdict.TheVariants.{Alive}
 use Rattle.wfc_domains.specs.declared.board.Board.{Board}
-use Rattle.wfc_domains.specs.Domains.{has}
+use Rattle.wfc_log.specs.Domains.{has}
 use Rattle.wfc_domains.specs.Counters.{HasCounts, Table, counter_place}
 use Rattle.wfc_domains.specs.Removals.{without}
 use Rattle.wfc_domains.specs.Store.{IsSound, IsOpening, IsVerdict, left_of, level_mark, all_but_last, without_last}
-use Rattle.wfc_domains.specs.Log.{Heights}
+use Rattle.wfc_domains.specs.Heights.{Heights}
 use Rattle.wfc_domains.specs.Board.{view_of, IsTraced, IsBoard, IsCut}
 use Rattle.wfc_domains.proofs.Problems.{consistent-from_counts, counts-from_consistent, greatest-consistent, neighbour-dir}
 use Rattle.wfc_domains.proofs.Removals.{without-in}

@@ -6,7 +6,7 @@ use Rattle.std.proofs.lemmas.Nat.{mod-mul-add, div-add-mod'}
 use Rattle.std.proofs.Math.Nat.{mod-lt, mod-eq_of_lt}
 use Rattle.wfc_problem.specs.Network.{Network}
 use Rattle.wfc_problem.specs.Domains.{Test, Within}
-use Rattle.wfc_domains.specs.Domains.{Flags, has, less}
+use Rattle.wfc_log.specs.Domains.{Flags, has, less}
 use Rattle.wfc_domains.specs.Counters.{Table, FitsTable, IsMarked, Marks, Unmarks, count_of, entry_of, with_count, count_place}
 use Rattle.wfc_domains.proofs.Marking.{entry-same, entry-other}
 use Rattle.wfc_domains.proofs.Removals.{less-keeps}

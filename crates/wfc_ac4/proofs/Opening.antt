@@ -8,11 +8,11 @@ use Rattle.std.proofs.lemmas.List.{get_or_past}
 use Rattle.std.proofs.lemmas.Nat.{same_from_place, mul-add-lt, div-mul-add, mod-mul-add}
 use Rattle.wfc_problem.specs.Network.{Network, values, neighbour, supports_of, in_base, IsProblem}
 use Rattle.wfc_problem.specs.Domains.{Test, Within, base_with, support_count}
-use Rattle.wfc_domains.specs.declared.Cause.TheVariants.{Arc}
-use Rattle.wfc_domains.specs.declared.Removal.{Removal}
-use Rattle.wfc_domains.specs.declared.Verdict.TheVariants.{Alive, Dead}
+use Rattle.wfc_log.specs.declared.Cause.TheVariants.{Arc}
+use Rattle.wfc_log.specs.declared.Removal.{Removal}
+use Rattle.wfc_log.specs.declared.Verdict.TheVariants.{Alive, Dead}
 use Rattle.wfc_domains.specs.declared.board.Board.{Board}
-use Rattle.wfc_domains.specs.Domains.{Flags, has, size_of, less}
+use Rattle.wfc_log.specs.Domains.{Flags, has, size_of, less}
 use Rattle.wfc_domains.specs.Counters.{entry_of, Table, FitsTable, count_of, counts_of, counters_of, counter_place}
 use Rattle.wfc_domains.specs.Removals.{without, IsUnsupported}
 use Rattle.wfc_domains.specs.Store.{left_of, IsOpening, IsLeastUnsupported, IsLeastEmpty, IsBefore}

@@ -11,7 +11,7 @@ use Rattle.wfc_model.specs.Direction.{opposite}
 use Rattle.wfc_problem.specs.Network.{Network, values, neighbour, supports_of, IsProblem}
 use Rattle.wfc_problem.specs.Domains.{Test, count_at, support_count}
 use Rattle.wfc_domains.specs.Counters.{counter_place}
-use Rattle.wfc_domains.specs.Domains.{less}
+use Rattle.wfc_log.specs.Domains.{less}
 use Rattle.wfc_domains.proofs.Places.{place-same}
 use Rattle.wfc_domains.proofs.Problems.{rising, in_values, back, symmetric, opposite-in, opposite-opposite, neighbour-dir}
 use Rattle.wfc_domains.proofs.Removals.{less-here, less-elsewhere}

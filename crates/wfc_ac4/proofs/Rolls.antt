@@ -2,9 +2,9 @@
 use Rattle.std.proofs.Common.{◌≡◌, ℕ, ◌-◌, ◌<◌, ◌≤◌, List, [], ◌∷◌, ◌++◌, length, take, refl, sym, ◌∙◌, ap, subst, arith}
 use Rattle.std.proofs.lemmas.List.{take-append-le, take_all, take_at, take-take, length_push}
 use Rattle.wfc_problem.specs.Network.{in_base}
-use Rattle.wfc_domains.specs.declared.Removal.{Removal}
+use Rattle.wfc_log.specs.declared.Removal.{Removal}
 use Rattle.wfc_domains.specs.declared.board.Board.{Board}
-use Rattle.wfc_domains.specs.Domains.{has, less}
+use Rattle.wfc_log.specs.Domains.{has, less}
 use Rattle.wfc_domains.specs.Counters.{Unmarks, Table, counter_place}
 use Rattle.wfc_domains.specs.Removals.{without}
 use Rattle.wfc_domains.specs.Board.{IsTraced, Regains}

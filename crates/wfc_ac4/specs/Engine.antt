@@ -1,6 +1,6 @@
 -- What holds of an engine between two calls.
 use Rattle.std.specs.Prelude.{◌≡◌, ◌≤◌, [], length}
-use Rattle.wfc_domains.specs.declared.Verdict.TheVariants.{Alive}
+use Rattle.wfc_log.specs.declared.Verdict.TheVariants.{Alive}
 use Rattle.wfc_domains.specs.Store.{StoreView, IsSound, level_mark}
 use Rattle.wfc_domains.specs.Board.{view_of, IsTraced, HasLevels}
 use Rattle.wfc_ac4.specs.Links.{AreLinks}

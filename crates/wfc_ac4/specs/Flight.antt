@@ -1,10 +1,10 @@
 -- What a flight's steps leave as it was.
 use Rattle.std.specs.Prelude.{◌≡◌, ℕ, ◌<◌, ◌⊎◌, ◌∷◌, ◌++◌, [], length, min, take, Some, IsTrue}
 use Rattle.wfc_problem.specs.Network.{neighbour}
-use Rattle.wfc_domains.specs.declared.Cause.TheVariants.{Arc}
-use Rattle.wfc_domains.specs.declared.Removal.{Removal}
-use Rattle.wfc_domains.specs.declared.Verdict.TheVariants.{Alive}
-use Rattle.wfc_domains.specs.Domains.{has}
+use Rattle.wfc_log.specs.declared.Cause.TheVariants.{Arc}
+use Rattle.wfc_log.specs.declared.Removal.{Removal}
+use Rattle.wfc_log.specs.declared.Verdict.TheVariants.{Alive}
+use Rattle.wfc_log.specs.Domains.{has}
 use Rattle.wfc_domains.specs.Counters.{Table, IsMarked, Marks, count_of, cost_of}
 use Rattle.wfc_domains.specs.Board.{Grows, Loses}
 use Rattle.wfc_ac4.specs.declared.flight.Flight.{Flight}

@@ -2,10 +2,10 @@
 use Rattle.std.specs.Prelude.{◌≡◌, ℕ, ◌+◌, ◌*◌, ◌<◌, ◌≤◌, List, [], length, take, slice_get, Some, IsTrue, false}
 use Rattle.wfc_problem.specs.Network.{Network, values, neighbour, in_base, IsProblem}
 use Rattle.wfc_problem.specs.Domains.{Test, Within, support_count}
-use Rattle.wfc_domains.specs.declared.Verdict.TheVariants.{Alive}
-use Rattle.wfc_domains.specs.declared.Removal.{Removal}
+use Rattle.wfc_log.specs.declared.Verdict.TheVariants.{Alive}
+use Rattle.wfc_log.specs.declared.Removal.{Removal}
 use Rattle.wfc_domains.specs.declared.board.Board.{Board}
-use Rattle.wfc_domains.specs.Domains.{Flags, has, less}
+use Rattle.wfc_log.specs.Domains.{Flags, has, less}
 use Rattle.wfc_domains.specs.Counters.{Table, FitsTable, IsMarked, count_of, counter_place}
 use Rattle.wfc_domains.specs.Removals.{without}
 use Rattle.wfc_domains.specs.Board.{IsTraced, IsBoard, IsCut}

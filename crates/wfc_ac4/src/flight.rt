@@ -2,8 +2,8 @@
 
 ghost use Rattle.std.specs.Prelude.{◌≡◌, ℕ, ◌+◌, ◌*◌, ◌<◌, length, IfSome, IfNone, Some};
 ghost use Rattle.wfc_problem.specs.Network.{values, neighbour};
-ghost use Rattle.wfc_domains.specs.declared.Verdict.TheVariants.{Alive};
-ghost use Rattle.wfc_domains.specs.Domains.{has};
+ghost use Rattle.wfc_log.specs.declared.Verdict.TheVariants.{Alive};
+ghost use Rattle.wfc_log.specs.Domains.{has};
 ghost use Rattle.wfc_domains.specs.Counters.{FitsTable, count_of, counts_of};
 ghost use Rattle.wfc_domains.specs.Store.{IsOpening};
 ghost use Rattle.wfc_domains.specs.Board.{IsFresh};

@@ -7,7 +7,7 @@
 
 ghost use Rattle.std.specs.Prelude.{◌≡◌, ◌+◌, ◌<◌, ◌≤◌, length, IfOk};
 ghost use Rattle.wfc_problem.specs.Domains.{IsLiteralIn};
-ghost use Rattle.wfc_domains.specs.declared.Verdict.TheVariants.{Alive};
+ghost use Rattle.wfc_log.specs.declared.Verdict.TheVariants.{Alive};
 ghost use Rattle.wfc_domains.specs.Counters.{FitsTable, HasCounts, cost_of};
 ghost use Rattle.wfc_domains.specs.Store.{IsSound, IsAssumed, IsOpened, left_of, added_of, without_last};
 

@@ -3,7 +3,7 @@
 ghost use Rattle.std.specs.Prelude.{◌≡◌, ◌+◌, ◌/◌, ◌<◌, ◌≤◌, [], length, slice_get, Some};
 ghost use Rattle.wfc_model.specs.Direction.{opposite};
 ghost use Rattle.wfc_problem.specs.Network.{values};
-ghost use Rattle.wfc_domains.specs.declared.Verdict.TheVariants.{Alive};
+ghost use Rattle.wfc_log.specs.declared.Verdict.TheVariants.{Alive};
 ghost use Rattle.wfc_domains.specs.Counters.{FitsTable, cost_at, counter_place};
 ghost use Rattle.wfc_domains.specs.Board.{Grows, HasValues, IsTraced};
 ghost use Rattle.wfc_ac4.specs.Places.{counter_places};

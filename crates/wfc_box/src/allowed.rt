@@ -113,7 +113,10 @@ fn turned(tiles: &TileSet, stack: Stack, k: u8) -> (u16, u16)
     ensures lower_in { result.0 < variant_total tiles.now.tiles }
     ensures upper_in { result.1 < variant_total tiles.now.tiles }
 {
-    (tiles.image_of_end(stack.lower, k), tiles.image_of_end(stack.upper, k))
+    (
+        tiles.image_of_end(stack.lower, k),
+        tiles.image_of_end(stack.upper, k),
+    )
 }
 
 /// The table with the flags of these pairs.

@@ -4,7 +4,7 @@ ghost use Rattle.std.specs.Prelude.{◌≡◌, ◌+◌, ◌*◌, ◌<◌, ◌≤
 ghost use Rattle.std.specs.List.{sum_by};
 ghost use Rattle.wfc_problem.specs.Network.{value_weight};
 ghost use Rattle.wfc_problem.specs.Sizes.{values_at, size_at};
-ghost use Rattle.wfc_domains.specs.Domains.{Fits, has};
+ghost use Rattle.wfc_log.specs.Domains.{Fits, has};
 ghost use Rattle.wfc_choose.specs.Draw.{drawn_value};
 
 use wfc_domains::Domains;

@@ -10,13 +10,13 @@ use Rattle.wfc_problem.specs.Domains.{Test, Within}
 use Rattle.wfc_problem.specs.Rounds.{depth_of}
 use Rattle.wfc_problem.specs.Sizes.{is_dead, size_at}
 use Rattle.wfc_problem.specs.declared.Literal.{Literal}
-use Rattle.wfc_domains.specs.declared.Cause.{Cause}
-use Rattle.wfc_domains.specs.declared.Removal.{Removal}
-use Rattle.wfc_domains.specs.declared.Verdict.{Verdict}
-use Rattle.wfc_domains.specs.declared.Verdict.TheVariants.{Alive, Dead}
+use Rattle.wfc_log.specs.declared.Cause.{Cause}
+use Rattle.wfc_log.specs.declared.Removal.{Removal}
+use Rattle.wfc_log.specs.declared.Verdict.{Verdict}
+use Rattle.wfc_log.specs.declared.Verdict.TheVariants.{Alive, Dead}
 use Rattle.wfc_domains.specs.declared.board.Board.{Board}
-use Rattle.wfc_domains.specs.Domains.{Flags, has, size_of, less, IsLess, base_of}
-use Rattle.wfc_domains.specs.Log.{extent_of, IsInside, IsCauseBelow, IsLogged, cells_of, sizes_after}
+use Rattle.wfc_log.specs.Domains.{Flags, has, size_of, less, IsLess, base_of}
+use Rattle.wfc_log.specs.Log.{extent_of, IsInside, IsCauseBelow, IsLogged, cells_of, sizes_after}
 use Rattle.wfc_domains.specs.Removals.{without, IsCause, IsRemoved, AreRemoved}
 use Rattle.wfc_domains.specs.Store.{StoreView, IsSound, level_mark, left_of, before_of}
 use Rattle.wfc_domains.specs.Board.{view_of, AreStood, IsTraced, HasLevels, HasValues, IsBoard, lost, Grows}

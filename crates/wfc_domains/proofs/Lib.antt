@@ -1,5 +1,3 @@
-pub mod BitLemmas
-pub mod Rows
 pub mod Problems
 pub mod Places
 pub mod HalfLemmas
@@ -8,9 +6,6 @@ pub mod FourMarks
 pub mod Loading
 pub mod Removals
 pub mod SizeLemmas
-pub mod NumberedLemmas
-pub mod PackedLemmas
-pub mod OlderLemmas
 pub mod Boards
 pub mod Sound
 pub mod Cuts

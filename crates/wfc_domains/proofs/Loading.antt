@@ -12,7 +12,7 @@ use Rattle.wfc_lists.proofs.Counts.{count_by_all, count_by_whole}
 use Rattle.wfc_lists.proofs.Ranges.{range_at}
 use Rattle.wfc_problem.specs.Network.{Network, values, neighbour, supports_of, IsProblem}
 use Rattle.wfc_problem.specs.Domains.{Test, count_at, support_count}
-use Rattle.wfc_domains.specs.Domains.{Flags, has, size_of}
+use Rattle.wfc_log.specs.Domains.{Flags, has, size_of}
 use Rattle.wfc_domains.specs.Counters.{Table, with_count, entry_of, counts_of, count_place, counter_place}
 use Rattle.wfc_domains.specs.Halves.{entries_from, limit_from}
 use Rattle.wfc_domains.specs.Parts.{IsCountSplit}

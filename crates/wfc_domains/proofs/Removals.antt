@@ -16,8 +16,8 @@ use Rattle.wfc_problem.specs.Domains.{Test, Within}
 use Rattle.wfc_problem.specs.Rounds.{pairs, depth_of}
 use Rattle.wfc_problem.specs.Sizes.{size_at}
 use Rattle.wfc_problem.specs.declared.Literal.{Literal}
-use Rattle.wfc_domains.specs.declared.Removal.{Removal}
-use Rattle.wfc_domains.specs.Domains.{less}
+use Rattle.wfc_log.specs.declared.Removal.{Removal}
+use Rattle.wfc_log.specs.Domains.{less}
 use Rattle.wfc_domains.specs.Removals.{without, IsRemoved, AreRemoved}
 use Rattle.wfc_domains.specs.Board.{AreStood}
 use Rattle.wfc_domains.proofs.Problems.{base-in}

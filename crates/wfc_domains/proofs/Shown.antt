@@ -7,7 +7,7 @@ use Rattle.std.proofs.lemmas.Nat.{div-mul-add, mod-mul-add}
 use Rattle.wfc_problem.specs.Network.{Network, values, row_of}
 use Rattle.wfc_problem.specs.Domains.{Test}
 use Rattle.wfc_domains.specs.declared.board.Board.{Board}
-use Rattle.wfc_domains.specs.Domains.{Flags, has, flags_of}
+use Rattle.wfc_log.specs.Domains.{Flags, has, flags_of}
 use Rattle.wfc_domains.specs.Store.{left_of}
 use Rattle.wfc_domains.specs.Board.{view_of, IsTraced}
 use Rattle.wfc_domains.proofs.Places.{row_at}

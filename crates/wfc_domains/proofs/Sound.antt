@@ -9,13 +9,13 @@ use Rattle.wfc_problem.specs.Rounds.{greatest}
 use Rattle.wfc_problem.specs.Sizes.{is_dead, size_at}
 use Rattle.wfc_problem.specs.declared.Literal.{Literal}
 use Rattle.wfc_problem.specs.declared.Literal.TheVariants.{Is, Not}
-use Rattle.wfc_domains.specs.declared.Cause.{Cause}
-use Rattle.wfc_domains.specs.declared.Cause.TheVariants.{Assumed, Arc}
-use Rattle.wfc_domains.specs.declared.Removal.{Removal}
-use Rattle.wfc_domains.specs.declared.Verdict.{Verdict}
-use Rattle.wfc_domains.specs.declared.Verdict.TheVariants.{Alive, Dead}
+use Rattle.wfc_log.specs.declared.Cause.{Cause}
+use Rattle.wfc_log.specs.declared.Cause.TheVariants.{Assumed, Arc}
+use Rattle.wfc_log.specs.declared.Removal.{Removal}
+use Rattle.wfc_log.specs.declared.Verdict.{Verdict}
+use Rattle.wfc_log.specs.declared.Verdict.TheVariants.{Alive, Dead}
 use Rattle.wfc_domains.specs.declared.board.Board.{Board}
-use Rattle.wfc_domains.specs.Domains.{has, size_of, less}
+use Rattle.wfc_log.specs.Domains.{has, size_of, less}
 use Rattle.wfc_domains.specs.Removals.{without, IsCause, AreRemoved}
 use Rattle.wfc_domains.specs.Store.{StoreView, IsSound, IsVerdict, IsOpening, IsLeastEmpty, level_mark, left_of, before_of, added_of, all_but_last, without_last}
 use Rattle.wfc_domains.specs.Board.{view_of, IsTraced, HasLevels, IsBoard, IsCut}

@@ -6,9 +6,9 @@ use Rattle.wfc_problem.specs.Network.{Network, in_base, IsProblem}
 use Rattle.wfc_problem.specs.Domains.{Test, Within, IsEmptyAt}
 use Rattle.wfc_problem.specs.Sizes.{is_dead}
 use Rattle.wfc_problem.specs.declared.Literal.{Literal}
-use Rattle.wfc_domains.specs.declared.Removal.{Removal}
-use Rattle.wfc_domains.specs.declared.Verdict.TheVariants.{Dead}
-use Rattle.wfc_domains.specs.Domains.{less}
+use Rattle.wfc_log.specs.declared.Removal.{Removal}
+use Rattle.wfc_log.specs.declared.Verdict.TheVariants.{Dead}
+use Rattle.wfc_log.specs.Domains.{less}
 use Rattle.wfc_domains.specs.Removals.{without, AreRemoved, IsStopped}
 use Rattle.wfc_domains.specs.Store.{StoreView, IsSound, IsVerdict, added_of, before_of, left_of, level_mark}
 use Rattle.wfc_domains.proofs.Problems.{dead-iff}

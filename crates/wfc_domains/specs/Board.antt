@@ -4,12 +4,12 @@ use Rattle.wfc_problem.specs.Network.{values, in_base, IsProblem}
 use Rattle.wfc_problem.specs.Domains.{Test, Within, base_with}
 use Rattle.wfc_problem.specs.Rounds.{depth_of}
 use Rattle.wfc_problem.specs.declared.Literal.{Literal}
-use Rattle.wfc_domains.specs.declared.Cause.{Cause}
-use Rattle.wfc_domains.specs.declared.Removal.{Removal}
-use Rattle.wfc_domains.specs.declared.Verdict.TheVariants.{Alive, Dead}
+use Rattle.wfc_log.specs.declared.Cause.{Cause}
+use Rattle.wfc_log.specs.declared.Removal.{Removal}
+use Rattle.wfc_log.specs.declared.Verdict.TheVariants.{Alive, Dead}
 use Rattle.wfc_domains.specs.declared.board.Board.{Board}
-use Rattle.wfc_domains.specs.Domains.{Flags, has, size_of, less, IsLess}
-use Rattle.wfc_domains.specs.Log.{extent_of}
+use Rattle.wfc_log.specs.Domains.{Flags, has, size_of, less, IsLess}
+use Rattle.wfc_log.specs.Log.{extent_of}
 use Rattle.wfc_domains.specs.Removals.{without, AreRemoved}
 use Rattle.wfc_domains.specs.Store.{StoreView, IsSound, IsOpening, left_of, before_of, added_of, level_mark}
 

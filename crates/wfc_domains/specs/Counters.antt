@@ -4,7 +4,7 @@ use Rattle.std.specs.Prelude.{replicate, slice_index, slice_set, Option, Some, N
 use Rattle.std.specs.List.{range_with_len, sum_by}
 use Rattle.wfc_problem.specs.Network.{Network, values, neighbour, supports_of}
 use Rattle.wfc_problem.specs.Domains.{Test, support_count}
-use Rattle.wfc_domains.specs.declared.Removal.{Removal}
+use Rattle.wfc_log.specs.declared.Removal.{Removal}
 
 -- one count for each cell, value and direction, none of which can be above the limit
 pub record Table : Type 0 where

@@ -1,7 +1,7 @@
 -- Levels after a literal is put on or taken away.
 use Rattle.std.specs.Prelude.{ℕ, ◌+◌, ◌-◌, ◌++◌, ◌∷◌, [], length}
 use Rattle.wfc_problem.specs.declared.Literal.{Literal}
-use Rattle.wfc_domains.specs.Log.{Heights}
+use Rattle.wfc_domains.specs.Heights.{Heights}
 use Rattle.wfc_domains.specs.Store.{all_but_last}
 
 -- the levels with one literal more, put on when there were so many removals

@@ -4,10 +4,10 @@ use Rattle.wfc_problem.specs.Network.{Network, neighbour}
 use Rattle.wfc_problem.specs.Domains.{Test, Within, IsEmptyAt, leaves_all, base_with, support_count}
 use Rattle.wfc_problem.specs.Sizes.{is_dead, size_at}
 use Rattle.wfc_problem.specs.declared.Literal.{Literal}
-use Rattle.wfc_domains.specs.declared.Cause.{Cause}
-use Rattle.wfc_domains.specs.declared.Cause.TheVariants.{Assumed, Arc}
-use Rattle.wfc_domains.specs.declared.Removal.{Removal}
-use Rattle.wfc_domains.specs.Domains.{less}
+use Rattle.wfc_log.specs.declared.Cause.{Cause}
+use Rattle.wfc_log.specs.declared.Cause.TheVariants.{Assumed, Arc}
+use Rattle.wfc_log.specs.declared.Removal.{Removal}
+use Rattle.wfc_log.specs.Domains.{less}
 
 -- D without what was removed
 abbrev pub without : Test → List Removal → Test

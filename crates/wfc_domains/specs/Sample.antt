@@ -1,26 +1,18 @@
 -- Small values without symmetry, on which laws try the definitions.
-use Rattle.std.specs.Prelude.{true, false, [], ◌∷◌}
+use Rattle.std.specs.Prelude.{[], ◌∷◌}
 use Rattle.std.specs.List.{range_with_len}
 use Rattle.wfc_problem.specs.Corner.{corner}
 use Rattle.wfc_problem.specs.declared.Literal.TheVariants.{Is, Not}
-use Rattle.wfc_domains.specs.declared.Cause.TheVariants.{Assumed, Arc}
-use Rattle.wfc_domains.specs.declared.Removal.{Removal}
-use Rattle.wfc_domains.specs.declared.Verdict.TheVariants.{Alive}
+use Rattle.wfc_log.specs.declared.Cause.TheVariants.{Assumed}
+use Rattle.wfc_log.specs.declared.Removal.{Removal}
+use Rattle.wfc_log.specs.declared.Verdict.TheVariants.{Alive}
 use Rattle.wfc_domains.specs.Counters.{Table}
-use Rattle.wfc_domains.specs.Domains.{Flags}
 use Rattle.wfc_domains.specs.Store.{StoreView}
-
--- value 0 at cell 0, values 1 and 2 at cell 1
-abbrev pub two_rows : Flags
-two_rows = record { cells = 2; values = 3; flags = true ∷ false ∷ false ∷ false ∷ true ∷ true ∷ [] }
+use Rattle.wfc_log.specs.Sample.{cut_first, later, unsupported_removal}
 
 -- two cells, three values and four directions, with counts from 100 on
 abbrev pub numbered_table : Table
 numbered_table = record { cells = 2; values = 3; dirs = 4; limit = 127; counts = range_with_len 100 24 }
-
--- the base value of the corner that has no support above it
-abbrev pub unsupported_removal : Removal
-unsupported_removal = record { cell = 2; value = 1; before = 3; cause = Arc 3 }
 
 -- the same with a size too small
 abbrev pub undersized_removal : Removal
@@ -30,17 +22,9 @@ undersized_removal = record { cell = 2; value = 1; before = 2; cause = Arc 3 }
 abbrev pub displaced_removal : Removal
 displaced_removal = record { cell = 3; value = 1; before = 3; cause = Arc 3 }
 
--- what `Is 0 1` cuts there
-abbrev pub cut_first : Removal
-cut_first = record { cell = 0; value = 0; before = 2; cause = Assumed }
-
--- and what `Not 0 1` cuts behind it: the last value of its cell
+-- what `Not 0 1` cuts behind the first: the last value of its cell
 abbrev pub cut_second : Removal
 cut_second = record { cell = 0; value = 1; before = 1; cause = Assumed }
-
--- what `Not 3 2` cuts there
-abbrev pub later : Removal
-later = record { cell = 3; value = 2; before = 2; cause = Assumed }
 
 -- a store of the corner after an opening and two levels
 abbrev pub two_levels : StoreView

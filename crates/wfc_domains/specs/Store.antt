@@ -6,10 +6,10 @@ use Rattle.wfc_problem.specs.Domains.{Test, IsGreatest, IsEmptyAt}
 use Rattle.wfc_problem.specs.Rounds.{greatest}
 use Rattle.wfc_problem.specs.Sizes.{is_dead}
 use Rattle.wfc_problem.specs.declared.Literal.{Literal}
-use Rattle.wfc_domains.specs.declared.Cause.TheVariants.{Arc}
-use Rattle.wfc_domains.specs.declared.Removal.{Removal}
-use Rattle.wfc_domains.specs.declared.Verdict.{Verdict}
-use Rattle.wfc_domains.specs.declared.Verdict.TheVariants.{Alive, Dead}
+use Rattle.wfc_log.specs.declared.Cause.TheVariants.{Arc}
+use Rattle.wfc_log.specs.declared.Removal.{Removal}
+use Rattle.wfc_log.specs.declared.Verdict.{Verdict}
+use Rattle.wfc_log.specs.declared.Verdict.TheVariants.{Alive, Dead}
 use Rattle.wfc_domains.specs.Removals.{without, IsUnsupported, AreRemoved}
 
 -- the problem, the literals that stand, how many more there is room for, all removals that stand in their order,

@@ -2,10 +2,10 @@
 use Rattle.std.specs.Prelude.{◌≡◌, ℕ, ◌+◌, ◌*◌, ◌<◌, ◌≤◌, length, slice_get, Some, IsTrue}
 use Rattle.wfc_problem.specs.Network.{Network, values, neighbour, in_base}
 use Rattle.wfc_problem.specs.Domains.{Test, support_count}
-use Rattle.wfc_domains.specs.declared.Removal.{Removal}
-use Rattle.wfc_domains.specs.declared.Verdict.TheVariants.{Alive}
+use Rattle.wfc_log.specs.declared.Removal.{Removal}
+use Rattle.wfc_log.specs.declared.Verdict.TheVariants.{Alive}
 use Rattle.wfc_domains.specs.declared.board.Board.{Board}
-use Rattle.wfc_domains.specs.Domains.{has}
+use Rattle.wfc_log.specs.Domains.{has}
 use Rattle.wfc_domains.specs.Removals.{IsUnsupported}
 use Rattle.wfc_domains.specs.Store.{IsSound, IsLeastUnsupported, level_mark}
 use Rattle.wfc_domains.specs.Board.{view_of, IsTraced, HasLevels}

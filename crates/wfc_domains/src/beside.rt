@@ -3,10 +3,10 @@
 ghost use Rattle.std.specs.Prelude.{◌≡◌, ℕ, ◌<◌, IsTrue, length};
 ghost use Rattle.wfc_problem.specs.Network.{values, supports_of};
 ghost use Rattle.wfc_problem.specs.Domains.{support_count};
-ghost use Rattle.wfc_domains.specs.Domains.{Fits, has};
+ghost use Rattle.wfc_log.specs.Domains.{Fits, has};
 ghost use Rattle.wfc_domains.specs.Loaded.{IsSurrounded};
 
-use crate::domains::Domains;
+use wfc_log::Domains;
 use wfc_problem::Problem;
 
 /// Whether the cell has a neighbour in each direction, at which all values stand.

@@ -3,17 +3,16 @@
 ghost use Rattle.std.specs.Prelude.{◌≡◌, ◌≢◌, ℕ, ◌+◌, ◌<◌, ◌↔◌, ◌++◌, ◌∷◌, [], length, false, IsTrue, IsFalse, IfOk};
 ghost use Rattle.wfc_problem.specs.Domains.{IsLiteralIn, leaves_all};
 ghost use Rattle.wfc_problem.specs.Network.{values};
-ghost use Rattle.wfc_domains.specs.declared.Verdict.TheVariants.{Alive};
-ghost use Rattle.wfc_domains.specs.Domains.{has};
+ghost use Rattle.wfc_log.specs.declared.Verdict.TheVariants.{Alive};
+ghost use Rattle.wfc_log.specs.Domains.{has};
 ghost use Rattle.wfc_domains.specs.Store.{IsSound};
 ghost use Rattle.wfc_domains.specs.Board.{view_of, IsBoard, IsTraced, IsCut, IsPut, Loses, HasValues, Grows, Regains, IsFresh};
-ghost use Rattle.wfc_domains.specs.Log.{IsCauseBelow};
+ghost use Rattle.wfc_log.specs.Log.{IsCauseBelow};
 
-use crate::domains::Domains;
 use crate::levels::Levels;
-use crate::trail::Trail;
 use crate::{Cause, Removal, Verdict};
 use std::alloc::Global;
+use wfc_log::{Domains, Trail};
 use wfc_outside::NoMemory;
 use wfc_problem::{Literal, Problem};
 

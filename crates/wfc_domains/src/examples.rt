@@ -5,37 +5,18 @@ ghost use Rattle.std.specs.Prelude.{◌≡◌, true, false, [], ◌∷◌, map, 
 ghost use Rattle.std.specs.List.{range_with_len};
 ghost use Rattle.wfc_problem.specs.Corner.{corner};
 ghost use Rattle.wfc_problem.specs.Network.{in_base};
-ghost use Rattle.wfc_problem.specs.declared.Literal.TheVariants.{Is, Not};
+ghost use Rattle.wfc_problem.specs.declared.Literal.TheVariants.{Is};
 ghost use Rattle.wfc_domains.specs.Counters.{count_of, with_count, counts_of, no_counts, cost_at, cost_of};
 ghost use Rattle.wfc_domains.specs.Halves.{entries_from, limit_from};
 ghost use Rattle.wfc_domains.specs.Parts.{IsCountSplit};
-ghost use Rattle.wfc_domains.specs.Log.{AreLogged, IsLogged, extent_of, sizes_after};
-ghost use Rattle.wfc_domains.specs.Numbered.{first_sizes, numbers_from, removal_number, placed_removals};
-ghost use Rattle.wfc_domains.specs.Domains.{has, size_of, flags_of, base_of, less, Fits};
+ghost use Rattle.wfc_log.specs.Domains.{has};
 ghost use Rattle.wfc_domains.specs.Removals.{without, IsUnsupported, IsCause, AreRemoved};
-ghost use Rattle.wfc_domains.specs.Sample.{two_rows, numbered_table, unsupported_removal, undersized_removal, displaced_removal, cut_first, later, two_levels, one_level};
+ghost use Rattle.wfc_log.specs.Sample.{unsupported_removal, cut_first, later};
+ghost use Rattle.wfc_domains.specs.Sample.{numbered_table, two_levels};
 ghost use Rattle.wfc_domains.specs.Store.{IsBefore, IsLeastUnsupported, IsLeastEmpty, level_mark, added_of, before_of, without_last};
-ghost use Rattle.wfc_domains.specs.declared.Cause.TheVariants.{Assumed, Arc};
+ghost use Rattle.wfc_log.specs.declared.Cause.TheVariants.{Assumed, Arc};
 
-/// Flags are read row by row, and nothing stands out of range; a value less is one at its cell alone.
-pub fn domains_are_read()
-    ensures row { map (has two_rows 1) (range_with_len 0 4) ≡ false ∷ true ∷ true ∷ false ∷ [] }
-    ensures no_cell { has two_rows 2 0 ≡ false }
-    ensures sizes { map (size_of two_rows) (range_with_len 0 3) ≡ 1 ∷ 2 ∷ 0 ∷ [] }
-    ensures base { flags_of corner (in_base corner) ≡ base_of corner }
-    ensures fits { Fits corner (base_of corner) }
-    ensures fits_not { Fits corner two_rows → ⊥ }
-    ensures less { map (less (in_base corner) 1 2 1) (range_with_len 0 3) ≡ false ∷ true ∷ false
-        ∷ [] }
-    ensures elsewhere { map (less (in_base corner) 1 2 3) (range_with_len 0 3) ≡ true ∷ false ∷ true
-        ∷ [] }
-    ensures without { map (without (in_base corner) (unsupported_removal ∷ cut_first
-        ∷ []) 2) (range_with_len 0 3) ≡ true ∷ false ∷ true ∷ [] }
-    ensures without_more { map (without (in_base corner) (unsupported_removal ∷ cut_first
-        ∷ []) 0) (range_with_len 0 3) ≡ false ∷ true ∷ false ∷ [] }
-{}
-
-/// A value of the base that no value above supports; what is a true cause, and what is none.
+/// A value of the base that no value above supports; what is a true cause, and what is none; what removals leave.
 pub fn removals_are_judged()
     ensures bare { IsUnsupported corner (in_base corner) 2 1 3 }
     ensures supported { IsUnsupported corner (in_base corner) 2 0 3 → ⊥ }
@@ -45,6 +26,10 @@ pub fn removals_are_judged()
     ensures cut_first { IsCause corner (Is 1 0 ∷ []) (in_base corner) 2 1 (Arc 3) → ⊥ }
     ensures removed { AreRemoved corner [] (in_base corner) (unsupported_removal ∷ []) }
     ensures before { AreRemoved corner [] (in_base corner) (undersized_removal ∷ []) → ⊥ }
+    ensures left { map (without (in_base corner) (unsupported_removal ∷ cut_first
+        ∷ []) 2) (range_with_len 0 3) ≡ true ∷ false ∷ true ∷ [] }
+    ensures left_more { map (without (in_base corner) (unsupported_removal ∷ cut_first
+        ∷ []) 0) (range_with_len 0 3) ≡ false ∷ true ∷ false ∷ [] }
     ensures once { AreRemoved corner [] (in_base corner) (unsupported_removal ∷ unsupported_removal
         ∷ []) → ⊥ }
     ensures behind_the_last { AreRemoved corner (Is 1 0 ∷ []) (λ c v. nat_lt c 2)
@@ -94,23 +79,4 @@ pub fn entries_are_read()
     ensures split { IsCountSplit 255 127 }
     ensures nothing_small { IsCountSplit 0 1 → ⊥ }
     ensures no_room { IsCountSplit 1 128 → ⊥ }
-{}
-
-/// A removal tells how many values its cell had; kept as a number, it is told by what the cells have left.
-pub fn logs_are_read()
-    ensures extent { extent_of corner
-        ≡ record { cells = 4; values = 3; dirs = 4; sizes = 2 ∷ 2 ∷ 3 ∷ 2 ∷ [] } }
-    ensures left { sizes_after (2 ∷ 2 ∷ 3 ∷ 2 ∷ []) (2 ∷ 0 ∷ 2 ∷ []) ≡ 1 ∷ 2 ∷ 1 ∷ 2 ∷ [] }
-    ensures logged { AreLogged (extent_of corner) (2 ∷ 2 ∷ 3 ∷ 2 ∷ [])
-        (unsupported_removal ∷ cut_first ∷ later ∷ []) }
-    ensures twice { AreLogged (extent_of corner) (2 ∷ 2 ∷ 3 ∷ 2 ∷ [])
-        (cut_first ∷ cut_first ∷ []) → ⊥ }
-    ensures none_left { IsLogged (extent_of corner) (0 ∷ []) (record cut_first { before = 0 }) → ⊥ }
-    ensures no_direction { IsLogged (extent_of corner) (2 ∷ []) (record cut_first { cause = Arc 4 })
-        → ⊥ }
-    ensures first { first_sizes 3 4 (1 ∷ 2 ∷ 2 ∷ 2 ∷ []) (38 ∷ 4 ∷ []) ≡ 2 ∷ 2 ∷ 3 ∷ 2 ∷ [] }
-    ensures numbers { map (removal_number 3 4) (unsupported_removal ∷ cut_first ∷ []) ≡ 38 ∷ 4 ∷ [] }
-    ensures removals { placed_removals 3 4 (2 ∷ 2 ∷ 3 ∷ 2 ∷ []) (38 ∷ 4 ∷ [])
-        ≡ unsupported_removal ∷ cut_first ∷ [] }
-    ensures parts { numbers_from (38 ∷ 4 ∷ []) (0 ∷ 1 ∷ []) ≡ 38 ∷ 65540 ∷ [] }
 {}

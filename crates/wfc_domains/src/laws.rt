@@ -4,9 +4,10 @@ ghost use Rattle.std.specs.Prelude.{◌≡◌, ℕ, ◌<◌, [], ◌∷◌, leng
 ghost use Rattle.wfc_problem.specs.Corner.{corner};
 ghost use Rattle.wfc_problem.specs.Network.{in_base};
 ghost use Rattle.wfc_problem.specs.Sizes.{is_dead};
-ghost use Rattle.wfc_domains.specs.declared.Verdict.TheVariants.{Dead};
+ghost use Rattle.wfc_log.specs.declared.Verdict.TheVariants.{Dead};
 ghost use Rattle.wfc_domains.specs.Removals.{without, IsStopped};
-ghost use Rattle.wfc_domains.specs.Sample.{cut_first, cut_second, later};
+ghost use Rattle.wfc_log.specs.Sample.{cut_first, later};
+ghost use Rattle.wfc_domains.specs.Sample.{cut_second};
 ghost use Rattle.wfc_domains.specs.Store.{StoreView, IsSound, IsLeastEmpty, added_of, before_of};
 
 /// A closing stops at the first cell that becomes empty, and removes nothing further: the last removal of the level

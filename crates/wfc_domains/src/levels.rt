@@ -2,7 +2,7 @@
 
 ghost use Rattle.std.specs.Prelude.{◌≡◌, ◌<◌, [], length, IfOk};
 ghost use Rattle.wfc_domains.specs.Levels.{with_level, without_level, without_levels};
-ghost use Rattle.wfc_domains.specs.Log.{Heights};
+ghost use Rattle.wfc_domains.specs.Heights.{Heights};
 ghost use Rattle.wfc_domains.specs.Store.{level_mark};
 
 use std::alloc::Global;
@@ -20,7 +20,7 @@ pub struct Levels {
 }
 
 impl Model for Levels {
-    ghost use Rattle.wfc_domains.specs.Log.{Heights};
+    ghost use Rattle.wfc_domains.specs.Heights.{Heights};
 
     ghost Value = { Heights };
 

@@ -6,15 +6,14 @@ ghost use Rattle.wfc_problem.specs.Network.{values, neighbour};
 ghost use Rattle.wfc_problem.specs.Domains.{IsArcConsistent, IsLiteralIn, support_count};
 ghost use Rattle.wfc_problem.specs.Rounds.{greatest};
 ghost use Rattle.wfc_problem.specs.Sizes.{is_dead};
-ghost use Rattle.wfc_domains.specs.declared.Verdict.TheVariants.{Alive};
-ghost use Rattle.wfc_domains.specs.Domains.{has};
+ghost use Rattle.wfc_log.specs.declared.Verdict.TheVariants.{Alive};
+ghost use Rattle.wfc_log.specs.Domains.{has};
 ghost use Rattle.wfc_domains.specs.Store.{IsSound, IsOpened, IsAssumed, IsUndone, left_of};
 ghost use Rattle.wfc_domains.specs.Board.{view_of, IsTraced, IsBoard, IsCut, IsFresh, HasLevels, Grows};
 ghost use Rattle.wfc_domains.specs.Swept.{IsFirstUnsupported, IsSwept, FirstIsLeast, IsClosed};
 
 use crate::beside::count_beside;
 use crate::board::{Board, is_alive};
-use crate::domains::Domains;
 use crate::levels::Levels;
 use crate::steps::Steps;
 use crate::store::Store;
@@ -22,6 +21,7 @@ use crate::{Cause, OpenFault, Removal, Verdict};
 use std::alloc::Global;
 use std::marker::Model;
 use std::sync::ledger::Ledger;
+use wfc_log::Domains;
 use wfc_problem::{Literal, Problem};
 
 /// The greatest arc-consistent domains by repeated sweeps. Its undo begins anew with the base domains.

@@ -2,14 +2,14 @@
 
 ghost use Rattle.std.specs.Prelude.{◌≡◌, ◌<◌, length};
 ghost use Rattle.wfc_problem.specs.Domains.{IsLiteralIn};
-ghost use Rattle.wfc_domains.specs.declared.Verdict.TheVariants.{Alive};
-ghost use Rattle.wfc_domains.specs.Domains.{Fits, has, flags_of};
+ghost use Rattle.wfc_log.specs.declared.Verdict.TheVariants.{Alive};
+ghost use Rattle.wfc_log.specs.Domains.{Fits, has, flags_of};
 ghost use Rattle.wfc_domains.specs.Store.{StoreView, IsSound, IsAssumed, IsUndone, left_of, added_of};
 
-use crate::domains::Domains;
 use crate::steps::Steps;
 use crate::{Removal, Verdict};
 use std::sync::ledger::Ledger;
+use wfc_log::Domains;
 use wfc_problem::Literal;
 
 /// The greatest arc-consistent domains of a problem under literals that are put on and taken away, the last first.

@@ -3,7 +3,7 @@
 ghost use Rattle.std.specs.Prelude.{◌≡◌, ◌<◌};
 ghost use Rattle.wfc_problem.specs.Domains.{IsLiteralIn};
 ghost use Rattle.wfc_problem.specs.Network.{values};
-ghost use Rattle.wfc_domains.specs.Domains.{Fits};
+ghost use Rattle.wfc_log.specs.Domains.{Fits};
 
 use std::alloc::{AllocError, Global};
 use std::marker::Brand;

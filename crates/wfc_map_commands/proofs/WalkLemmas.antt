@@ -4,8 +4,8 @@ use Rattle.std.proofs.Math.Seq.{take-append-add}
 use Rattle.std.proofs.lemmas.Bool.{cases_lt, false_from_ne_true, false≢true}
 use Rattle.std.proofs.lemmas.List.{drop_all, drop_more, get_or_default, take_more}
 use Rattle.wfc_domains.specs.Store.{IsAssumed, IsOpened, IsSound, StoreView, left_of, without_last}
-use Rattle.wfc_domains.specs.declared.Verdict.{Verdict}
-use Rattle.wfc_domains.specs.declared.Verdict.TheVariants.{Alive, Dead}
+use Rattle.wfc_log.specs.declared.Verdict.{Verdict}
+use Rattle.wfc_log.specs.declared.Verdict.TheVariants.{Alive, Dead}
 use Rattle.wfc_map_commands.specs.DomainsAnswer.{after_step, domains_answer, literals_after_steps, root_verdict, shown_domains, steps_text}
 use Rattle.wfc_map_commands.specs.Walk.{IsWalk, WalksTo, left_text, stood}
 use Rattle.wfc_outside.proofs.CallerLemmas.{fault_out, puts_none, puts_on}

@@ -2,7 +2,7 @@
 
 ghost use Rattle.std.specs.Prelude.{All, IfOk, IsTrue, OnOk, [], length, ◌+◌, ◌<◌, ◌^◌, ◌↔◌, ◌≡◌, ◌≤◌};
 ghost use Rattle.wfc_domains.specs.Store.{IsOpened};
-ghost use Rattle.wfc_domains.specs.declared.Verdict.TheVariants.{Alive};
+ghost use Rattle.wfc_log.specs.declared.Verdict.TheVariants.{Alive};
 ghost use Rattle.wfc_map_commands.specs.DomainsAnswer.{root_verdict};
 ghost use Rattle.wfc_map_commands.specs.Walk.{IsWalk, PutsWalk, WalksTo, left_text};
 ghost use Rattle.wfc_outside.specs.Sink.{Puts};

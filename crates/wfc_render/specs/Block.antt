@@ -1,7 +1,7 @@
 -- The text of domains after a step.
 use Rattle.std.specs.Prelude.{◌≡◌, ℕ, ◌+◌, List, [], ◌∷◌, ◌++◌, Option, None, Some, codes, decimal, filter, flat_map}
 use Rattle.std.specs.List.{range_with_len}
-use Rattle.wfc_domains.specs.Domains.{Flags, has}
+use Rattle.wfc_log.specs.Domains.{Flags, has}
 use Rattle.wfc_problem.specs.Domains.{Test}
 use Rattle.wfc_render.specs.Numbers.{blank_numbers, head_line}
 

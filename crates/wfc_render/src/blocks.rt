@@ -3,7 +3,7 @@
 ghost use Rattle.std.specs.Prelude.{◌≡◌, ◌<◌, [], ◌∷◌, codes, filter, flat_map};
 ghost use Rattle.std.specs.List.{range_with_len};
 ghost use Rattle.std.specs.Option.{option_copied};
-ghost use Rattle.wfc_domains.specs.Domains.{has};
+ghost use Rattle.wfc_log.specs.Domains.{has};
 ghost use Rattle.wfc_outside.specs.Sink.{Puts};
 ghost use Rattle.wfc_render.specs.Block.{IsSizedFor, block_text, cell_line, shown_text, test_of};
 ghost use Rattle.wfc_render.specs.Gathering.{Gathers};

@@ -6,7 +6,7 @@ use Rattle.std.proofs.lemmas.Bool.{cases_lt}
 use Rattle.std.proofs.lemmas.List.FromFn.{map-range_with_len_more}
 use Rattle.std.proofs.lemmas.Nat.{mul-le}
 use Rattle.std.proofs.Math.Nat.{mul_assoc}
-use Rattle.wfc_domains.specs.Domains.{Flags, has, size_of, Fits}
+use Rattle.wfc_log.specs.Domains.{Flags, has, size_of, Fits}
 use Rattle.wfc_problem.specs.Network.{Network}
 use Rattle.wfc_problem.specs.Sizes.{size_at}
 use Rattle.wfc_search.specs.Volume.{product}

@@ -3,11 +3,11 @@ use Rattle.std.proofs.Common.{◌≡◌, ℕ, ◌+◌, cond, List, [], ◌∷◌
 use Rattle.std.specs.Prelude.{◌==◌}
 use Rattle.wfc_choose.specs.Pick.{Rule}
 use Rattle.wfc_domains.specs.Store.{StoreView, IsVerdict, left_of, added_of}
-use Rattle.wfc_domains.specs.declared.Cause.{Cause}
-use Rattle.wfc_domains.specs.declared.Cause.TheVariants.{Assumed, Arc}
-use Rattle.wfc_domains.specs.declared.Removal.{Removal}
-use Rattle.wfc_domains.specs.declared.Verdict.{Verdict}
-use Rattle.wfc_domains.specs.declared.Verdict.TheVariants.{Alive, Dead}
+use Rattle.wfc_log.specs.declared.Cause.{Cause}
+use Rattle.wfc_log.specs.declared.Cause.TheVariants.{Assumed, Arc}
+use Rattle.wfc_log.specs.declared.Removal.{Removal}
+use Rattle.wfc_log.specs.declared.Verdict.{Verdict}
+use Rattle.wfc_log.specs.declared.Verdict.TheVariants.{Alive, Dead}
 use Rattle.wfc_problem.proofs.CallerLemmas.{greatest_is, greatest_same}
 use Rattle.wfc_problem.specs.Network.{Network, IsProblem}
 use Rattle.wfc_problem.specs.Rounds.{greatest}

@@ -3,7 +3,7 @@ use Rattle.std.proofs.Common.{◌≡◌, ◌+◌, ◌<◌, ℕ, List, [], ◌∷
 use Rattle.std.specs.Prelude.{Result, Ok, Err, OnErr}
 use Rattle.std.proofs.lemmas.List.{take_more, take-append-drop}
 use Rattle.std.proofs.lemmas.List.Concat.{flat_map-append}
-use Rattle.wfc_domains.specs.declared.Removal.{Removal}
+use Rattle.wfc_log.specs.declared.Removal.{Removal}
 use Rattle.wfc_proof.specs.declared.Line.{Line}
 use Rattle.wfc_search.specs.Telling.{lines_by, removal_lines}
 

@@ -6,14 +6,14 @@ use Rattle.std.proofs.lemmas.Bool.{cases_Bool, eqb-true, eqb-false, false≢true
 use Rattle.rand_core.specs.Stream.{next_u64}
 use Rattle.wfc_choose.specs.Draw.{drawn_value}
 use Rattle.wfc_choose.specs.Pick.{Rule, picked_cell}
-use Rattle.wfc_domains.specs.Domains.{less}
+use Rattle.wfc_log.specs.Domains.{less}
 use Rattle.wfc_domains.specs.Removals.{without, IsUnsupported, IsCause, AreRemoved}
 use Rattle.wfc_domains.specs.Store.{StoreView, IsSound, IsVerdict, left_of, before_of, added_of, level_mark, all_but_last}
-use Rattle.wfc_domains.specs.declared.Cause.{Cause}
-use Rattle.wfc_domains.specs.declared.Cause.TheVariants.{Assumed, Arc}
-use Rattle.wfc_domains.specs.declared.Removal.{Removal}
-use Rattle.wfc_domains.specs.declared.Verdict.{Verdict}
-use Rattle.wfc_domains.specs.declared.Verdict.TheVariants.{Alive, Dead}
+use Rattle.wfc_log.specs.declared.Cause.{Cause}
+use Rattle.wfc_log.specs.declared.Cause.TheVariants.{Assumed, Arc}
+use Rattle.wfc_log.specs.declared.Removal.{Removal}
+use Rattle.wfc_log.specs.declared.Verdict.{Verdict}
+use Rattle.wfc_log.specs.declared.Verdict.TheVariants.{Alive, Dead}
 use Rattle.wfc_lists.proofs.Counts.{count_by_pos}
 use Rattle.wfc_lists.proofs.Lists.{all_pass, one_fails, has_Contains}
 use Rattle.wfc_lists.proofs.Ranges.{range_Contains}

@@ -14,10 +14,10 @@ use Rattle.wfc_problem.specs.Network.{Network, IsProblem, values, in_base}
 use Rattle.wfc_problem.specs.Sizes.{size_at}
 use Rattle.wfc_problem.specs.declared.Literal.{Literal}
 use Rattle.wfc_problem.proofs.CallerLemmas.{base_inside}
-use Rattle.wfc_domains.specs.Domains.{less}
+use Rattle.wfc_log.specs.Domains.{less}
 use Rattle.wfc_domains.specs.Removals.{without, AreRemoved}
-use Rattle.wfc_domains.specs.declared.Cause.TheVariants.{Assumed}
-use Rattle.wfc_domains.specs.declared.Removal.{Removal}
+use Rattle.wfc_log.specs.declared.Cause.TheVariants.{Assumed}
+use Rattle.wfc_log.specs.declared.Removal.{Removal}
 use Rattle.wfc_domains.proofs.Removals.{less-elsewhere, less-here, less-within}
 
 -- what stands past the end of a list of removals

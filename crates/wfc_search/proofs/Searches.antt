@@ -7,7 +7,7 @@ use Rattle.wfc_choose.specs.Draw.{drawn_value}
 use Rattle.wfc_choose.specs.Pick.{Rule, picked_cell}
 use Rattle.wfc_choose.specs.Told.{Told}
 use Rattle.wfc_domains.specs.Store.{StoreView, left_of}
-use Rattle.wfc_domains.specs.declared.Verdict.TheVariants.{Alive, Dead}
+use Rattle.wfc_log.specs.declared.Verdict.TheVariants.{Alive, Dead}
 use Rattle.wfc_problem.specs.Domains.{Test}
 use Rattle.wfc_problem.specs.Network.{Network, IsProblem, values}
 use Rattle.wfc_problem.specs.Rounds.{greatest}

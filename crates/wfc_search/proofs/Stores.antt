@@ -4,13 +4,13 @@ use Rattle.std.specs.Prelude.{All, filter, slice_index}
 use Rattle.std.proofs.lemmas.Bool.{false≢true}
 use Rattle.std.specs.List.{range_with_len}
 use Rattle.std.proofs.Math.Seq.{take-append_seam}
-use Rattle.wfc_domains.specs.Domains.{Flags, has, size_of, flags_of}
+use Rattle.wfc_log.specs.Domains.{Flags, has, size_of, flags_of}
 use Rattle.wfc_domains.specs.Removals.{without}
 use Rattle.wfc_domains.proofs.Removals.{without-split, without-within}
 use Rattle.wfc_domains.specs.Store.{StoreView, IsSound, IsVerdict, left_of, before_of, added_of, level_mark, all_but_last}
-use Rattle.wfc_domains.specs.declared.Removal.{Removal}
-use Rattle.wfc_domains.specs.declared.Verdict.{Verdict}
-use Rattle.wfc_domains.specs.declared.Verdict.TheVariants.{Alive, Dead}
+use Rattle.wfc_log.specs.declared.Removal.{Removal}
+use Rattle.wfc_log.specs.declared.Verdict.{Verdict}
+use Rattle.wfc_log.specs.declared.Verdict.TheVariants.{Alive, Dead}
 use Rattle.wfc_problem.specs.Domains.{Test, Within, HasOnly}
 use Rattle.wfc_problem.specs.Network.{Network, IsProblem, values, in_base}
 use Rattle.wfc_problem.specs.declared.TheConstants.{MAX_VALUES}

@@ -3,7 +3,7 @@ use Rattle.std.proofs.Common.{◌≡◌, ◌<◌, ◌≤◌, ℕ, false, List, r
 use Rattle.std.proofs.lemmas.Bool.{cases_lt, false≢true}
 use Rattle.std.specs.Prelude.{IsTrue, slice_index, ◌↔◌}
 use Rattle.wfc_choose.specs.Told.{Told}
-use Rattle.wfc_domains.specs.Domains.{Flags, has, flags_of}
+use Rattle.wfc_log.specs.Domains.{Flags, has, flags_of}
 use Rattle.wfc_domains.specs.Store.{StoreView, left_of}
 use Rattle.wfc_problem.specs.Assignment.{IsLegalAssignment}
 use Rattle.wfc_problem.specs.Domains.{Test, HasOnly}

@@ -2,7 +2,7 @@
 use Rattle.std.specs.Prelude.{◌≡◌, ℕ, ◌+◌, [], ◌∷◌, ◌++◌, length, take}
 use Rattle.wfc_choose.specs.Told.{Told}
 use Rattle.wfc_domains.specs.Store.{StoreView, IsSound, left_of}
-use Rattle.wfc_domains.specs.declared.Verdict.TheVariants.{Alive}
+use Rattle.wfc_log.specs.declared.Verdict.TheVariants.{Alive}
 use Rattle.wfc_problem.specs.Sizes.{sizes_of}
 use Rattle.wfc_problem.specs.declared.Literal.{Literal}
 

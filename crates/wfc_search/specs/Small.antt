@@ -4,10 +4,10 @@ use Rattle.rand_core.specs.Stream.{Stream}
 use Rattle.wfc_choose.specs.Pick.{Rule}
 use Rattle.wfc_choose.specs.declared.RuleKind.TheVariants.{Scanline}
 use Rattle.wfc_domains.specs.Store.{StoreView}
-use Rattle.wfc_domains.specs.declared.Cause.{Cause}
-use Rattle.wfc_domains.specs.declared.Cause.TheVariants.{Arc}
-use Rattle.wfc_domains.specs.declared.Removal.{Removal}
-use Rattle.wfc_domains.specs.declared.Verdict.{Verdict}
+use Rattle.wfc_log.specs.declared.Cause.{Cause}
+use Rattle.wfc_log.specs.declared.Cause.TheVariants.{Arc}
+use Rattle.wfc_log.specs.declared.Removal.{Removal}
+use Rattle.wfc_log.specs.declared.Verdict.{Verdict}
 use Rattle.wfc_problem.specs.declared.TheConstants.{NO_CELL}
 use Rattle.wfc_problem.specs.declared.Literal.{Literal}
 use Rattle.wfc_problem.specs.Network.{Network}

@@ -1,8 +1,8 @@
 //! What the definitions give on small problems. Each function does nothing; its contract is the law.
 
 ghost use Rattle.std.specs.Prelude.{◌≡◌, ℕ, true, false, List, [], ◌∷◌, map, Option, Some, None};
-ghost use Rattle.wfc_domains.specs.declared.Cause.TheVariants.{Assumed, Arc};
-ghost use Rattle.wfc_domains.specs.declared.Verdict.TheVariants.{Alive, Dead};
+ghost use Rattle.wfc_log.specs.declared.Cause.TheVariants.{Assumed, Arc};
+ghost use Rattle.wfc_log.specs.declared.Verdict.TheVariants.{Alive, Dead};
 ghost use Rattle.wfc_problem.specs.Rounds.{greatest, depth_of};
 ghost use Rattle.wfc_problem.specs.declared.Literal.TheVariants.{Is, Not};
 ghost use Rattle.wfc_proof.specs.declared.Line.TheVariants.{Remove, Try, Empty, End, Found, Out};

@@ -7,7 +7,7 @@ ghost use Rattle.std.specs.Prelude.{◌≡◌, ◌+◌, ◌-◌, ◌++◌, ◌�
 ghost use Rattle.wfc_choose.specs.Pick.{picked_cell};
 ghost use Rattle.wfc_choose.specs.Told.{Told};
 ghost use Rattle.wfc_domains.specs.Store.{StoreView, IsSound, left_of, before_of};
-ghost use Rattle.wfc_domains.specs.declared.Verdict.TheVariants.{Alive};
+ghost use Rattle.wfc_log.specs.declared.Verdict.TheVariants.{Alive};
 ghost use Rattle.wfc_problem.specs.Domains.{IsLiteralIn};
 ghost use Rattle.wfc_problem.specs.Sizes.{sizes_of};
 ghost use Rattle.wfc_problem.specs.declared.TheConstants.{MAX_PAIRS, MAX_VALUES};

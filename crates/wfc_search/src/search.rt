@@ -3,9 +3,9 @@
 ghost use Rattle.std.specs.Prelude.{◌≡◌, ◌≢◌, ◌≤◌, ◌<◌, ◌↔◌, [], false, true, None, Some, slice_index, IfOk, OnOk};
 ghost use Rattle.std.specs.Prelude.{IsErr, IsTrue, Ok};
 ghost use Rattle.std.specs.Option.{ForSome};
-ghost use Rattle.wfc_domains.specs.Domains.{has, flags_of};
+ghost use Rattle.wfc_log.specs.Domains.{has, flags_of};
 ghost use Rattle.wfc_domains.specs.Store.{IsSound, left_of};
-ghost use Rattle.wfc_domains.specs.declared.Verdict.TheVariants.{Alive};
+ghost use Rattle.wfc_log.specs.declared.Verdict.TheVariants.{Alive};
 ghost use Rattle.wfc_problem.specs.Assignment.{IsLegalAssignment};
 ghost use Rattle.wfc_problem.specs.Rounds.{greatest, depth_of};
 ghost use Rattle.wfc_problem.specs.Sizes.{sizes_of};

@@ -2,7 +2,7 @@
 
 ghost use Rattle.std.specs.Prelude.{◌≡◌, ◌≤◌, false, OnOk, OnErr};
 ghost use Rattle.wfc_domains.specs.Store.{StoreView};
-ghost use Rattle.wfc_domains.specs.declared.Removal.{Removal};
+ghost use Rattle.wfc_log.specs.declared.Removal.{Removal};
 ghost use Rattle.wfc_proof.specs.Journal.{after_lines, IsCutOff};
 ghost use Rattle.wfc_search.specs.Telling.{lines_by, removal_lines, level_lines, opening_lines, turn_lines, end_line};
 

@@ -2,7 +2,7 @@
 
 ghost use Rattle.std.specs.Prelude.{◌≡◌, ◌≢◌, ◌<◌, ◌+◌, ◌^◌, length, true, None, Some, slice_get};
 ghost use Rattle.wfc_choose.specs.Pick.{picked_cell};
-ghost use Rattle.wfc_domains.specs.declared.Verdict.TheVariants.{Alive};
+ghost use Rattle.wfc_log.specs.declared.Verdict.TheVariants.{Alive};
 ghost use Rattle.wfc_problem.specs.Rounds.{greatest};
 ghost use Rattle.wfc_problem.specs.Sizes.{is_dead};
 ghost use Rattle.wfc_search.specs.Last.{choice_in};

@@ -2,7 +2,7 @@
 
 ghost use Rattle.std.specs.Prelude.{◌≡◌, ◌≤◌};
 ghost use Rattle.std.specs.Option.{SomeIff};
-ghost use Rattle.wfc_domains.specs.Domains.{Fits, has};
+ghost use Rattle.wfc_log.specs.Domains.{Fits, has};
 ghost use Rattle.wfc_search.specs.Volume.{ways};
 ghost use Rattle.wfc_search.specs.declared.TheConstants.{MAX_BUDGET};
 

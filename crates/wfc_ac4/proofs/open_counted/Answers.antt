@@ -1,5 +1,5 @@
 use Rattle.std.proofs.Common.{ap, ◌∙◌, sym, subst, refl, arith}
-use Rattle.wfc_domains.specs.Domains.{has}
+use Rattle.wfc_log.specs.Domains.{has}
 use Rattle.wfc_domains.specs.Counters.{FitsTable, counts_of}
 use Rattle.wfc_domains.specs.Store.{level_mark}
 use Rattle.wfc_ac4.specs.Links.{AreLinks}

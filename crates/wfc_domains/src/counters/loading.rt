@@ -3,14 +3,14 @@
 ghost use Rattle.std.specs.Prelude.{◌≡◌, ◌+◌, ◌*◌, ◌<◌, ◌≤◌, IfSome, vec_len};
 ghost use Rattle.wfc_problem.specs.Network.{values};
 ghost use Rattle.wfc_domains.specs.Counters.{FitsTable, with_count, counters_of, counts_of, counter_place};
-ghost use Rattle.wfc_domains.specs.Domains.{Fits, has};
+ghost use Rattle.wfc_log.specs.Domains.{Fits, has};
 ghost use Rattle.wfc_domains.specs.Loaded.{AreLoaded, IsLike, IsCopied, IsRowCopied};
 
 use super::Counters;
 use crate::beside::{count_beside, is_surrounded};
-use crate::domains::Domains;
 use crate::steps::Steps;
 use std::sync::ledger::Ledger;
+use wfc_log::Domains;
 use wfc_problem::Problem;
 
 impl Counters {

@@ -1,5 +1,5 @@
 use Rattle.std.proofs.Common.{◌≡◌, subst}
-use Rattle.wfc_domains.specs.declared.Verdict.TheVariants.{Alive}
+use Rattle.wfc_log.specs.declared.Verdict.TheVariants.{Alive}
 use Rattle.wfc_domains.specs.Counters.{FitsTable, HasCounts}
 use Rattle.wfc_domains.specs.Store.{StoreView, left_of}
 use Rattle.wfc_ac4.proofs.Engines.{settled-table}

@@ -4,7 +4,7 @@ use Rattle.std.specs.List.{sum_by}
 use Rattle.wfc_problem.specs.Network.{values, value_weight}
 use Rattle.wfc_problem.specs.Sizes.{values_at}
 use Rattle.wfc_problem.proofs.CallerLemmas.{small_weight}
-use Rattle.wfc_domains.specs.Domains.{has}
+use Rattle.wfc_log.specs.Domains.{has}
 use Rattle.wfc_choose.specs.Draw.{drawn_value, first_above}
 use Rattle.wfc_choose.proofs.DrawLemmas.{above_here, above_taken, rest_begins, rest_from, rest_next, sum_taken}
 use Rattle.wfc_choose.proofs.draws.draw.Goals as goal

@@ -2,7 +2,7 @@ use Rattle.std.proofs.Common.{◌≡◌, ◌+◌, ◌≤◌, ◌∙◌, ap, arit
 use Rattle.std.specs.List.{sum_by}
 use Rattle.wfc_problem.specs.Network.{values, value_weight}
 use Rattle.wfc_problem.proofs.CallerLemmas.{small_weight}
-use Rattle.wfc_domains.specs.Domains.{has}
+use Rattle.wfc_log.specs.Domains.{has}
 use Rattle.wfc_choose.proofs.DrawLemmas.{rest_begins, rest_next, sum_end, sum_some, sum_taken}
 use Rattle.wfc_choose.proofs.draws.weights_at.Goals as goal
 

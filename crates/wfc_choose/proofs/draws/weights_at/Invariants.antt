@@ -2,7 +2,7 @@ use Rattle.std.proofs.Common.{IsTrue, ◌-◌, ◌≡◌, ◌+◌, ◌*◌, ◌<
 use Rattle.std.specs.List.{sum_by}
 use Rattle.wfc_problem.specs.Network.{values, value_weight}
 use Rattle.wfc_problem.specs.Sizes.{values_at}
-use Rattle.wfc_domains.specs.Domains.{has}
+use Rattle.wfc_log.specs.Domains.{has}
 use Rattle.wfc_choose.proofs.DrawLemmas.{rest_from}
 use Rattle.wfc_choose.proofs.draws.weights_at.Given as goal
 

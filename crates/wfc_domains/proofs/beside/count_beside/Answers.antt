@@ -1,7 +1,7 @@
 use Rattle.std.proofs.Common.{length, sym, ◌∙◌, ap, arith}
 use Rattle.std.specs.Prelude.{count_by}
 use Rattle.wfc_problem.specs.Domains.{count_at}
-use Rattle.wfc_domains.specs.Domains.{has}
+use Rattle.wfc_log.specs.Domains.{has}
 use Rattle.wfc_domains.proofs.Problems.{supports-few, supports-below}
 use Rattle.wfc_domains.proofs.Loading.{full-count}
 use Rattle.wfc_domains.proofs.beside.count_beside.Goals as goal

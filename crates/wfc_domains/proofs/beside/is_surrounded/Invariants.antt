@@ -1,4 +1,4 @@
-use Rattle.wfc_domains.specs.Domains.{has}
+use Rattle.wfc_log.specs.Domains.{has}
 use Rattle.wfc_domains.specs.Loaded.{IsSurrounded}
 use Rattle.wfc_domains.proofs.beside.is_surrounded.Given as goal
 

@@ -3,9 +3,10 @@ use Rattle.std.proofs.lemmas.Bool.{true≢false}
 use Rattle.wfc_problem.specs.Corner.{corner}
 use Rattle.wfc_problem.specs.Domains.{IsEmptyAt}
 use Rattle.wfc_problem.specs.Network.{in_base}
-use Rattle.wfc_domains.specs.declared.Removal.{Removal}
+use Rattle.wfc_log.specs.declared.Removal.{Removal}
 use Rattle.wfc_domains.specs.Removals.{without}
-use Rattle.wfc_domains.specs.Sample.{cut_first, cut_second, later}
+use Rattle.wfc_log.specs.Sample.{cut_first, later}
+use Rattle.wfc_domains.specs.Sample.{cut_second}
 use Rattle.wfc_domains.proofs.laws.stops_by_example.Goals as goal
 
 -- cell 0 had the values 0 and 1

@@ -1,7 +1,7 @@
 use Rattle.std.proofs.Common.{◌≡◌, ◌<◌, ℕ, Some}
 use Rattle.wfc_problem.specs.Network.{neighbour}
 use Rattle.wfc_problem.specs.Domains.{support_count}
-use Rattle.wfc_domains.specs.Domains.{has}
+use Rattle.wfc_log.specs.Domains.{has}
 use Rattle.wfc_domains.proofs.plain.bare_side.Given as goal
 
 abbrev pub invariant-loop-dir : goal.invariant-loop-dir

@@ -1,6 +1,6 @@
 use Rattle.std.proofs.Common.{◌≡◌, ◌-◌, length}
 use Rattle.wfc_problem.specs.Rounds.{depth_of}
-use Rattle.wfc_domains.specs.declared.Verdict.TheVariants.{Alive}
+use Rattle.wfc_log.specs.declared.Verdict.TheVariants.{Alive}
 use Rattle.wfc_domains.specs.Board.{IsBoard, IsCut, Grows}
 use Rattle.wfc_domains.specs.Swept.{FirstIsLeast}
 use Rattle.wfc_domains.proofs.plain.close.Given as goal

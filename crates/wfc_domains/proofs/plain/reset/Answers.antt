@@ -1,7 +1,7 @@
 use Rattle.std.proofs.Common.{◌≡◌, ◌+◌, [], length, ap, ◌∙◌, arith}
 use Rattle.std.proofs.lemmas.List.{nil_from_length}
 use Rattle.wfc_domains.specs.declared.board.Board.{Board}
-use Rattle.wfc_domains.specs.Log.{Heights}
+use Rattle.wfc_domains.specs.Heights.{Heights}
 use Rattle.wfc_domains.specs.Board.{IsBoard}
 use Rattle.wfc_domains.proofs.Boards.{board-emptied}
 use Rattle.wfc_domains.proofs.Sound.{opening-verdict}

@@ -1,7 +1,7 @@
 use Rattle.std.proofs.Common.{ℕ, List, filter, [], ◌∷◌, ◌++◌, decimal}
 use Rattle.std.proofs.lemmas.Result.{err_from_is_err_and}
 use Rattle.std.specs.List.{range_with_len}
-use Rattle.wfc_domains.specs.Domains.{has}
+use Rattle.wfc_log.specs.Domains.{has}
 use Rattle.wfc_render.specs.Numbers.{blank_numbers}
 use Rattle.wfc_render.proofs.GatheringLemmas.{fault_first, fault_then, gathers_on}
 use Rattle.wfc_render.proofs.blocks.put_cell.Goals as goal

@@ -1,5 +1,5 @@
 use Rattle.std.proofs.lemmas.Result.{err_from_is_err_and}
-use Rattle.wfc_domains.specs.Domains.{has}
+use Rattle.wfc_log.specs.Domains.{has}
 use Rattle.wfc_render.specs.Block.{cell_line}
 use Rattle.wfc_render.proofs.GatheringLemmas.{fault_next, passes_next}
 use Rattle.wfc_render.proofs.blocks.put_cells.Goals as goal

@@ -1,6 +1,6 @@
 -- What passed so far is the text of the cells below this one.
 use Rattle.std.specs.List.{flat_map, range_with_len}
-use Rattle.wfc_domains.specs.Domains.{has}
+use Rattle.wfc_log.specs.Domains.{has}
 use Rattle.wfc_render.specs.Block.{cell_line}
 use Rattle.wfc_render.specs.Gathering.{Passes}
 use Rattle.wfc_render.proofs.blocks.put_cells.Given as goal

@@ -1,6 +1,6 @@
 use Rattle.std.proofs.Common.{◌≡◌, true, sym, [], ◌∷◌, decimal}
 use Rattle.std.proofs.lemmas.Result.{err_from_is_err_and}
-use Rattle.wfc_domains.specs.Domains.{has}
+use Rattle.wfc_log.specs.Domains.{has}
 use Rattle.wfc_render.proofs.GatheringLemmas.{fault_first, fault_as, gathers_on, gathers_as}
 use Rattle.wfc_render.proofs.RangeLemmas.{blank_numbers-one}
 use Rattle.wfc_render.proofs.blocks.put_value.Goals as goal

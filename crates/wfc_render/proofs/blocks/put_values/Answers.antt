@@ -1,7 +1,7 @@
 use Rattle.std.proofs.Common.{◌≡◌, ℕ, List, filter, sym, ap, ◌∙◌, [], ◌∷◌, arith}
 use Rattle.std.proofs.lemmas.Result.{err_from_is_err_and}
 use Rattle.std.specs.List.{flat_map, range_with_len}
-use Rattle.wfc_domains.specs.Domains.{has}
+use Rattle.wfc_log.specs.Domains.{has}
 use Rattle.wfc_render.specs.Numbers.{blank_numbers}
 use Rattle.wfc_render.proofs.GatheringLemmas.{fault_next, fault_as, passes_next, passes_as}
 use Rattle.wfc_render.proofs.RangeLemmas.{blank_numbers-each}

@@ -1,7 +1,7 @@
 -- What passed so far is the text of the values below this one.
 use Rattle.std.proofs.Common.{◌∷◌, [], filter}
 use Rattle.std.specs.List.{flat_map, range_with_len}
-use Rattle.wfc_domains.specs.Domains.{has}
+use Rattle.wfc_log.specs.Domains.{has}
 use Rattle.wfc_render.specs.Gathering.{Passes}
 use Rattle.wfc_render.specs.Numbers.{blank_numbers}
 use Rattle.wfc_render.proofs.blocks.put_values.Given as goal

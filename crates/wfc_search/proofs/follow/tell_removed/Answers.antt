@@ -1,5 +1,5 @@
 use Rattle.std.proofs.Common.{sym, ◌∙◌, ap, arith}
-use Rattle.wfc_domains.specs.Domains.{Flags}
+use Rattle.wfc_log.specs.Domains.{Flags}
 use Rattle.wfc_domains.specs.Removals.{without}
 use Rattle.wfc_domains.specs.Store.{StoreView, before_of, left_of}
 use Rattle.wfc_search.proofs.Removals.{no_removal, touches_past}

@@ -1,5 +1,5 @@
 use Rattle.std.proofs.Common.{◌+◌, List, sym, subst, take, drop, ℕ, get_or}
-use Rattle.wfc_domains.specs.declared.Removal.{Removal}
+use Rattle.wfc_log.specs.declared.Removal.{Removal}
 use Rattle.wfc_proof.specs.Journal.{IsCutOff}
 use Rattle.wfc_proof.specs.declared.Line.{Line}
 use Rattle.wfc_proof.proofs.CallerLemmas.{cut_off_front, cut_off_behind}

@@ -2,7 +2,7 @@ use Rattle.std.proofs.Common.{◌≡◌, ◌+◌, ◌*◌, ℕ, map, sym, ◌∙
 use Rattle.std.specs.Prelude.{min}
 use Rattle.std.specs.List.{range_with_len}
 use Rattle.std.proofs.Math.Nat.{min-le_right}
-use Rattle.wfc_domains.specs.Domains.{has}
+use Rattle.wfc_log.specs.Domains.{has}
 use Rattle.wfc_problem.specs.Network.{Network}
 use Rattle.wfc_problem.specs.Sizes.{size_at}
 use Rattle.wfc_problem.proofs.CallerLemmas.{few_values}

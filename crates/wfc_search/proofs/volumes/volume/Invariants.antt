@@ -1,7 +1,7 @@
 use Rattle.std.proofs.Common.{◌≡◌, ◌+◌, map}
 use Rattle.std.specs.Prelude.{min}
 use Rattle.std.specs.List.{range_with_len}
-use Rattle.wfc_domains.specs.Domains.{has}
+use Rattle.wfc_log.specs.Domains.{has}
 use Rattle.wfc_problem.specs.Sizes.{size_at}
 use Rattle.wfc_search.specs.Volume.{product}
 use Rattle.wfc_search.proofs.volumes.volume.Given as goal

@@ -2,7 +2,7 @@ use Rattle.std.proofs.Common.{ap, arith, inl, inr, sym, ◌+◌, ◌<◌, ◌∙
 use Rattle.std.proofs.lemmas.Bool.{cases_eq, cases_lt, true≢false}
 use Rattle.wfc_domains.proofs.Boards.{grows-more, stands-in}
 use Rattle.wfc_domains.proofs.board.Board.cut_to.Goals as goal
-use Rattle.wfc_domains.specs.Domains.{has}
+use Rattle.wfc_log.specs.Domains.{has}
 use Rattle.wfc_problem.specs.Network.{values}
 
 pub loop-other-preserved : goal.loop-other-preserved

@@ -1,7 +1,7 @@
 -- The board holds together, and of the values below the one that is next no other stands.
 use Rattle.std.proofs.Common.{IsTrue, ◌-◌, ◌≡◌, ◌≢◌, ◌<◌, ◌≤◌, ℕ, false}
-use Rattle.wfc_domains.specs.declared.Verdict.TheVariants.{Alive}
-use Rattle.wfc_domains.specs.Domains.{has}
+use Rattle.wfc_log.specs.declared.Verdict.TheVariants.{Alive}
+use Rattle.wfc_log.specs.Domains.{has}
 use Rattle.wfc_domains.specs.Board.{IsBoard, Grows}
 use Rattle.wfc_domains.proofs.board.Board.cut_to.Given as goal
 

@@ -1,5 +1,5 @@
 use Rattle.std.proofs.Common.{◌++◌, arith, ap, ◌∙◌}
-use Rattle.wfc_domains.specs.Log.{Log}
+use Rattle.wfc_log.specs.Log.{Log}
 use Rattle.wfc_domains.proofs.Boards.{log-few, board-put}
 use Rattle.wfc_domains.proofs.Sound.{put-is, put-not}
 use Rattle.wfc_domains.proofs.board.Board.put.Goals as goal

@@ -1,5 +1,5 @@
 use Rattle.std.proofs.Common.{arith, ap, ◌≡◌, sym, subst}
-use Rattle.wfc_domains.specs.Log.{Log}
+use Rattle.wfc_log.specs.Log.{Log}
 use Rattle.wfc_domains.specs.Board.{IsTraced}
 use Rattle.wfc_domains.proofs.Boards.{last-is, traced-back}
 use Rattle.wfc_domains.proofs.board.Board.take_back.Goals as goal

@@ -2,7 +2,7 @@ use Rattle.std.proofs.Common.{◌≡◌, ◌+◌, ◌*◌}
 use Rattle.std.specs.Prelude.{IfSome}
 use Rattle.wfc_problem.specs.Network.{values}
 use Rattle.wfc_domains.specs.Counters.{counter_place}
-use Rattle.wfc_domains.specs.Domains.{has}
+use Rattle.wfc_log.specs.Domains.{has}
 use Rattle.wfc_domains.specs.Loaded.{AreLoaded, IsLike}
 use Rattle.wfc_domains.proofs.counters.Counters.load.Given as goal
 

@@ -1,6 +1,6 @@
 use Rattle.std.proofs.Common.{◌≡◌, ◌+◌, ◌*◌}
 use Rattle.wfc_domains.specs.Counters.{counter_place}
-use Rattle.wfc_domains.specs.Domains.{has}
+use Rattle.wfc_log.specs.Domains.{has}
 use Rattle.wfc_domains.specs.Loaded.{AreLoaded}
 use Rattle.wfc_domains.proofs.counters.Counters.load_cell.Given as goal
 

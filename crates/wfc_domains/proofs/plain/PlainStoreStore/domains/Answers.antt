@@ -1,5 +1,5 @@
 use Rattle.std.proofs.Common.{◌≡◌, subst}
-use Rattle.wfc_domains.specs.Domains.{Fits, flags_of}
+use Rattle.wfc_log.specs.Domains.{Fits, flags_of}
 use Rattle.wfc_domains.specs.Store.{StoreView, left_of}
 use Rattle.wfc_domains.proofs.Shown.{board-flags}
 use Rattle.wfc_domains.proofs.plain.PlainStoreStore.domains.Goals as goal

@@ -1,6 +1,6 @@
 use Rattle.std.proofs.Common.{subst, sym, ◌∙◌}
 use Rattle.std.proofs.lemmas.Bool.{false≢true}
-use Rattle.wfc_domains.specs.Domains.{has}
+use Rattle.wfc_log.specs.Domains.{has}
 use Rattle.wfc_map_commands.proofs.WalkLemmas.{shown_alive, shown_dead}
 use Rattle.wfc_map_commands.proofs.walk.Walk.put.Goals as goal
 use Rattle.wfc_outside.specs.Sink.{Puts}

@@ -1,0 +1,6 @@
+pub mod BitLemmas
+pub mod Rows
+pub mod SizeLemmas
+pub mod NumberedLemmas
+pub mod PackedLemmas
+pub mod OlderLemmas

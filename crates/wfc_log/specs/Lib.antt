@@ -1,0 +1,9 @@
+pub mod Domains
+pub mod Bits
+pub mod Sized
+pub mod Log
+pub mod Numbered
+pub mod Packed
+pub mod Kept
+pub mod Recent
+pub mod Sample

@@ -1,0 +1,36 @@
+//! Domains as flags, and the log of what was removed from them: what an engine writes at each step.
+#![tactic(auto)]
+
+mod bits;
+mod domains;
+pub mod examples;
+mod older;
+mod packed;
+mod trail;
+
+pub use domains::Domains;
+pub use trail::Trail;
+
+/// Why a value was removed: an assumed literal cuts it, or no value that stands at the neighbour in this direction
+/// supports it.
+#[derive(Clone, Copy, Debug, PartialEq, Eq)]
+pub enum Cause {
+    Assumed,
+    Arc(u8),
+}
+
+/// A value that no longer stands at a cell. `before` is how many values stood there just before.
+#[derive(Clone, Copy, Debug, PartialEq, Eq)]
+pub struct Removal {
+    pub cell: u32,
+    pub value: u16,
+    pub before: u16,
+    pub cause: Cause,
+}
+
+/// Whether each cell has a value left, or which cell has none.
+#[derive(Clone, Copy, Debug, PartialEq, Eq)]
+pub enum Verdict {
+    Alive,
+    Dead { cell: u32 },
+}

@@ -1,0 +1,180 @@
+//! Removals of earlier levels, in three or four bytes each.
+
+ghost use Rattle.std.specs.Prelude.{◌≡◌, ◌+◌, ◌<◌, ◌≤◌, ◌^◌, ◌++◌, ◌∷◌, [], length, reverse, IfOk, vec_len, vec_capacity};
+ghost use Rattle.wfc_log.specs.Domains.{base_of};
+ghost use Rattle.wfc_log.specs.Log.{IsLogged, AreLogged, cells_of, extent_of, sizes_after};
+ghost use Rattle.wfc_log.specs.Numbered.{cause_number, numbered_cause, removal_number};
+
+use crate::domains::Domains;
+use crate::packed::Numbers;
+use crate::{Cause, Removal};
+use std::alloc::Global;
+use std::marker::Model;
+use wfc_outside::NoMemory;
+use wfc_problem::Problem;
+
+/// How many numbers three bytes tell apart.
+const SHORT: u64 = 16_777_216;
+
+/// Removals, each kept as one number, which tells its cell, value and cause. How many values stood before it follows
+/// from how many each cell has left.
+#[derive(Drop)]
+pub struct Older {
+    values: u16,
+    dirs: u8,
+    sizes: Vec<u16>,
+    numbers: Numbers,
+}
+
+impl Model for Older {
+    ghost use Rattle.wfc_log.specs.Numbered.{Earlier};
+    ghost use Rattle.wfc_log.specs.Kept.{older_view, AreNumbers};
+
+    ghost Value = { Earlier };
+
+    ghost view = { older_view };
+
+    ghost invariant = { AreNumbers };
+}
+
+/// The number of a cause among those that there are.
+#[inline]
+fn cause_number(cause: Cause, dirs: u8) -> u8
+    ensures value { result ≡ cause_number dirs cause }
+{
+    match cause {
+        Cause::Assumed => dirs,
+        Cause::Arc(dir) => dir,
+    }
+}
+
+/// The cause with a number.
+#[inline]
+fn numbered_cause(number: u8, dirs: u8) -> Cause
+    ensures value { result ≡ numbered_cause dirs number }
+{
+    if number == dirs {
+        Cause::Assumed
+    } else {
+        Cause::Arc(number)
+    }
+}
+
+/// The number of a removal's cell, value and cause among all that there can be.
+#[inline]
+fn removal_number(removal: Removal, values: u16, dirs: u8) -> u32
+    requires few { removal_number values dirs removal < 2 ^ 32 }
+    ensures value { result ≡ removal_number values dirs removal }
+{
+    let pair = removal.cell * u32::from(values) + u32::from(removal.value);
+    pair * (u32::from(dirs) + 1) + u32::from(cause_number(removal.cause, dirs))
+}
+
+/// Adds removals.
+fn add_all(older: &mut Older, removals: &[Removal])
+    requires room { length older.old.removals + length removals.now ≤ older.old.room }
+    requires logged { AreLogged older.old.extent (sizes_after older.old.extent.sizes (cells_of
+        older.old.removals)) removals.now }
+    ensures more { older.new ≡ record older.old { removals = older.old.removals ++ removals.now } }
+{
+    let (values, dirs) = (older.values, older.dirs);
+    for removal in removals {
+        older.push(*removal, values, dirs);
+    }
+}
+
+/// Moves all removals of a list behind the others.
+pub fn move_to(older: &mut Older, list: &mut Vec<Removal>)
+    requires room { length older.old.removals + vec_len list.old ≤ older.old.room }
+    requires logged { AreLogged older.old.extent (sizes_after older.old.extent.sizes (cells_of
+        older.old.removals)) list.old.items }
+    ensures more { older.new
+        ≡ record older.old { removals = older.old.removals ++ list.old.items } }
+    ensures empty { list.new.items ≡ [] }
+    ensures capacity { vec_capacity list.new ≡ vec_capacity list.old }
+{
+    add_all(older, list);
+    list.clear();
+}
+
+/// Moves the removals from an index on to an empty list, the last first.
+pub fn move_from(older: &mut Older, start: usize, list: &mut Vec<Removal>)
+    requires empty { vec_len list.old ≡ 0 }
+    requires room { length older.old.removals ≤ vec_capacity list.old }
+    requires start_in { start ≤ length older.old.removals }
+    ensures same { older.new ≡ record older.old { removals = older.new.removals } }
+    ensures moved { older.old.removals ≡ older.new.removals ++ reverse list.new.items }
+    ensures kept { length older.new.removals ≡ start }
+    ensures capacity { vec_capacity list.new ≡ vec_capacity list.old }
+{
+    while older.len() > start {
+        list.push_reserved(older.pop());
+    }
+}
+
+impl Older {
+    /// No removals, and room for so many from the base domains of a problem.
+    pub fn new(
+        alloc: Global,
+        problem: &Problem,
+        domains: &Domains,
+        room: usize,
+    ) -> Result<Older, NoMemory>
+        requires base { domains.now ≡ base_of problem.now }
+        ensures ok { IfOk result (λ older. older
+            ≡ record { room = room; extent = extent_of problem.now; removals = [] }) }
+    {
+        let (cells, values, dirs) = (problem.cells(), problem.values(), problem.dirs());
+        let places = u64::from(cells) * u64::from(values) * (u64::from(dirs) + 1);
+        Ok(Older {
+            values,
+            dirs,
+            sizes: Vec::from_slice(alloc, domains.sizes())?,
+            numbers: Numbers::new(alloc, room, places > SHORT)?,
+        })
+    }
+
+    /// How many removals there are.
+    #[inline]
+    pub fn len(&self) -> usize
+        ensures value { result ≡ length self.now.removals }
+    {
+        self.numbers.len()
+    }
+
+    /// One more. The numbers of values and of directions are those that are kept here too.
+    #[inline]
+    fn push(&mut self, removal: Removal, values: u16, dirs: u8)
+        requires values { values ≡ self.old.extent.values }
+        requires dirs { dirs ≡ self.old.extent.dirs }
+        requires room { length self.old.removals < self.old.room }
+        requires logged { IsLogged self.old.extent (sizes_after self.old.extent.sizes (cells_of
+            self.old.removals)) removal }
+        ensures more { self.new ≡ record self.old { removals = self.old.removals ++ removal ∷ [] } }
+    {
+        self.sizes[removal.cell as usize] = removal.before - 1;
+        self.numbers.push(removal_number(removal, values, dirs));
+    }
+
+    /// Takes the last away.
+    pub fn pop(&mut self) -> Removal
+        requires some { 0 < length self.old.removals }
+        ensures last { self.old.removals ≡ self.new.removals ++ result ∷ [] }
+        ensures same { self.new ≡ record self.old { removals = self.new.removals } }
+    {
+        let last = self.numbers.len() - 1;
+        let place = self.numbers.at(last);
+        self.numbers.truncate(last);
+        let pair = place / (u32::from(self.dirs) + 1);
+        let cause = place % (u32::from(self.dirs) + 1);
+        let cell = pair / u32::from(self.values);
+        let before = self.sizes[cell as usize] + 1;
+        self.sizes[cell as usize] = before;
+        Removal {
+            cell,
+            value: (pair % u32::from(self.values)) as u16,
+            before,
+            cause: numbered_cause(cause as u8, self.dirs),
+        }
+    }
+}
