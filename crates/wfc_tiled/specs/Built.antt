@@ -1,5 +1,5 @@
 -- What is built of a tile set, a mask and the lines of a pins file: a problem, or the first fault.
-use Rattle.std.specs.Prelude.{ℕ, ◌*◌, ◌&&◌, nat_lt, Bool, List, length, map, is_some, Result, Ok, Err, if◌then◌else◌}
+use Rattle.std.specs.Prelude.{ℕ, ◌<◌, ◌*◌, ◌&&◌, nat_lt, Bool, List, length, map, is_some, Result, Ok, Err, if◌then◌else◌}
 use Rattle.std.specs.Option.{ok_or, option_map}
 use Rattle.wfc_outside.specs.Gives.{result_map}
 use Rattle.wfc_model.specs.Legal.{Pin}
@@ -48,3 +48,11 @@ abbrev pub tile_map_problem : TileSetView → MaskView → Bool → List PinView
 tile_map_problem set mask wrap lines =
     if nat_lt MAX_PAIRS (tile_pair_count set mask) then Err (TooLarge (tile_pair_count set mask))
     else result_map (problem_of_tiles set mask wrap) (tile_map_pins set.tiles mask lines)
+
+-- there are too many pairs of a place and a variant
+abbrev pub HasManyPairs : TileSetView → MaskView → Type 0
+HasManyPairs set mask = MAX_PAIRS < tile_pair_count set mask
+
+-- the fault that says how many there are
+abbrev pub pair_fault : TileSetView → MaskView → BuildFault
+pair_fault set mask = TooLarge (tile_pair_count set mask)

@@ -4,4 +4,5 @@ pub mod Maps
 pub mod Built
 pub mod Cut
 pub mod Small
+pub mod Setting
 pub mod Subject

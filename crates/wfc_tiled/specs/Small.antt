@@ -1,8 +1,12 @@
 -- Small tile sets and masks without symmetry, on which laws try the definitions.
-use Rattle.std.specs.Prelude.{ℕ, Bool, true, false, List, [], ◌∷◌, codes, None}
+use Rattle.std.specs.Prelude.{ℕ, Bool, true, false, List, [], ◌∷◌, codes, None, Result, Err}
 use Rattle.wfc_model.specs.Raster.{Raster, raster_of}
 use Rattle.wfc_grid.specs.Grid.{GridView}
+use Rattle.wfc_model.specs.Legal.{Pin}
 use Rattle.wfc_pins.specs.PinView.{PinView}
+use Rattle.wfc_pins.specs.declared.fault.BuildFault.{BuildFault}
+use Rattle.wfc_pins.specs.declared.fault.BuildFault.TheVariants.{PinInHole, PinOutside, UnknownSymbol}
+use Rattle.wfc_problem.specs.declared.TheConstants.{NO_CELL}
 use Rattle.wfc_symmetry.specs.declared.class.Class.TheVariants.{I, X}
 use Rattle.wfc_tileset.specs.Tiles.{TileSetView}
 use Rattle.wfc_tileset.specs.declared.TheConstants.{HOLE}
@@ -35,6 +39,22 @@ abbrev pub faulty_lines : List PinView
 faulty_lines =
     tile_pin_line 1 true 3 0 (codes "y") ∷ tile_pin_line 2 true 0 2 (codes "x/0")
     ∷ tile_pin_line 3 false 2 1 (codes "y") ∷ tile_pin_line 4 true 0 0 (codes "x/1") ∷ []
+
+-- their faults
+abbrev pub faults_of_lines : List (Result (List Pin) BuildFault)
+faults_of_lines =
+    Err (PinOutside 1) ∷ Err (PinOutside 2) ∷ Err (PinInHole 3) ∷ Err (UnknownSymbol 4) ∷ []
+
+-- two lines for the line and the cross: one that keeps the line's second variant, and one that bans the cross
+abbrev pub kept_line_banned_cross : List PinView
+kept_line_banned_cross =
+    tile_pin_line 4 true 2 0 (codes "line/1") ∷ tile_pin_line 7 false 1 1 (codes "x/0") ∷ []
+
+-- what lies beside each of the four places of a map with two holes that doesn't wrap
+abbrev pub flat_neighbours : List ℕ
+flat_neighbours =
+    NO_CELL ∷ 2 ∷ NO_CELL ∷ NO_CELL ∷ NO_CELL ∷ NO_CELL ∷ NO_CELL ∷ NO_CELL
+    ∷ NO_CELL ∷ NO_CELL ∷ 3 ∷ 0 ∷ 2 ∷ NO_CELL ∷ NO_CELL ∷ NO_CELL ∷ []
 
 -- four by two places: the first two and the last of the upper row, and the last of the lower, are no holes
 abbrev pub four_places : MaskView

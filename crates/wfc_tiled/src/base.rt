@@ -1,12 +1,11 @@
 //! Which variants each cell may have: those that meet the pins and bans of its place.
 
 ghost use Rattle.std.specs.Prelude.{◌≡◌, ◌+◌, ◌*◌, ◌<◌, ◌≤◌, length, replicate, true, [], IfOk, IfSome};
-ghost use Rattle.wfc_places.specs.Steps.{place_number};
 ghost use Rattle.wfc_tileset.specs.Tiles.{variant_total};
 ghost use Rattle.wfc_places.specs.Flags.{HasFlags, IsRowCut};
 ghost use Rattle.wfc_places.specs.Marks.{suits};
-ghost use Rattle.wfc_tiled.specs.Cut.{meets_at};
-ghost use Rattle.wfc_tiled.specs.Mask.{IsMask, cell_number};
+ghost use Rattle.wfc_tiled.specs.Cut.{cell_of_mark, meets_at};
+ghost use Rattle.wfc_tiled.specs.Mask.{IsMask};
 ghost use Rattle.wfc_tiled.specs.Maps.{ArePlaced};
 ghost use Rattle.wfc_tiled.specs.Tiles.{tile_base_table};
 
@@ -43,18 +42,17 @@ fn cut_all(flags: &mut [bool], tiles: &TileSet, mask: &Mask, marks: &[PinMark])
         (meets_at mask.now marks.now) }
 {
     for mark in marks {
-        cut(flags, tiles, mask, mark);
+        cut_by_mark(flags, tiles, mask, mark);
     }
 }
 
 /// Takes away what doesn't meet a pin or a ban, at the cell of its place.
-fn cut(flags: &mut [bool], tiles: &TileSet, mask: &Mask, mark: &PinMark)
+fn cut_by_mark(flags: &mut [bool], tiles: &TileSet, mask: &Mask, mark: &PinMark)
     requires column_in { mark.now.column < mask.now.width }
     requires row_in { mark.now.row < mask.now.height }
     requires table { length flags.old ≡ length mask.now.places * variant_total tiles.now.tiles }
     ensures mask { IsMask mask.now }
-    ensures cut { IfSome
-        (cell_number mask.now (place_number mask.now.width mark.now.column mark.now.row)) (λ cell.
+    ensures cut { IfSome (cell_of_mark mask.now mark.now) (λ cell.
         IsRowCut (variant_total tiles.now.tiles) flags.old flags.new cell (suits mark.now)) }
 {
     if let Some(cell) = mask.cell(mark.column, mark.row) {

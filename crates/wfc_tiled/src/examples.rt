@@ -8,12 +8,12 @@ ghost use Rattle.wfc_tileset.specs.Samples.{crossing, straight_lines};
 ghost use Rattle.wfc_tileset.specs.Tiles.{TileSetView};
 ghost use Rattle.wfc_tileset.specs.declared.TheConstants.{HOLE};
 ghost use Rattle.wfc_pins.specs.PinView.{PinView};
-ghost use Rattle.wfc_tiled.specs.Built.{checked_tile_map_pins, tile_pair_count, tile_map_pins, roomy_mask};
+ghost use Rattle.wfc_tiled.specs.Built.{HasManyPairs, checked_tile_map_pins, pair_fault, tile_pair_count, tile_map_pins, roomy_mask};
 ghost use Rattle.wfc_tiled.specs.Mask.{MaskView, mask_of, plain_mask};
 ghost use Rattle.wfc_tiled.specs.Maps.{IsLegalTileMap, IsNext, numbers_of_places, tile_map};
 ghost use Rattle.wfc_tiled.specs.Subject.{HoldsPinAt, cell_column, cell_row};
 ghost use Rattle.wfc_tiled.specs.Tiles.{tile_base_table, fitting_variants, tile_neighbour_table, tile_support_table, variant_weights};
-ghost use Rattle.wfc_tiled.specs.Small.{faulty_lines, four_places, four_tiles, four_with, line_and_cross};
+ghost use Rattle.wfc_tiled.specs.Small.{faults_of_lines, faulty_lines, flat_neighbours, kept_line_banned_cross, four_places, four_tiles, four_with, line_and_cross};
 ghost use Rattle.wfc_tiled.specs.Small.{three_by_two_grid, tile_pin_line, two_holes};
 ghost use Rattle.wfc_tiled.specs.declared.reading.MaskFault.TheVariants as mask_faults;
 ghost use Rattle.wfc_pins.specs.declared.fault.BuildFault.TheVariants as build_faults;
@@ -22,9 +22,7 @@ ghost use Rattle.wfc_problem.specs.declared.TheConstants.{MAX_PAIRS, NO_CELL};
 /// What lies to the left, below, to the right and above, on a map that doesn't wrap, on one that
 /// does, and on one that is one place wide.
 pub fn neighbours_by_example()
-    ensures flat { tile_neighbour_table two_holes false
-        ≡ NO_CELL ∷ 2 ∷ NO_CELL ∷ NO_CELL ∷ NO_CELL ∷ NO_CELL ∷ NO_CELL ∷ NO_CELL
-        ∷ NO_CELL ∷ NO_CELL ∷ 3 ∷ 0 ∷ 2 ∷ NO_CELL ∷ NO_CELL ∷ NO_CELL ∷ [] }
+    ensures flat { tile_neighbour_table two_holes false ≡ flat_neighbours }
     ensures wrapped { tile_neighbour_table two_holes true ≡ 1 ∷ 2 ∷ NO_CELL ∷ 2 ∷ NO_CELL ∷ NO_CELL
         ∷ 0 ∷ NO_CELL ∷ NO_CELL ∷ 0 ∷ 3 ∷ 0 ∷ 2 ∷ NO_CELL ∷ NO_CELL ∷ NO_CELL ∷ [] }
     ensures own_neighbour { tile_neighbour_table (plain_mask 1 2) true
@@ -46,12 +44,10 @@ pub fn supports_by_example()
 pub fn pins_by_example()
     ensures base { tile_base_table straight_lines two_holes (kept_pin 0 1 1 ∷ banned_pin 2 0 0 ∷ [])
         ≡ true ∷ true ∷ false ∷ true ∷ false ∷ true ∷ true ∷ true ∷ [] }
-    ensures read { tile_map_pins line_and_cross.tiles two_holes (tile_pin_line 4 true 2 0 (codes
-        "line/1") ∷ tile_pin_line 7 false 1 1 (codes "x/0") ∷ []) ≡ Ok (kept_pin 2 0 1 ∷ banned_pin
-        1 1 2 ∷ []) }
+    ensures read { tile_map_pins line_and_cross.tiles two_holes kept_line_banned_cross
+        ≡ Ok (kept_pin 2 0 1 ∷ banned_pin 1 1 2 ∷ []) }
     ensures faults { map (λ line. tile_map_pins line_and_cross.tiles two_holes (line ∷ []))
-        faulty_lines ≡ Err (build_faults.PinOutside 1) ∷ Err (build_faults.PinOutside 2) ∷ Err
-        (build_faults.PinInHole 3) ∷ Err (build_faults.UnknownSymbol 4) ∷ [] }
+        faulty_lines ≡ faults_of_lines }
 {}
 
 /// Where there are few enough pairs of a place and a variant, the answer is the mask, and the pins
@@ -59,16 +55,14 @@ pub fn pins_by_example()
 pub fn builds_by_pairs()
     ensures counted { tile_pair_count line_and_cross two_holes ≡ 12 }
     ensures roomy { roomy_mask line_and_cross two_holes ≡ Ok two_holes }
-    ensures pins { checked_tile_map_pins line_and_cross two_holes (tile_pin_line 4 true 2 0 (codes
-        "line/1") ∷ tile_pin_line 7 false 1 1 (codes "x/0") ∷ []) ≡ Ok (kept_pin 2 0 1 ∷ banned_pin
-        1 1 2 ∷ []) }
+    ensures pins { checked_tile_map_pins line_and_cross two_holes kept_line_banned_cross
+        ≡ Ok (kept_pin 2 0 1 ∷ banned_pin 1 1 2 ∷ []) }
     ensures line { checked_tile_map_pins line_and_cross two_holes (tile_pin_line 3 true 1 0 (codes
         "x/0") ∷ []) ≡ Err (build_faults.PinInHole 3) }
     ensures crowded_mask { (set : TileSetView) (mask : MaskView) → MAX_PAIRS < tile_pair_count set
         mask → roomy_mask set mask ≡ Err (build_faults.TooLarge (tile_pair_count set mask)) }
     ensures crowded_pins { (set : TileSetView) (mask : MaskView) (lines : List PinView) →
-        MAX_PAIRS < tile_pair_count set mask → checked_tile_map_pins set mask lines ≡ Err
-        (build_faults.TooLarge (tile_pair_count set mask)) }
+        HasManyPairs set mask → checked_tile_map_pins set mask lines ≡ Err (pair_fault set mask) }
 {}
 
 /// Masks of grids, and their first faults.

@@ -39,11 +39,11 @@ pub fn tiles_of_masked(alloc: Global, mask: &Mask, assignment: &[u16]) -> Result
     ensures legal { IfOk result (IsLegalMapWith mask.now assignment.now) }
 {
     let numbers = numbers(alloc, mask, assignment)?;
-    Ok(filled(mask.width(), mask.height(), numbers))
+    Ok(picture_from(mask.width(), mask.height(), numbers))
 }
 
 /// The picture of these numbers, of which there are as many as it has places.
-fn filled(width: u32, height: u32, numbers: Vec<u32>) -> Picture
+fn picture_from(width: u32, height: u32, numbers: Vec<u32>) -> Picture
     requires filled { IsFilled width height numbers.items }
     ensures value { result ≡ raster_of width height numbers.items }
 {

@@ -20,10 +20,10 @@ loop-mark-preserved c =
     let k = c.loop-mark.mark-index in
     let pin = c.mark-item.result in
     let old = c.loop-mark.flags in
-    let new = c.cut.new.flags in
+    let new = c.cut_by_mark.new.flags in
     let placed : IsPlaced m pin = subst (IsPlaced m) (sym c.mark-item.is) (c.requires.placed k pin (omega arith)) in
-    let at = member m.places (place_number m.width pin.column pin.row) c.cut.ensures.mask.rising placed.place in
-    let done : IsRowCut V old new at.0 (suits pin) = subst (λ (o : Option ℕ). IfSome o (λ cell. IsRowCut V old new cell (suits pin))) at.1 c.cut.ensures.cut in
+    let at = member m.places (place_number m.width pin.column pin.row) c.cut_by_mark.ensures.mask.rising placed.place in
+    let done : IsRowCut V old new at.0 (suits pin) = subst (λ (o : Option ℕ). IfSome o (λ cell. IsRowCut V old new cell (suits pin))) at.1 c.cut_by_mark.ensures.cut in
     subst (λ (ps : List Pin). HasFlags V (length m.places) new (meets_at m ps))
     (sym (take_more marks k pin (omega arith) ∙ ap (λ (p : Pin). take k marks ++ p ∷ []) (sym c.mark-item.is)))
-    (met_more V m old new (take k marks) pin at.0 c.cut.ensures.mask c.loop-mark.invariant at.1 done)
+    (met_more V m old new (take k marks) pin at.0 c.cut_by_mark.ensures.mask c.loop-mark.invariant at.1 done)

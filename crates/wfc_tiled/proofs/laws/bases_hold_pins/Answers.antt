@@ -3,6 +3,6 @@ use Rattle.wfc_tiled.proofs.laws.bases_hold_pins.Goals as goal
 
 pub returns : goal.returns
 returns c = record {
-  exactly = λ set mask wrap pins is placed cell v inside value.
-      (base-holds set mask wrap pins is cell v inside value, holds-base set mask wrap pins is placed cell v inside value);
+  exactly = λ s cell v is placed pair.
+      (base-holds s.set s.mask s.wrap s.pins is cell v pair.0 pair.1, holds-base s.set s.mask s.wrap s.pins is placed cell v pair.0 pair.1);
 }

@@ -6,8 +6,8 @@ use Rattle.wfc_tiled.specs.Maps.{IsLegalTileMap, number_of_cell, tile_map}
 use Rattle.wfc_tiled.proofs.BridgeLemmas.{assignment_is_map}
 use Rattle.wfc_tiled.proofs.painting.tiles_of_masked.Goals as goal
 
-pub filled-requires : goal.filled-requires
-filled-requires c =
+pub picture_from-requires : goal.picture_from-requires
+picture_from-requires c =
     let m = c.args.mask.now in
     let is = c.width.ensures.mask in
     let f : ℕ → ℕ = λ n. number_of_cell c.args.assignment.now (cell_number m n) in
@@ -24,7 +24,7 @@ pub returns-clause-legal : goal.returns-clause-legal
 returns-clause-legal c = λ set wrap pins problem placed legal.
     let m = c.args.mask.now in
     let a = c.args.assignment.now in
-    let value : c.filled.result ≡ tile_map m a =
-    c.filled.ensures.value ∙ ap (λ k. raster_of k c.height.result c.in_ok-numbers.numbers.items) c.width.ensures.value
+    let value : c.picture_from.result ≡ tile_map m a =
+    c.picture_from.ensures.value ∙ ap (λ k. raster_of k c.height.result c.in_ok-numbers.numbers.items) c.width.ensures.value
     ∙ ap (λ k. raster_of m.width k c.in_ok-numbers.numbers.items) c.height.ensures.value ∙ ap (raster_of m.width m.height) c.in_ok-numbers.ensures.value in
     subst (IsLegalTileMap set m wrap pins) (sym value) (assignment_is_map set m wrap pins a c.width.ensures.mask problem placed legal)

@@ -6,7 +6,7 @@ use Rattle.wfc_tileset.specs.Tiles.{variant_total}
 use Rattle.wfc_places.specs.Flags.{IsRowCut}
 use Rattle.wfc_places.specs.Marks.{suits}
 use Rattle.wfc_tiled.specs.Mask.{cell_number}
-use Rattle.wfc_tiled.proofs.base.cut.Goals as goal
+use Rattle.wfc_tiled.proofs.base.cut_by_mark.Goals as goal
 
 pub returns-in-Some-clause-cut : goal.returns-in-Some-clause-cut
 returns-in-Some-clause-cut c =
