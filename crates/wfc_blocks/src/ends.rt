@@ -70,11 +70,11 @@ pub(crate) fn run_block<L: Ledger>(
     )?;
     let ran = run_counted(alloc, &problem, chooser, budget, seed, steps)?;
     *supports = problem.into_supports();
-    shown(alloc, patterns, block, ran.end)
+    shown_end(alloc, patterns, block, ran.end)
 }
 
 /// The end of a run as the end of a block, with the picture that its assignment paints.
-fn shown(
+fn shown_end(
     alloc: Global,
     patterns: &Patterns,
     block: Block,

@@ -171,11 +171,11 @@ fn grown_area<L: Ledger>(
         seed,
         steps,
     )?;
-    shown(alloc, palette, &canvas, pins, halt)
+    shown_growth(alloc, palette, &canvas, pins, halt)
 }
 
 /// Shows what growing came to.
-fn shown(
+fn shown_growth(
     alloc: Global,
     palette: &Palette,
     canvas: &Canvas,

@@ -100,13 +100,13 @@ fn push_turned(pairs: &mut Vec<(u16, u16)>, tiles: &TileSet, stack: Stack) -> Re
     ensures within { OnOk result (AreVariantPairs (variant_total tiles.now.tiles) pairs.new.items) }
 {
     for k in 0..8 {
-        pairs.push(turned(tiles, stack, k))?;
+        pairs.push(turned_pair(tiles, stack, k))?;
     }
     Ok(())
 }
 
 /// The lower and the upper variant of a declared stack, both after an action.
-fn turned(tiles: &TileSet, stack: Stack, k: u8) -> (u16, u16)
+fn turned_pair(tiles: &TileSet, stack: Stack, k: u8) -> (u16, u16)
     requires stack { IsStack tiles.now.tiles stack }
     requires action_in { k < 8 }
     ensures value { result ≡ turned_stack tiles.now.tiles stack k }

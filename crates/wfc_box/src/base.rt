@@ -44,12 +44,12 @@ fn cut_all(flags: &mut [bool], count: u16, frame: Frame, marks: &[BoxMark])
     ensures met { HasFlags count (places_in frame) flags.new (meets_in_box frame marks.now) }
 {
     for mark in marks {
-        cut(flags, count, frame, mark);
+        cut_by_mark(flags, count, frame, mark);
     }
 }
 
 /// Takes away what doesn't meet a pin or a ban, at the cell of its place.
-fn cut(flags: &mut [bool], count: u16, frame: Frame, mark: &BoxMark)
+fn cut_by_mark(flags: &mut [bool], count: u16, frame: Frame, mark: &BoxMark)
     requires frame { IsFrame frame }
     requires few_cells { places_in frame ≤ MAX_PAIRS }
     requires inside { IsInBox frame mark.now }

@@ -30,12 +30,12 @@ pub fn stacks(alloc: Global, bytes: &[u8], tiles: &TileSet) -> Result<Stacks, St
     ensures exact { Gives StackFault.NoMemory (λ stacks. stacks) result
         (result_map (stacked_pairs tiles.now.tiles) (stacks_of tiles.now.tiles bytes.now)) }
 {
-    let declared = declared(alloc, bytes, tiles)?;
+    let declared = declared_stacks(alloc, bytes, tiles)?;
     Ok(Stacks::new(alloc, tiles, &declared)?)
 }
 
 /// The stacks that the document declares.
-fn declared(alloc: Global, bytes: &[u8], tiles: &TileSet) -> Result<Vec<Stack>, StackFault>
+fn declared_stacks(alloc: Global, bytes: &[u8], tiles: &TileSet) -> Result<Vec<Stack>, StackFault>
     ensures exact { Gives StackFault.NoMemory (λ stacks. stacks.items) result
         (stacks_of tiles.now.tiles bytes.now) }
     ensures stacks { IfOk result (λ stacks. All (IsStack tiles.now.tiles) stacks.items) }
@@ -190,7 +190,7 @@ fn end_from(names: &Names, tiles: &TileSet, stack: u32, text: &str) -> Result<En
     ensures end { IfOk result (IsPairEnd tiles.now.tiles) }
 {
     let length = name_length(text.as_bytes());
-    let Some(tile) = named(names, tiles, &text[..length]) else {
+    let Some(tile) = named_tile(names, tiles, &text[..length]) else {
         return Err(StackFault::UnknownTile { stack });
     };
     match turn_digit(&text.as_bytes()[length..]) {
@@ -200,7 +200,7 @@ fn end_from(names: &Names, tiles: &TileSet, stack: u32, text: &str) -> Result<En
 }
 
 /// The number of the first tile that has this name.
-fn named(names: &Names, _tiles: &TileSet, name: &str) -> Option<u32>
+fn named_tile(names: &Names, _tiles: &TileSet, name: &str) -> Option<u32>
     requires names { AreNames names.now _tiles.now.tiles }
     ensures value { result ≡ position (has_name name.now) _tiles.now.tiles }
     ensures tile_in { IfSome result (λ tile. tile < length _tiles.now.tiles) }

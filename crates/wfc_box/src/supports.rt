@@ -41,14 +41,14 @@ fn push_lists(
         ≡ map (λ list. list.items) lists.old.items ++ all_fitting_in_box tiles.now stacks.now v) }
 {
     for dir in 0..6 {
-        let list = fitting(alloc, tiles, stacks, v, dir)?;
+        let list = support_list(alloc, tiles, stacks, v, dir)?;
         lists.push(Vec::from_slice(alloc, list.as_slice())?)?;
     }
     Ok(())
 }
 
 /// The variants that may stand beside one in a direction, rising.
-fn fitting(
+fn support_list(
     alloc: Global,
     tiles: &TileSet,
     stacks: &Stacks,

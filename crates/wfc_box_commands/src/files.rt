@@ -10,7 +10,7 @@ ghost use Rattle.wfc_outside.specs.Gives.{result_map};
 ghost use Rattle.wfc_plan.specs.Plan.{Goes};
 ghost use Rattle.wfc_tileset.specs.Pictures.{picture_name};
 
-use crate::steps::{box_lines, posed_box, stacked};
+use crate::steps::{box_lines, posed_box, stacks_in};
 use std::alloc::Global;
 use wfc_box::{BoxPin, Stacks};
 use wfc_outside::Folder;
@@ -35,7 +35,7 @@ pub(crate) fn stacked_set<F: Folder>(
     let bytes = whole_file(alloc, folder, Source::Sample, request.file())?;
     let mut tiles = tile_document(alloc, &bytes)?;
     pictures(alloc, folder, &mut tiles)?;
-    let stacks = stacked(alloc, &tiles, &bytes)?;
+    let stacks = stacks_in(alloc, &tiles, &bytes)?;
     Ok((tiles, stacks))
 }
 

@@ -18,7 +18,7 @@ use wfc_tileset::TileSet;
 use wfc_words::Request;
 
 /// Which variants of a tile set may stand on which, by the stacks of the document with these bytes.
-pub(crate) fn stacked(alloc: Global, tiles: &TileSet, bytes: &[u8]) -> Result<Stacks, Refusal>
+pub(crate) fn stacks_in(alloc: Global, tiles: &TileSet, bytes: &[u8]) -> Result<Stacks, Refusal>
     ensures exact { Gives Refusal.NoMemory (λ made. made) result (stacked_in tiles.now bytes.now) }
 {
     Ok(stacks(alloc, bytes, tiles)?)

@@ -86,7 +86,7 @@ fn leave_out_in_turn<M: PinnedProblem, L: Ledger>(
         let chooser = take(&mut left);
         trial.look_at(alloc, pinned, line, chooser, seed, budget, steps)?;
     }
-    Ok(trial.stayed())
+    Ok(trial.into_core())
 }
 
 /// Which lines are still kept, and those that were looked at and stay.
@@ -151,7 +151,7 @@ impl Trial {
     }
 
     /// The lines that stay.
-    fn stayed(self) -> Core
+    fn into_core(self) -> Core
         ensures value { result ≡ self.core }
     {
         Core::new(self.list)

@@ -102,7 +102,7 @@ fn grown_with<O: Sink>(
 }
 
 /// What growth comes to, with its steps counted in a ledger of its own.
-fn made<L: Ledger>(
+fn growing_end<L: Ledger>(
     alloc: Global,
     request: &Request,
     growing: &Growing,

@@ -18,7 +18,7 @@ pub fn check<E: Sink>(err: &mut E, fault: &CheckFault, file: &str) -> Result<(),
         (text_of_check fault.now file.now) result }
 {
     match *fault {
-        CheckFault::Rejected { line, reject } => refused(err, line, reject, file),
+        CheckFault::Rejected { line, reject } => reject_line(err, line, reject, file),
         CheckFault::BadLine { line } => bad_line(err, line, file),
         CheckFault::HeaderDiffers { cells, values } => header_differs(err, cells, values, file),
         CheckFault::NotEnded => put_named(err, "check NotEnded", file),
@@ -31,24 +31,29 @@ pub fn check<E: Sink>(err: &mut E, fault: &CheckFault, file: &str) -> Result<(),
 }
 
 /// Puts why a line of a proof is refused.
-fn refused<E: Sink>(err: &mut E, row: u64, reject: Reject, file: &str) -> Result<(), SinkFault>
+fn reject_line<E: Sink>(err: &mut E, row: u64, reject: Reject, file: &str) -> Result<(), SinkFault>
     ensures told { IsSaid (E.seen err.old) (E.seen err.new)
         (text_of_rejected row reject file.now) result }
 {
     match reject {
-        Reject::NotStanding => rejected(err, row, "NotStanding", file),
+        Reject::NotStanding => named_reject_line(err, row, "NotStanding", file),
         Reject::HasSupport { value } => rejected_at(err, row, "HasSupport value=", value, file),
-        Reject::NoNeighbour => rejected(err, row, "NoNeighbour", file),
+        Reject::NoNeighbour => named_reject_line(err, row, "NoNeighbour", file),
         Reject::NotEmpty { value } => rejected_at(err, row, "NotEmpty value=", value, file),
-        Reject::AfterEnd => rejected(err, row, "AfterEnd", file),
-        Reject::IndexRange => rejected(err, row, "IndexRange", file),
-        Reject::NotClosed => rejected(err, row, "NotClosed", file),
-        Reject::OnlyValue => rejected(err, row, "OnlyValue", file),
+        Reject::AfterEnd => named_reject_line(err, row, "AfterEnd", file),
+        Reject::IndexRange => named_reject_line(err, row, "IndexRange", file),
+        Reject::NotClosed => named_reject_line(err, row, "NotClosed", file),
+        Reject::OnlyValue => named_reject_line(err, row, "OnlyValue", file),
     }
 }
 
 /// Puts a refusal that names no value.
-fn rejected<E: Sink>(err: &mut E, row: u64, name: &str, file: &str) -> Result<(), SinkFault>
+fn named_reject_line<E: Sink>(
+    err: &mut E,
+    row: u64,
+    name: &str,
+    file: &str,
+) -> Result<(), SinkFault>
     ensures told { IsSaid (E.seen err.old) (E.seen err.new)
         (rejected_text row name.now file.now) result }
 {

@@ -39,12 +39,17 @@ pub fn put_numbered<E: Sink>(err: &mut E, text: &str, n: u32, file: &str) -> Res
     ensures told { IsSaid (E.seen err.old) (E.seen err.new)
         (numbered_text text.now n file.now) result }
 {
-    counted(err, text, u64::from(n), file)
+    count_line(err, text, u64::from(n), file)
 }
 
 /// Puts the line of a text, a number of up to 64 bits straight behind it, and the file that it
 /// speaks of.
-pub(crate) fn counted<E: Sink>(err: &mut E, text: &str, n: u64, file: &str) -> Result<(), SinkFault>
+pub(crate) fn count_line<E: Sink>(
+    err: &mut E,
+    text: &str,
+    n: u64,
+    file: &str,
+) -> Result<(), SinkFault>
     ensures told { IsSaid (E.seen err.old) (E.seen err.new)
         (numbered_text text.now n file.now) result }
 {

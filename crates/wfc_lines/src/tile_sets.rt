@@ -19,8 +19,8 @@ pub fn tiles<E: Sink>(err: &mut E, fault: TileFault, file: &str) -> Result<(), S
     match fault {
         TileFault::Toml => put_named(err, "tiles Toml", file),
         TileFault::NoTiles => put_named(err, "tiles NoTiles", file),
-        TileFault::MissingKey { place, key } => keyed(err, "tiles MissingKey", place, key, file),
-        TileFault::WrongKind { place, key } => keyed(err, "tiles WrongKind", place, key, file),
+        TileFault::MissingKey { place, key } => key_line(err, "tiles MissingKey", place, key, file),
+        TileFault::WrongKind { place, key } => key_line(err, "tiles WrongKind", place, key, file),
         TileFault::BadClass { tile } => put_numbered(err, "tiles BadClass tile=", tile, file),
         TileFault::BadWeight { tile } => put_numbered(err, "tiles BadWeight tile=", tile, file),
         TileFault::BadPicture { tile } => put_numbered(err, "tiles BadPicture tile=", tile, file),
@@ -43,7 +43,7 @@ pub fn tiles<E: Sink>(err: &mut E, fault: TileFault, file: &str) -> Result<(), S
 }
 
 /// Puts the line of a text that speaks of a key at a place.
-fn keyed<E: Sink>(
+fn key_line<E: Sink>(
     err: &mut E,
     text: &str,
     place: Place,

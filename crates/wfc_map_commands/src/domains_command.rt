@@ -13,7 +13,7 @@ ghost use Rattle.wfc_reply.specs.Ending.{EndsPut};
 ghost use Rattle.wfc_task.specs.Asked.{IsOutputAsked, IsSourceAsked};
 
 use crate::stepping::domains_task;
-use crate::walk::{Walk, begun};
+use crate::walk::{Walk, begin_walk};
 use std::alloc::Global;
 use std::marker::Brand;
 use std::sync::ledger::{Blank, Ledger};
@@ -37,7 +37,7 @@ pub fn domains<F: Folder, O: Sink>(
         (F.seen folder.old) (F.seen folder.new) (O.seen out.old) (O.seen out.new) result }
 {
     let stepping = domains_task(alloc, request, folder)?;
-    let walk = begun(alloc, &stepping)?;
+    let walk = begin_walk(alloc, &stepping)?;
     let verdict = walk.verdict();
     put_blocks::<O, Brand>(out, walk, &stepping.problem, &stepping.steps, Blank::new(1))?;
     out.finish()?;

@@ -31,7 +31,7 @@ pub(crate) struct Walk<'p> {
 }
 
 /// The walk before its first step, with room for as many literals as there are steps.
-pub(crate) fn begun<'p>(alloc: Global, stepping: &'p Stepping) -> Result<Walk<'p>, NoMemory>
+pub(crate) fn begin_walk<'p>(alloc: Global, stepping: &'p Stepping) -> Result<Walk<'p>, NoMemory>
     ensures few { OnOk result (length stepping.now.steps.items < 2 ^ 32) }
     ensures opened { IfOk result
         (λ walk. IsOpened walk.engine stepping.now.problem (length stepping.now.steps.items)) }

@@ -186,14 +186,14 @@ fn push_place(
     let maxval = maxval_of(tiles.kind());
     let side = tiles.side();
     for i in 0..side {
-        push_symbol(text, form, maxval, shown(tiles, number, i, j))?;
+        push_symbol(text, form, maxval, shown_symbol(tiles, number, i, j))?;
     }
     Ok(())
 }
 
 /// What a place shows in a column of a row of its picture.
 #[inline]
-fn shown(tiles: &TileSet, number: u32, i: u32, j: u32) -> Symbol
+fn shown_symbol(tiles: &TileSet, number: u32, i: u32, j: u32) -> Symbol
     requires pictured { IsPictured tiles.now }
     requires number { IsVariantOrHole tiles.now number }
     requires i_in { i < side_of tiles.now.pictures }

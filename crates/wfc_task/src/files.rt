@@ -12,7 +12,7 @@ ghost use Rattle.wfc_task.specs.SamplePlans.{picture_plan, pins_file_plan, pins_
 ghost use Rattle.wfc_task.specs.Sampled.{sampled_view};
 
 use crate::lesson::Taught;
-use crate::sampled::{Sampled, shown};
+use crate::sampled::{Sampled, sampled_in};
 use crate::steps::{patterns_taught, problem_of_lines, read_pin_lines, sample_in_numbers};
 use std::alloc::Global;
 use wfc_outside::Folder;
@@ -33,7 +33,7 @@ fn sample_file<F: Folder>(
     ensures sampled { IfOk result (λ sampled. IsSampled (sampled_view sampled)) }
 {
     let bytes = whole_file(alloc, folder, Source::Sample, request.file())?;
-    let sampled = shown(alloc, request, &bytes)?;
+    let sampled = sampled_in(alloc, request, &bytes)?;
     Ok(sampled)
 }
 

@@ -25,7 +25,7 @@ pub(crate) struct Sampled {
 }
 
 /// What the bytes of a sample show.
-pub(crate) fn shown(alloc: Global, request: &Request, bytes: &[u8]) -> Result<Sampled, Refusal>
+pub(crate) fn sampled_in(alloc: Global, request: &Request, bytes: &[u8]) -> Result<Sampled, Refusal>
     requires short { length bytes.now ≤ MAX_FILE_BYTES }
     ensures exact { Gives Refusal.NoMemory sampled_view result (sampled_in request.now bytes.now) }
     ensures sampled { IfOk result (λ sampled. IsSampled (sampled_view sampled)) }

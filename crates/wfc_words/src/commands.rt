@@ -128,7 +128,7 @@ const COMMANDS: [CommandKind; 13] = [
 ];
 
 /// The command that a word names.
-pub(crate) fn named(word: &str) -> Option<CommandKind>
+pub(crate) fn kind_named(word: &str) -> Option<CommandKind>
     ensures value { result ≡ command_named word.now }
 {
     named_among(&COMMANDS, word)

@@ -10,7 +10,7 @@ ghost use Rattle.wfc_words.specs.InRange.{IsInRange};
 ghost use Rattle.wfc_words.specs.Request.{request_by, request_found, request_of, request_with, texts};
 
 use crate::asked::Request;
-use crate::commands::named;
+use crate::commands::kind_named;
 use crate::fault::CommandFault;
 use crate::kinds::CommandKind;
 use crate::simple::{flag, matches, text};
@@ -29,7 +29,7 @@ pub fn request(alloc: Global, words: &[String]) -> Result<Request, CommandFault>
     let [name, rest @ ..] = words else {
         return Err(CommandFault::Refused);
     };
-    match named(name.as_str()) {
+    match kind_named(name.as_str()) {
         Some(kind) => asked_by(alloc, kind, rest),
         None => Err(CommandFault::Refused),
     }
@@ -71,10 +71,10 @@ fn with_texts(
         request ≡ request_with kind (rows_of (found_of found.now)) values) }
 {
     let file = String::from_str(alloc, text(kind, found, texts::FILE).unwrap_or(""))?;
-    let pins = copied(alloc, text(kind, found, texts::PINS))?;
-    let steps = copied(alloc, text(kind, found, texts::STEPS))?;
-    let refutation = copied(alloc, text(kind, found, texts::REFUTATION))?;
-    let mask = copied(alloc, text(kind, found, texts::MASK))?;
+    let pins = owned_text(alloc, text(kind, found, texts::PINS))?;
+    let steps = owned_text(alloc, text(kind, found, texts::STEPS))?;
+    let refutation = owned_text(alloc, text(kind, found, texts::REFUTATION))?;
+    let mask = owned_text(alloc, text(kind, found, texts::MASK))?;
     Ok(Request {
         command: kind,
         file,
@@ -102,7 +102,7 @@ fn with_texts(
 }
 
 /// A text that may be missing, as a text of its own.
-fn copied(alloc: Global, text: Option<&str>) -> Result<Option<String>, AllocError>
+fn owned_text(alloc: Global, text: Option<&str>) -> Result<Option<String>, AllocError>
     ensures ok { IfOk result (λ copy.
         option_map string_bytes copy ≡ option_map (λ text. text.now) text.entry) }
 {

@@ -96,16 +96,16 @@ pub(crate) fn text<'a>(kind: CommandKind, matches: &ArgMatches<'a>, name: &str) 
         ≡ word_text kind name.now (rows_of (found_of matches.now)) }
 {
     if requires_it(kind, name) {
-        return Some(found(matches, name).unwrap_or(""));
+        return Some(text_found(matches, name).unwrap_or(""));
     }
     if takes(kind, name) {
-        return found(matches, name);
+        return text_found(matches, name);
     }
     None
 }
 
 /// The text that `clap` found of a word.
-fn found<'a>(matches: &ArgMatches<'a>, name: &str) -> Option<&'a str>
+fn text_found<'a>(matches: &ArgMatches<'a>, name: &str) -> Option<&'a str>
     ensures value { option_map (λ text. text.now) result
         ≡ first_of name.now (rows_of (found_of matches.now)) }
 {

@@ -16,10 +16,10 @@ loop-k-preserved c =
     record {
       so_far =
           c.in_ok-push.ensures.items
-          ∙ ap (λ (t : List (ℕ × ℕ)). t ++ c.turned.result ∷ []) c.loop-k.invariant.so_far
-          ∙ ap (λ (p : ℕ × ℕ). (front ++ map f (range_with_len 0 k)) ++ p ∷ []) c.turned.ensures.value
+          ∙ ap (λ (t : List (ℕ × ℕ)). t ++ c.turned_pair.result ∷ []) c.loop-k.invariant.so_far
+          ∙ ap (λ (p : ℕ × ℕ). (front ++ map f (range_with_len 0 k)) ++ p ∷ []) c.turned_pair.ensures.value
           ∙ append_assoc front (map f (range_with_len 0 k)) (f k ∷ [])
           ∙ ap (λ (t : List (ℕ × ℕ)). front ++ t) (sym (map-range_with_len_more f 0 k k (zero-add k)));
       within = subst (AreVariantPairs n) (sym c.in_ok-push.ensures.items)
-          (All-push (λ (p : ℕ × ℕ). (p.0 < n) × (p.1 < n)) _ _ c.loop-k.invariant.within (c.turned.ensures.lower_in, c.turned.ensures.upper_in));
+          (All-push (λ (p : ℕ × ℕ). (p.0 < n) × (p.1 < n)) _ _ c.loop-k.invariant.within (c.turned_pair.ensures.lower_in, c.turned_pair.ensures.upper_in));
     }

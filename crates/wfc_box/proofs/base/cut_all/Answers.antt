@@ -11,6 +11,6 @@ loop-mark-preserved c =
     let marks = c.args.marks.now in
     let k = c.loop-mark.mark-index in
     let pin = c.mark-item.result in
-    subst (λ (ps : List LayerPin). HasFlags c.args.count (places_in c.args.frame) c.cut.new.flags (meets_in_box c.args.frame ps))
+    subst (λ (ps : List LayerPin). HasFlags c.args.count (places_in c.args.frame) c.cut_by_mark.new.flags (meets_in_box c.args.frame ps))
     (sym (take_more marks k pin (omega arith) ∙ ap (λ (p : LayerPin). take k marks ++ p ∷ []) (sym c.mark-item.is)))
-    (met_more c.args.count c.args.frame c.loop-mark.flags c.cut.new.flags (take k marks) pin c.loop-mark.invariant c.cut.ensures.cut)
+    (met_more c.args.count c.args.frame c.loop-mark.flags c.cut_by_mark.new.flags (take k marks) pin c.loop-mark.invariant c.cut_by_mark.ensures.cut)

@@ -25,6 +25,6 @@ returns g c =
     let lines = c.lines-lines.ensures.value in
     record {
       exact = λ rule have.
-          c.stayed.ensures.value ∙ ap (λ (t : TrialView). t.core) (c.loop-line.invariant.2 rule have).1
+          c.into_core.ensures.value ∙ ap (λ (t : TrialView). t.core) (c.loop-line.invariant.2 rule have).1
           ∙ (λ i. (trial_after (outcome_with v rule c.args.budget (words_of_seed c.args.seed)) (lines i) ((same ∙ lines) i)).core);
     }

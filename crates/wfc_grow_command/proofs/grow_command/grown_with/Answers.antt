@@ -6,8 +6,8 @@ use Rattle.wfc_grow_command.proofs.grow_command.grown_with.Goals as goal
 use Rattle.wfc_grow_command.specs.GrowTask.{growing_view}
 use Rattle.wfc_outside.proofs.CallerLemmas.{gives_value}
 
-pub made-requires-clause-alike : goal.made-requires-clause-alike
-made-requires-clause-alike g c = (((goal.Chooser-dyn g (c.args.chooser.vtable, c.args.chooser.value)).told c.args.chooser.value).rule, c.requires.have)
+pub growing_end-requires-clause-alike : goal.growing_end-requires-clause-alike
+growing_end-requires-clause-alike g c = (((goal.Chooser-dyn g (c.args.chooser.vtable, c.args.chooser.value)).told c.args.chooser.value).rule, c.requires.have)
 
 pub put_grown-requires : goal.put_grown-requires
 put_grown-requires g c =

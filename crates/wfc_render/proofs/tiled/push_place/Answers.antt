@@ -14,5 +14,5 @@ loop-i-preserved c =
     let maxval = c.maxval_of-maxval.ensures.value ∙ ap maxval_of c.kind.ensures.value in
     written_next write c.loop-i.i c.args.text.now.items c.loop-i.text.items c.push_symbol.new.text.items c.loop-i.invariant
     (c.in_ok-push_symbol.ensures.symbol
-    ∙ ap (λ (m : ℕ). c.loop-i.text.items ++ symbol_in c.args.form m c.shown.result) maxval
-    ∙ ap (λ (s : Symbol). c.loop-i.text.items ++ symbol_in c.args.form (maxval_of (kind_of set.pictures)) s) c.shown.ensures.value)
+    ∙ ap (λ (m : ℕ). c.loop-i.text.items ++ symbol_in c.args.form m c.shown_symbol.result) maxval
+    ∙ ap (λ (s : Symbol). c.loop-i.text.items ++ symbol_in c.args.form (maxval_of (kind_of set.pictures)) s) c.shown_symbol.ensures.value)

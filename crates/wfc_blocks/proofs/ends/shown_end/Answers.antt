@@ -3,7 +3,7 @@ use Rattle.wfc_problem.specs.Assignment.{IsLegalAssignment}
 use Rattle.wfc_runs.specs.Runs.{IsLegalEnd}
 use Rattle.wfc_blocks.specs.BlockEnds.{IsBlockPicture, problem_with_pins}
 use Rattle.wfc_blocks.proofs.BlockEndLemmas.{each_pattern, picture_fits}
-use Rattle.wfc_blocks.proofs.ends.shown.Goals as goal
+use Rattle.wfc_blocks.proofs.ends.shown_end.Goals as goal
 
 pub picture_of-requires-clause-values : goal.picture_of-requires-clause-values
 picture_of-requires-clause-values c =

@@ -2,7 +2,7 @@ use Rattle.std.proofs.Common.{ℕ, Bool, ◌++◌, [], ◌∷◌, cond, filter, 
 use Rattle.std.specs.List.{range_with_len}
 use Rattle.wfc_lists.proofs.Growing.{kept_more}
 use Rattle.wfc_box.specs.BoxProblem.{fits_in}
-use Rattle.wfc_box.proofs.supports.fitting.Goals as goal
+use Rattle.wfc_box.proofs.supports.support_list.Goals as goal
 
 pub loop-w-preserved : goal.loop-w-preserved
 loop-w-preserved c =

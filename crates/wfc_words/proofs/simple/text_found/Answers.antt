@@ -1,7 +1,7 @@
 use Rattle.std.proofs.Common.{◌∙◌}
 use Rattle.clap.specs.Matches.{found_of}
 use Rattle.clap.proofs.WalkLemmas.{first_value-rows}
-use Rattle.wfc_words.proofs.simple.found.Goals as goal
+use Rattle.wfc_words.proofs.simple.text_found.Goals as goal
 
 pub returns : goal.returns
 returns c = record { value = c.get_str.ensures ∙ first_value-rows (found_of c.args.matches.now) c.args.name.now }

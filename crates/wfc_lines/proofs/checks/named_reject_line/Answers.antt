@@ -1,5 +1,5 @@
 use Rattle.std.proofs.Common.{append_assoc}
-use Rattle.wfc_lines.proofs.checks.rejected.Goals as goal
+use Rattle.wfc_lines.proofs.checks.named_reject_line.Goals as goal
 
 pub returns : goal.returns
 returns g c =

@@ -4,7 +4,7 @@ use Rattle.std.specs.Prelude.{All}
 use Rattle.wfc_blocks.specs.Grown.{grown_of}
 use Rattle.wfc_blocks.specs.declared.grown.GrowFault.TheVariants as faults
 use Rattle.wfc_blocks.specs.declared.grown.Grown.{Grown}
-use Rattle.wfc_grow_command.proofs.grow_command.made.Goals as goal
+use Rattle.wfc_grow_command.proofs.grow_command.growing_end.Goals as goal
 use Rattle.wfc_grow_command.specs.GrowTask.{area_asked}
 use Rattle.wfc_outside.specs.Gives.{Gives}
 use Rattle.wfc_picture.specs.declared.palette.TheConstants.{MAX_COLOURS}
