@@ -41,7 +41,7 @@ abbrev pub IsReadingFault : Source → List File → List ℕ → TaskStage
 IsReadingFault source files name fault =
     IsMissingFault source files name fault ⊎ IsLengthFault source files name fault
 
--- so it is with the file that is named; there is no fault where none is
+-- the file that the request names, if it names one, can't be read
 abbrev pub IsNamedFault : Source → List File → Option (List ℕ) → TaskStage
 IsNamedFault source files None fault = ⊥
 IsNamedFault source files (Some name) fault = IsReadingFault source files name fault
