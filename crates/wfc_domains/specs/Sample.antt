@@ -3,7 +3,7 @@ use Rattle.std.specs.Prelude.{[], ◌∷◌}
 use Rattle.std.specs.List.{range_with_len}
 use Rattle.wfc_problem.specs.Corner.{corner}
 use Rattle.wfc_problem.specs.declared.Literal.TheVariants.{Is, Not}
-use Rattle.wfc_log.specs.declared.Cause.TheVariants.{Assumed}
+use Rattle.wfc_log.specs.declared.Cause.TheVariants.{Assumed, Arc}
 use Rattle.wfc_log.specs.declared.Removal.{Removal}
 use Rattle.wfc_log.specs.declared.Verdict.TheVariants.{Alive}
 use Rattle.wfc_domains.specs.Counters.{Table}
@@ -14,11 +14,11 @@ use Rattle.wfc_log.specs.Sample.{cut_first, later, unsupported_removal}
 abbrev pub numbered_table : Table
 numbered_table = record { cells = 2; values = 3; dirs = 4; limit = 127; counts = range_with_len 100 24 }
 
--- the same with a size too small
+-- value 1 at cell 2 of the corner goes for want of support above it, and tells a value too few
 abbrev pub undersized_removal : Removal
 undersized_removal = record { cell = 2; value = 1; before = 2; cause = Arc 3 }
 
--- the same value at another cell
+-- the same value at cell 3, where it has support
 abbrev pub displaced_removal : Removal
 displaced_removal = record { cell = 3; value = 1; before = 3; cause = Arc 3 }
 

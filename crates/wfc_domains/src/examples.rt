@@ -12,7 +12,7 @@ ghost use Rattle.wfc_domains.specs.Parts.{IsCountSplit};
 ghost use Rattle.wfc_log.specs.Domains.{has};
 ghost use Rattle.wfc_domains.specs.Removals.{without, IsUnsupported, IsCause, AreRemoved};
 ghost use Rattle.wfc_log.specs.Sample.{unsupported_removal, cut_first, later};
-ghost use Rattle.wfc_domains.specs.Sample.{numbered_table, two_levels};
+ghost use Rattle.wfc_domains.specs.Sample.{numbered_table, undersized_removal, displaced_removal, two_levels, one_level};
 ghost use Rattle.wfc_domains.specs.Store.{IsBefore, IsLeastUnsupported, IsLeastEmpty, level_mark, added_of, before_of, without_last};
 ghost use Rattle.wfc_log.specs.declared.Cause.TheVariants.{Assumed, Arc};
 
