@@ -18,7 +18,7 @@ numbered_table = record { cells = 2; values = 3; dirs = 4; limit = 127; counts =
 abbrev pub undersized_removal : Removal
 undersized_removal = record { cell = 2; value = 1; before = 2; cause = Arc 3 }
 
--- the same value at cell 3, where it has support
+-- value 1 at cell 3, for the same cause
 abbrev pub displaced_removal : Removal
 displaced_removal = record { cell = 3; value = 1; before = 3; cause = Arc 3 }
 
