@@ -10,7 +10,7 @@ pub mod Numbers
 pub mod Small
 pub mod SmallTiles
 pub mod Tiled
-pub use Rattle.wfc_domains.specs.Domains
+pub use Rattle.wfc_log.specs.Domains
 pub use Rattle.wfc_grid.specs.Spelling
 pub use Rattle.wfc_model.specs.Raster
 pub use Rattle.wfc_outside.specs.Sink
