@@ -2,8 +2,6 @@
 use Rattle.rand_core.specs.Stream.{Stream}
 use Rattle.std.specs.Prelude.{Err, List, Ok, Result, length, take, ⊤, ℕ, ◌<◌, ◌≡◌, ◌≤◌, ◌⊎◌}
 use Rattle.wfc_choose.specs.Pick.{Rule}
-use Rattle.wfc_choose.specs.Told.{Told}
-use Rattle.wfc_domains.specs.Store.{StoreView}
 use Rattle.wfc_outside.specs.Sink.{IsFaultAfterFront, SinkView, after_bytes}
 use Rattle.wfc_plan.specs.Fault.{status_of}
 use Rattle.wfc_problem.specs.Network.{Network}
@@ -18,10 +16,8 @@ use Rattle.wfc_reply.specs.declared.reply.Stop.TheVariants.{Cut, Unanswered}
 use Rattle.wfc_runs.specs.Words.{words_of_seed}
 use Rattle.wfc_search.specs.Run.{State, start}
 use Rattle.wfc_search.specs.Search.{SearchView, state_at}
-use Rattle.wfc_search.specs.Shown.{view_of_search}
 use Rattle.wfc_search.specs.declared.Outcome.{Outcome}
 use Rattle.wfc_search.specs.declared.Outcome.TheVariants as outcome
-use Rattle.wfc_search.specs.declared.search.Search.{Search}
 
 -- the lines of a run were put in this format
 pub record PutsRun (format : Format) (rule : Rule) (budget : ℕ) (P : Network) (s : State)
@@ -58,20 +54,6 @@ abbrev pub CutsFrom : Format → SearchView → Stream → SinkView → SinkView
 CutsFrom format s words old new =
     CutsRun format s.chooser.rule s.course.budget s.problem
     (state_at s.store s.course 0 words) old new
-
--- a search over the engine of counters, whose chooser was told this
-abbrev pub told_search : {D : Type 0} {V : D → Type 0} → Search StoreView D V → Told → SearchView
-told_search it chooser = view_of_search (λ store. store) it chooser
-
--- from where such a search is, the lines of its run were put in this format, with these words to come
-abbrev pub PutsSearch : {D : Type 0} {V : D → Type 0} → Format → Search StoreView D V → Told → Stream → SinkView → SinkView
-    → Outcome → Type 0
-PutsSearch format it chooser words old new outcome = PutsFrom format (told_search it chooser) words outcome old new
-
--- or a fault cut them off
-abbrev pub CutsSearch : {D : Type 0} {V : D → Type 0} → Format → Search StoreView D V → Told → Stream → SinkView → SinkView
-    → Type 0
-CutsSearch format it chooser words old new = CutsFrom format (told_search it chooser) words old new
 
 -- the head and the lines of the run were put
 pub record PutsWriting (rule : Rule) (writing : RunWriting) (P : Network) (outcome : Outcome)

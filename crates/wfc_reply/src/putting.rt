@@ -5,9 +5,10 @@ ghost use Rattle.wfc_outside.specs.Sink.{Puts};
 ghost use Rattle.wfc_plan.specs.declared.fault.Fault.{Fault};
 ghost use Rattle.wfc_proof.specs.Telling.{IsBare};
 ghost use Rattle.wfc_proof.specs.declared.heads.Format.TheVariants.{One, Two};
-ghost use Rattle.wfc_reply.specs.Putting.{CutsSearch, PutsOrStops, PutsSearch, told_search};
+ghost use Rattle.wfc_reply.specs.Putting.{CutsFrom, PutsFrom, PutsOrStops};
 ghost use Rattle.wfc_reply.specs.RunText.{writing_head, written_format};
 ghost use Rattle.wfc_reply.specs.declared.reply.Stop.TheVariants.{Unanswered};
+ghost use Rattle.wfc_runs.specs.Views.{search_view};
 ghost use Rattle.wfc_runs.specs.Words.{words_of_seed};
 ghost use Rattle.wfc_search.specs.Search.{IsGoing, IsReady};
 
@@ -69,14 +70,16 @@ pub(crate) fn put_search<O: Sink, L: Ledger>(
     requires parts { blank.parts ≡ L.parts }
     requires some { 0 < blank.parts }
     requires side { writing.shape.n ≤ 6 }
-    requires ready { IsReady (told_search search.old (told search.old.chooser)) }
+    requires ready { IsReady
+        (search_view (λ v. (⟦<dyn Chooser as Chooser>⟧ v).told) search.old) }
     requires going { IsGoing search.old.course }
     requires problem { search.old.problem.now ≡ problem.now }
     requires standing { search.old.store.standing ≡ [] }
     requires budget { search.old.course.budget ≡ writing.budget }
     requires retractions { search.old.course.retractions ≡ 0 }
-    ensures puts { PutsOrStops (told search.old.chooser).rule writing problem.now
-        (O.seen out.old) (O.seen out.new) result }
+    ensures puts { PutsOrStops
+        ((⟦<dyn Chooser as Chooser>⟧ search.old.chooser.vtable).told search.old.chooser.value).rule
+        writing problem.now (O.seen out.old) (O.seen out.new) result }
     ensures answered { (fault : Fault) → result ≢ Err (Unanswered fault) }
 {
     put_head(out, writing, problem)?;
@@ -114,13 +117,16 @@ fn put_seeded<O: Sink, L: Ledger>(
     requires name { blank.name ≡ L.name }
     requires parts { blank.parts ≡ L.parts }
     requires some { 0 < blank.parts }
-    requires ready { IsReady (told_search search.old (told search.old.chooser)) }
+    requires ready { IsReady
+        (search_view (λ v. (⟦<dyn Chooser as Chooser>⟧ v).told) search.old) }
     requires going { IsGoing search.old.course }
     requires bare { IsBare (written_format format) (O.seen out.old).told }
-    ensures put { IfOk result (PutsSearch (written_format format) search.old
-        (told search.old.chooser) (words_of_seed seed) (O.seen out.old) (O.seen out.new)) }
-    ensures cut { OnErr result (CutsSearch (written_format format) search.old
-        (told search.old.chooser) (words_of_seed seed) (O.seen out.old) (O.seen out.new)) }
+    ensures put { IfOk result (λ outcome. PutsFrom (written_format format)
+        (search_view (λ v. (⟦<dyn Chooser as Chooser>⟧ v).told) search.old)
+        (words_of_seed seed) outcome (O.seen out.old) (O.seen out.new)) }
+    ensures cut { OnErr result (CutsFrom (written_format format)
+        (search_view (λ v. (⟦<dyn Chooser as Chooser>⟧ v).told) search.old)
+        (words_of_seed seed) (O.seen out.old) (O.seen out.new)) }
 {
     let mut words = words_of_seed(seed);
     let mut steps = Steps::<L>::new(blank);
@@ -135,13 +141,16 @@ fn put_turns<R: Rng, O: Sink, L: Ledger>(
     out: &mut O,
     steps: &mut Steps<L>,
 ) -> Result<Outcome, JournalFault>
-    requires ready { IsReady (told_search search.old (told search.old.chooser)) }
+    requires ready { IsReady
+        (search_view (λ v. (⟦<dyn Chooser as Chooser>⟧ v).told) search.old) }
     requires going { IsGoing search.old.course }
     requires bare { IsBare (written_format format) (O.seen out.old).told }
-    ensures put { IfOk result (PutsSearch (written_format format) search.old
-        (told search.old.chooser) (R.stream words.old) (O.seen out.old) (O.seen out.new)) }
-    ensures cut { OnErr result (CutsSearch (written_format format) search.old
-        (told search.old.chooser) (R.stream words.old) (O.seen out.old) (O.seen out.new)) }
+    ensures put { IfOk result (λ outcome. PutsFrom (written_format format)
+        (search_view (λ v. (⟦<dyn Chooser as Chooser>⟧ v).told) search.old)
+        (R.stream words.old) outcome (O.seen out.old) (O.seen out.new)) }
+    ensures cut { OnErr result (CutsFrom (written_format format)
+        (search_view (λ v. (⟦<dyn Chooser as Chooser>⟧ v).told) search.old)
+        (R.stream words.old) (O.seen out.old) (O.seen out.new)) }
 {
     if format == 1 {
         put_lines(search, words, out, steps)
@@ -157,13 +166,15 @@ fn put_lines<R: Rng, O: Sink, L: Ledger>(
     out: &mut O,
     steps: &mut Steps<L>,
 ) -> Result<Outcome, JournalFault>
-    requires ready { IsReady (told_search search.old (told search.old.chooser)) }
+    requires ready { IsReady
+        (search_view (λ v. (⟦<dyn Chooser as Chooser>⟧ v).told) search.old) }
     requires going { IsGoing search.old.course }
     requires bare { IsBare One (O.seen out.old).told }
-    ensures put { IfOk result (PutsSearch One search.old
-        (told search.old.chooser) (R.stream words.old) (O.seen out.old) (O.seen out.new)) }
-    ensures cut { OnErr result (CutsSearch One search.old
-        (told search.old.chooser) (R.stream words.old) (O.seen out.old) (O.seen out.new)) }
+    ensures put { IfOk result (λ outcome. PutsFrom One
+        (search_view (λ v. (⟦<dyn Chooser as Chooser>⟧ v).told) search.old)
+        (R.stream words.old) outcome (O.seen out.old) (O.seen out.new)) }
+    ensures cut { OnErr result (CutsFrom One (search_view (λ v. (⟦<dyn Chooser as Chooser>⟧ v).told)
+        search.old) (R.stream words.old) (O.seen out.old) (O.seen out.new)) }
 {
     let mut journal = ProofJournal::behind_head(out);
     search.run(words, &mut journal, steps)
@@ -176,13 +187,15 @@ fn put_spans<R: Rng, O: Sink, L: Ledger>(
     out: &mut O,
     steps: &mut Steps<L>,
 ) -> Result<Outcome, JournalFault>
-    requires ready { IsReady (told_search search.old (told search.old.chooser)) }
+    requires ready { IsReady
+        (search_view (λ v. (⟦<dyn Chooser as Chooser>⟧ v).told) search.old) }
     requires going { IsGoing search.old.course }
     requires bare { IsBare Two (O.seen out.old).told }
-    ensures put { IfOk result (PutsSearch Two search.old
-        (told search.old.chooser) (R.stream words.old) (O.seen out.old) (O.seen out.new)) }
-    ensures cut { OnErr result (CutsSearch Two search.old
-        (told search.old.chooser) (R.stream words.old) (O.seen out.old) (O.seen out.new)) }
+    ensures put { IfOk result (λ outcome. PutsFrom Two
+        (search_view (λ v. (⟦<dyn Chooser as Chooser>⟧ v).told) search.old)
+        (R.stream words.old) outcome (O.seen out.old) (O.seen out.new)) }
+    ensures cut { OnErr result (CutsFrom Two (search_view (λ v. (⟦<dyn Chooser as Chooser>⟧ v).told)
+        search.old) (R.stream words.old) (O.seen out.old) (O.seen out.new)) }
 {
     let mut journal = SpanJournal::behind_head(out);
     search.run(words, &mut journal, steps)
