@@ -91,7 +91,7 @@ fn grown_with<O: Sink>(
     ensures ends { EndsGrowing (GrowsBy (Some (told chooser).rule) request.now)
         request.now growing.now (O.seen out.old) (O.seen out.new) result }
 {
-    match made::<Brand>(alloc, request, growing, choosers, Blank::new(1)) {
+    match growing_end::<Brand>(alloc, request, growing, choosers, Blank::new(1)) {
         Ok(made) => put_grown(alloc, request, growing, &made, chooser, out),
         Err(fault) => Err(Stop::Unanswered {
             fault: Fault::Refused {
