@@ -17,15 +17,15 @@ use Rattle.wfc_domains.proofs.Removals.{without-in}
 use Rattle.wfc_domains.proofs.Boards.{stands-in}
 use Rattle.wfc_domains.proofs.Sound.{sound-from}
 use Rattle.wfc_ac4.specs.Places.{times}
-use Rattle.wfc_ac4.specs.State.{AreGone, AreLowered, HaveSupport, IsBetweenRemovals, counted}
+use Rattle.wfc_ac4.specs.State.{AreGone, AreLowered, HaveSupport, IsBetweenRemovals, counted_base}
 use Rattle.wfc_ac4.proofs.MarkLemmas.{gone-within}
 use Rattle.wfc_ac4.proofs.Steps.{lowered-agree}
 
 -- with nothing pending the counters count what stands
-pub settled-counts : (b : Board) (T : Table) (head : ℕ) → AreLowered b.problem.now (counted b head) [] T → head ≡ length b.trail.removals → AreLowered b.problem.now (left_of (view_of b)) [] T
+pub settled-counts : (b : Board) (T : Table) (head : ℕ) → AreLowered b.problem.now (counted_base b head) [] T → head ≡ length b.trail.removals → AreLowered b.problem.now (left_of (view_of b)) [] T
 settled-counts b T head h e = lowered-agree b.problem.now _ _ [] T h (ap (without (in_base b.problem.now)) (take_all head b.trail.removals (omega arith)))
 
-pub settled-table : (b : Board) (T : Table) (head : ℕ) → AreLowered b.problem.now (counted b head) [] T → head ≡ length b.trail.removals → HasCounts b.problem.now (left_of (view_of b)) T
+pub settled-table : (b : Board) (T : Table) (head : ℕ) → AreLowered b.problem.now (counted_base b head) [] T → head ≡ length b.trail.removals → HasCounts b.problem.now (left_of (view_of b)) T
 settled-table b T head h e = λ c v d hc hv hd.
     let is = (settled-counts b T head h e).each c v d hc hv hd in
     let none : times (counter_place b.problem.now c v d) [] ≡ 0 = refl in
@@ -49,7 +49,7 @@ between-sound b T head h settled opening =
     sound-from b h.board (λ alive c v t. h.cut alive c v (ap (λ f. f c v) h.board.traced.stands ∙ t)) (λ alive. settled-consistent b T head h alive (settled alive)) opening
 
 -- a sound store that is alive has support for each value
-pub alive-supported : (b : Board) (T : Table) (head : ℕ) → IsTraced b → IsSound (view_of b) → AreLowered b.problem.now (counted b head) [] T → head ≡ length b.trail.removals → HaveSupport b T
+pub alive-supported : (b : Board) (T : Table) (head : ℕ) → IsTraced b → IsSound (view_of b) → AreLowered b.problem.now (counted_base b head) [] T → head ≡ length b.trail.removals → HaveSupport b T
 alive-supported b T head t sound counters e alive c v d n stands beside =
     let P = b.problem.now in
     let told = subst (IsVerdict P b.levels.standing (left_of (view_of b))) alive sound.verdict in
@@ -60,7 +60,7 @@ alive-supported b T head t sound counters e alive c v d n stands beside =
     omega arith
 
 -- the same domains and log, under one literal more, and after what it cut
-pub put-between : (old new : Board) (T : Table) (head : ℕ) → IsTraced old → IsSound (view_of old) → old.verdict ≡ Alive → AreLowered old.problem.now (counted old head) [] T → head ≡ length old.trail.removals → AreGone old.domains T
+pub put-between : (old new : Board) (T : Table) (head : ℕ) → IsTraced old → IsSound (view_of old) → old.verdict ≡ Alive → AreLowered old.problem.now (counted_base old head) [] T → head ≡ length old.trail.removals → AreGone old.domains T
     → IsBoard new → IsCut new → new.problem ≡ old.problem → (more : List Removal) → new.trail.removals ≡ old.trail.removals ++ more → Within (has new.domains) (has old.domains) → IsBetweenRemovals new T head
 put-between old new T head t sound alive counters e gone board cut same more log within = record {
   board = board;

@@ -17,12 +17,12 @@ use Rattle.wfc_domains.proofs.Loading.{place_in-row}
 use Rattle.wfc_domains.proofs.Problems.{in_values, in_cells, back, opposite-in, supports-below, few_values, few_pairs, dirs-le}
 use Rattle.wfc_ac4.specs.Places.{side_places, places_upto, counter_places, times}
 use Rattle.wfc_ac4.specs.Links.{no_link, AreLinks, link_to, side_links, links_upto, links_of, all_upto, link_place, link_places}
-use Rattle.wfc_ac4.specs.State.{IsWorking, counted}
+use Rattle.wfc_ac4.specs.State.{IsWorking, counted_base}
 use Rattle.wfc_ac4.specs.declared.links.SupportLink.{SupportLink}
 use Rattle.wfc_ac4.specs.declared.links.Links.{Links}
 use Rattle.wfc_ac4.proofs.PlaceLemmas.{times-append}
 use Rattle.wfc_ac4.proofs.Costs.{cost-is}
-use Rattle.wfc_ac4.proofs.Steps.{SideStep, still_counts, counted-in, working-range}
+use Rattle.wfc_ac4.proofs.Steps.{SideStep, still_counts, counted_base-in, working-range}
 
 -- ---- where the links of a value stand
 
@@ -273,7 +273,7 @@ link_step b T head c v k n row ls h e l beside wide =
     let next : lowered ++ counter_place P n w turned ∷ [] ≡ link_places P c (take (k + 1) ls) = ap (λ i. lowered ++ i ∷ []) (sym at) ∙ sym (link-some P c k n ls l beside) in
     let part : times (counter_place P n w turned) (lowered ++ counter_place P n w turned ∷ []) ≤ times (counter_place P n w turned) (counter_places P c v) =
     omega (arith, ap (times (counter_place P n w turned)) next, part-le P c v (k + 1) (counter_place P n w turned) ls e) in
-    let above = still_counts P p (counted b head) lowered T c v n w turned h.counters h.still_counted hn hw hb part in
+    let above = still_counts P p (counted_base b head) lowered T c v n w turned h.counters h.still_counted hn hw hb part in
     let begins : n * row ≡ counter_place P n 0 0 = ap (λ m. n * m) wide ∙ omega (arith, place_in-row (values P) P.dirs n 0 0) in
     let place_of : n * row + x.offset ≡ counter_place P n w turned = ap (λ i. i + x.offset) begins ∙ at in
     let place_is : n * row + x.offset ≡ count_place T.values T.dirs n w turned = place_of ∙ place-is P T h.counters.fits n w turned in
@@ -283,7 +283,7 @@ link_step b T head c v k n row ls h e l beside wide =
       back_is = s.back_is;
       place_is = place_is;
       place_of = place_of;
-      inside = subst (λ i. i < length T.counts) (sym place_is) (counted-in T n w turned above);
+      inside = subst (λ i. i < length T.counts) (sym place_is) (counted_base-in T n w turned above);
       some = subst (λ i. 0 < slice_index T.counts i % 32768) (sym place_is) above;
       side = record {
         cell_in = hn;

@@ -20,7 +20,7 @@ use Rattle.wfc_domains.specs.Board.{view_of, IsTraced, IsFresh, Loses}
 use Rattle.wfc_domains.proofs.Problems.{support_count-few, neighbour-dir, support_count-le}
 use Rattle.wfc_domains.proofs.Places.{place_in-lt}
 use Rattle.wfc_domains.proofs.Removals.{less-within, without-within}
-use Rattle.wfc_domains.proofs.Boards.{board-lost, stands-in, not-alive}
+use Rattle.wfc_domains.proofs.Boards.{board-board_without, stands-in, not-alive}
 use Rattle.wfc_ac4.specs.Places.{times}
 use Rattle.wfc_ac4.specs.State.{AreGone, AreLowered, IsBetweenRemovals, IsScanned}
 use Rattle.wfc_ac4.proofs.MarkLemmas.{mod-small, gone-within}
@@ -132,7 +132,7 @@ scanned-removed b b' T cell value dir next h alive hc hv hd beside zero' earlier
     let left_cut : Within (left_of (view_of b)) (base_with P b.levels.standing) = λ x y t. h.cut alive x y (ap (λ f. f x y) h.board.traced.stands ∙ t) in
     let within' : Within (has D) (has b.domains) = λ c' v' t. less-within (has b.domains) cell value c' v' (ap (λ f. f c' v') (sym l.each) ∙ t) in
     subst (λ (x : Board). IsScanned x T (cell * values x.problem.now + value)) (sym loses.same) (record {
-      board = board-lost b D cell value (Arc dir) h.board alive l hc hv (left_cut, bare);
+      board = board-board_without b D cell value (Arc dir) h.board alive l hc hv (left_cut, bare);
       cut = λ _ x y t. h.cut alive x y (within' x y t);
       counters = h.counters;
       marks = gone-within b.domains D T h.marks within';

@@ -12,7 +12,7 @@ use Rattle.wfc_problem.specs.Rounds.{depth_of}
 use Rattle.wfc_domains.proofs.Problems.{base-in}
 use Rattle.wfc_domains.proofs.Removals.{without-push, stood-few}
 use Rattle.wfc_ac4.specs.Places.{times}
-use Rattle.wfc_ac4.specs.State.{counted, AreGone, AreLowered, IsRolled, IsRaising}
+use Rattle.wfc_ac4.specs.State.{counted_base, AreGone, AreLowered, IsRolled, IsRaising}
 use Rattle.wfc_ac4.proofs.MarkLemmas.{gone-fewer, gone-unmarked, lowered-unmarked}
 use Rattle.wfc_ac4.proofs.Steps.{lowered-agree}
 
@@ -65,7 +65,7 @@ pub rolled_unmarked : (b : Board) (T T' : Table) (head n w k : ℕ) → IsRolled
 rolled_unmarked b T T' head n w k h u = record {
   traced = h.traced;
   marks = gone-fewer b.domains T T' h.marks u.same_values u.same_dirs u.marks;
-  counters = lowered-unmarked b.problem.now (counted b head) [] T T' n w k h.counters u;
+  counters = lowered-unmarked b.problem.now (counted_base b head) [] T T' n w k h.counters u;
   in_log = h.in_log;
 }
 

@@ -15,14 +15,14 @@ use Rattle.wfc_log.specs.Domains.{Flags, has, size_of, less, IsLess}
 use Rattle.wfc_domains.specs.Counters.{IsMarked, Marks, entry_of, Table, FitsTable, count_of, with_count, counter_place, count_place}
 use Rattle.wfc_domains.specs.Removals.{without, IsUnsupported}
 use Rattle.wfc_domains.specs.Store.{left_of}
-use Rattle.wfc_domains.specs.Board.{view_of, AreStood, IsTraced, lost, Loses, Grows}
+use Rattle.wfc_domains.specs.Board.{view_of, AreStood, IsTraced, board_without, Loses, Grows}
 use Rattle.wfc_domains.proofs.Problems.{in_values, in_cells, opposite-in, neighbour-dir, support_count-few, support_count-le, support_count-short}
 use Rattle.wfc_domains.proofs.Marking.{entry-same, entry-other}
 use Rattle.wfc_domains.proofs.Places.{place-same, place_in-lt, place-is}
 use Rattle.wfc_domains.proofs.Removals.{less-within, less-lacks, without-within, without-push, without-in}
-use Rattle.wfc_domains.proofs.Boards.{board-lost, stands-in}
+use Rattle.wfc_domains.proofs.Boards.{board-board_without, stands-in}
 use Rattle.wfc_ac4.specs.Places.{side_places, places_upto, counter_places, times}
-use Rattle.wfc_ac4.specs.State.{AreLowered, AreRaised, IsWorking, IsBetweenRemovals, IsRaising, counted}
+use Rattle.wfc_ac4.specs.State.{AreLowered, AreRaised, IsWorking, IsBetweenRemovals, IsRaising, counted_base}
 use Rattle.wfc_ac4.proofs.MarkLemmas.{entry-pos, pred-mod, suc-mod, mod-small, gone-within, gone-lowered, gone-marked, fewer-raised, lowered-marked}
 use Rattle.wfc_ac4.proofs.PlaceLemmas.{times-append, places-count}
 
@@ -52,11 +52,11 @@ pub with-other : (T : Table) (n w d x c v e : ℕ) → count_place T.values T.di
 with-other T n w d x c v e ne = ap (λ y. y % 32768) (entry-other T n w d x c v e ne)
 
 -- a counter that is lowered has one less
-pub counted-in : (T : Table) (n w d : ℕ) → 0 < count_of T n w d → count_place T.values T.dirs n w d < length T.counts
-counted-in T n w d pos = in_list T.counts (count_place T.values T.dirs n w d) (entry-pos (entry_of T n w d) pos)
+pub counted_base-in : (T : Table) (n w d : ℕ) → 0 < count_of T n w d → count_place T.values T.dirs n w d < length T.counts
+counted_base-in T n w d pos = in_list T.counts (count_place T.values T.dirs n w d) (entry-pos (entry_of T n w d) pos)
 
 lowered-left : (T : Table) (n w d : ℕ) → 0 < count_of T n w d → count_of (with_count T n w d (entry_of T n w d - 1)) n w d ≡ count_of T n w d - 1
-lowered-left T n w d pos = with-same T n w d (entry_of T n w d - 1) n w d refl (counted-in T n w d pos) ∙ pred-mod (entry_of T n w d) pos
+lowered-left T n w d pos = with-same T n w d (entry_of T n w d - 1) n w d refl (counted_base-in T n w d pos) ∙ pred-mod (entry_of T n w d) pos
 
 -- a place that is not, or is, another's
 flag-is : (a b : ℕ) → a ≡ b → cond {A = ℕ} (a == b) 1 0 ≡ 1
@@ -78,7 +78,7 @@ lowered-one P E lowered T n w d h pos = record {
       let more = times-push (counter_place P c' v' d') lowered (counter_place P n w d) in
       elim (cases_eq j i) [
         | inl e ↦
-            let same = with-same T n w d (entry_of T n w d - 1) c' v' d' e (counted-in T n w d pos) ∙ pred-mod (entry_of T n w d) pos in
+            let same = with-same T n w d (entry_of T n w d - 1) c' v' d' e (counted_base-in T n w d pos) ∙ pred-mod (entry_of T n w d) pos in
             let was : count_of T c' v' d' ≡ count_of T n w d = ap (λ k. slice_index T.counts k % 32768) e in
             omega (arith, flag-is (counter_place P n w d) (counter_place P c' v' d') (ei ∙ sym e ∙ sym ej))
         | inr ne ↦ omega (arith, with-other T n w d (entry_of T n w d - 1) c' v' d' ne, flag-not (counter_place P n w d) (counter_place P c' v' d') (λ e. ne (sym ej ∙ sym e ∙ ei)))
@@ -196,9 +196,9 @@ working-lowered : (b : Board) (T : Table) (head c v : ℕ) (lowered : List ℕ) 
 working-lowered b T head c v lowered n w d h hw hd pos here = record {
   board = h.board;
   cut = h.cut;
-  counters = lowered-one b.problem.now (counted b head) lowered T n w d h.counters pos;
+  counters = lowered-one b.problem.now (counted_base b head) lowered T n w d h.counters pos;
   supported = λ alive. support-lowered b b.domains T n w d (entry_of T n w d - 1) h.board.traced h.counters.fits (h.supported alive) (λ c' v' t. t) hw hd (here alive);
-  marks = gone-lowered b.domains T n w d h.marks (entry-pos (entry_of T n w d) pos) (counted-in T n w d pos);
+  marks = gone-lowered b.domains T n w d h.marks (entry-pos (entry_of T n w d) pos) (counted_base-in T n w d pos);
   still_counted = h.still_counted;
   gone = h.gone;
   in_log = h.in_log;
@@ -210,12 +210,12 @@ working-removed : (b : Board) (D : Flags) (T : Table) (head c v : ℕ) (lowered 
     → times (counter_place b.problem.now n w d) (lowered ++ counter_place b.problem.now n w d ∷ []) ≤ times (counter_place b.problem.now n w d) (counter_places b.problem.now c v)
     → count_of (with_count T n w d (entry_of T n w d - 1)) n w d ≡ 0
     → IsLess b.domains D n w
-    → IsWorking (lost b D n w (Arc d)) (with_count T n w d (entry_of T n w d - 1)) head c v (lowered ++ counter_place b.problem.now n w d ∷ [])
+    → IsWorking (board_without b D n w (Arc d)) (with_count T n w d (entry_of T n w d - 1)) head c v (lowered ++ counter_place b.problem.now n w d ∷ [])
 working-removed b D T head c v lowered n w d h alive hn hw hd pos beside part none_left less' =
     let P = b.problem.now in
     let rs = b.trail.removals in
     let r : Removal = record { cell = n; value = w; before = size_of b.domains n; cause = Arc d } in
-    let E = counted b head in
+    let E = counted_base b head in
     let T' = with_count T n w d (entry_of T n w d - 1) in
     let lower = lowered-one P E lowered T n w d h.counters pos in
     let same_head : take head (rs ++ r ∷ []) ≡ take head rs = take-append-le head rs (r ∷ []) h.in_log in
@@ -225,11 +225,11 @@ working-removed b D T head c v lowered n w d h alive hn hw hd pos beside part no
     let bare : IsUnsupported P (left_of (view_of b)) n w d = record { next = c; beside = beside; none = no } in
     let left_cut : Within (left_of (view_of b)) (base_with P b.levels.standing) = λ x y t. h.cut alive x y (ap (λ f. f x y) h.board.traced.stands ∙ t) in
     record {
-      board = board-lost b D n w (Arc d) h.board alive less' hn hw (left_cut, bare);
+      board = board-board_without b D n w (Arc d) h.board alive less' hn hw (left_cut, bare);
       cut = λ _ x y t. h.cut alive x y (within' x y t);
       counters = subst (λ xs. AreLowered P (without (in_base P) xs) (lowered ++ counter_place P n w d ∷ []) T') (sym same_head) lower;
       supported = λ _. support-lowered b D T n w d (entry_of T n w d - 1) h.board.traced h.counters.fits (h.supported alive) within' hw hd (λ t. absurd (lacks t));
-      marks = gone-within b.domains D T' (gone-lowered b.domains T n w d h.marks (entry-pos (entry_of T n w d) pos) (counted-in T n w d pos)) within';
+      marks = gone-within b.domains D T' (gone-lowered b.domains T n w d h.marks (entry-pos (entry_of T n w d) pos) (counted_base-in T n w d pos)) within';
       still_counted = subst (λ xs. IsTrue (without (in_base P) xs c v)) (sym same_head) h.still_counted;
       gone = subst (λ xs. Within (without (in_base P) (rs ++ r ∷ [])) (less (without (in_base P) xs) c v)) (sym same_head)
           (λ c' v' t. h.gone c' v' (less-within (without (in_base P) rs) n w c' v' (ap (λ f. f c' v') (sym (without-push (in_base P) rs r)) ∙ t)));
@@ -265,8 +265,8 @@ step_removed b b' T T' head c v lowered next n w d h s is_table alive one_left l
     let z : count_of (with_count T n w d (entry_of T n w d - 1)) n w d ≡ 0 = omega (arith, lowered-left T n w d s.above_zero, ap (λ x. x % 32768) one_left) in
     let r = working-removed b b'.domains T head c v lowered n w d h alive s.cell_in s.value_in s.dir_in s.above_zero s.beside s.part z loses.less in
     subst (λ (x : Board). IsWorking x T' head c v (next x.problem.now)) (sym loses.same)
-    (subst (λ t. IsWorking (lost b b'.domains n w (Arc d)) t head c v (next b.problem.now)) (sym is_table)
-    (subst (λ xs. IsWorking (lost b b'.domains n w (Arc d)) (with_count T n w d (entry_of T n w d - 1)) head c v xs) s.next_is r))
+    (subst (λ t. IsWorking (board_without b b'.domains n w (Arc d)) t head c v (next b.problem.now)) (sym is_table)
+    (subst (λ xs. IsWorking (board_without b b'.domains n w (Arc d)) (with_count T n w d (entry_of T n w d - 1)) head c v xs) s.next_is r))
 
 -- and where it is not
 pub step_lowered : (b : Board) (T T' : Table) (head c v : ℕ) (lowered next : List ℕ) (n w d : ℕ)
@@ -291,7 +291,7 @@ pub working-marked : (b : Board) (T T' : Table) (head c v n w : ℕ) (lowered : 
 working-marked b T T' head c v n w lowered h k f = record {
   board = h.board;
   cut = h.cut;
-  counters = lowered-marked b.problem.now (counted b head) lowered T T' n w h.counters k;
+  counters = lowered-marked b.problem.now (counted_base b head) lowered T T' n w h.counters k;
   supported = λ alive c' v' d' m t e. let pos = h.supported alive c' v' d' m t e in let same = k.counts c' v' d' in omega arith;
   marks = gone-marked b.domains T T' n w h.marks k f;
   still_counted = h.still_counted;

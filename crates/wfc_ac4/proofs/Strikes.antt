@@ -3,7 +3,7 @@ use Rattle.std.proofs.Common.{◌≡◌, ℕ, ◌-◌, List, refl, sym, subst, i
 use Rattle.wfc_problem.specs.Network.{Network}
 use Rattle.wfc_domains.specs.Counters.{Table, entry_of, with_count}
 use Rattle.wfc_domains.specs.Board.{Grows}
-use Rattle.wfc_domains.proofs.Boards.{lost-gone, grows-lost, grows-none}
+use Rattle.wfc_domains.proofs.Boards.{board_without-gone, grows-board_without, grows-none}
 use Rattle.wfc_ac4.specs.declared.flight.Flight.{Flight}
 use Rattle.wfc_ac4.specs.State.{IsWorking}
 use Rattle.wfc_ac4.specs.Flight.{GoesOn, IsStruck}
@@ -12,7 +12,7 @@ use Rattle.wfc_ac4.proofs.Steps.{SideStep, step_removed, step_lowered, working-m
 -- the log goes on
 pub struck_on : (old new : Flight) (n w d : ℕ) → IsStruck old new n w d → GoesOn old new
 struck_on old new n w d s = elim s [
-  | inl x ↦ record { grows = subst (Grows old.board) (sym x.board.same) (grows-lost old.board _ _ _ _); head = x.head }
+  | inl x ↦ record { grows = subst (Grows old.board) (sym x.board.same) (grows-board_without old.board _ _ _ _); head = x.head }
   | inr x ↦ subst (GoesOn old) (sym x.same) (record { grows = grows-none old.board; head = refl })
 ]
 
@@ -24,7 +24,7 @@ pub struck_working : (old new : Flight) (T : Table) (k c v n w d : ℕ) (lowered
 struck_working old new T k c v n w d lowered next h s is_table one_left struck = elim struck [
   | inl x ↦
       let r = step_removed old.board new.board T old.counters k c v lowered next n w d h s is_table x.alive one_left x.board in
-      working-marked new.board old.counters new.counters k c v n w _ r x.marks (lost-gone x.board.less)
+      working-marked new.board old.counters new.counters k c v n w _ r x.marks (board_without-gone x.board.less)
   | inr x ↦
       subst (λ (f : Flight). IsWorking f.board f.counters k c v (next f.board.problem.now)) (sym x.same)
       (step_lowered old.board T old.counters k c v lowered (next old.board.problem.now) n w d h s is_table (λ alive _ stands. x.gone alive stands))

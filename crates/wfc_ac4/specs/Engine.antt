@@ -4,7 +4,7 @@ use Rattle.wfc_log.specs.declared.Verdict.TheVariants.{Alive}
 use Rattle.wfc_domains.specs.Store.{StoreView, IsSound, level_mark}
 use Rattle.wfc_domains.specs.Board.{view_of, IsTraced, HasLevels}
 use Rattle.wfc_ac4.specs.Links.{AreLinks}
-use Rattle.wfc_ac4.specs.State.{AreLowered, AreGone, counted}
+use Rattle.wfc_ac4.specs.State.{AreLowered, AreGone, counted_base}
 use Rattle.wfc_ac4.specs.declared.Ac4.TheInside.{Inside}
 
 -- what contracts see of it
@@ -17,7 +17,7 @@ pub record HoldsTogether (a : Inside) : Type 0 where
   pub sound : IsSound (view_of a.flight.board)
   pub traced : IsTraced a.flight.board
   pub levels : HasLevels (view_of a.flight.board)
-  pub counters : AreLowered a.flight.board.problem.now (counted a.flight.board a.flight.head) [] a.flight.counters
+  pub counters : AreLowered a.flight.board.problem.now (counted_base a.flight.board a.flight.head) [] a.flight.counters
   pub marks : AreGone a.flight.board.domains a.flight.counters
   pub in_log : a.flight.head ≤ length a.flight.board.trail.removals
   pub settled : a.flight.board.verdict ≡ Alive → a.flight.head ≡ length a.flight.board.trail.removals

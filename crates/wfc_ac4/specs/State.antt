@@ -13,8 +13,8 @@ use Rattle.wfc_domains.specs.Store.{IsLeastUnsupported}
 use Rattle.wfc_ac4.specs.Places.{times}
 
 -- what the counters count: the base less the first removals of the log, which were worked off
-abbrev pub counted : Board → ℕ → Test
-counted b head = without (in_base b.problem.now) (take head b.trail.removals)
+abbrev pub counted_base : Board → ℕ → Test
+counted_base b head = without (in_base b.problem.now) (take head b.trail.removals)
 
 -- the counters are the support counts of E, less what was lowered
 pub record AreLowered (P : Network) (E : Test) (lowered : List ℕ) (T : Table) : Type 0 where
@@ -42,18 +42,18 @@ HaveSupport b T =
 pub record IsWorking (b : Board) (T : Table) (head c v : ℕ) (lowered : List ℕ) : Type 0 where
   pub board : IsBoard b
   pub cut : IsCut b
-  pub counters : AreLowered b.problem.now (counted b head) lowered T
+  pub counters : AreLowered b.problem.now (counted_base b head) lowered T
   pub supported : HaveSupport b T
   pub marks : AreGone b.domains T
-  pub still_counted : IsTrue (counted b head c v)
-  pub gone : Within (without (in_base b.problem.now) b.trail.removals) (less (counted b head) c v)
+  pub still_counted : IsTrue (counted_base b head c v)
+  pub gone : Within (without (in_base b.problem.now) b.trail.removals) (less (counted_base b head) c v)
   pub in_log : head ≤ length b.trail.removals
 
 -- between removals: those before the head are worked off, the others pending
 pub record IsBetweenRemovals (b : Board) (T : Table) (head : ℕ) : Type 0 where
   pub board : IsBoard b
   pub cut : IsCut b
-  pub counters : AreLowered b.problem.now (counted b head) [] T
+  pub counters : AreLowered b.problem.now (counted_base b head) [] T
   pub supported : HaveSupport b T
   pub marks : AreGone b.domains T
   pub in_log : head ≤ length b.trail.removals
@@ -62,7 +62,7 @@ pub record IsBetweenRemovals (b : Board) (T : Table) (head : ℕ) : Type 0 where
 pub record IsRolled (b : Board) (T : Table) (head : ℕ) : Type 0 where
   pub traced : IsTraced b
   pub marks : AreGone b.domains T
-  pub counters : AreLowered b.problem.now (counted b head) [] T
+  pub counters : AreLowered b.problem.now (counted_base b head) [] T
   pub in_log : head ≤ length b.trail.removals
 
 -- a removal that was worked off is being taken back

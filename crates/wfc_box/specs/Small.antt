@@ -18,8 +18,8 @@ abbrev pub flat : Frame
 flat = frame_of 3 2 4 false
 
 -- the same with layers that wrap
-abbrev pub wrapped : Frame
-wrapped = frame_of 3 2 4 true
+abbrev pub wrapped_frame : Frame
+wrapped_frame = frame_of 3 2 4 true
 
 -- a stack of the variant that action 1 makes of tile 0 below what action 6 makes of tile 1
 abbrev pub one_stack : Stack

@@ -18,7 +18,7 @@ ghost use Rattle.wfc_box.specs.BoxText.{box_layout_of, box_text};
 ghost use Rattle.wfc_box.specs.Boxes.{IsLegalBox, box_of, box_cell, frame_of, number_in_box, numbers_of_box, places_in};
 ghost use Rattle.wfc_box.specs.Built.{box_pins_in};
 ghost use Rattle.wfc_box.specs.Small.{banned_in, bad_box_lines, flat, kept_in, box_line, one_stack, pillar, single};
-ghost use Rattle.wfc_box.specs.Small.{lower_alone, pins_of_one, stack_data, twelve, two_box_lines, two_by_two, with_stacks, wrapped};
+ghost use Rattle.wfc_box.specs.Small.{lower_alone, pins_of_one, stack_data, twelve, two_box_lines, two_by_two, with_stacks, wrapped_frame};
 ghost use Rattle.wfc_box.specs.StackDocument.{stack_with, stacks_in};
 ghost use Rattle.wfc_box.specs.Stacks.{IsStacked, stacked_pairs};
 ghost use Rattle.wfc_box.specs.declared.fault.StackFault.TheVariants as stack_faults;
@@ -43,9 +43,9 @@ pub fn places_by_example()
 /// one before. Layers may wrap, but the box doesn't.
 pub fn neighbours_by_example()
     ensures flat { all_beside_in_box flat 8 ≡ 7 ∷ 11 ∷ NO_CELL ∷ NO_CELL ∷ 14 ∷ 2 ∷ [] }
-    ensures wrapped { all_beside_in_box wrapped 8 ≡ 7 ∷ 11 ∷ 6 ∷ 11 ∷ 14 ∷ 2 ∷ [] }
-    ensures bottom { all_beside_in_box wrapped 3 ≡ 5 ∷ 0 ∷ 4 ∷ 0 ∷ 9 ∷ NO_CELL ∷ [] }
-    ensures top { all_beside_in_box wrapped 22 ≡ 21 ∷ 19 ∷ 23 ∷ 19 ∷ NO_CELL ∷ 16 ∷ [] }
+    ensures wrapped { all_beside_in_box wrapped_frame 8 ≡ 7 ∷ 11 ∷ 6 ∷ 11 ∷ 14 ∷ 2 ∷ [] }
+    ensures bottom { all_beside_in_box wrapped_frame 3 ≡ 5 ∷ 0 ∷ 4 ∷ 0 ∷ 9 ∷ NO_CELL ∷ [] }
+    ensures top { all_beside_in_box wrapped_frame 22 ≡ 21 ∷ 19 ∷ 23 ∷ 19 ∷ NO_CELL ∷ 16 ∷ [] }
 {}
 
 /// Which variants may stand beside one, direction by direction: above a lower one the upper one,

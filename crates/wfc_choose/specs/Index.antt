@@ -3,8 +3,8 @@ use Rattle.std.specs.Prelude.{◌≡◌, ℕ, ◌+◌, ◌-◌, ◌*◌, ◌/◌
 use Rattle.wfc_problem.specs.declared.TheConstants.{MAX_PAIRS}
 
 -- when a cell of this size comes: 2 first, 0 and 1 behind all that are open
-abbrev pub coming : ℕ → ℕ
-coming size = if nat_le 2 size then size - 2 else size + (2 ^ 16 - 2)
+abbrev pub time_of : ℕ → ℕ
+time_of size = if nat_le 2 size then size - 2 else size + (2 ^ 16 - 2)
 
 -- this entry is in the block
 pub record IsInBlock (list : List ℕ) (block at : ℕ) : Type 0 where
@@ -17,7 +17,7 @@ pub record IsLeastIn (list : List ℕ) (block size : ℕ) : Type 0 where
   pub at : ℕ
   pub inside : IsInBlock list block at
   pub stands : slice_index list at ≡ size
-  pub least : (j : ℕ) → IsInBlock list block j → coming size ≤ coming (slice_index list j)
+  pub least : (j : ℕ) → IsInBlock list block j → time_of size ≤ time_of (slice_index list j)
 
 -- one list has for each block of another the size that comes first there
 pub record IsSummary (below above : List ℕ) : Type 0 where
@@ -27,8 +27,8 @@ pub record IsSummary (below above : List ℕ) : Type 0 where
 -- no entry comes before this one, and each before it in the list comes later
 pub record IsFirst (list : List ℕ) (at : ℕ) : Type 0 where
   pub within : at < length list
-  pub least : (j : ℕ) → j < length list → coming (slice_index list at) ≤ coming (slice_index list j)
-  pub first : (j : ℕ) → j < at → coming (slice_index list at) < coming (slice_index list j)
+  pub least : (j : ℕ) → j < length list → time_of (slice_index list at) ≤ time_of (slice_index list j)
+  pub first : (j : ℕ) → j < at → time_of (slice_index list at) < time_of (slice_index list j)
 
 -- of these sizes the lists of those that come first, one for each 64, 4,096 and 262,144 cells
 pub record IsIndex (sizes of_64 of_4096 of_262144 : List ℕ) : Type 0 where

@@ -3,7 +3,7 @@
 ghost use Rattle.std.specs.Prelude.{◌≡◌, []};
 ghost use Rattle.wfc_choose.specs.declared.RuleKind.TheVariants.{Fewest};
 
-use crate::index::{FAN, coming, first_open, mend_above, summary_of};
+use crate::index::{FAN, time_of, first_open, mend_above, summary_of};
 use crate::sizes::narrow_sizes;
 use crate::{Chooser, RuleKind};
 use std::alloc::Global;
@@ -78,8 +78,8 @@ impl Chooser for Buckets {
         let size = size as u16;
         let was = self.sizes[cell];
         self.sizes[cell] = size;
-        let least = coming(self.blocks[cell / FAN]);
-        if least <= coming(size) && least < coming(was) {
+        let least = time_of(self.blocks[cell / FAN]);
+        if least <= time_of(size) && least < time_of(was) {
             return;
         }
         mend_above(

@@ -6,7 +6,7 @@
 //! regions to the cell, and looks at 32 regions and 64 entries of each other list at most.
 
 ghost use Rattle.std.specs.Prelude.{◌≡◌, ℕ, ◌+◌, ◌*◌, ◌/◌, ◌<◌, ◌≤◌, ◌^◌, [], length, slice_index, slice_set, IfOk, IfNone, IfSome};
-ghost use Rattle.wfc_choose.specs.Index.{coming, IsFirst, IsIndex, IsLeastIn, IsSummary};
+ghost use Rattle.wfc_choose.specs.Index.{time_of, IsFirst, IsIndex, IsLeastIn, IsSummary};
 ghost use Rattle.wfc_choose.specs.Pick.{picked_cell};
 ghost use Rattle.wfc_choose.specs.declared.RuleKind.TheVariants.{Fewest};
 ghost use Rattle.wfc_problem.specs.declared.TheConstants.{MAX_PAIRS};
@@ -18,16 +18,16 @@ pub const FAN: usize = 64;
 
 /// When a cell of this size comes: 2 first, 0 and 1 last.
 #[inline]
-pub fn coming(size: u16) -> u16
-    ensures value { result ≡ coming size }
+pub fn time_of(size: u16) -> u16
+    ensures value { result ≡ time_of size }
 {
     size.wrapping_sub(2)
 }
 
 /// The size that comes at this time.
 #[inline]
-fn size_coming(time: u16) -> u16
-    ensures value { coming result ≡ time }
+fn size_at_time(time: u16) -> u16
+    ensures value { time_of result ≡ time }
 {
     time.wrapping_add(2)
 }
@@ -53,11 +53,11 @@ fn least_of(list: &[u16], block: usize) -> u16
     ensures least { IsLeastIn list.now block result }
 {
     let start = block * FAN;
-    let mut least = coming(list[start]);
+    let mut least = time_of(list[start]);
     for at in start..block_end(list, block) {
-        least = least.min(coming(list[at]));
+        least = least.min(time_of(list[at]));
     }
-    size_coming(least)
+    size_at_time(least)
 }
 
 /// The sizes that come first, one for each block of a list.
@@ -85,11 +85,11 @@ fn mend(below: &[u16], above: &mut [u16], at: usize, was: u16) -> Option<u16>
 {
     let block = at / FAN;
     let old = above[block];
-    if coming(below[at]) < coming(old) {
+    if time_of(below[at]) < time_of(old) {
         above[block] = below[at];
         return Some(old);
     }
-    if coming(old) < coming(was) {
+    if time_of(old) < time_of(was) {
         return None;
     }
     let least = least_of(below, block);
@@ -131,7 +131,7 @@ fn first_of(list: &[u16]) -> usize
 {
     let mut first = 0;
     for at in 1..list.len() {
-        if coming(list[at]) < coming(list[first]) {
+        if time_of(list[at]) < time_of(list[first]) {
             first = at;
         }
     }

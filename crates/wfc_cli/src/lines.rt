@@ -9,7 +9,7 @@ ghost use Rattle.wfc_reply.specs.FileNames.{name_of};
 use wfc_grid::GridFault;
 use wfc_lines::{
     build, chooser, grid, learn, many_blocks, many_pins, mask, mask_grid, no_memory, palette, pins,
-    ppm, race, range, reading, render, stack, steps, tiles,
+    ppm, race, range, render, stack, steps, tiles,
 };
 use wfc_outside::{ReadFault, Sink, SinkFault};
 use wfc_plan::{Fault, Refusal, Source};
@@ -43,7 +43,7 @@ fn tell_unread<E: Sink>(
 {
     match source {
         Source::Picture { tile } => tell_picture(err, tile, fault, file),
-        _ => reading(err, fault, file),
+        _ => unread_file(err, fault, file),
     }
 }
 
@@ -110,7 +110,7 @@ fn tell_refusal<E: Sink>(err: &mut E, request: &Request, refusal: Refusal) -> Re
         Refusal::Build { fault } => build(err, fault, name(request, Source::Pins)),
         Refusal::Steps { fault } => steps(err, fault, name(request, Source::Steps)),
         Refusal::Range { fault } => range(err, fault, name(request, Source::Steps)),
-        Refusal::TooLong { source } => reading(err, ReadFault::TooLong, name(request, source)),
+        Refusal::TooLong { source } => unread_file(err, ReadFault::TooLong, name(request, source)),
         Refusal::NoMemory => no_memory(err),
         Refusal::Tiles { fault } => tiles(err, fault, name(request, Source::Sample)),
         Refusal::Mask { fault } => mask(err, fault, name(request, Source::Mask)),

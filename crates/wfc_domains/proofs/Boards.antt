@@ -19,7 +19,7 @@ use Rattle.wfc_log.specs.Domains.{Flags, has, size_of, less, IsLess, base_of}
 use Rattle.wfc_log.specs.Log.{extent_of, IsInside, IsCauseBelow, IsLogged, cells_of, sizes_after}
 use Rattle.wfc_domains.specs.Removals.{without, IsCause, IsRemoved, AreRemoved}
 use Rattle.wfc_domains.specs.Store.{StoreView, IsSound, level_mark, left_of, before_of}
-use Rattle.wfc_domains.specs.Board.{view_of, AreStood, IsTraced, HasLevels, HasValues, IsBoard, lost, Grows}
+use Rattle.wfc_domains.specs.Board.{view_of, AreStood, IsTraced, HasLevels, HasValues, IsBoard, board_without, Grows}
 use Rattle.wfc_domains.proofs.Problems.{base-in, base_table, depth-few, few_pairs, dead-iff, empty-size}
 use Rattle.wfc_domains.proofs.SizeLemmas.{stood-sizes}
 use Rattle.wfc_domains.proofs.Removals.{less-gone, less-back, without-within, without-append, without-push, without-split, without-in, stood-push, stood-front, stood-room, stood-few, size-less, size-other, removed-push}
@@ -96,8 +96,8 @@ removal-is b D cell value cause t filled l k = record {
   cause = k;
 }
 
-pub traced-lost : (b : Board) (D : Flags) (cell value : ℕ) (cause : Cause) → IsTraced b → IsLess b.domains D cell value → IsTraced (lost b D cell value cause)
-traced-lost b D cell value cause t l =
+pub traced-board_without : (b : Board) (D : Flags) (cell value : ℕ) (cause : Cause) → IsTraced b → IsLess b.domains D cell value → IsTraced (board_without b D cell value cause)
+traced-board_without b D cell value cause t l =
     let r : Removal = record { cell = cell; value = value; before = size_of b.domains cell; cause = cause } in
     record {
       problem = t.problem;
@@ -110,9 +110,9 @@ traced-lost b D cell value cause t l =
       extent = t.extent;
     }
 
-pub board-lost : (b : Board) (D : Flags) (cell value : ℕ) (cause : Cause) → IsBoard b → b.verdict ≡ Alive → IsLess b.domains D cell value → cell < b.problem.now.cells → value < values b.problem.now
-    → IsCause b.problem.now b.levels.standing (left_of (view_of b)) cell value cause → IsBoard (lost b D cell value cause)
-board-lost b D cell value cause h alive l hc hv k =
+pub board-board_without : (b : Board) (D : Flags) (cell value : ℕ) (cause : Cause) → IsBoard b → b.verdict ≡ Alive → IsLess b.domains D cell value → cell < b.problem.now.cells → value < values b.problem.now
+    → IsCause b.problem.now b.levels.standing (left_of (view_of b)) cell value cause → IsBoard (board_without b D cell value cause)
+board-board_without b D cell value cause h alive l hc hv k =
     let P = b.problem.now in
     let rs = b.trail.removals in
     let r : Removal = record { cell = cell; value = value; before = size_of b.domains cell; cause = cause } in
@@ -124,7 +124,7 @@ board-lost b D cell value cause h alive l hc hv k =
     let more = removed-push P b.levels.standing (without (in_base P) (take m rs)) (drop m rs) r h.added here in
     let A : List Removal → List Removal → Type 0 = λ front back. AreRemoved P b.levels.standing (without (in_base P) front) back in
     record {
-      traced = traced-lost b D cell value cause h.traced l;
+      traced = traced-board_without b D cell value cause h.traced l;
       levels = levels-longer (view_of b) (r ∷ []) (cond (size_of b.domains cell == 1) (Dead cell) Alive) h.levels;
       added = subst (λ front. A front (drop m (rs ++ r ∷ []))) (sym (take-append-le m rs (r ∷ []) m_in)) (subst (A (take m rs)) (sym (drop-append-le m rs (r ∷ []) m_in)) more);
       begun = h.begun;
@@ -276,8 +276,8 @@ grows-more {a} {b} {c} f g = record {
   room = g.room ∙ f.room;
 }
 
-pub grows-lost : (b : Board) (D : Flags) (cell value : ℕ) (cause : Cause) → Grows b (lost b D cell value cause)
-grows-lost b D cell value cause = record { problem = refl; levels = refl; more = record { cell = cell; value = value; before = size_of b.domains cell; cause = cause } ∷ []; removals = refl; room = refl }
+pub grows-board_without : (b : Board) (D : Flags) (cell value : ℕ) (cause : Cause) → Grows b (board_without b D cell value cause)
+grows-board_without b D cell value cause = record { problem = refl; levels = refl; more = record { cell = cell; value = value; before = size_of b.domains cell; cause = cause } ∷ []; removals = refl; room = refl }
 
 -- ---- room
 
@@ -326,11 +326,11 @@ board-logged b t c v cause stands hd =
     }
 
 -- what was removed is gone, and what was gone stays so
-pub lost-gone : {D D' : Flags} {c v : ℕ} → IsLess D D' c v → has D' c v ≡ false
-lost-gone {D} {D'} {c} {v} l = ap (λ f. f c v) l.each ∙ less-gone (has D) c v
+pub board_without-gone : {D D' : Flags} {c v : ℕ} → IsLess D D' c v → has D' c v ≡ false
+board_without-gone {D} {D'} {c} {v} l = ap (λ f. f c v) l.each ∙ less-gone (has D) c v
 
-pub lost-stays : {D D' : Flags} {c v : ℕ} (c' v' : ℕ) → IsLess D D' c v → has D c' v' ≡ false → has D' c' v' ≡ false
-lost-stays {D} {D'} {c} {v} c' v' l e = ap (λ f. f c' v') l.each ∙ ap (λ b. b && not (c' == c && v' == v)) e
+pub board_without-stays : {D D' : Flags} {c v : ℕ} (c' v' : ℕ) → IsLess D D' c v → has D c' v' ≡ false → has D' c' v' ≡ false
+board_without-stays {D} {D'} {c} {v} c' v' l e = ap (λ f. f c' v') l.each ∙ ap (λ b. b && not (c' == c && v' == v)) e
 
 -- what stands on a grown board stood before
 pub grown-within : (old new : Board) → IsTraced old → IsTraced new → new.problem ≡ old.problem → (more : List Removal) → new.trail.removals ≡ old.trail.removals ++ more → Within (has new.domains) (has old.domains)

@@ -19,11 +19,11 @@ use Rattle.wfc_domains.specs.declared.board.Board.{Board}
 use Rattle.wfc_log.specs.Domains.{has, size_of}
 use Rattle.wfc_domains.specs.Removals.{without, IsUnsupported}
 use Rattle.wfc_domains.specs.Store.{StoreView, IsVerdict, IsOpening, IsLeastEmpty, IsLeastUnsupported, IsBefore, left_of}
-use Rattle.wfc_domains.specs.Board.{view_of, IsTraced, HasLevels, IsBoard, IsCut, IsFresh, lost, Loses}
+use Rattle.wfc_domains.specs.Board.{view_of, IsTraced, HasLevels, IsBoard, IsCut, IsFresh, board_without, Loses}
 use Rattle.wfc_domains.specs.Swept.{IsFirstUnsupported, IsSwept, FirstIsLeast, IsClosed}
 use Rattle.wfc_domains.proofs.Problems.{consistent-from_counts, greatest-is, greatest-same}
 use Rattle.wfc_domains.proofs.Removals.{less-within}
-use Rattle.wfc_domains.proofs.Boards.{board-lost, stands-in, not-alive}
+use Rattle.wfc_domains.proofs.Boards.{board-board_without, stands-in, not-alive}
 use Rattle.wfc_domains.proofs.Sound.{sound-from}
 
 -- with nothing removed the domains are the base
@@ -70,29 +70,29 @@ first-push (x ∷ rs) r first e = inl e
 -- ---- one pair looked at
 
 -- its removal has a true cause
-pub lost-swept : (b b' : Board) (c v d : ℕ) → IsBoard b → IsCut b → b.verdict ≡ Alive → c < b.problem.now.cells → v < values b.problem.now
+pub board_without-swept : (b b' : Board) (c v d : ℕ) → IsBoard b → IsCut b → b.verdict ≡ Alive → c < b.problem.now.cells → v < values b.problem.now
     → IsFirstUnsupported b.problem.now (has b.domains) c v d → Loses b b' c v (Arc d) → IsBoard b' × IsCut b'
-lost-swept b b' c v d h cut alive hc hv f loses =
+board_without-swept b b' c v d h cut alive hc hv f loses =
     let P = b.problem.now in
     let D = b'.domains in
     let l = loses.less in
     let bare : IsUnsupported P (left_of (view_of b)) c v d = subst (λ E. IsUnsupported P E c v d) h.traced.stands f.bare in
     let left_cut : Within (left_of (view_of b)) (base_with P b.levels.standing) = λ x y t. cut alive x y (ap (λ g. g x y) h.traced.stands ∙ t) in
     let within : Within (has D) (has b.domains) = λ x y t. less-within (has b.domains) c v x y (ap (λ g. g x y) (sym l.each) ∙ t) in
-    let cut' : IsCut (lost b D c v (Arc d)) = λ _ x y t. cut alive x y (within x y t) in
-    (subst IsBoard (sym loses.same) (board-lost b D c v (Arc d) h alive l hc hv (left_cut, bare)), subst IsCut (sym loses.same) cut')
+    let cut' : IsCut (board_without b D c v (Arc d)) = λ _ x y t. cut alive x y (within x y t) in
+    (subst IsBoard (sym loses.same) (board-board_without b D c v (Arc d) h alive l hc hv (left_cut, bare)), subst IsCut (sym loses.same) cut')
 
-pub swept-lost : (b b' : Board) (start c v d : ℕ) → IsSwept b start (c * values b.problem.now + v) → Loses b b' c v (Arc d) → IsSwept b' start (c * values b'.problem.now + v + 1)
-swept-lost b b' start c v d h loses =
+pub swept-board_without : (b b' : Board) (start c v d : ℕ) → IsSwept b start (c * values b.problem.now + v) → Loses b b' c v (Arc d) → IsSwept b' start (c * values b'.problem.now + v + 1)
+swept-board_without b b' start c v d h loses =
     let longer : length b'.trail.removals ≡ length b.trail.removals + 1 = ap (λ (x : Board). length x.trail.removals) loses.same ∙ length_push b.trail.removals (record { cell = c; value = v; before = size_of b.domains c; cause = Arc d }) in
     record {
       longer = omega (arith, h.longer);
       supported = λ alive same. absurd (omega (arith, h.longer));
     }
 
-pub first-lost : (b b' : Board) (start c v d : ℕ) → IsTraced b → b.verdict ≡ Alive → IsFirstUnsupported b.problem.now (has b.domains) c v d → Loses b b' c v (Arc d)
+pub first-board_without : (b b' : Board) (start c v d : ℕ) → IsTraced b → b.verdict ≡ Alive → IsFirstUnsupported b.problem.now (has b.domains) c v d → Loses b b' c v (Arc d)
     → IsSwept b start (c * values b.problem.now + v) → FirstIsLeast b → FirstIsLeast b'
-first-lost b b' start c v d t alive f loses swept first =
+first-board_without b b' start c v d t alive f loses swept first =
     let P = b.problem.now in
     let B = in_base P in
     let r : Removal = record { cell = c; value = v; before = size_of b.domains c; cause = Arc d } in

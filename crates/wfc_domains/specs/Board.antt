@@ -76,8 +76,8 @@ abbrev pub IsCut : Board → Type 0
 IsCut b = b.verdict ≡ Alive → Within (has b.domains) (base_with b.problem.now b.levels.standing)
 
 -- the board with other domains, once a value is removed
-abbrev pub lost : Board → Flags → ℕ → ℕ → Cause → Board
-lost b D cell value cause = record b {
+abbrev pub board_without : Board → Flags → ℕ → ℕ → Cause → Board
+board_without b D cell value cause = record b {
   domains = D;
   trail = record b.trail {
     removals = b.trail.removals ++ record { cell = cell; value = value; before = size_of b.domains cell; cause = cause } ∷ [];
@@ -88,7 +88,7 @@ lost b D cell value cause = record b {
 -- a value was removed from an alive board
 pub record Loses (old new : Board) (cell value : ℕ) (cause : Cause) : Type 0 where
   pub less : IsLess old.domains new.domains cell value
-  pub same : new ≡ lost old new.domains cell value cause
+  pub same : new ≡ board_without old new.domains cell value cause
 
 -- removals were added, and nothing else but the domains and the verdict changed
 pub record Grows (old new : Board) : Type 0 where

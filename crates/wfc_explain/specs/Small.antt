@@ -37,8 +37,8 @@ abbrev pub no_lines : Network → PinnedView
 no_lines P = record { lines = 0; problem_of = λ keep. P }
 
 -- a line that is kept
-abbrev pub kept : ℕ → Mark → Kept
-kept index mark = record { index = index; mark = mark }
+abbrev pub one_kept : ℕ → Mark → Kept
+one_kept index mark = record { index = index; mark = mark }
 
 -- an output of three by two with a line that keeps a blank and one that bans a colour
 abbrev pub two_sample_lines : SamplePins

@@ -17,7 +17,7 @@ ghost use Rattle.wfc_explain.specs.Masks.{given_mask};
 ghost use Rattle.wfc_explain.specs.Outcomes.{outcome_with};
 ghost use Rattle.wfc_explain.specs.Pinned.{IsAlike, IsFewer};
 ghost use Rattle.wfc_explain.specs.Problems.{pinned_sample, pinned_tiles, sample_pins, tiles_pins};
-ghost use Rattle.wfc_explain.specs.Small.{blank_line, kept, no_lines, one_line, two_cells_with, ring_with};
+ghost use Rattle.wfc_explain.specs.Small.{blank_line, one_kept, no_lines, one_line, two_cells_with, ring_with};
 ghost use Rattle.wfc_explain.specs.Small.{three_choices, three_lines, turned_line, two_of_three, two_sample_lines, two_tile_lines};
 ghost use Rattle.wfc_explain.specs.Trials.{all_lines, core_of, trial_with, explanation_of, outcome_mark, lines_without};
 ghost use Rattle.wfc_explain.specs.declared.explained.Explained.TheVariants.{Core, MapExists, Spent};
@@ -27,8 +27,8 @@ ghost use Rattle.wfc_explain.specs.declared.explained.Mark.TheVariants.{Needed, 
 /// third too; these two are needed. What the budget can't decide is kept, and a larger one drops it.
 pub fn small_explanations()
     ensures needed { explanation_of three_lines scanline 0 twos
-        ≡ Core (kept 1 Needed ∷ kept 2 Needed ∷ []) }
-    ensures undecided { explanation_of one_line scanline 0 twos ≡ Core (kept 0 Undecided ∷ []) }
+        ≡ Core (one_kept 1 Needed ∷ one_kept 2 Needed ∷ []) }
+    ensures undecided { explanation_of one_line scanline 0 twos ≡ Core (one_kept 0 Undecided ∷ []) }
     ensures dropped { explanation_of one_line scanline 1 twos ≡ Core [] }
     ensures spent { explanation_of (no_lines ring) scanline 0 twos ≡ Spent }
     ensures none { explanation_of (no_lines ring) scanline 1 twos ≡ Core [] }
@@ -48,11 +48,11 @@ pub fn small_outcomes()
 pub fn lines_are_decided()
     ensures all { all_lines 2 ≡ true ∷ true ∷ [] }
     ensures without { lines_without (true ∷ true ∷ false ∷ []) 0 ≡ false ∷ true ∷ false ∷ [] }
-    ensures dropped { trial_with (two_of_three (kept 5 Needed ∷ [])) 1 None
-        ≡ record { keep = true ∷ false ∷ false ∷ []; core = kept 5 Needed ∷ [] } }
-    ensures stays { trial_with (two_of_three (kept 5 Needed ∷ [])) 1 (Some Undecided)
-        ≡ two_of_three (kept 5 Needed ∷ kept 1 Undecided ∷ []) }
-    ensures only { core_lines 4 (kept 1 Needed ∷ kept 3 Undecided ∷ [])
+    ensures dropped { trial_with (two_of_three (one_kept 5 Needed ∷ [])) 1 None
+        ≡ record { keep = true ∷ false ∷ false ∷ []; core = one_kept 5 Needed ∷ [] } }
+    ensures stays { trial_with (two_of_three (one_kept 5 Needed ∷ [])) 1 (Some Undecided)
+        ≡ two_of_three (one_kept 5 Needed ∷ one_kept 1 Undecided ∷ []) }
+    ensures only { core_lines 4 (one_kept 1 Needed ∷ one_kept 3 Undecided ∷ [])
         ≡ false ∷ true ∷ false ∷ true ∷ [] }
 {}
 
@@ -67,8 +67,8 @@ pub fn relations_by_example()
 
 /// The lines of a core rise, and are lines.
 pub fn cores_by_example()
-    ensures falls { IsTrueCore three_lines (kept 2 Needed ∷ kept 1 Needed ∷ []) → ⊥ }
-    ensures outside { IsTrueCore three_lines (kept 1 Needed ∷ kept 3 Needed ∷ []) → ⊥ }
+    ensures falls { IsTrueCore three_lines (one_kept 2 Needed ∷ one_kept 1 Needed ∷ []) → ⊥ }
+    ensures outside { IsTrueCore three_lines (one_kept 1 Needed ∷ one_kept 3 Needed ∷ []) → ⊥ }
 {}
 
 /// What is kept of a list.

@@ -6,7 +6,7 @@ ghost use Rattle.wfc_lines.specs.Check.{bad_line_text, header_text, options_text
 ghost use Rattle.wfc_lines.specs.Line.{IsSaid};
 
 use crate::line::{put, put_named};
-use crate::reads::reading;
+use crate::reads::unread_file;
 use itoa::Buffer;
 use wfc_check::{CheckFault, Reject};
 use wfc_outside::{ReadFault, Sink, SinkFault};
@@ -23,10 +23,10 @@ pub fn check<E: Sink>(err: &mut E, fault: &CheckFault, file: &str) -> Result<(),
         CheckFault::HeaderDiffers { cells, values } => header_differs(err, cells, values, file),
         CheckFault::NotEnded => put_named(err, "check NotEnded", file),
         CheckFault::OptionsDiffer { found } => options_differ(err, &found, file),
-        CheckFault::Missing => reading(err, ReadFault::Missing, file),
-        CheckFault::Failed => reading(err, ReadFault::Failed, file),
-        CheckFault::TooLong => reading(err, ReadFault::TooLong, file),
-        CheckFault::NoMemory => reading(err, ReadFault::NoMemory, file),
+        CheckFault::Missing => unread_file(err, ReadFault::Missing, file),
+        CheckFault::Failed => unread_file(err, ReadFault::Failed, file),
+        CheckFault::TooLong => unread_file(err, ReadFault::TooLong, file),
+        CheckFault::NoMemory => unread_file(err, ReadFault::NoMemory, file),
     }
 }
 

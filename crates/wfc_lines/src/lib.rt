@@ -40,7 +40,7 @@ pub use palettes::palette;
 pub use pin_files::pins;
 pub use ppms::ppm;
 pub use races::race;
-pub use reads::reading;
+pub use reads::unread_file;
 pub use stacks::stack;
 pub use step_files::{range, steps};
 pub use tile_sets::tiles;

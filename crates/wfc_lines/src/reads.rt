@@ -9,7 +9,7 @@ use crate::outcome::no_memory;
 use wfc_outside::{ReadFault, Sink, SinkFault};
 
 /// Puts why a file was not read.
-pub fn reading<E: Sink>(err: &mut E, fault: ReadFault, file: &str) -> Result<(), SinkFault>
+pub fn unread_file<E: Sink>(err: &mut E, fault: ReadFault, file: &str) -> Result<(), SinkFault>
     ensures told { IsSaid (E.seen err.old) (E.seen err.new)
         (text_of_reading fault file.now) result }
 {

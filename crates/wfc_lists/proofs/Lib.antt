@@ -7,4 +7,4 @@ pub mod Ranges
 pub mod Rising
 pub mod Rows
 pub mod Tables
-pub mod Unrepeated
+pub mod WithoutRepeats

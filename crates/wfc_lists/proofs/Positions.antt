@@ -7,9 +7,9 @@ use Rattle.std.proofs.lemmas.List.Quantifiers.{position-Some}
 use Rattle.std.proofs.lemmas.List.Sums.{fails_before_first, passes_at_first, position_or_len_is}
 use Rattle.std.proofs.lemmas.Map.Keys.{apart_from_distinct}
 use Rattle.std.proofs.lemmas.Option.{slice_get_read}
-use Rattle.wfc_lists.specs.Unrepeated.{with_new}
+use Rattle.wfc_lists.specs.WithoutRepeats.{with_new}
 use Rattle.wfc_lists.proofs.Lists.{Contains_cases, Contains_later}
-use Rattle.wfc_lists.proofs.Unrepeated.{flips}
+use Rattle.wfc_lists.proofs.WithoutRepeats.{flips}
 
 -- ---- the first index
 

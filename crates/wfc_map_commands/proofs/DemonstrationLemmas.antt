@@ -7,7 +7,7 @@ use Rattle.std.proofs.lemmas.Nat.{div-mul-add, mul-le}
 use Rattle.std.specs.Cmp.Lexicographic.{pointwise}
 use Rattle.std.specs.List.{position_or_len, range_with_len}
 use Rattle.wfc_lists.proofs.Ranges.{range_more}
-use Rattle.wfc_lists.proofs.Unrepeated.{length-unrepeated}
+use Rattle.wfc_lists.proofs.WithoutRepeats.{length-without_repeats}
 use Rattle.wfc_map_commands.specs.Demonstration.{demo_output, demo_patterns, demo_picture, demo_problem, demo_side, demo_symbol, demo_symbols}
 use Rattle.wfc_model.proofs.CallerLemmas.{IsSized-raster_of, length-places}
 use Rattle.wfc_model.specs.Learned.{arising, learned}
@@ -35,7 +35,7 @@ use Rattle.wfc_plan.specs.declared.fault.Refusal.TheVariants.{Build, Colours, Le
 few_symbols : (symbols : List Symbol) (width : ℕ) → length symbols ≤ MAX_COLOURS → picture_and_palette symbols width ≡ Ok (raster_of width (length symbols / width) (palette_numbers symbols), palette_of symbols)
 few_symbols symbols width few =
     let up_to : (j : ℕ) → j ≤ length symbols → length (palette_of (take j symbols)) ≤ MAX_COLOURS
-    = λ j _. omega (arith, length-unrepeated same_symbol (take j symbols), length-take j symbols) in
+    = λ j _. omega (arith, length-without_repeats same_symbol (take j symbols), length-take j symbols) in
     sym (indexed-made symbols width (raster_of width (length symbols / width) (palette_numbers symbols)) (palette_of symbols) (none_past symbols (length symbols) (omega arith) up_to) refl refl)
 
 -- the square of a demonstration has as many pixels as its sides say
@@ -68,7 +68,7 @@ demo_few n side some small =
     = mul-le (starts side 3 false) (starts side 3 false * 1) 22 (22 * 1) (omega arith) (omega arith) in
     let many : length (arising (demo_picture n side) 3 1 false) ≡ starts (height_of (demo_picture n side)) 3 false * (starts side 3 false * 1) = length-arising (demo_picture n side) 3 1 false in
     let square : length (arising (demo_picture n side) 3 1 false) ≡ starts side 3 false * (starts side 3 false * 1) = many ∙ ap (λ h. starts h 3 false * (starts side 3 false * 1)) (demo_high n side) in
-    omega (arith, square, arising_few, length-unrepeated (pointwise nat_eq) (arising (demo_picture n side) 3 1 false))
+    omega (arith, square, arising_few, length-without_repeats (pointwise nat_eq) (arising (demo_picture n side) 3 1 false))
 
 -- its patterns
 pub demo_learned : (n side : ℕ) → 3 ≤ side → side ≤ 24 → patterns_of (demo_picture n side) 3 1 false ≡ Ok (learned_patterns (demo_picture n side) 3 1 false)

@@ -7,7 +7,7 @@ use Rattle.wfc_domains.specs.Store.{IsAssumed, IsOpened, IsSound, StoreView, lef
 use Rattle.wfc_log.specs.declared.Verdict.{Verdict}
 use Rattle.wfc_log.specs.declared.Verdict.TheVariants.{Alive, Dead}
 use Rattle.wfc_map_commands.specs.DomainsAnswer.{after_step, domains_answer, literals_after_steps, root_verdict, shown_domains, steps_text}
-use Rattle.wfc_map_commands.specs.Walk.{IsWalk, WalksTo, left_text, stood}
+use Rattle.wfc_map_commands.specs.Walk.{IsWalk, WalksTo, left_text, literals_after_all}
 use Rattle.wfc_outside.proofs.CallerLemmas.{fault_out, puts_none, puts_on}
 use Rattle.wfc_outside.specs.Sink.{IsFaultAfterFront, Puts, SinkView, after_bytes}
 use Rattle.wfc_outside.specs.declared.SinkFault.{SinkFault}
@@ -141,42 +141,42 @@ undone_none v beside none empty standing walk =
 
 -- ---- blocks
 
-stood-append : (standing : List Literal) (lines : List StepLine) (line : StepLine) → stood standing (lines ++ line ∷ []) ≡ after_step (stood standing lines) line.step
-stood-append standing [] line = refl
-stood-append standing (first ∷ lines) line = stood-append (after_step standing first.step) lines line
+literals_after_all-append : (standing : List Literal) (lines : List StepLine) (line : StepLine) → literals_after_all standing (lines ++ line ∷ []) ≡ after_step (literals_after_all standing lines) line.step
+literals_after_all-append standing [] line = refl
+literals_after_all-append standing (first ∷ lines) line = literals_after_all-append (after_step standing first.step) lines line
 
 -- the literals that stand after one step more
-pub stood_next : (lines : List StepLine) (i : ℕ) (line : StepLine) → i < length lines → get_or lines i line ≡ line → stood [] (take (i + 1) lines) ≡ after_step (stood [] (take i lines)) line.step
-stood_next lines i line inside is =
-    ap (stood []) (take_more lines i line inside ∙ ap (λ l. take i lines ++ l ∷ []) is) ∙ stood-append [] (take i lines) line
+pub literals_after_all_next : (lines : List StepLine) (i : ℕ) (line : StepLine) → i < length lines → get_or lines i line ≡ line → literals_after_all [] (take (i + 1) lines) ≡ after_step (literals_after_all [] (take i lines)) line.step
+literals_after_all_next lines i line inside is =
+    ap (literals_after_all []) (take_more lines i line inside ∙ ap (λ l. take i lines ++ l ∷ []) is) ∙ literals_after_all-append [] (take i lines) line
 
 -- the next block, and those behind it
 left_more : (P : Network) (values cells : ℕ) (lines : List StepLine) (i : ℕ) (line : StepLine) → i < length lines → get_or lines i line ≡ line
-    → left_text P values cells lines i ≡ block_text (i + 1) (shown_domains P (stood [] (take (i + 1) lines))) values cells ++ left_text P values cells lines (i + 1)
+    → left_text P values cells lines i ≡ block_text (i + 1) (shown_domains P (literals_after_all [] (take (i + 1) lines))) values cells ++ left_text P values cells lines (i + 1)
 left_more P values cells lines i line inside is =
-    ap (λ ls. blocks_from (i + 1) (map (shown_domains P) (literals_after_steps (stood [] (take i lines)) ls)) values cells) (drop_more lines i line inside ∙ ap (λ l. l ∷ drop (i + 1) lines) is)
-    ∙ ap (λ (ls : List Literal). block_text (i + 1) (shown_domains P ls) values cells ++ blocks_from (i + 1 + 1) (map (shown_domains P) (literals_after_steps ls (drop (i + 1) lines))) values cells) (sym (stood_next lines i line inside is))
+    ap (λ ls. blocks_from (i + 1) (map (shown_domains P) (literals_after_steps (literals_after_all [] (take i lines)) ls)) values cells) (drop_more lines i line inside ∙ ap (λ l. l ∷ drop (i + 1) lines) is)
+    ∙ ap (λ (ls : List Literal). block_text (i + 1) (shown_domains P ls) values cells ++ blocks_from (i + 1 + 1) (map (shown_domains P) (literals_after_steps ls (drop (i + 1) lines))) values cells) (sym (literals_after_all_next lines i line inside is))
 
 -- a block was put, and what is left of the blocks makes those that were left before
 pub blocks_on : (P : Network) (values cells : ℕ) (lines : List StepLine) (i : ℕ) (line : StepLine) → i < length lines → get_or lines i line ≡ line
-    → (old mid new : SinkView) (result : Result (Unit {0}) SinkFault) → mid ≡ after_bytes old (block_text (i + 1) (shown_domains P (stood [] (take (i + 1) lines))) values cells)
+    → (old mid new : SinkView) (result : Result (Unit {0}) SinkFault) → mid ≡ after_bytes old (block_text (i + 1) (shown_domains P (literals_after_all [] (take (i + 1) lines))) values cells)
     → Puts mid new (left_text P values cells lines (i + 1)) result → Puts old new (left_text P values cells lines i) result
 blocks_on P values cells lines i line inside is old mid new result put rest =
     subst (λ text. Puts old new text result) (sym (left_more P values cells lines i line inside is))
-    (puts_on old mid new (block_text (i + 1) (shown_domains P (stood [] (take (i + 1) lines))) values cells) (left_text P values cells lines (i + 1)) result put rest)
+    (puts_on old mid new (block_text (i + 1) (shown_domains P (literals_after_all [] (take (i + 1) lines))) values cells) (left_text P values cells lines (i + 1)) result put rest)
 
 -- the fault of a block is one of those that were left
 pub blocks_out : (P : Network) (values cells : ℕ) (lines : List StepLine) (i : ℕ) (line : StepLine) → i < length lines → get_or lines i line ≡ line
-    → (old new : SinkView) → IsFaultAfterFront old new (block_text (i + 1) (shown_domains P (stood [] (take (i + 1) lines))) values cells) → IsFaultAfterFront old new (left_text P values cells lines i)
+    → (old new : SinkView) → IsFaultAfterFront old new (block_text (i + 1) (shown_domains P (literals_after_all [] (take (i + 1) lines))) values cells) → IsFaultAfterFront old new (left_text P values cells lines i)
 blocks_out P values cells lines i line inside is old new fault =
     subst (λ text. IsFaultAfterFront old new text) (sym (left_more P values cells lines i line inside is))
-    (fault_out old new (block_text (i + 1) (shown_domains P (stood [] (take (i + 1) lines))) values cells) (left_text P values cells lines (i + 1)) fault)
+    (fault_out old new (block_text (i + 1) (shown_domains P (literals_after_all [] (take (i + 1) lines))) values cells) (left_text P values cells lines (i + 1)) fault)
 
 -- the walk after one step more
 pub walk_next : (lines : List StepLine) (i : ℕ) (d : StepLine) (old new : StoreView) (before behind : ℕ) → i < length lines → WalksTo old before new behind (get_or lines i d).step
-    → IsWalk old before (stood [] (take i lines)) → IsWalk new behind (stood [] (take (i + 1) lines))
+    → IsWalk old before (literals_after_all [] (take i lines)) → IsWalk new behind (literals_after_all [] (take (i + 1) lines))
 walk_next lines i d old new before behind inside walks walk =
-    subst (IsWalk new behind) (sym (stood_next lines i (get_or lines i d) inside (get_or_default lines i (get_or lines i d) d inside))) (walks (stood [] (take i lines)) walk)
+    subst (IsWalk new behind) (sym (literals_after_all_next lines i (get_or lines i d) inside (get_or_default lines i (get_or lines i d) d inside))) (walks (literals_after_all [] (take i lines)) walk)
 
 -- the first block was put, and those that are left make all of them
 pub blocks_start : (P Q : Network) (count cells : ℕ) (lines : List StepLine) → Q ≡ P → count ≡ values P → cells ≡ P.cells
@@ -198,24 +198,24 @@ no_step = record { line = 0; step = Undo }
 
 -- the block of a step, as the code puts it
 pub next_on : (P Q : Network) (count cells : ℕ) (lines : List StepLine) (i k : ℕ) → i < length lines → Q ≡ P → k ≡ i
-    → (old mid new : SinkView) (result : Result (Unit {0}) SinkFault) → mid ≡ after_bytes old (block_text (k + 1) (shown_domains Q (stood [] (take (i + 1) lines))) count cells)
+    → (old mid new : SinkView) (result : Result (Unit {0}) SinkFault) → mid ≡ after_bytes old (block_text (k + 1) (shown_domains Q (literals_after_all [] (take (i + 1) lines))) count cells)
     → Puts mid new (left_text P count cells lines (i + 1)) result → Puts old new (left_text P count cells lines i) result
 next_on P Q count cells lines i k inside same number old mid new result put rest =
     blocks_on P count cells lines i (get_or lines i no_step) inside (get_or_default lines i (get_or lines i no_step) no_step inside) old mid new result
-    (put ∙ (λ j. after_bytes old (block_text (number j + 1) (shown_domains (same j) (stood [] (take (i + 1) lines))) count cells))) rest
+    (put ∙ (λ j. after_bytes old (block_text (number j + 1) (shown_domains (same j) (literals_after_all [] (take (i + 1) lines))) count cells))) rest
 
 -- and its fault
 pub next_out : (P Q : Network) (count cells : ℕ) (lines : List StepLine) (i k : ℕ) → i < length lines → Q ≡ P → k ≡ i
-    → (old new : SinkView) → IsFaultAfterFront old new (block_text (k + 1) (shown_domains Q (stood [] (take (i + 1) lines))) count cells) → IsFaultAfterFront old new (left_text P count cells lines i)
+    → (old new : SinkView) → IsFaultAfterFront old new (block_text (k + 1) (shown_domains Q (literals_after_all [] (take (i + 1) lines))) count cells) → IsFaultAfterFront old new (left_text P count cells lines i)
 next_out P Q count cells lines i k inside same number old new fault =
-    let text : block_text (k + 1) (shown_domains Q (stood [] (take (i + 1) lines))) count cells ≡ block_text (i + 1) (shown_domains P (stood [] (take (i + 1) lines))) count cells =
-    λ j. block_text (number j + 1) (shown_domains (same j) (stood [] (take (i + 1) lines))) count cells in
+    let text : block_text (k + 1) (shown_domains Q (literals_after_all [] (take (i + 1) lines))) count cells ≡ block_text (i + 1) (shown_domains P (literals_after_all [] (take (i + 1) lines))) count cells =
+    λ j. block_text (number j + 1) (shown_domains (same j) (literals_after_all [] (take (i + 1) lines))) count cells in
     blocks_out P count cells lines i (get_or lines i no_step) inside (get_or_default lines i (get_or lines i no_step) no_step inside) old new (subst (λ t. IsFaultAfterFront old new t) text fault)
 
 -- behind the last step nothing is left
 pub blocks_end : (P : Network) (count cells : ℕ) (lines : List StepLine) (i : ℕ) (sink : SinkView) → length lines ≤ i → sink ≡ after_bytes sink (left_text P count cells lines i)
 blocks_end P count cells lines i sink past =
-    let none : left_text P count cells lines i ≡ [] = ap (λ ls. blocks_from (i + 1) (map (shown_domains P) (literals_after_steps (stood [] (take i lines)) ls)) count cells) (drop_all i lines past) in
+    let none : left_text P count cells lines i ≡ [] = ap (λ ls. blocks_from (i + 1) (map (shown_domains P) (literals_after_steps (literals_after_all [] (take i lines)) ls)) count cells) (drop_all i lines past) in
     subst (λ text. sink ≡ after_bytes sink text) (sym none) (puts_none sink)
 
 -- ---- the command

@@ -32,12 +32,12 @@ WalksTo old before new behind step =
     → IsWalk new behind (after_step standing step)
 
 -- the literals that stand after steps
-abbrev pub stood : List Literal → List StepLine → List Literal
-stood standing [] = standing
-stood standing (line ∷ lines) = stood (after_step standing line.step) lines
+abbrev pub literals_after_all : List Literal → List StepLine → List Literal
+literals_after_all standing [] = standing
+literals_after_all standing (line ∷ lines) = literals_after_all (after_step standing line.step) lines
 
 -- the blocks that are still to be put after so many steps
 abbrev pub left_text : Network → ℕ → ℕ → List StepLine → ℕ → List ℕ
 left_text P values cells lines i =
-    blocks_from (i + 1) (map (shown_domains P) (literals_after_steps (stood [] (take i lines)) (drop i lines))) values
+    blocks_from (i + 1) (map (shown_domains P) (literals_after_steps (literals_after_all [] (take i lines)) (drop i lines))) values
     cells

@@ -4,7 +4,7 @@ use Rattle.std.specs.List.{All}
 use Rattle.std.proofs.lemmas.List.{get_or-map, length-map}
 use Rattle.std.proofs.lemmas.List.Elements.{All-get_or, All-from_get_or}
 use Rattle.wfc_model.specs.Window.{square}
-use Rattle.wfc_model.specs.Image.{cell_at, reflected, rotated, turned, image}
+use Rattle.wfc_model.specs.Image.{cell_at, reflected, rotated, after_turns, image}
 use Rattle.wfc_model.proofs.SquareLemmas.{length-square, get_or-square, square-at, square-same, square-from, place_in_square, column_of_place, row_of_place}
 
 -- what holds of the number in each column and row holds of each number of a square
@@ -52,38 +52,38 @@ module _ (n : ℕ) (w : List ℕ) (long : length w ≡ n * n) where
       ∙ sym (map-square f n (λ x y. cell_at n w (n - 1 - y) x))
 
 -- a turned window is as long
-pub length-turned : (n : ℕ) (w : List ℕ) (turns : ℕ) → length w ≡ n * n → length (turned n w turns) ≡ n * n
-length-turned n w zero long = long
-length-turned n w (suc turns) long = length-square n (λ x y. cell_at n (turned n w turns) (n - 1 - y) x)
+pub length-after_turns : (n : ℕ) (w : List ℕ) (turns : ℕ) → length w ≡ n * n → length (after_turns n w turns) ≡ n * n
+length-after_turns n w zero long = long
+length-after_turns n w (suc turns) long = length-square n (λ x y. cell_at n (after_turns n w turns) (n - 1 - y) x)
 
 -- and so is each image
 pub length-image : (n : ℕ) (w : List ℕ) (k : ℕ) → length w ≡ n * n → length (image n w k) ≡ n * n
 length-image n w k long = by (nat_eq (k % 2) 0)
   where
-    by : (even : Bool) → length (if even then turned n w (k / 2) else reflected n (turned n w (k / 2))) ≡ n * n
-    by true = length-turned n w (k / 2) long
-    by false = length-square n (λ x y. cell_at n (turned n w (k / 2)) (n - 1 - x) y)
+    by : (even : Bool) → length (if even then after_turns n w (k / 2) else reflected n (after_turns n w (k / 2))) ≡ n * n
+    by true = length-after_turns n w (k / 2) long
+    by false = length-square n (λ x y. cell_at n (after_turns n w (k / 2)) (n - 1 - x) y)
 
 -- each number of an image is one of the window
-pub All-turned : (P : ℕ → Type 0) (n : ℕ) (w : List ℕ) (turns : ℕ) → length w ≡ n * n → All P w → All P (turned n w turns)
-All-turned P n w zero long all = all
-All-turned P n w (suc turns) long all = All-rotated n (turned n w turns) (length-turned n w turns long) P (All-turned P n w turns long all)
+pub All-after_turns : (P : ℕ → Type 0) (n : ℕ) (w : List ℕ) (turns : ℕ) → length w ≡ n * n → All P w → All P (after_turns n w turns)
+All-after_turns P n w zero long all = all
+All-after_turns P n w (suc turns) long all = All-rotated n (after_turns n w turns) (length-after_turns n w turns long) P (All-after_turns P n w turns long all)
 
 pub All-image : (P : ℕ → Type 0) (n : ℕ) (w : List ℕ) (k : ℕ) → length w ≡ n * n → All P w → All P (image n w k)
 All-image P n w k long all = by (nat_eq (k % 2) 0)
   where
-    by : (even : Bool) → All P (if even then turned n w (k / 2) else reflected n (turned n w (k / 2)))
-    by true = All-turned P n w (k / 2) long all
-    by false = All-reflected n (turned n w (k / 2)) (length-turned n w (k / 2) long) P (All-turned P n w (k / 2) long all)
+    by : (even : Bool) → All P (if even then after_turns n w (k / 2) else reflected n (after_turns n w (k / 2)))
+    by true = All-after_turns P n w (k / 2) long all
+    by false = All-reflected n (after_turns n w (k / 2)) (length-after_turns n w (k / 2) long) P (All-after_turns P n w (k / 2) long all)
 
 -- an image of the window renumbered is the image renumbered
-turned-map : (f : ℕ → ℕ) (n : ℕ) (w : List ℕ) (turns : ℕ) → length w ≡ n * n → turned n (map f w) turns ≡ map f (turned n w turns)
-turned-map f n w zero long = refl
-turned-map f n w (suc turns) long = ap (rotated n) (turned-map f n w turns long) ∙ rotated-map n (turned n w turns) (length-turned n w turns long) f
+after_turns-map : (f : ℕ → ℕ) (n : ℕ) (w : List ℕ) (turns : ℕ) → length w ≡ n * n → after_turns n (map f w) turns ≡ map f (after_turns n w turns)
+after_turns-map f n w zero long = refl
+after_turns-map f n w (suc turns) long = ap (rotated n) (after_turns-map f n w turns long) ∙ rotated-map n (after_turns n w turns) (length-after_turns n w turns long) f
 
 pub image-map : (f : ℕ → ℕ) (n : ℕ) (w : List ℕ) (k : ℕ) → length w ≡ n * n → image n (map f w) k ≡ map f (image n w k)
 image-map f n w k long = by (nat_eq (k % 2) 0)
   where
-    by : (even : Bool) → (if even then turned n (map f w) (k / 2) else reflected n (turned n (map f w) (k / 2))) ≡ map f (if even then turned n w (k / 2) else reflected n (turned n w (k / 2)))
-    by true = turned-map f n w (k / 2) long
-    by false = ap (reflected n) (turned-map f n w (k / 2) long) ∙ reflected-map n (turned n w (k / 2)) (length-turned n w (k / 2) long) f
+    by : (even : Bool) → (if even then after_turns n (map f w) (k / 2) else reflected n (after_turns n (map f w) (k / 2))) ≡ map f (if even then after_turns n w (k / 2) else reflected n (after_turns n w (k / 2)))
+    by true = after_turns-map f n w (k / 2) long
+    by false = ap (reflected n) (after_turns-map f n w (k / 2) long) ∙ reflected-map n (after_turns n w (k / 2)) (length-after_turns n w (k / 2) long) f

@@ -7,7 +7,7 @@ use Rattle.std.proofs.lemmas.List.Elements.{All-contains, All-contains_itself, A
 use Rattle.std.proofs.lemmas.Slice.Eq.{bytes_eq-Decides}
 use Rattle.wfc_lists.proofs.Lists.{each_in_lists, lists_each}
 use Rattle.wfc_lists.proofs.Ranges.{each_in_row, row_each}
-use Rattle.wfc_lists.proofs.Unrepeated.{unrepeated-Contains, Contains-unrepeated}
+use Rattle.wfc_lists.proofs.WithoutRepeats.{without_repeats-Contains, Contains-without_repeats}
 use Rattle.wfc_model.specs.Raster.{Raster, height_of}
 use Rattle.wfc_model.specs.Window.{window, places, starts}
 use Rattle.wfc_model.specs.Image.{image}
@@ -20,12 +20,12 @@ same_window-Decides v w = bytes_eq-Decides v w
 
 -- a learned window arises
 pub learned-arising : (sample : Raster) (n s : ℕ) (wrap : Bool) (w : List ℕ) → Contains (learned sample n s wrap) w → Contains (arising sample n s wrap) w
-learned-arising sample n s wrap w within = unrepeated-Contains (pointwise nat_eq) (arising sample n s wrap) w within
+learned-arising sample n s wrap w within = without_repeats-Contains (pointwise nat_eq) (arising sample n s wrap) w within
 
 -- and one that arises is learned
 pub arising-learned : (sample : Raster) (n s : ℕ) (wrap : Bool) (w : List ℕ) → Contains (arising sample n s wrap) w → Contains (learned sample n s wrap) w
 arising-learned sample n s wrap w within =
-    Contains-unrepeated (pointwise nat_eq) (λ u v. (same_window-Decides u v).0) (λ v. (same_window-Decides v v).1 refl) (arising sample n s wrap) w within
+    Contains-without_repeats (pointwise nat_eq) (λ u v. (same_window-Decides u v).0) (λ v. (same_window-Decides v v).1 refl) (arising sample n s wrap) w within
 
 -- what holds of each image of the window at each place holds of what arises, and the other way round
 pub All-arising : (P : List ℕ → Type 0) (sample : Raster) (n s : ℕ) (wrap : Bool)

@@ -15,7 +15,7 @@ use Rattle.wfc_model.specs.Window.{window, starts}
 use Rattle.wfc_model.specs.Image.{image}
 use Rattle.wfc_model.specs.Learned.{learned, arising}
 use Rattle.wfc_model.specs.Legal.{Rules, Pin, IsHeld, IsLegalPicture}
-use Rattle.wfc_model.specs.Renumbered.{renumbered, renumbered_pin, IsKnown, IsRenumbering}
+use Rattle.wfc_model.specs.Renumbered.{renumbered_picture, renumbered_pin, IsKnown, IsRenumbering}
 use Rattle.wfc_model.proofs.ImageLemmas.{All-square, map-square, All-image, image-map}
 use Rattle.wfc_model.proofs.LearnedLemmas.{learned-arising, arising-learned, Contains-arising, Arises-from}
 use Rattle.wfc_model.proofs.PlaceLemmas.{All-places, at_place, cell_is}
@@ -106,50 +106,50 @@ legal_known sample rules pins w h m raster some legal =
 -- ---- renumbering
 
 -- the picture stays as high
-height-renumbered : (f : ℕ → ℕ) (m : Raster) → height_of (renumbered f m) ≡ height_of m
-height-renumbered f m = length-map m.rows (map f)
+height-renumbered_picture : (f : ℕ → ℕ) (m : Raster) → height_of (renumbered_picture f m) ≡ height_of m
+height-renumbered_picture f m = length-map m.rows (map f)
 
 -- and a picture
-IsRaster-renumbered : (f : ℕ → ℕ) (m : Raster) → IsRaster m → IsRaster (renumbered f m)
-IsRaster-renumbered f m raster = record {
+IsRaster-renumbered_picture : (f : ℕ → ℕ) (m : Raster) → IsRaster m → IsRaster (renumbered_picture f m)
+IsRaster-renumbered_picture f m raster = record {
   some_column = raster.some_column;
-  some_row = rw (height-renumbered f m) raster.some_row;
+  some_row = rw (height-renumbered_picture f m) raster.some_row;
   rows_fit = All-map (λ (row : List ℕ). length row ≡ m.width) (map f) m.rows
       (All-weaker (λ (row : List ℕ). length row ≡ m.width) (λ (row : List ℕ). length (map f row) ≡ m.width) (λ row fits. length-map row f ∙ fits) m.rows raster.rows_fit);
 }
 
-IsSized-renumbered : (f : ℕ → ℕ) (m : Raster) (w h : ℕ) → IsSized m w h → IsSized (renumbered f m) w h
-IsSized-renumbered f m w h sized = record { raster = IsRaster-renumbered f m sized.raster; same_width = sized.same_width; same_height = height-renumbered f m ∙ sized.same_height }
+IsSized-renumbered_picture : (f : ℕ → ℕ) (m : Raster) (w h : ℕ) → IsSized m w h → IsSized (renumbered_picture f m) w h
+IsSized-renumbered_picture f m w h sized = record { raster = IsRaster-renumbered_picture f m sized.raster; same_width = sized.same_width; same_height = height-renumbered_picture f m ∙ sized.same_height }
 
 -- each number becomes the one given for it
-pub number_at-renumbered : (f : ℕ → ℕ) (m : Raster) → IsRaster m → (x y : ℕ) → x < m.width → y < height_of m → number_at (renumbered f m) x y ≡ f (number_at m x y)
-number_at-renumbered f m raster x y column row =
+pub number_at-renumbered_picture : (f : ℕ → ℕ) (m : Raster) → IsRaster m → (x y : ℕ) → x < m.width → y < height_of m → number_at (renumbered_picture f m) x y ≡ f (number_at m x y)
+number_at-renumbered_picture f m raster x y column row =
     let long = All-get_or (λ (r : List ℕ). length r ≡ m.width) m.rows y [] row raster.rows_fit in
     ap (λ (r : List ℕ). get_or r x 0) (get_or-map (map f) m.rows y [] [] row)
     ∙ get_or-map f (get_or m.rows y []) x 0 0 (omega arith)
 
 -- and so in each window
-pub window-renumbered : (f : ℕ → ℕ) (m : Raster) → IsRaster m → (x y n : ℕ) → window (renumbered f m) x y n ≡ map f (window m x y n)
-window-renumbered f m raster x y n =
-    square-same n (λ i j. number_at (renumbered f m) ((x + i) % m.width) ((y + j) % height_of (renumbered f m))) (λ i j. f (number_at m ((x + i) % m.width) ((y + j) % height_of m)))
+pub window-renumbered_picture : (f : ℕ → ℕ) (m : Raster) → IsRaster m → (x y n : ℕ) → window (renumbered_picture f m) x y n ≡ map f (window m x y n)
+window-renumbered_picture f m raster x y n =
+    square-same n (λ i j. number_at (renumbered_picture f m) ((x + i) % m.width) ((y + j) % height_of (renumbered_picture f m))) (λ i j. f (number_at m ((x + i) % m.width) ((y + j) % height_of m)))
     (λ i j _ _.
-    ap (λ h. number_at (renumbered f m) ((x + i) % m.width) ((y + j) % h)) (height-renumbered f m)
-    ∙ number_at-renumbered f m raster ((x + i) % m.width) ((y + j) % height_of m) (mod_below (x + i) m.width raster.some_column) (mod_below (y + j) (height_of m) raster.some_row))
+    ap (λ h. number_at (renumbered_picture f m) ((x + i) % m.width) ((y + j) % h)) (height-renumbered_picture f m)
+    ∙ number_at-renumbered_picture f m raster ((x + i) % m.width) ((y + j) % height_of m) (mod_below (x + i) m.width raster.some_column) (mod_below (y + j) (height_of m) raster.some_row))
     ∙ sym (map-square f n (λ i j. number_at m ((x + i) % m.width) ((y + j) % height_of m)))
 
 -- an image of a window renumbered is the image renumbered
-image-renumbered : (f : ℕ → ℕ) (m : Raster) → IsRaster m → (x y n k : ℕ) → image n (window (renumbered f m) x y n) k ≡ map f (image n (window m x y n) k)
-image-renumbered f m raster x y n k =
-    ap (λ w. image n w k) (window-renumbered f m raster x y n) ∙ image-map f n (window m x y n) k (length-window m x y n)
+image-renumbered_picture : (f : ℕ → ℕ) (m : Raster) → IsRaster m → (x y n k : ℕ) → image n (window (renumbered_picture f m) x y n) k ≡ map f (image n (window m x y n) k)
+image-renumbered_picture f m raster x y n k =
+    ap (λ w. image n w k) (window-renumbered_picture f m raster x y n) ∙ image-map f n (window m x y n) k (length-window m x y n)
 
 -- where a window is learned, the window renumbered is learned from the sample renumbered
-learned_there : (f : ℕ → ℕ) (sample : Raster) → IsRaster sample → (n s : ℕ) (wrap : Bool) (w : List ℕ) → Contains (learned sample n s wrap) w → Contains (learned (renumbered f sample) n s wrap) (map f w)
+learned_there : (f : ℕ → ℕ) (sample : Raster) → IsRaster sample → (n s : ℕ) (wrap : Bool) (w : List ℕ) → Contains (learned sample n s wrap) w → Contains (learned (renumbered_picture f sample) n s wrap) (map f w)
 learned_there f sample raster n s wrap w within =
     let from = Arises-from sample n s wrap w (learned-arising sample n s wrap w within) in
-    let below : from.y < starts (height_of (renumbered f sample)) n wrap = rw (height-renumbered f sample) from.below in
-    arising-learned (renumbered f sample) n s wrap (map f w)
-    (subst (Contains (arising (renumbered f sample) n s wrap)) (image-renumbered f sample raster from.x from.y n from.k ∙ ap (map f) (sym from.same))
-    (Contains-arising (renumbered f sample) n s wrap from.x from.y from.k from.left below from.first))
+    let below : from.y < starts (height_of (renumbered_picture f sample)) n wrap = rw (height-renumbered_picture f sample) from.below in
+    arising-learned (renumbered_picture f sample) n s wrap (map f w)
+    (subst (Contains (arising (renumbered_picture f sample) n s wrap)) (image-renumbered_picture f sample raster from.x from.y n from.k ∙ ap (map f) (sym from.same))
+    (Contains-arising (renumbered_picture f sample) n s wrap from.x from.y from.k from.left below from.first))
 
 -- lists that are renumbered to one are one, where no two of their numbers are given the same
 map-one : (f : ℕ → ℕ) (known : List ℕ) → ((x y : ℕ) → Contains known x → Contains known y → f x ≡ f y → x ≡ y) → (xs ys : List ℕ) → All (Contains known) xs → All (Contains known) ys → map f xs ≡ map f ys → xs ≡ ys
@@ -161,13 +161,13 @@ map-one f known one xs ys all_x all_y same =
 
 -- where a window of the sample's numbers is learned once it is renumbered, it was before
 learned_back : (f : ℕ → ℕ) (sample : Raster) → IsRaster sample → ((x y : ℕ) → Contains (numbers_of sample) x → Contains (numbers_of sample) y → f x ≡ f y → x ≡ y)
-    → (n s : ℕ) (wrap : Bool) (w : List ℕ) → All (Contains (numbers_of sample)) w → Contains (learned (renumbered f sample) n s wrap) (map f w) → Contains (learned sample n s wrap) w
+    → (n s : ℕ) (wrap : Bool) (w : List ℕ) → All (Contains (numbers_of sample)) w → Contains (learned (renumbered_picture f sample) n s wrap) (map f w) → Contains (learned sample n s wrap) w
 learned_back f sample raster one n s wrap w known within =
-    let from = Arises-from (renumbered f sample) n s wrap (map f w) (learned-arising (renumbered f sample) n s wrap (map f w) within) in
-    let below : from.y < starts (height_of sample) n wrap = subst (λ h. from.y < starts h n wrap) (height-renumbered f sample) from.below in
+    let from = Arises-from (renumbered_picture f sample) n s wrap (map f w) (learned-arising (renumbered_picture f sample) n s wrap (map f w) within) in
+    let below : from.y < starts (height_of sample) n wrap = subst (λ h. from.y < starts h n wrap) (height-renumbered_picture f sample) from.below in
     let source = image n (window sample from.x from.y n) from.k in
     let source_known = All-image (Contains (numbers_of sample)) n (window sample from.x from.y n) from.k (length-window sample from.x from.y n) (window_known sample raster n from.x from.y) in
-    let is : w ≡ source = map-one f (numbers_of sample) one w source known source_known (from.same ∙ image-renumbered f sample raster from.x from.y n from.k) in
+    let is : w ≡ source = map-one f (numbers_of sample) one w source known source_known (from.same ∙ image-renumbered_picture f sample raster from.x from.y n from.k) in
     arising-learned sample n s wrap w (subst (Contains (arising sample n s wrap)) (sym is) (Contains-arising sample n s wrap from.x from.y from.k from.left below from.first))
 
 module _ (f : ℕ → ℕ) (sample : Raster) (rules : Rules) (pins : List Pin) (renumbering : IsRenumbering f sample pins) (w h : ℕ) (m : Raster) (known : IsKnown sample m) where
@@ -176,45 +176,45 @@ module _ (f : ℕ → ℕ) (sample : Raster) (rules : Rules) (pins : List Pin) (
   at_known raster x y column row = All-contains (Contains (numbers_of sample)) (numbers_of m) (number_at m x y) known (number_known m raster x y column row)
 
   -- a pin is held by the picture exactly where it is once both are renumbered
-  held_there : IsRaster m → (pin : Pin) → Contains (numbers_of sample) pin.number → IsHeld m pin → IsHeld (renumbered f m) (renumbered_pin f pin)
-  held_there raster pin there held = record { column_in = held.column_in; row_in = rw (height-renumbered f m) held.row_in; number = by pin.keep held.number }
+  held_there : IsRaster m → (pin : Pin) → Contains (numbers_of sample) pin.number → IsHeld m pin → IsHeld (renumbered_picture f m) (renumbered_pin f pin)
+  held_there raster pin there held = record { column_in = held.column_in; row_in = rw (height-renumbered_picture f m) held.row_in; number = by pin.keep held.number }
     where
-      at : number_at (renumbered f m) pin.column pin.row ≡ f (number_at m pin.column pin.row)
-      at = number_at-renumbered f m raster pin.column pin.row held.column_in held.row_in
+      at : number_at (renumbered_picture f m) pin.column pin.row ≡ f (number_at m pin.column pin.row)
+      at = number_at-renumbered_picture f m raster pin.column pin.row held.column_in held.row_in
 
       by : (keep : Bool) → MatchBool keep (number_at m pin.column pin.row ≡ pin.number) (number_at m pin.column pin.row ≢ pin.number)
-          → MatchBool keep (number_at (renumbered f m) pin.column pin.row ≡ f pin.number) (number_at (renumbered f m) pin.column pin.row ≢ f pin.number)
+          → MatchBool keep (number_at (renumbered_picture f m) pin.column pin.row ≡ f pin.number) (number_at (renumbered_picture f m) pin.column pin.row ≢ f pin.number)
       by true same = at ∙ ap f same
       by false other = λ same. other (renumbering.one_to_one (number_at m pin.column pin.row) pin.number (at_known raster pin.column pin.row held.column_in held.row_in) there (sym at ∙ same))
 
-  held_back : IsRaster m → (pin : Pin) → Contains (numbers_of sample) pin.number → IsHeld (renumbered f m) (renumbered_pin f pin) → IsHeld m pin
+  held_back : IsRaster m → (pin : Pin) → Contains (numbers_of sample) pin.number → IsHeld (renumbered_picture f m) (renumbered_pin f pin) → IsHeld m pin
   held_back raster pin there held = record { column_in = held.column_in; row_in = row; number = by pin.keep held.number }
     where
       row : pin.row < height_of m
-      row = subst (λ rows. pin.row < rows) (height-renumbered f m) held.row_in
+      row = subst (λ rows. pin.row < rows) (height-renumbered_picture f m) held.row_in
 
-      at : number_at (renumbered f m) pin.column pin.row ≡ f (number_at m pin.column pin.row)
-      at = number_at-renumbered f m raster pin.column pin.row held.column_in row
+      at : number_at (renumbered_picture f m) pin.column pin.row ≡ f (number_at m pin.column pin.row)
+      at = number_at-renumbered_picture f m raster pin.column pin.row held.column_in row
 
-      by : (keep : Bool) → MatchBool keep (number_at (renumbered f m) pin.column pin.row ≡ f pin.number) (number_at (renumbered f m) pin.column pin.row ≢ f pin.number)
+      by : (keep : Bool) → MatchBool keep (number_at (renumbered_picture f m) pin.column pin.row ≡ f pin.number) (number_at (renumbered_picture f m) pin.column pin.row ≢ f pin.number)
           → MatchBool keep (number_at m pin.column pin.row ≡ pin.number) (number_at m pin.column pin.row ≢ pin.number)
       by true same = renumbering.one_to_one (number_at m pin.column pin.row) pin.number (at_known raster pin.column pin.row held.column_in row) there (sym at ∙ same)
       by false other = λ same. other (at ∙ ap f same)
 
   -- a picture of the sample's numbers is legal exactly where it is once all is renumbered
-  pub legal_there : IsLegalPicture sample rules pins w h m → IsLegalPicture (renumbered f sample) rules (map (renumbered_pin f) pins) w h (renumbered f m)
+  pub legal_there : IsLegalPicture sample rules pins w h m → IsLegalPicture (renumbered_picture f sample) rules (map (renumbered_pin f) pins) w h (renumbered_picture f m)
   legal_there legal = record {
-    sized = IsSized-renumbered f m w h legal.sized;
+    sized = IsSized-renumbered_picture f m w h legal.sized;
     wide = legal.wide;
     high = legal.high;
-    windows = All-places (λ (place : ℕ × ℕ). Contains (learned (renumbered f sample) rules.n rules.symmetry rules.wrap_in) (window (renumbered f m) place.0 place.1 rules.n)) w h rules.n rules.wrap_out (λ x y left below.
-        subst (Contains (learned (renumbered f sample) rules.n rules.symmetry rules.wrap_in)) (sym (window-renumbered f m legal.sized.raster x y rules.n))
+    windows = All-places (λ (place : ℕ × ℕ). Contains (learned (renumbered_picture f sample) rules.n rules.symmetry rules.wrap_in) (window (renumbered_picture f m) place.0 place.1 rules.n)) w h rules.n rules.wrap_out (λ x y left below.
+        subst (Contains (learned (renumbered_picture f sample) rules.n rules.symmetry rules.wrap_in)) (sym (window-renumbered_picture f m legal.sized.raster x y rules.n))
         (learned_there f sample renumbering.raster rules.n rules.symmetry rules.wrap_in (window m x y rules.n)
         (at_place (λ (place : ℕ × ℕ). Contains (learned sample rules.n rules.symmetry rules.wrap_in) (window m place.0 place.1 rules.n)) w h rules.n rules.wrap_out legal.windows x y left below)));
-    held = All-map (IsHeld (renumbered f m)) (renumbered_pin f) pins (λ k d inside. held_there legal.sized.raster (get_or pins k d) (renumbering.known k d inside) (legal.held k d inside));
+    held = All-map (IsHeld (renumbered_picture f m)) (renumbered_pin f) pins (λ k d inside. held_there legal.sized.raster (get_or pins k d) (renumbering.known k d inside) (legal.held k d inside));
   }
 
-  pub legal_back : IsSized m w h → IsLegalPicture (renumbered f sample) rules (map (renumbered_pin f) pins) w h (renumbered f m) → IsLegalPicture sample rules pins w h m
+  pub legal_back : IsSized m w h → IsLegalPicture (renumbered_picture f sample) rules (map (renumbered_pin f) pins) w h (renumbered_picture f m) → IsLegalPicture sample rules pins w h m
   legal_back sized legal = record {
     sized = sized;
     wide = legal.wide;
@@ -223,27 +223,27 @@ module _ (f : ℕ → ℕ) (sample : Raster) (rules : Rules) (pins : List Pin) (
         let shown = All-square (Contains (numbers_of sample)) rules.n (λ i j. number_at m ((x + i) % m.width) ((y + j) % height_of m))
         (λ i j _ _. at_known sized.raster ((x + i) % m.width) ((y + j) % height_of m) (mod_below (x + i) m.width sized.raster.some_column) (mod_below (y + j) (height_of m) sized.raster.some_row)) in
         learned_back f sample renumbering.raster renumbering.one_to_one rules.n rules.symmetry rules.wrap_in (window m x y rules.n) shown
-        (subst (Contains (learned (renumbered f sample) rules.n rules.symmetry rules.wrap_in)) (window-renumbered f m sized.raster x y rules.n)
-        (at_place (λ (place : ℕ × ℕ). Contains (learned (renumbered f sample) rules.n rules.symmetry rules.wrap_in) (window (renumbered f m) place.0 place.1 rules.n)) w h rules.n rules.wrap_out legal.windows x y left below)));
+        (subst (Contains (learned (renumbered_picture f sample) rules.n rules.symmetry rules.wrap_in)) (window-renumbered_picture f m sized.raster x y rules.n)
+        (at_place (λ (place : ℕ × ℕ). Contains (learned (renumbered_picture f sample) rules.n rules.symmetry rules.wrap_in) (window (renumbered_picture f m) place.0 place.1 rules.n)) w h rules.n rules.wrap_out legal.windows x y left below)));
     held = λ k d inside.
         held_back sized.raster (get_or pins k d) (renumbering.known k d inside)
-        (subst (IsHeld (renumbered f m)) (get_or-map (renumbered_pin f) pins k d (renumbered_pin f d) inside)
+        (subst (IsHeld (renumbered_picture f m)) (get_or-map (renumbered_pin f) pins k d (renumbered_pin f d) inside)
         (legal.held k (renumbered_pin f d) (rw (length-map pins (renumbered_pin f)) inside)));
   }
 
 -- ---- each legal picture of the renumbered sample
 
 -- a list of numbers renumbered, row by row
-numbers-renumbered : (f : ℕ → ℕ) (rows : List (List ℕ)) → concat (map (map f) rows) ≡ map f (concat rows)
-numbers-renumbered f [] = refl
-numbers-renumbered f (row ∷ rows) = ap (λ more. map f row ++ more) (numbers-renumbered f rows) ∙ sym (map-append f row (concat rows))
+numbers-renumbered_picture : (f : ℕ → ℕ) (rows : List (List ℕ)) → concat (map (map f) rows) ≡ map f (concat rows)
+numbers-renumbered_picture f [] = refl
+numbers-renumbered_picture f (row ∷ rows) = ap (λ more. map f row ++ more) (numbers-renumbered_picture f rows) ∙ sym (map-append f row (concat rows))
 
 -- a picture of numbers renumbered is the picture of the numbers renumbered
-pub renumbered-raster_of : (f : ℕ → ℕ) (w h : ℕ) (numbers : List ℕ) → IsFilled w h numbers → renumbered f (raster_of w h numbers) ≡ raster_of w h (map f numbers)
-renumbered-raster_of f w h numbers filled =
+pub renumbered_picture-raster_of : (f : ℕ → ℕ) (w h : ℕ) (numbers : List ℕ) → IsFilled w h numbers → renumbered_picture f (raster_of w h numbers) ≡ raster_of w h (map f numbers)
+renumbered_picture-raster_of f w h numbers filled =
     let m = raster_of w h numbers in
-    sym (raster_of-numbers_of (renumbered f m) w h (IsSized-renumbered f m w h (IsSized-raster_of w h numbers filled)))
-    ∙ ap (raster_of w h) (numbers-renumbered f m.rows ∙ ap (map f) (numbers_of-raster_of w h numbers filled.as_many))
+    sym (raster_of-numbers_of (renumbered_picture f m) w h (IsSized-renumbered_picture f m w h (IsSized-raster_of w h numbers filled)))
+    ∙ ap (raster_of w h) (numbers-renumbered_picture f m.rows ∙ ap (map f) (numbers_of-raster_of w h numbers filled.as_many))
 
 -- a number of the sample that is given y, if there is one
 abbrev source_of : (ℕ → ℕ) → List ℕ → ℕ → ℕ
@@ -282,30 +282,30 @@ rows_again f g (row ∷ rows) all =
 
 -- each is the renumbering of a legal picture
 pub legal_found : (f : ℕ → ℕ) (sample : Raster) (rules : Rules) (pins : List Pin) → IsRenumbering f sample pins → (w h : ℕ) (m : Raster) → 0 < rules.n
-    → IsLegalPicture (renumbered f sample) rules (map (renumbered_pin f) pins) w h m → (source : Raster) × (renumbered f source ≡ m) × IsKnown sample source × IsLegalPicture sample rules pins w h source
-legal_found f sample rules pins renumbering w h m some legal = (source, again, known, legal_back f sample rules pins renumbering w h source known sized (subst (IsLegalPicture (renumbered f sample) rules (map (renumbered_pin f) pins) w h) (sym again) legal))
+    → IsLegalPicture (renumbered_picture f sample) rules (map (renumbered_pin f) pins) w h m → (source : Raster) × (renumbered_picture f source ≡ m) × IsKnown sample source × IsLegalPicture sample rules pins w h source
+legal_found f sample rules pins renumbering w h m some legal = (source, again, known, legal_back f sample rules pins renumbering w h source known sized (subst (IsLegalPicture (renumbered_picture f sample) rules (map (renumbered_pin f) pins) w h) (sym again) legal))
   where
     g : ℕ → ℕ
     g = source_of f (numbers_of sample)
 
     given : All (Contains (map f (numbers_of sample))) (numbers_of m)
     given =
-        subst (λ (ns : List ℕ). All (Contains ns) (numbers_of m)) (numbers-renumbered f sample.rows)
-        (legal_known (renumbered f sample) rules (map (renumbered_pin f) pins) w h m (IsRaster-renumbered f sample renumbering.raster) some legal)
+        subst (λ (ns : List ℕ). All (Contains ns) (numbers_of m)) (numbers-renumbered_picture f sample.rows)
+        (legal_known (renumbered_picture f sample) rules (map (renumbered_pin f) pins) w h m (IsRaster-renumbered_picture f sample renumbering.raster) some legal)
 
     source : Raster
-    source = renumbered g m
+    source = renumbered_picture g m
 
     sized : IsSized source w h
-    sized = IsSized-renumbered g m w h legal.sized
+    sized = IsSized-renumbered_picture g m w h legal.sized
 
     known : IsKnown sample source
     known =
-        subst (All (Contains (numbers_of sample))) (sym (numbers-renumbered g m.rows))
+        subst (All (Contains (numbers_of sample))) (sym (numbers-renumbered_picture g m.rows))
         (All-map (Contains (numbers_of sample)) g (numbers_of m)
         (All-weaker (Contains (map f (numbers_of sample))) (λ y. Contains (numbers_of sample) (g y)) (λ y within. (source_is f (numbers_of sample) y within).1) (numbers_of m) given))
 
-    again : renumbered f source ≡ m
+    again : renumbered_picture f source ≡ m
     again =
         ap (λ (rows : List (List ℕ)). let r : Raster = record { width = m.width; rows = rows } in r)
         (rows_again f g m.rows (recursion_from_All (λ y. f (g y) ≡ y) (numbers_of m)

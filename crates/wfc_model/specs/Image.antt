@@ -16,10 +16,10 @@ abbrev pub rotated : ℕ → List ℕ → List ℕ
 rotated n w = square n (λ x y. cell_at n w (n - 1 - y) x)
 
 -- after so many quarter turns
-abbrev pub turned : ℕ → List ℕ → ℕ → List ℕ
-turned n w zero = w
-turned n w (suc turns) = rotated n (turned n w turns)
+abbrev pub after_turns : ℕ → List ℕ → ℕ → List ℕ
+after_turns n w zero = w
+after_turns n w (suc turns) = rotated n (after_turns n w turns)
 
 -- image k: an even one is the window after half of k turns, an odd one is the reflection of the one before
 abbrev pub image : ℕ → List ℕ → ℕ → List ℕ
-image n w k = if k % 2 == 0 then turned n w (k / 2) else reflected n (turned n w (k / 2))
+image n w k = if k % 2 == 0 then after_turns n w (k / 2) else reflected n (after_turns n w (k / 2))

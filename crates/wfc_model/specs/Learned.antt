@@ -2,7 +2,7 @@
 use Rattle.std.specs.Prelude.{ℕ, Bool, List, map, count_by, nat_eq}
 use Rattle.std.specs.List.{flat_map, range_with_len}
 use Rattle.std.specs.Cmp.Lexicographic.{pointwise}
-use Rattle.wfc_lists.specs.Unrepeated.{unrepeated}
+use Rattle.wfc_lists.specs.WithoutRepeats.{without_repeats}
 use Rattle.wfc_model.specs.Raster.{Raster, height_of}
 use Rattle.wfc_model.specs.Window.{window, places}
 use Rattle.wfc_model.specs.Image.{image}
@@ -15,7 +15,7 @@ arising sample n s wrap =
 
 -- the patterns that the sample teaches: what arises, without later repeats; a pattern's number is its position
 abbrev pub learned : Raster → ℕ → ℕ → Bool → List (List ℕ)
-learned sample n s wrap = unrepeated (pointwise nat_eq) (arising sample n s wrap)
+learned sample n s wrap = without_repeats (pointwise nat_eq) (arising sample n s wrap)
 
 -- how often a window stands in a list
 abbrev pub weight_of : List (List ℕ) → List ℕ → ℕ

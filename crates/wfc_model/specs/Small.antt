@@ -15,8 +15,8 @@ abbrev pub six : Raster
 six = raster_of 3 2 (1 ∷ 2 ∷ 3 ∷ 4 ∷ 5 ∷ 6 ∷ [])
 
 -- two rows of three: 7 7 8 above 9 7 9
-abbrev pub spotted : Raster
-spotted = raster_of 3 2 (7 ∷ 7 ∷ 8 ∷ 9 ∷ 7 ∷ 9 ∷ [])
+abbrev pub spots : Raster
+spots = raster_of 3 2 (7 ∷ 7 ∷ 8 ∷ 9 ∷ 7 ∷ 9 ∷ [])
 
 -- a window of three by three: 1 2 3 above 4 5 6 above 7 8 9
 abbrev pub nine : List ℕ

@@ -8,8 +8,8 @@ ghost use Rattle.wfc_model.specs.Image.{cell_at, reflected, rotated, image};
 ghost use Rattle.wfc_model.specs.Learned.{learned, arising, weight_of};
 ghost use Rattle.wfc_model.specs.Legal.{IsHeld, IsLegalPicture, Pin, Rules, plain_rules, kept_pin, banned_pin};
 ghost use Rattle.wfc_model.specs.Raster.{Raster, raster_of, height_of, number_at, numbers_of, IsFilled, IsRaster, IsSized};
-ghost use Rattle.wfc_model.specs.Renumbered.{renumbered, renumbered_pin, IsKnown, IsRenumbering, KeepsLegality, LosesNone};
-ghost use Rattle.wfc_model.specs.Small.{checkerboard, other_checkerboard, six, spotted, nine};
+ghost use Rattle.wfc_model.specs.Renumbered.{renumbered_picture, renumbered_pin, IsKnown, IsRenumbering, KeepsLegality, LosesNone};
+ghost use Rattle.wfc_model.specs.Small.{checkerboard, other_checkerboard, six, spots, nine};
 ghost use Rattle.wfc_model.specs.Window.{places, window};
 
 use crate::MAX_OUTPUT_SIDE;
@@ -105,8 +105,8 @@ pub fn arising_in_order()
 
 /// Patterns are numbered by their first appearance, and weighed by all.
 pub fn patterns_of_a_spotted_picture()
-    ensures patterns { learned spotted 1 1 false ≡ (7 ∷ []) ∷ (8 ∷ []) ∷ (9 ∷ []) ∷ [] }
-    ensures weights { map (weight_of (arising spotted 1 1 false)) (learned spotted 1 1 false) ≡
+    ensures patterns { learned spots 1 1 false ≡ (7 ∷ []) ∷ (8 ∷ []) ∷ (9 ∷ []) ∷ [] }
+    ensures weights { map (weight_of (arising spots 1 1 false)) (learned spots 1 1 false) ≡
         3 ∷ 1 ∷ 2 ∷ [] }
 {}
 
@@ -185,13 +185,13 @@ pub fn pins_of_legal()
 /// Each number becomes the one given for it, in a picture and in a pin. No renumbering gives two numbers of the sample
 /// one, nor leaves a pin with a number that the sample lacks.
 pub fn renumbered_pictures()
-    ensures picture { renumbered (λ x. x + 10) six ≡
+    ensures picture { renumbered_picture (λ x. x + 10) six ≡
         raster_of 3 2 (11 ∷ 12 ∷ 13 ∷ 14 ∷ 15 ∷ 16 ∷ []) }
     ensures numbers { (f : ℕ → ℕ) (w h : ℕ) (numbers : List ℕ) → IsFilled w h numbers
-        → renumbered f (raster_of w h numbers) ≡ raster_of w h (map f numbers) }
+        → renumbered_picture f (raster_of w h numbers) ≡ raster_of w h (map f numbers) }
     ensures pin { renumbered_pin (λ x. x + 10) (banned_pin 2 1 5) ≡ banned_pin 2 1 15 }
     ensures known { IsKnown six (raster_of 1 2 (2 ∷ 5 ∷ [])) }
-    ensures not_known { IsKnown six spotted → ⊥ }
+    ensures not_known { IsKnown six spots → ⊥ }
     ensures one_to_one { IsRenumbering (λ x. x + 10) six (kept_pin 1 0 6 ∷ []) }
     ensures two_to_one { IsRenumbering (λ x. 0) six [] → ⊥ }
     ensures unknown { IsRenumbering (λ x. x + 10) six (kept_pin 1 0 7 ∷ []) → ⊥ }

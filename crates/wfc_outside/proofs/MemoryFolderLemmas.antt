@@ -5,7 +5,7 @@ use Rattle.std.proofs.lemmas.Bool.Decides.{nat_tests}
 use Rattle.std.proofs.lemmas.List.Quantifiers.{position-Some}
 use Rattle.std.proofs.lemmas.Slice.Eq.{bytes_eq-Decides}
 use Rattle.std.specs.Str.{bytes_eq}
-use Rattle.wfc_outside.specs.Count.{raised, HasRisen}
+use Rattle.wfc_outside.specs.Count.{next_count, HasRisen}
 use Rattle.wfc_outside.proofs.CallerLemmas.{never_falls}
 use Rattle.wfc_outside.specs.Folder.{File, file_of, IsPieceOf}
 use Rattle.wfc_outside.specs.MemoryFolder.{MemoryFile, told_file, faults_of, with_file, with_fault}
@@ -76,34 +76,34 @@ with_file_at (f ∷ files) name zero file bytes first is = rw first (ap (λ (g :
 with_file_at (f ∷ files) name (suc place) file bytes first is = rw first.0 (ap (λ (fs : List MemoryFile). f ∷ fs) (with_file_at files name place file bytes first.1 is))
 
 -- a fault of a name is counted at the place of its first file
-pub with_fault_at : (files : List MemoryFile) (name : List ℕ) (place : ℕ) (file : MemoryFile) → IsFirstAt files name place → file ≡ get_or files place file → with_fault files name ≡ set files place (record file { faults = raised file.faults })
+pub with_fault_at : (files : List MemoryFile) (name : List ℕ) (place : ℕ) (file : MemoryFile) → IsFirstAt files name place → file ≡ get_or files place file → with_fault files name ≡ set files place (record file { faults = next_count file.faults })
 with_fault_at [] name place file first is = absurd first
-with_fault_at (f ∷ files) name zero file first is = rw first (ap (λ (g : MemoryFile). record g { faults = raised g.faults } ∷ files) (sym is))
+with_fault_at (f ∷ files) name zero file first is = rw first (ap (λ (g : MemoryFile). record g { faults = next_count g.faults } ∷ files) (sym is))
 with_fault_at (f ∷ files) name (suc place) file first is = rw first.0 (ap (λ (fs : List MemoryFile). f ∷ fs) (with_fault_at files name place file first.1 is))
 
 -- a fault changes nothing of what is told
 pub told-with_fault : (files : List MemoryFile) (name : List ℕ) → map told_file (with_fault files name) ≡ map told_file files
 told-with_fault [] name = refl
 told-with_fault (file ∷ files) name =
-    elim (bytes_eq file.name name) as (λ b. map told_file (cond b (record file { faults = raised file.faults } ∷ files) (file ∷ with_fault files name)) ≡ map told_file (file ∷ files)) [
+    elim (bytes_eq file.name name) as (λ b. map told_file (cond b (record file { faults = next_count file.faults } ∷ files) (file ∷ with_fault files name)) ≡ map told_file (file ∷ files)) [
       | true ↦ refl
       | false ↦ ap (λ (fs : List File). told_file file ∷ fs) (told-with_fault files name)
     ]
 
 -- a fault raises the count of its name
-pub faults_rise : (files : List MemoryFile) (name : List ℕ) (place : ℕ) (file : MemoryFile) → IsFirstAt files name place → file ≡ get_or files place file → HasRisen file.faults (raised file.faults) → HasRisen (faults_of files name) (faults_of (with_fault files name) name)
+pub faults_rise : (files : List MemoryFile) (name : List ℕ) (place : ℕ) (file : MemoryFile) → IsFirstAt files name place → file ≡ get_or files place file → HasRisen file.faults (next_count file.faults) → HasRisen (faults_of files name) (faults_of (with_fault files name) name)
 faults_rise [] name place file first is rises = absurd first
 faults_rise (f ∷ files) name zero file first is rises =
-    let rises_here : HasRisen f.faults (raised f.faults) = subst (λ (g : MemoryFile). HasRisen g.faults (raised g.faults)) is rises in
+    let rises_here : HasRisen f.faults (next_count f.faults) = subst (λ (g : MemoryFile). HasRisen g.faults (next_count g.faults)) is rises in
     simp first rises_here
 faults_rise (f ∷ files) name (suc place) file first is rises = simp first.0 (faults_rise files name place file first.1 is rises)
 
 -- a fault lowers no count
-pub faults_stay : (files : List MemoryFile) (name : List ℕ) (place : ℕ) (file : MemoryFile) → IsFirstAt files name place → file ≡ get_or files place file → HasRisen file.faults (raised file.faults) → (other : List ℕ) → faults_of files other ≤ faults_of (with_fault files name) other
+pub faults_stay : (files : List MemoryFile) (name : List ℕ) (place : ℕ) (file : MemoryFile) → IsFirstAt files name place → file ≡ get_or files place file → HasRisen file.faults (next_count file.faults) → (other : List ℕ) → faults_of files other ≤ faults_of (with_fault files name) other
 faults_stay [] name place file first is rises other = absurd first
 faults_stay (f ∷ files) name zero file first is rises other =
-    let rises_here : f.faults ≤ raised f.faults = never_falls f.faults (raised f.faults) (subst (λ (g : MemoryFile). HasRisen g.faults (raised g.faults)) is rises) in
-    rw first (elim (bytes_eq f.name other) as (λ b. cond b f.faults (faults_of files other) ≤ cond b (raised f.faults) (faults_of files other)) [
+    let rises_here : f.faults ≤ next_count f.faults = never_falls f.faults (next_count f.faults) (subst (λ (g : MemoryFile). HasRisen g.faults (next_count g.faults)) is rises) in
+    rw first (elim (bytes_eq f.name other) as (λ b. cond b f.faults (faults_of files other) ≤ cond b (next_count f.faults) (faults_of files other)) [
       | true ↦ rises_here
       | false ↦ omega arith
     ])
@@ -163,7 +163,7 @@ pub present_found : (files : List MemoryFile) (name : List ℕ) (place : ℕ) (f
 present_found files name place file found is = present files name place file (first_at files name place (sym found)) is
 
 -- the files after a fault was counted at the place that was found
-pub counted : (files : List MemoryFile) (name : List ℕ) (place : ℕ) (file new : MemoryFile) → Found files name (Some place) → file ≡ get_or files place file → new ≡ record file { faults = raised file.faults } → set files place new ≡ with_fault files name
+pub counted : (files : List MemoryFile) (name : List ℕ) (place : ℕ) (file new : MemoryFile) → Found files name (Some place) → file ≡ get_or files place file → new ≡ record file { faults = next_count file.faults } → set files place new ≡ with_fault files name
 counted files name place file new found is made =
     ap (λ (f : MemoryFile). set files place f) made ∙ sym (with_fault_at files name place file (first_at files name place (sym found)) is)
 

@@ -1,7 +1,7 @@
 -- What a folder in memory is seen as, and what its calls do to it.
 use Rattle.std.specs.Prelude.{ℕ, ◌+◌, ◌-◌, ◌^◌, List, [], ◌∷◌, ◌++◌, Option, Some, map, min, length, if◌then◌else◌}
 use Rattle.std.specs.Str.{bytes_eq}
-use Rattle.wfc_outside.specs.Count.{raised}
+use Rattle.wfc_outside.specs.Count.{next_count}
 use Rattle.wfc_outside.specs.Folder.{File, FolderView, file_of}
 
 -- a file in memory, with the count of its faults
@@ -50,7 +50,7 @@ with_file (file ∷ files) name bytes =
 abbrev pub with_fault : List MemoryFile → List ℕ → List MemoryFile
 with_fault [] name = []
 with_fault (file ∷ files) name =
-    if bytes_eq file.name name then record file { faults = raised file.faults } ∷ files
+    if bytes_eq file.name name then record file { faults = next_count file.faults } ∷ files
     else file ∷ with_fault files name
 
 -- the folder after a file was added
@@ -67,12 +67,12 @@ given_count folder file at buffer = min (min (length file - at) (length buffer))
 
 -- the folder after a call for a file that isn't there
 abbrev pub after_call : MemoryFolderView → MemoryFolderView
-after_call folder = record folder { calls = raised folder.calls }
+after_call folder = record folder { calls = next_count folder.calls }
 
 -- the folder after a call that gave n bytes, which are counted no further than 2^64 - 1
 abbrev pub after_giving : MemoryFolderView → ℕ → MemoryFolderView
-after_giving folder n = record folder { calls = raised folder.calls; given = min (folder.given + n) (2 ^ 64 - 1) }
+after_giving folder n = record folder { calls = next_count folder.calls; given = min (folder.given + n) (2 ^ 64 - 1) }
 
 -- the folder after a call that failed on this name
 abbrev pub after_failed_call : MemoryFolderView → List ℕ → MemoryFolderView
-after_failed_call folder name = record folder { calls = raised folder.calls; files = with_fault folder.files name }
+after_failed_call folder name = record folder { calls = next_count folder.calls; files = with_fault folder.files name }

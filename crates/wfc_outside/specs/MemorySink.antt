@@ -1,6 +1,6 @@
 -- What a sink in memory is seen as, and what its calls do to it.
 use Rattle.std.specs.Prelude.{ℕ, ◌<◌, ◌≤◌, Bool, true, false, if◌then◌else◌, List, [], length, min, ◌-◌, Some, ◌∷◌, ◌++◌, ◌⊎◌}
-use Rattle.wfc_outside.specs.Count.{raised, IsListedNext}
+use Rattle.wfc_outside.specs.Count.{next_count, IsListedNext}
 use Rattle.wfc_outside.specs.Sink.{Taken, SinkView, with_bytes}
 
 -- a sink in memory: what it took and whether that is finished, how many bytes it takes in a call and has room for
@@ -53,12 +53,12 @@ abbrev pub after_taking : MemorySinkView → List ℕ → MemorySinkView
 after_taking sink bytes = record sink {
   bytes = (with_bytes (taken_of sink) bytes).bytes;
   finished = (with_bytes (taken_of sink) bytes).finished;
-  calls = raised sink.calls;
+  calls = next_count sink.calls;
 }
 
 -- the sink after a call of `write` that failed
 abbrev pub after_failing : MemorySinkView → MemorySinkView
-after_failing sink = record sink { calls = raised sink.calls; faults = raised sink.faults }
+after_failing sink = record sink { calls = next_count sink.calls; faults = next_count sink.faults }
 
 -- the sink whose every later finishing fails
 abbrev pub sink_failing_finish : MemorySinkView → MemorySinkView
@@ -67,5 +67,5 @@ sink_failing_finish sink = record sink { finish_fails = true }
 -- the sink after it was asked to finish
 abbrev pub after_finishing : MemorySinkView → MemorySinkView
 after_finishing sink =
-    if sink.finish_fails then record sink { faults = raised sink.faults }
+    if sink.finish_fails then record sink { faults = next_count sink.faults }
     else record sink { finished = true }

@@ -2,7 +2,7 @@
 
 ghost use Rattle.std.specs.Prelude.{◌≡◌, ◌<◌, ◌≤◌, length, IfOk, None};
 ghost use Rattle.std.specs.Io.KnownBytes.{Keeps, WriteAppends};
-ghost use Rattle.wfc_outside.specs.Count.{CountsFaults, HasRisen, raised};
+ghost use Rattle.wfc_outside.specs.Count.{CountsFaults, HasRisen, next_count};
 ghost use Rattle.wfc_outside.specs.Stream.{seen_stream};
 
 use crate::count::one_more;
@@ -160,7 +160,7 @@ impl<W: io::Write> StreamSink<W> {
     }
 
     fn fault(&mut self) -> SinkFault
-        ensures one_more { self.new ≡ record self.old { faults = raised self.old.faults } }
+        ensures one_more { self.new ≡ record self.old { faults = next_count self.old.faults } }
         ensures counted { HasRisen self.old.faults self.new.faults }
     {
         self.faults = one_more(self.faults);

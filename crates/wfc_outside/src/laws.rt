@@ -2,7 +2,7 @@
 
 ghost use Rattle.std.specs.Prelude.{◌≡◌, ℕ, ◌-◌, ◌^◌, ◌+◌, true, false, List, [], ◌∷◌, codes, map};
 ghost use Rattle.wfc_outside.specs.Cases.{counting_folder, telling_sink, three_files, three_taken, two_kept};
-ghost use Rattle.wfc_outside.specs.Count.{CountsFaults, HasRisen, IsListedNext, raised};
+ghost use Rattle.wfc_outside.specs.Count.{CountsFaults, HasRisen, IsListedNext, next_count};
 ghost use Rattle.wfc_outside.specs.Folder.{file_of, GivesFrom, IsFaultOf, IsMissing, IsToldAs};
 ghost use Rattle.wfc_outside.specs.Gives.{Gives};
 ghost use Rattle.wfc_outside.specs.MemoryFolder.{after_adding, after_call, after_failed_call, after_giving, bytes_of};
@@ -25,8 +25,8 @@ pub fn counts_rise()
     ensures ends { HasRisen (2 ^ 64 - 1) (2 ^ 64 - 1) }
     ensures stands { HasRisen 3 3 → ⊥ }
     ensures falls { HasRisen 5 3 → ⊥ }
-    ensures more { raised 3 ≡ 4 }
-    ensures most { raised (2 ^ 64 - 1) ≡ 2 ^ 64 - 1 }
+    ensures more { next_count 3 ≡ 4 }
+    ensures most { next_count (2 ^ 64 - 1) ≡ 2 ^ 64 - 1 }
     ensures quiet { CountsFaults {T = ℕ} {E = ℕ} 3 3 (Ok 7) }
     ensures loud { CountsFaults {T = ℕ} {E = ℕ} 3 4 (Err 7) }
     ensures twice { CountsFaults {T = ℕ} {E = ℕ} 3 5 (Err 7) → ⊥ }

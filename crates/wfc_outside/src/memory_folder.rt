@@ -4,7 +4,7 @@ ghost use Rattle.std.specs.Prelude.{◌≡◌, ◌≢◌, ◌↔◌, ℕ, ◌-�
 ghost use Rattle.std.specs.Prelude.{IfOk, IfSome, IsErrOf, IsSome, OnOk, OnErr};
 ghost use Rattle.std.specs.Str.{bytes_eq};
 ghost use Rattle.std.specs.String.{string_bytes};
-ghost use Rattle.wfc_outside.specs.Count.{HasRisen, IsListedNext, raised};
+ghost use Rattle.wfc_outside.specs.Count.{HasRisen, IsListedNext, next_count};
 ghost use Rattle.wfc_outside.specs.Folder.{GivesFrom, IsFaultOf};
 ghost use Rattle.wfc_outside.specs.MemoryFolder.{after_adding, after_call, after_failed_call, after_giving, bytes_of};
 ghost use Rattle.wfc_outside.specs.MemoryFolder.{folder_listing, fresh_folder, given_count, seen_folder};
@@ -38,8 +38,8 @@ impl StoredFile {
     }
 
     fn count_fault(&mut self)
-        ensures counted { self.new ≡ record self.old { faults = raised self.old.faults } }
-        ensures rises { HasRisen self.old.faults (raised self.old.faults) }
+        ensures counted { self.new ≡ record self.old { faults = next_count self.old.faults } }
+        ensures rises { HasRisen self.old.faults (next_count self.old.faults) }
     {
         self.faults = one_more(self.faults);
     }
@@ -107,7 +107,7 @@ impl MemoryFolder {
     }
 
     /// How many bytes it has given, counted no further than 2^64 - 1.
-    pub fn given(&self) -> u64
+    pub fn bytes_given(&self) -> u64
         ensures value { result ≡ self.now.given }
     {
         self.given

@@ -1,7 +1,7 @@
 //! A sink in memory, which shows the bytes that it took.
 
 ghost use Rattle.std.specs.Prelude.{◌≡◌, ◌↔◌, ◌<◌, ◌≤◌, true, length, take, IfOk, IsErr, OnOk, OnErr};
-ghost use Rattle.wfc_outside.specs.Count.{HasRisen, raised};
+ghost use Rattle.wfc_outside.specs.Count.{HasRisen, next_count};
 ghost use Rattle.wfc_outside.specs.MemorySink.{IsToFail, after_failing, after_finishing, after_taking, fresh_sink};
 ghost use Rattle.wfc_outside.specs.MemorySink.{seen_sink, sink_failing_finish, sink_listing, taken_count};
 
@@ -79,7 +79,7 @@ impl MemorySink {
     }
 
     fn fault(&mut self) -> SinkFault
-        ensures one_more { self.new ≡ record self.old { faults = raised self.old.faults } }
+        ensures one_more { self.new ≡ record self.old { faults = next_count self.old.faults } }
         ensures counted { HasRisen self.old.faults self.new.faults }
     {
         self.faults = one_more(self.faults);

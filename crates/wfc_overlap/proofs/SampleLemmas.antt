@@ -19,7 +19,7 @@ use Rattle.wfc_lists.proofs.Tables.{length-table, table-at, row_below}
 use Rattle.wfc_model.proofs.CallerLemmas.{opposite_below}
 use Rattle.wfc_problem.proofs.CallerLemmas.{neighbour_read, neighbour_not_none, neighbour_is, supports_inside, flag_at}
 use Rattle.wfc_places.specs.Steps.{step_end, is_there, place_number}
-use Rattle.wfc_overlap.specs.Sample.{Output, window_beside, agreeing, window_meets_pins, problem_of_sample}
+use Rattle.wfc_overlap.specs.Sample.{Output, window_beside, agreeing_patterns, window_meets_pins, problem_of_sample}
 use Rattle.wfc_overlap.specs.Bridge.{IsRoom}
 use Rattle.wfc_places.proofs.CallerLemmas as shared
 use Rattle.wfc_places.proofs.CallerLemmas.{one_across, one_down, length-supports, support-fits, fits-support, supports_rise, stepped-is, stepped-stepped, there_again}
@@ -159,7 +159,7 @@ module _ (patterns : PatternsView) (output : Output) (pins : List Pin) where
   abbrev agree_in : ℕ → ℕ → ℕ → Bool
   agree_in d p q = agrees patterns.n (window_at patterns p) (window_at patterns q) d
 
-  pub supports-at : (p d : ℕ) → p < count → d < 4 → supports_of P p d ≡ agreeing patterns p d
+  pub supports-at : (p d : ℕ) → p < count → d < 4 → supports_of P p d ≡ agreeing_patterns patterns p d
   supports-at p d inside dir = shared.supports-at P count agree_in refl p d inside dir
 
   pub record IsBesideIn (p q d : ℕ) : Type 0 where

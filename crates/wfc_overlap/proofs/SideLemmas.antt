@@ -13,7 +13,7 @@ use Rattle.wfc_model.proofs.CallerLemmas.{cell_is, same_window-Decides}
 use Rattle.wfc_pattern.specs.Agreement.{Agrees, agrees}
 use Rattle.wfc_pattern.specs.Patterns.{PatternsView, window_at}
 use Rattle.wfc_pattern.proofs.AgreementLemmas.{same_test}
-use Rattle.wfc_overlap.specs.Sample.{agreeing}
+use Rattle.wfc_overlap.specs.Sample.{agreeing_patterns}
 use Rattle.wfc_overlap.specs.Sides.{IsGrouped, members, part, shared_part}
 use Rattle.wfc_lists.proofs.Growing.{kept_same}
 use Rattle.wfc_places.proofs.CallerLemmas.{one_across, one_down}
@@ -101,7 +101,7 @@ sides_agree n p q d dir =
     (λ agree. decides.1 (shared_from n p q d agree ∙ sym (back_side n q d dir)))
 
 -- the members of a pattern's side are the patterns that agree with it
-pub members_agree : (patterns : PatternsView) (groups : List (List ℕ × List ℕ)) (p d : ℕ) → d < 4 → IsGrouped patterns (opposite d) groups → members groups (shared_part patterns.n (window_at patterns p) d) ≡ agreeing patterns p d
+pub members_agree : (patterns : PatternsView) (groups : List (List ℕ × List ℕ)) (p d : ℕ) → d < 4 → IsGrouped patterns (opposite d) groups → members groups (shared_part patterns.n (window_at patterns p) d) ≡ agreeing_patterns patterns p d
 members_agree patterns groups p d dir grouped =
     grouped (shared_part patterns.n (window_at patterns p) d)
     ∙ kept_same (λ q. pointwise nat_eq (shared_part patterns.n (window_at patterns p) d) (shared_part patterns.n (window_at patterns q) (opposite d))) (λ q. agrees patterns.n (window_at patterns p) (window_at patterns q) d)

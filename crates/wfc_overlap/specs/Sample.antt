@@ -44,14 +44,14 @@ window_neighbour_table n output =
     (places output.width output.height n output.wrap)
 
 -- the patterns that agree with p in a direction, rising
-abbrev pub agreeing : PatternsView → ℕ → ℕ → List ℕ
-agreeing patterns p d =
+abbrev pub agreeing_patterns : PatternsView → ℕ → ℕ → List ℕ
+agreeing_patterns patterns p d =
     filter (λ q. agrees patterns.n (window_at patterns p) (window_at patterns q) d)
     (range_with_len 0 (length patterns.windows))
 
 -- the patterns that agree with p, direction by direction
 abbrev pub all_agreeing : PatternsView → ℕ → List (List ℕ)
-all_agreeing patterns p = map (λ d. agreeing patterns p d) (range_with_len 0 4)
+all_agreeing patterns p = map (λ d. agreeing_patterns patterns p d) (range_with_len 0 4)
 
 -- the patterns that agree with each
 abbrev pub agreement_table : PatternsView → List (List ℕ)

@@ -8,25 +8,25 @@ use Rattle.std.proofs.lemmas.List.FromFn.{map-range_with_len_more, length-map-ra
 use Rattle.std.proofs.lemmas.List.Sums.{fold_push, fold-append}
 use Rattle.wfc_model.specs.Raster.{Raster}
 use Rattle.wfc_model.specs.Window.{window}
-use Rattle.wfc_model.specs.Image.{image, turned, reflected, rotated}
+use Rattle.wfc_model.specs.Image.{image, after_turns, reflected, rotated}
 use Rattle.wfc_pattern.specs.Arising.{images_at, images_in_row}
 use Rattle.wfc_pattern.specs.Tally.{recount, total}
 use Rattle.wfc_pattern.proofs.TallyLemmas.{total-fold, fold_grows}
 
 -- how often a window was turned before image k + 1
-pub turned_more : (n : ℕ) (w : List ℕ) (k : ℕ) (v now : List ℕ) → v ≡ turned n w (k / 2) → now ≡ (if k % 2 == 0 then v else rotated n v) → now ≡ turned n w ((k + 1) / 2)
+pub turned_more : (n : ℕ) (w : List ℕ) (k : ℕ) (v now : List ℕ) → v ≡ after_turns n w (k / 2) → now ≡ (if k % 2 == 0 then v else rotated n v) → now ≡ after_turns n w ((k + 1) / 2)
 turned_more n w k v now so_far step = by (k % 2 == 0) refl
   where
-    by : (b : Bool) → (k % 2 == 0) ≡ b → now ≡ turned n w ((k + 1) / 2)
+    by : (b : Bool) → (k % 2 == 0) ≡ b → now ≡ after_turns n w ((k + 1) / 2)
     by true even =
         let half : k / 2 ≡ (k + 1) / 2 = omega (arith, eqb-true (k % 2) 0 even) in
-        step ∙ ap (λ b. if b then v else rotated n v) even ∙ so_far ∙ ap (turned n w) half
+        step ∙ ap (λ b. if b then v else rotated n v) even ∙ so_far ∙ ap (after_turns n w) half
     by false odd =
         let half : suc (k / 2) ≡ (k + 1) / 2 = omega (arith, eqb-false (k % 2) 0 odd) in
-        step ∙ ap (λ b. if b then v else rotated n v) odd ∙ ap (rotated n) so_far ∙ ap (turned n w) half
+        step ∙ ap (λ b. if b then v else rotated n v) odd ∙ ap (rotated n) so_far ∙ ap (after_turns n w) half
 
 -- one more image is noted
-pub images_more : (n : ℕ) (w : List ℕ) (k : ℕ) (v : List ℕ) (start es now : List (List ℕ × ℕ)) → v ≡ turned n w (k / 2) → es ≡ fold recount start (map (image n w) (range_with_len 0 k))
+pub images_more : (n : ℕ) (w : List ℕ) (k : ℕ) (v : List ℕ) (start es now : List (List ℕ × ℕ)) → v ≡ after_turns n w (k / 2) → es ≡ fold recount start (map (image n w) (range_with_len 0 k))
     → now ≡ recount es (if k % 2 == 0 then v else reflected n v) → now ≡ fold recount start (map (image n w) (range_with_len 0 (k + 1)))
 images_more n w k v start es now so_far before step =
     step

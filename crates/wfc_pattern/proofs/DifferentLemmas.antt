@@ -8,8 +8,8 @@ use Rattle.std.proofs.lemmas.List.Folds.{list_any_none, list_any_at}
 use Rattle.std.proofs.lemmas.List.Elements.{All-map}
 use Rattle.std.proofs.lemmas.List.FromFn.{map-range_with_len_more}
 use Rattle.std.specs.Cmp.Lexicographic.{pointwise}
-use Rattle.wfc_lists.specs.Unrepeated.{unrepeated, with_new}
-use Rattle.wfc_lists.proofs.Unrepeated.{unrepeated_push}
+use Rattle.wfc_lists.specs.WithoutRepeats.{without_repeats, with_new}
+use Rattle.wfc_lists.proofs.WithoutRepeats.{unrepeated_push}
 use Rattle.wfc_model.specs.Raster.{Raster}
 use Rattle.wfc_model.proofs.LearnedLemmas.{same_window-Decides}
 use Rattle.wfc_pattern.specs.Chains.{hash_of, IsLastOf}
@@ -76,10 +76,10 @@ module _ (sample : Raster) (n s columns : ℕ) (numbers hashes w : List ℕ) (ha
       (ap (pointwise nat_eq w) (get_or-map (arisen sample n s columns) numbers p 0 w within ∙ same) ∙ (same_window-Decides w w).1 refl)
 
 -- one more image is met
-pub met_more : (sample : Raster) (n s columns at : ℕ) (numbers now : List ℕ) → images_of sample n s columns numbers ≡ unrepeated (pointwise nat_eq) (images_of sample n s columns (range_with_len 0 at))
-    → images_of sample n s columns now ≡ with_new (pointwise nat_eq) (images_of sample n s columns numbers) (arisen sample n s columns at) → images_of sample n s columns now ≡ unrepeated (pointwise nat_eq) (images_of sample n s columns (range_with_len 0 (at + 1)))
+pub met_more : (sample : Raster) (n s columns at : ℕ) (numbers now : List ℕ) → images_of sample n s columns numbers ≡ without_repeats (pointwise nat_eq) (images_of sample n s columns (range_with_len 0 at))
+    → images_of sample n s columns now ≡ with_new (pointwise nat_eq) (images_of sample n s columns numbers) (arisen sample n s columns at) → images_of sample n s columns now ≡ without_repeats (pointwise nat_eq) (images_of sample n s columns (range_with_len 0 (at + 1)))
 met_more sample n s columns at numbers now so_far step =
     step
     ∙ ap (λ ws. with_new (pointwise nat_eq) ws (arisen sample n s columns at)) so_far
     ∙ sym (unrepeated_push (pointwise nat_eq) sound whole (images_of sample n s columns (range_with_len 0 at)) (arisen sample n s columns at))
-    ∙ ap (unrepeated (pointwise nat_eq)) (sym (map-range_with_len_more (arisen sample n s columns) 0 at at (omega arith)))
+    ∙ ap (without_repeats (pointwise nat_eq)) (sym (map-range_with_len_more (arisen sample n s columns) 0 at at (omega arith)))

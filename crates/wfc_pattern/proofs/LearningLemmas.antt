@@ -6,11 +6,11 @@ use Rattle.std.proofs.lemmas.Nat.{mul-le}
 use Rattle.std.proofs.lemmas.List.{length-map}
 use Rattle.std.proofs.lemmas.List.Elements.{All-nil, All-cons, All-weaker, All-map}
 use Rattle.std.proofs.lemmas.Map.Made.{AllPairs-from_IsDistinct}
-use Rattle.wfc_lists.proofs.Unrepeated.{All-unrepeated, length-unrepeated, some_unrepeated, IsDistinct-unrepeated}
+use Rattle.wfc_lists.proofs.WithoutRepeats.{All-without_repeats, length-without_repeats, some_unrepeated, IsDistinct-without_repeats}
 use Rattle.wfc_model.proofs.ImageLemmas.{length-image}
 use Rattle.std.proofs.lemmas.List.Sums.{sum_by-cons, count_by-le-length}
 use Rattle.std.specs.Cmp.Lexicographic.{pointwise}
-use Rattle.wfc_lists.specs.Unrepeated.{unrepeated}
+use Rattle.wfc_lists.specs.WithoutRepeats.{without_repeats}
 use Rattle.wfc_model.specs.Raster.{Raster, IsRaster, height_of, number_at}
 use Rattle.wfc_model.specs.Window.{starts, window}
 use Rattle.wfc_model.specs.Learned.{arising, learned, weight_of}
@@ -27,15 +27,15 @@ use Rattle.wfc_pattern.proofs.ArisingLemmas.{all_rows, length-rows}
 use Rattle.wfc_pattern.proofs.TallyLemmas.{tallied-fold, total-fold, whole}
 
 -- what is tallied are the windows and their numbers of times
-pub windows_of-tallied : (ws : List (List ℕ)) → windows_of (window_counts ws) ≡ unrepeated (pointwise nat_eq) ws
-windows_of-tallied ws = both (weight_of ws) (unrepeated (pointwise nat_eq) ws)
+pub windows_of-tallied : (ws : List (List ℕ)) → windows_of (window_counts ws) ≡ without_repeats (pointwise nat_eq) ws
+windows_of-tallied ws = both (weight_of ws) (without_repeats (pointwise nat_eq) ws)
   where
     both : (c : List ℕ → ℕ) (ks : List (List ℕ)) → windows_of (map (λ (w : List ℕ). (w, c w)) ks) ≡ ks
     both c [] = refl
     both c (k ∷ ks) = ap (λ vs. k ∷ vs) (both c ks)
 
-pub weights_of-tallied : (ws : List (List ℕ)) → weights_of (window_counts ws) ≡ map (weight_of ws) (unrepeated (pointwise nat_eq) ws)
-weights_of-tallied ws = both (weight_of ws) (unrepeated (pointwise nat_eq) ws)
+pub weights_of-tallied : (ws : List (List ℕ)) → weights_of (window_counts ws) ≡ map (weight_of ws) (without_repeats (pointwise nat_eq) ws)
+weights_of-tallied ws = both (weight_of ws) (without_repeats (pointwise nat_eq) ws)
   where
     both : (c : List ℕ → ℕ) (ks : List (List ℕ)) → weights_of (map (λ (w : List ℕ). (w, c w)) ks) ≡ map c ks
     both c [] = refl
@@ -113,23 +113,23 @@ squares_arising sample n s wrap =
 
 -- no two learned windows are one
 pub learned_are_different : (sample : Raster) (n s : ℕ) (wrap : Bool) → AreDifferent (learned sample n s wrap)
-learned_are_different sample n s wrap = AllPairs-from_IsDistinct same_window-Decides (learned sample n s wrap) (IsDistinct-unrepeated (pointwise nat_eq) (arising sample n s wrap))
+learned_are_different sample n s wrap = AllPairs-from_IsDistinct same_window-Decides (learned sample n s wrap) (IsDistinct-without_repeats (pointwise nat_eq) (arising sample n s wrap))
 
 -- as many are tallied as are learned, and they are few enough to be counted in 32 bits
-pub length-tallied : (ws : List (List ℕ)) → length (window_counts ws) ≡ length (unrepeated (pointwise nat_eq) ws)
-length-tallied ws = length-map (unrepeated (pointwise nat_eq) ws) (λ w. (w, weight_of ws w))
+pub length-tallied : (ws : List (List ℕ)) → length (window_counts ws) ≡ length (without_repeats (pointwise nat_eq) ws)
+length-tallied ws = length-map (without_repeats (pointwise nat_eq) ws) (λ w. (w, weight_of ws w))
 
 pub most_learned : (sample : Raster) (n s : ℕ) (wrap : Bool) → 0 < n → s ≤ 8 → sample.width * height_of sample ≤ 1048576 → length (learned sample n s wrap) ≤ 8388608
 most_learned sample n s wrap some_side eight pixels =
     let ws = arising sample n s wrap in
     let most = most_arising (starts sample.width n wrap) (starts (height_of sample) n wrap) sample.width (height_of sample) s (starts_within sample.width n wrap some_side) (starts_within (height_of sample) n wrap some_side) eight pixels in
-    omega (arith, length-arising sample n s wrap, length-unrepeated (pointwise nat_eq) ws, most)
+    omega (arith, length-arising sample n s wrap, length-without_repeats (pointwise nat_eq) ws, most)
 
 -- what is tallied, as patterns
-pub patterns_from-tallied : (n : ℕ) (ws : List (List ℕ)) → patterns_from n (window_counts ws) ≡ record { n = n; windows = unrepeated (pointwise nat_eq) ws; weights = map (weight_of ws) (unrepeated (pointwise nat_eq) ws) }
+pub patterns_from-tallied : (n : ℕ) (ws : List (List ℕ)) → patterns_from n (window_counts ws) ≡ record { n = n; windows = without_repeats (pointwise nat_eq) ws; weights = map (weight_of ws) (without_repeats (pointwise nat_eq) ws) }
 patterns_from-tallied n ws =
     ap (λ vs. record { n = n; windows = vs; weights = weights_of (window_counts ws) }) (windows_of-tallied ws)
-    ∙ ap (λ ns. record { n = n; windows = unrepeated (pointwise nat_eq) ws; weights = ns }) (weights_of-tallied ws)
+    ∙ ap (λ ns. record { n = n; windows = without_repeats (pointwise nat_eq) ws; weights = ns }) (weights_of-tallied ws)
 
 -- what is learned of a sample with room for a window are patterns, where they are few enough
 pub learned_are_patterns : (sample : Raster) (n s : ℕ) (wrap : Bool) → IsRaster sample → 0 < n → n ≤ 6 → 0 < s → s ≤ 8 → sample.width * height_of sample ≤ 1048576 → is_below_n sample n wrap ≡ false
@@ -148,13 +148,13 @@ learned_are_patterns sample n s wrap raster some_side small_side some eight pixe
       small_side = small_side;
       some_window = some_unrepeated (pointwise nat_eq) ws (omega arith);
       few = few_enough;
-      squares = All-unrepeated (pointwise nat_eq) (λ w. length w ≡ n * n) ws (squares_arising sample n s wrap);
+      squares = All-without_repeats (pointwise nat_eq) (λ w. length w ≡ n * n) ws (squares_arising sample n s wrap);
       different = learned_are_different sample n s wrap;
-      weighed = length-map (unrepeated (pointwise nat_eq) ws) (weight_of ws);
-      some_weight = All-map (λ weight. 0 < weight) (weight_of ws) (unrepeated (pointwise nat_eq) ws) (All-unrepeated (pointwise nat_eq) (λ w. 0 < weight_of ws w) ws (there_once ws));
+      weighed = length-map (without_repeats (pointwise nat_eq) ws) (weight_of ws);
+      some_weight = All-map (λ weight. 0 < weight) (weight_of ws) (without_repeats (pointwise nat_eq) ws) (All-without_repeats (pointwise nat_eq) (λ w. 0 < weight_of ws w) ws (there_once ws));
       small_weight =
-          All-map (λ weight. weight ≤ 8388608) (weight_of ws) (unrepeated (pointwise nat_eq) ws)
-          (λ k d within. omega (arith, most_weight (get_or (unrepeated (pointwise nat_eq) ws) k d)));
+          All-map (λ weight. weight ≤ 8388608) (weight_of ws) (without_repeats (pointwise nat_eq) ws)
+          (λ k d within. omega (arith, most_weight (get_or (without_repeats (pointwise nat_eq) ws) k d)));
     }
 
 -- what is answered in each case
@@ -190,7 +190,7 @@ taught_are_patterns sample n s wrap patterns raster some_side small_side some ei
         (learned_are_patterns sample n s wrap raster some_side small_side some eight pixels room few)
 
 -- the weights together are the length of the list
-pub sum-weights : (ws : List (List ℕ)) → sum (map (weight_of ws) (unrepeated (pointwise nat_eq) ws)) ≡ length ws
+pub sum-weights : (ws : List (List ℕ)) → sum (map (weight_of ws) (without_repeats (pointwise nat_eq) ws)) ≡ length ws
 sum-weights ws =
     ap sum (sym (weights_of-tallied ws)) ∙ each (window_counts ws) ∙ ap total (sym (tallied-fold [] ws)) ∙ total-fold [] ws ∙ zero-add (length ws)
   where

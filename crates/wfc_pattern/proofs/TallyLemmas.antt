@@ -5,10 +5,10 @@ use Rattle.std.proofs.lemmas.Bool.{or_parts, or_left}
 use Rattle.std.proofs.lemmas.List.{append-nil}
 use Rattle.std.proofs.lemmas.List.Sums.{sum_by-cons, sum_by_push, fold-append}
 use Rattle.std.specs.Cmp.Lexicographic.{pointwise}
-use Rattle.wfc_lists.specs.Unrepeated.{unrepeated, with_new}
+use Rattle.wfc_lists.specs.WithoutRepeats.{without_repeats, with_new}
 use Rattle.wfc_model.specs.Learned.{weight_of}
 use Rattle.wfc_model.proofs.LearnedLemmas.{same_window-Decides}
-use Rattle.wfc_lists.proofs.Unrepeated.{flips, list_any-filter, unrepeated_push, IsDistinct-unrepeated}
+use Rattle.wfc_lists.proofs.WithoutRepeats.{flips, list_any-filter, unrepeated_push, IsDistinct-without_repeats}
 use Rattle.wfc_pattern.specs.Tally.{recount, window_counts, total}
 
 pub sound : (v w : List ℕ) → pointwise nat_eq v w ≡ true → v ≡ w
@@ -63,11 +63,11 @@ total-fold es [] = omega arith
 total-fold es (w ∷ ws) = omega (arith, total-fold (recount es w) ws, total-noted es w)
 
 -- a window that isn't among those without repeats stands nowhere
-none_there : (x : List ℕ) (ws : List (List ℕ)) → list_any (pointwise nat_eq x) (unrepeated (pointwise nat_eq) ws) ≡ false → weight_of ws x ≡ 0
+none_there : (x : List ℕ) (ws : List (List ℕ)) → list_any (pointwise nat_eq x) (without_repeats (pointwise nat_eq) ws) ≡ false → weight_of ws x ≡ 0
 none_there x [] new = refl
 none_there x (w ∷ ws) new =
-    let parts = or_parts (pointwise nat_eq x w) (list_any (pointwise nat_eq x) (filter (λ v. not (pointwise nat_eq w v)) (unrepeated (pointwise nat_eq) ws))) new in
-    let later : list_any (pointwise nat_eq x) (unrepeated (pointwise nat_eq) ws) ≡ false = sym (list_any-filter (pointwise nat_eq) sound whole x w parts.0 (unrepeated (pointwise nat_eq) ws)) ∙ parts.1 in
+    let parts = or_parts (pointwise nat_eq x w) (list_any (pointwise nat_eq x) (filter (λ v. not (pointwise nat_eq w v)) (without_repeats (pointwise nat_eq) ws))) new in
+    let later : list_any (pointwise nat_eq x) (without_repeats (pointwise nat_eq) ws) ≡ false = sym (list_any-filter (pointwise nat_eq) sound whole x w parts.0 (without_repeats (pointwise nat_eq) ws)) ∙ parts.1 in
     let here : cond (pointwise nat_eq x w) 1 0 ≡ zero = ap (λ (b : Bool). let n : ℕ = cond b 1 0 in n) parts.0 in
     omega (arith, sum_by-cons (λ v. cond (pointwise nat_eq x v) 1 0) w ws, none_there x ws later, here)
 
@@ -126,8 +126,8 @@ noted_counts c x (k ∷ ks) apart none = by (pointwise nat_eq x k) refl (noted_c
 
 pub tallied_push : (ws : List (List ℕ)) (x : List ℕ) → recount (window_counts ws) x ≡ window_counts (ws ++ x ∷ [])
 tallied_push ws x =
-    let ks = with_new (pointwise nat_eq) (unrepeated (pointwise nat_eq) ws) x in
-    noted_counts (weight_of ws) x (unrepeated (pointwise nat_eq) ws) (IsDistinct-unrepeated (pointwise nat_eq) ws) (none_there x ws)
+    let ks = with_new (pointwise nat_eq) (without_repeats (pointwise nat_eq) ws) x in
+    noted_counts (weight_of ws) x (without_repeats (pointwise nat_eq) ws) (IsDistinct-without_repeats (pointwise nat_eq) ws) (none_there x ws)
     ∙ ap (λ (c : List ℕ → ℕ). map (counted c) ks) (λ i w. sym (sum_by_push (λ v. cond (pointwise nat_eq w v) 1 0) ws x) i)
     ∙ ap (map (counted (weight_of (ws ++ x ∷ [])))) (sym (unrepeated_push (pointwise nat_eq) sound whole ws x))
 

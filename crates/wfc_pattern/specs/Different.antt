@@ -1,7 +1,7 @@
 -- The images that arise in a sample by their number, and which of them are kept as different.
 use Rattle.std.specs.Prelude.{◌≡◌, ℕ, ◌/◌, ◌%◌, List, map, nat_eq}
 use Rattle.std.specs.Cmp.Lexicographic.{pointwise}
-use Rattle.wfc_lists.specs.Unrepeated.{with_new}
+use Rattle.wfc_lists.specs.WithoutRepeats.{with_new}
 use Rattle.wfc_model.specs.Raster.{Raster}
 use Rattle.wfc_model.specs.Window.{window}
 use Rattle.wfc_model.specs.Image.{image}

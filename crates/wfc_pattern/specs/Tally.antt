@@ -1,7 +1,7 @@
 -- How often each window of a list stood in it so far.
 use Rattle.std.specs.Prelude.{ℕ, ◌+◌, List, [], ◌∷◌, map, sum_by, if◌then◌else◌, nat_eq}
 use Rattle.std.specs.Cmp.Lexicographic.{pointwise}
-use Rattle.wfc_lists.specs.Unrepeated.{unrepeated}
+use Rattle.wfc_lists.specs.WithoutRepeats.{without_repeats}
 use Rattle.wfc_model.specs.Learned.{weight_of}
 use Rattle.wfc_pattern.specs.Patterns.{PatternsView}
 
@@ -16,7 +16,7 @@ total es = sum_by (λ e. e.1) es
 
 -- the windows of a list, each once, with its number of times
 abbrev pub window_counts : List (List ℕ) → List (List ℕ × ℕ)
-window_counts ws = map (λ (w : List ℕ). (w, weight_of ws w)) (unrepeated (pointwise nat_eq) ws)
+window_counts ws = map (λ (w : List ℕ). (w, weight_of ws w)) (without_repeats (pointwise nat_eq) ws)
 
 -- the windows alone, in their order
 abbrev pub windows_of : List (List ℕ × ℕ) → List (List ℕ)

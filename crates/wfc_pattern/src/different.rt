@@ -2,8 +2,8 @@
 ghost use Rattle.std.specs.Prelude.{◌≡◌, ℕ, ◌+◌, ◌*◌, ◌<◌, ◌≤◌, ◌^◌, [], length, IfOk, OnOk, nat_eq};
 ghost use Rattle.std.specs.List.{list_any, range_with_len};
 ghost use Rattle.std.specs.Cmp.Lexicographic.{pointwise};
-ghost use Rattle.wfc_lists.specs.Unrepeated.{unrepeated};
-ghost use Rattle.wfc_model.specs.Image.{image, turned};
+ghost use Rattle.wfc_lists.specs.WithoutRepeats.{without_repeats};
+ghost use Rattle.wfc_model.specs.Image.{image, after_turns};
 ghost use Rattle.wfc_pattern.specs.Chains.{hash_of, hashes_of};
 ghost use Rattle.wfc_pattern.specs.Different.{image_in, images_in, images_with, AreHashesIn};
 
@@ -31,7 +31,7 @@ pub fn count_different(alloc: Global, arising: &Arising, images: u32) -> Result<
     requires limit { images ≤ 8388608 }
     requires side { arising.now.n ≤ 6 }
     ensures value { IfOk result (λ count. count ≡ length
-        (unrepeated (pointwise nat_eq) (images_in arising.now (range_with_len 0 images)))) }
+        (without_repeats (pointwise nat_eq) (images_in arising.now (range_with_len 0 images)))) }
 {
     let area = arising.n as usize * arising.n as usize;
     let mut image = vec![in alloc; 0; area]?;
@@ -71,7 +71,7 @@ impl Different {
         requires none { self.old.numbers.items ≡ [] }
         requires no_hashes { hashes_of self.old.chains.links.items ≡ [] }
         ensures kept { OnOk result (images_in arising.now self.new.numbers.items
-            ≡ unrepeated (pointwise nat_eq) (images_in arising.now (range_with_len 0 images))) }
+            ≡ without_repeats (pointwise nat_eq) (images_in arising.now (range_with_len 0 images))) }
         ensures limit { OnOk result (length self.new.numbers.items ≤ images) }
     {
         for at in 0..images {
@@ -170,7 +170,7 @@ impl Arising<'_> {
 fn turn(window: &mut [u32], spare: &mut [u32], n: u32, turns: u8)
     requires square { length window.old ≡ n * n }
     requires room { length spare.old ≡ n * n }
-    ensures turned { window.new ≡ turned n window.old turns }
+    ensures turned { window.new ≡ after_turns n window.old turns }
 {
     for _turn in 0..turns {
         rotate_into(window, n, spare);

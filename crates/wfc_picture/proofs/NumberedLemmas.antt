@@ -3,7 +3,7 @@ use Rattle.std.proofs.Common.{◌≡◌, ◌<◌, List, [], ◌∷◌, length, m
 use Rattle.std.specs.List.{All, Contains, position_or_len, AllByRecursion}
 use Rattle.std.proofs.lemmas.List.Elements.{All-map, All-weaker, All-contains_itself, recursion_from_All}
 use Rattle.wfc_lists.proofs.Positions.{place_inside, place_own}
-use Rattle.wfc_lists.proofs.Unrepeated.{Contains-unrepeated}
+use Rattle.wfc_lists.proofs.WithoutRepeats.{Contains-without_repeats}
 use Rattle.wfc_picture.specs.declared.symbol.Symbol.{Symbol}
 use Rattle.wfc_picture.specs.Palette.{palette_numbers, palette_of}
 use Rattle.wfc_picture.specs.Symbol.{same_symbol}
@@ -11,7 +11,7 @@ use Rattle.wfc_picture.proofs.SymbolLemmas.{same_symbol-sound, same_symbol-whole
 
 -- each of the symbols is in their palette
 pub palette_has : (symbols : List Symbol) (symbol : Symbol) → Contains symbols symbol → Contains (palette_of symbols) symbol
-palette_has symbols symbol within = Contains-unrepeated same_symbol same_symbol-sound same_symbol-whole symbols symbol within
+palette_has symbols symbol within = Contains-without_repeats same_symbol same_symbol-sound same_symbol-whole symbols symbol within
 
 -- each number is below the palette's length
 pub numbered_below : (symbols : List Symbol) → All (λ n. n < length (palette_of symbols)) (palette_numbers symbols)

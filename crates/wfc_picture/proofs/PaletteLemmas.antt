@@ -4,7 +4,7 @@ use Rattle.std.specs.List.{position_or_len, range_with_len}
 use Rattle.std.proofs.lemmas.Bool.{lt-ltb, le-ltb}
 use Rattle.std.proofs.lemmas.List.{take_more, map_more, take-map, get_or_default}
 use Rattle.std.proofs.lemmas.List.FromFn.{length-range_with_len, get_or-range_with_len}
-use Rattle.wfc_lists.specs.Unrepeated.{with_new}
+use Rattle.wfc_lists.specs.WithoutRepeats.{with_new}
 use Rattle.wfc_model.specs.Raster.{Raster, raster_of}
 use Rattle.wfc_outside.specs.Gives.{Gives, result_map}
 use Rattle.wfc_picture.specs.declared.palette.PaletteFault.{PaletteFault}
@@ -13,7 +13,7 @@ use Rattle.wfc_picture.specs.declared.symbol.Symbol.{Symbol}
 use Rattle.wfc_picture.specs.Symbol.{same_symbol}
 use Rattle.wfc_picture.specs.declared.palette.TheConstants.{MAX_COLOURS}
 use Rattle.wfc_picture.specs.Palette.{palette_of, palette_numbers, first_past, unless_past, picture_and_palette}
-use Rattle.wfc_lists.proofs.Unrepeated.{unrepeated_push, place_in_all}
+use Rattle.wfc_lists.proofs.WithoutRepeats.{unrepeated_push, place_in_all}
 use Rattle.wfc_lists.proofs.Positions.{position_at, position_none}
 use Rattle.wfc_picture.proofs.SymbolLemmas.{same_symbol-sound, same_symbol-whole}
 

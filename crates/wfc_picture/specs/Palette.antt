@@ -1,7 +1,7 @@
 -- Palettes: the symbols of a picture, numbered in the order of their first appearance.
 use Rattle.std.specs.Prelude.{ℕ, ◌+◌, ◌/◌, nat_lt, List, length, map, take, Option, None, Some, position, Result, Ok, Err}
 use Rattle.std.specs.List.{position_or_len, range_with_len}
-use Rattle.wfc_lists.specs.Unrepeated.{unrepeated}
+use Rattle.wfc_lists.specs.WithoutRepeats.{without_repeats}
 use Rattle.wfc_model.specs.Raster.{Raster, raster_of}
 use Rattle.wfc_picture.specs.declared.palette.PaletteFault.{PaletteFault}
 use Rattle.wfc_picture.specs.declared.palette.PaletteFault.TheVariants.{TooManyColours}
@@ -11,7 +11,7 @@ use Rattle.wfc_picture.specs.Symbol.{same_symbol}
 
 -- the palette of these symbols: each of them once, in the order of their first appearance
 abbrev pub palette_of : List Symbol → List Symbol
-palette_of symbols = unrepeated same_symbol symbols
+palette_of symbols = without_repeats same_symbol symbols
 
 -- a symbol's number in a palette: its position, if it is there
 abbrev pub symbol_number : List Symbol → Symbol → Option ℕ

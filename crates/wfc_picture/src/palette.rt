@@ -2,7 +2,7 @@
 
 ghost use Rattle.std.specs.Prelude.{◌≡◌, ℕ, ◌/◌, ◌%◌, ◌<◌, ◌≤◌, ◌↔◌, length, Contains, slice_get, IsNone, IfOk, OnOk, IfSome};
 ghost use Rattle.std.specs.List.{position_or_len};
-ghost use Rattle.wfc_lists.specs.Unrepeated.{with_new};
+ghost use Rattle.wfc_lists.specs.WithoutRepeats.{with_new};
 ghost use Rattle.wfc_outside.specs.Gives.{Gives};
 ghost use Rattle.wfc_picture.specs.Palette.{symbol_number, picture_and_palette};
 ghost use Rattle.wfc_picture.specs.Symbol.{same_symbol};

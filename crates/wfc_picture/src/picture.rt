@@ -95,7 +95,7 @@ impl Picture {
         let mut column = 0;
         let mut row = 0;
         for cell in out.iter_mut() {
-            *cell = self.wrapped(x as usize + column, y as usize + row);
+            *cell = self.number_modulo(x as usize + column, y as usize + row);
             column += 1;
             if column == side {
                 column = 0;
@@ -106,7 +106,7 @@ impl Picture {
 
     /// The number at the coordinates modulo the sides.
     #[inline]
-    fn wrapped(&self, x: usize, y: usize) -> u32
+    fn number_modulo(&self, x: usize, y: usize) -> u32
         ensures value { result ≡ number_at self.now (x % self.now.width) (y % height_of self.now) }
     {
         let column = x % self.width as usize;

@@ -8,6 +8,7 @@ pub mod Rounds
 pub mod Cuts
 pub mod Domains
 pub mod Flags
+pub mod Rows
 pub mod Whole
 pub mod Sizes
 pub mod Greatest

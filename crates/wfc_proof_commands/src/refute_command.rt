@@ -35,14 +35,14 @@ pub fn refute<F: Folder, O: Sink>(
     let kinds = kinds(alloc, &choosers)?;
     let problem = refute_task(alloc, request, &kinds, folder)?;
     let chooser = first_chooser(alloc, choosers, request.rule)?;
-    let writing = writing(request);
+    let writing = writing_of(request);
     let outcome = put_run::<O, Brand>(alloc, writing, &problem, chooser, out, Blank::new(1))?;
     out.finish()?;
     Ok(refute_verdict(request.budget, outcome))
 }
 
 /// How the run of a request is made, and how its lines are written.
-fn writing(request: &Request) -> RunWriting
+fn writing_of(request: &Request) -> RunWriting
     requires source { IsSourceAsked request.now }
     ensures value { result ≡ writing_of flat_proofs request.now }
     ensures side { result.shape.n ≤ 6 }

@@ -6,7 +6,7 @@ use Rattle.std.proofs.lemmas.List.Elements.{All-map}
 use Rattle.std.proofs.Math.Nat.{mul-div_cancel_left}
 use Rattle.std.specs.List.{All, AllPass}
 use Rattle.wfc_grid.specs.Grid.{GridView, IsGrid}
-use Rattle.wfc_lists.proofs.Unrepeated.{All-unrepeated, some_unrepeated}
+use Rattle.wfc_lists.proofs.WithoutRepeats.{All-without_repeats, some_unrepeated}
 use Rattle.wfc_model.specs.Raster.{Raster, IsFilled, raster_of}
 use Rattle.wfc_model.proofs.CallerLemmas.{IsSized-raster_of, numbers_of-raster_of}
 use Rattle.wfc_picture.specs.Palette.{palette_of, palette_numbers, first_past, unless_past, picture_and_palette}
@@ -30,7 +30,7 @@ written_sample symbols l filled shown some answered pixels =
     record {
       answered = answered;
       pixels = pixels;
-      kind = All-unrepeated same_symbol (λ symbol. is_of_kind l.kind symbol ≡ true) symbols shown;
+      kind = All-without_repeats same_symbol (λ symbol. is_of_kind l.kind symbol ≡ true) symbols shown;
       some_symbol = some_unrepeated same_symbol symbols some;
       sized = IsSized-raster_of l.width l.height (palette_numbers symbols) full;
       numbers = subst (All (λ n. n < length (palette_of symbols))) (sym (numbers_of-raster_of l.width l.height (palette_numbers symbols) many)) (numbered_below symbols);

@@ -5,7 +5,7 @@ use Rattle.std.proofs.lemmas.Bool.{eqb-true, ltb-true}
 use Rattle.std.specs.Prelude.{nat_lt, ◌==◌}
 use Rattle.wfc_lists.proofs.Lists.{all_pass}
 use Rattle.wfc_lists.proofs.Ranges.{range_Contains}
-use Rattle.wfc_symmetry.specs.Class.{variant_count, acted, action_behind}
+use Rattle.wfc_symmetry.specs.Class.{variant_count, variant_by_action, action_behind}
 use Rattle.wfc_symmetry.specs.declared.class.Class.{Class}
 use Rattle.wfc_symmetry.specs.declared.class.Class.TheVariants.{X, I, L, T, F, Slash}
 
@@ -20,7 +20,7 @@ each_pair p all a b in_a in_b = each_below 8 (p a) (each_below 8 (λ a. list_all
 
 -- for each variant of a class and each pair of actions: one behind the other is the action that they are joined to
 abbrev is_joined : Class → ℕ → ℕ → ℕ → Bool
-is_joined class i a b = acted class (acted class i b) a == acted class i (action_behind a b)
+is_joined class i a b = variant_by_action class (variant_by_action class i b) a == variant_by_action class i (action_behind a b)
 
 abbrev are_joined : Class → ℕ → Bool
 are_joined class i = list_all (λ a. list_all (is_joined class i a) (range_with_len 0 8)) (range_with_len 0 8)
@@ -34,13 +34,13 @@ all_joined T = refl
 all_joined F = refl
 
 pub acted_behind : (class : Class) (i a b : ℕ) → i < variant_count class → a < 8 → b < 8
-    → acted class (acted class i b) a ≡ acted class i (action_behind a b)
+    → variant_by_action class (variant_by_action class i b) a ≡ variant_by_action class i (action_behind a b)
 acted_behind class i a b variant in_a in_b =
     eqb-true _ _ (each_pair (is_joined class i) (each_below (variant_count class) (are_joined class) (all_joined class) i variant) a b in_a in_b)
 
 -- for each variant and each action: what becomes of it is a variant
 abbrev is_variant : Class → ℕ → ℕ → Bool
-is_variant class i a = nat_lt (acted class i a) (variant_count class)
+is_variant class i a = nat_lt (variant_by_action class i a) (variant_count class)
 
 abbrev are_variants : Class → ℕ → Bool
 are_variants class i = list_all (is_variant class i) (range_with_len 0 8)
@@ -53,16 +53,16 @@ all_variants L = refl
 all_variants T = refl
 all_variants F = refl
 
-pub acted_below : (class : Class) (i a : ℕ) → i < variant_count class → a < 8 → acted class i a < variant_count class
-acted_below class i a variant in_a =
+pub variant_by_action_below : (class : Class) (i a : ℕ) → i < variant_count class → a < 8 → variant_by_action class i a < variant_count class
+variant_by_action_below class i a variant in_a =
     ltb-true _ _ (each_below 8 (is_variant class i) (each_below (variant_count class) (are_variants class) (all_variants class) i variant) a in_a)
 
 -- an action makes of the first of eight variants the one with its number, so that any two differ
 abbrev is_itself : ℕ → Bool
-is_itself a = acted F 0 a == a
+is_itself a = variant_by_action F 0 a == a
 
-acted_first : (a : ℕ) → a < 8 → acted F 0 a ≡ a
-acted_first a in_a = eqb-true _ _ (each_below 8 is_itself refl a in_a)
+variant_by_action_first : (a : ℕ) → a < 8 → variant_by_action F 0 a ≡ a
+variant_by_action_first a in_a = eqb-true _ _ (each_below 8 is_itself refl a in_a)
 
-pub acted_differ : (a b : ℕ) → a < 8 → b < 8 → acted F 0 a ≡ acted F 0 b → a ≡ b
-acted_differ a b in_a in_b same = sym (acted_first a in_a) ∙ same ∙ acted_first b in_b
+pub variant_by_action_differ : (a b : ℕ) → a < 8 → b < 8 → variant_by_action F 0 a ≡ variant_by_action F 0 b → a ≡ b
+variant_by_action_differ a b in_a in_b same = sym (variant_by_action_first a in_a) ∙ same ∙ variant_by_action_first b in_b

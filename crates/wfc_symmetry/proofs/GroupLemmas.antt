@@ -1,7 +1,7 @@
 -- Turns and reflections of windows, one behind another.
 use Rattle.std.proofs.Common.{◌≡◌, ℕ, zero, suc, ◌+◌, ◌-◌, ◌*◌, ◌/◌, ◌%◌, ◌<◌, ◌≤◌, List, length, refl, sym, subst, ap, ◌∙◌, arith, inl, inr}
 use Rattle.std.proofs.lemmas.Bool.{cases_lt, cond-true, cond-false, lt-ltb, le-ltb}
-use Rattle.wfc_model.specs.Image.{cell_at, image, reflected, rotated, turned}
+use Rattle.wfc_model.specs.Image.{cell_at, image, reflected, rotated, after_turns}
 use Rattle.wfc_model.proofs.SquareLemmas.{length-square, square-at, square-same, square-from}
 use Rattle.wfc_symmetry.specs.Class.{action_behind, image_number}
 
@@ -51,46 +51,46 @@ rotated-reflected n v =
     ∙ ap (λ r. cell_at n v y r) (back n x column)))
 
 -- a turned window is as long as it was
-length-turned : (n : ℕ) (v : List ℕ) (turns : ℕ) → length v ≡ n * n → length (turned n v turns) ≡ n * n
-length-turned n v zero long = long
-length-turned n v (suc turns) long = length-square n (λ x y. cell_at n (turned n v turns) (n - 1 - y) x)
+length-after_turns : (n : ℕ) (v : List ℕ) (turns : ℕ) → length v ≡ n * n → length (after_turns n v turns) ≡ n * n
+length-after_turns n v zero long = long
+length-after_turns n v (suc turns) long = length-square n (λ x y. cell_at n (after_turns n v turns) (n - 1 - y) x)
 
 -- turns behind turns
-turned-turned : (n : ℕ) (v : List ℕ) (more turns : ℕ) → turned n (turned n v turns) more ≡ turned n v (more + turns)
-turned-turned n v zero turns = ap (turned n v) (let k : turns ≡ 0 + turns = omega arith in k)
-turned-turned n v (suc more) turns =
-    ap (rotated n) (turned-turned n v more turns)
-    ∙ ap (turned n v) (let k : suc (more + turns) ≡ suc more + turns = omega arith in k)
+after_turns-after_turns : (n : ℕ) (v : List ℕ) (more turns : ℕ) → after_turns n (after_turns n v turns) more ≡ after_turns n v (more + turns)
+after_turns-after_turns n v zero turns = ap (after_turns n v) (let k : turns ≡ 0 + turns = omega arith in k)
+after_turns-after_turns n v (suc more) turns =
+    ap (rotated n) (after_turns-after_turns n v more turns)
+    ∙ ap (after_turns n v) (let k : suc (more + turns) ≡ suc more + turns = omega arith in k)
 
 -- turns behind a reflection are the reflection behind three times as many
-turned-reflected : (n : ℕ) (v : List ℕ) (turns : ℕ) → turned n (reflected n v) turns ≡ reflected n (turned n v (3 * turns))
-turned-reflected n v zero = refl
-turned-reflected n v (suc turns) =
-    ap (rotated n) (turned-reflected n v turns)
-    ∙ rotated-reflected n (turned n v (3 * turns))
-    ∙ ap (λ k. reflected n (turned n v k)) (let k : suc (suc (suc (3 * turns))) ≡ 3 * suc turns = omega arith in k)
+after_turns-reflected : (n : ℕ) (v : List ℕ) (turns : ℕ) → after_turns n (reflected n v) turns ≡ reflected n (after_turns n v (3 * turns))
+after_turns-reflected n v zero = refl
+after_turns-reflected n v (suc turns) =
+    ap (rotated n) (after_turns-reflected n v turns)
+    ∙ rotated-reflected n (after_turns n v (3 * turns))
+    ∙ ap (λ k. reflected n (after_turns n v k)) (let k : suc (suc (suc (3 * turns))) ≡ 3 * suc turns = omega arith in k)
 
 -- whole rounds change nothing
-turned-rounds : (n : ℕ) (v : List ℕ) (rounds turns : ℕ) → length v ≡ n * n → turned n v (4 * rounds + turns) ≡ turned n v turns
-turned-rounds n v zero turns long = ap (turned n v) (let k : 4 * 0 + turns ≡ turns = omega arith in k)
-turned-rounds n v (suc rounds) turns long =
-    ap (turned n v) (let k : 4 * suc rounds + turns ≡ suc (suc (suc (suc (4 * rounds + turns)))) = omega arith in k)
-    ∙ rotated-four n (turned n v (4 * rounds + turns)) (length-turned n v (4 * rounds + turns) long)
-    ∙ turned-rounds n v rounds turns long
+after_turns-rounds : (n : ℕ) (v : List ℕ) (rounds turns : ℕ) → length v ≡ n * n → after_turns n v (4 * rounds + turns) ≡ after_turns n v turns
+after_turns-rounds n v zero turns long = ap (after_turns n v) (let k : 4 * 0 + turns ≡ turns = omega arith in k)
+after_turns-rounds n v (suc rounds) turns long =
+    ap (after_turns n v) (let k : 4 * suc rounds + turns ≡ suc (suc (suc (suc (4 * rounds + turns)))) = omega arith in k)
+    ∙ rotated-four n (after_turns n v (4 * rounds + turns)) (length-after_turns n v (4 * rounds + turns) long)
+    ∙ after_turns-rounds n v rounds turns long
 
 -- so many turns as any number that differs by whole rounds
-turned-same : (n : ℕ) (v : List ℕ) (k turns rounds : ℕ) → length v ≡ n * n → k ≡ 4 * rounds + turns → turned n v k ≡ turned n v turns
-turned-same n v k turns rounds long same = ap (turned n v) same ∙ turned-rounds n v rounds turns long
+after_turns-same : (n : ℕ) (v : List ℕ) (k turns rounds : ℕ) → length v ≡ n * n → k ≡ 4 * rounds + turns → after_turns n v k ≡ after_turns n v turns
+after_turns-same n v k turns rounds long same = ap (after_turns n v) same ∙ after_turns-rounds n v rounds turns long
 
 -- the image that an action makes: so many turns, or a reflection behind them
-image-turned : (n : ℕ) (v : List ℕ) (a : ℕ) → a < 4 → image n v (image_number a) ≡ turned n v a
-image-turned n v zero below = refl
-image-turned n v (suc zero) below = refl
-image-turned n v (suc (suc zero)) below = refl
-image-turned n v (suc (suc (suc zero))) below = refl
-image-turned n v (suc (suc (suc (suc a)))) below = absurd (omega arith)
+image-after_turns : (n : ℕ) (v : List ℕ) (a : ℕ) → a < 4 → image n v (image_number a) ≡ after_turns n v a
+image-after_turns n v zero below = refl
+image-after_turns n v (suc zero) below = refl
+image-after_turns n v (suc (suc zero)) below = refl
+image-after_turns n v (suc (suc (suc zero))) below = refl
+image-after_turns n v (suc (suc (suc (suc a)))) below = absurd (omega arith)
 
-image-reflected : (n : ℕ) (v : List ℕ) (a : ℕ) → a < 4 → image n v (image_number (4 + a)) ≡ reflected n (turned n v a)
+image-reflected : (n : ℕ) (v : List ℕ) (a : ℕ) → a < 4 → image n v (image_number (4 + a)) ≡ reflected n (after_turns n v a)
 image-reflected n v zero below = refl
 image-reflected n v (suc zero) below = refl
 image-reflected n v (suc (suc zero)) below = refl
@@ -121,35 +121,35 @@ mod_below k = omega arith
 image-low-low : (n a b : ℕ) (w : List ℕ) → length w ≡ n * n → a < 4 → b < 4
     → image n (image n w (image_number b)) (image_number a) ≡ image n w (image_number (action_behind a b))
 image-low-low n a b w long in_a in_b =
-    image-turned n (image n w (image_number b)) a in_a
-    ∙ ap (λ v. turned n v a) (image-turned n w b in_b)
-    ∙ turned-turned n w a b
-    ∙ turned-same n w (a + b) ((a + b) % 4) ((a + b) / 4) long (mod_rounds (a + b))
-    ∙ sym (image-turned n w ((a + b) % 4) (mod_below (a + b)))
+    image-after_turns n (image n w (image_number b)) a in_a
+    ∙ ap (λ v. after_turns n v a) (image-after_turns n w b in_b)
+    ∙ after_turns-after_turns n w a b
+    ∙ after_turns-same n w (a + b) ((a + b) % 4) ((a + b) / 4) long (mod_rounds (a + b))
+    ∙ sym (image-after_turns n w ((a + b) % 4) (mod_below (a + b)))
     ∙ ap (λ k. image n w (image_number k)) (sym (behind-low-low a b in_a in_b))
 
 image-high-low : (n a b : ℕ) (w : List ℕ) → length w ≡ n * n → a < 4 → b < 4
     → image n (image n w (image_number b)) (image_number (4 + a)) ≡ image n w (image_number (action_behind (4 + a) b))
 image-high-low n a b w long in_a in_b =
     image-reflected n (image n w (image_number b)) a in_a
-    ∙ ap (λ v. reflected n (turned n v a)) (image-turned n w b in_b)
-    ∙ ap (reflected n) (turned-turned n w a b ∙ turned-same n w (a + b) ((a + b) % 4) ((a + b) / 4) long (mod_rounds (a + b)))
+    ∙ ap (λ v. reflected n (after_turns n v a)) (image-after_turns n w b in_b)
+    ∙ ap (reflected n) (after_turns-after_turns n w a b ∙ after_turns-same n w (a + b) ((a + b) % 4) ((a + b) / 4) long (mod_rounds (a + b)))
     ∙ sym (image-reflected n w ((a + b) % 4) (mod_below (a + b)))
     ∙ ap (λ k. image n w (image_number k)) (sym (behind-high-low a b in_a in_b))
 
 -- turns behind a reflection of a turned window
-turned-image : (n a b : ℕ) (w : List ℕ) → length w ≡ n * n → turned n (reflected n (turned n w b)) a ≡ reflected n (turned n w ((b + 3 * a) % 4))
-turned-image n a b w long =
-    turned-reflected n (turned n w b) a
-    ∙ ap (reflected n) (turned-turned n w (3 * a) b
-    ∙ turned-same n w (3 * a + b) ((b + 3 * a) % 4) ((b + 3 * a) / 4) long (omega arith))
+after_turns-image : (n a b : ℕ) (w : List ℕ) → length w ≡ n * n → after_turns n (reflected n (after_turns n w b)) a ≡ reflected n (after_turns n w ((b + 3 * a) % 4))
+after_turns-image n a b w long =
+    after_turns-reflected n (after_turns n w b) a
+    ∙ ap (reflected n) (after_turns-after_turns n w (3 * a) b
+    ∙ after_turns-same n w (3 * a + b) ((b + 3 * a) % 4) ((b + 3 * a) / 4) long (omega arith))
 
 image-low-high : (n a b : ℕ) (w : List ℕ) → length w ≡ n * n → a < 4 → b < 4
     → image n (image n w (image_number (4 + b))) (image_number a) ≡ image n w (image_number (action_behind a (4 + b)))
 image-low-high n a b w long in_a in_b =
-    image-turned n (image n w (image_number (4 + b))) a in_a
-    ∙ ap (λ v. turned n v a) (image-reflected n w b in_b)
-    ∙ turned-image n a b w long
+    image-after_turns n (image n w (image_number (4 + b))) a in_a
+    ∙ ap (λ v. after_turns n v a) (image-reflected n w b in_b)
+    ∙ after_turns-image n a b w long
     ∙ sym (image-reflected n w ((b + 3 * a) % 4) (mod_below (b + 3 * a)))
     ∙ ap (λ k. image n w (image_number k)) (sym (behind-low-high a b in_a in_b))
 
@@ -157,10 +157,10 @@ image-high-high : (n a b : ℕ) (w : List ℕ) → length w ≡ n * n → a < 4 
     → image n (image n w (image_number (4 + b))) (image_number (4 + a)) ≡ image n w (image_number (action_behind (4 + a) (4 + b)))
 image-high-high n a b w long in_a in_b =
     image-reflected n (image n w (image_number (4 + b))) a in_a
-    ∙ ap (λ v. reflected n (turned n v a)) (image-reflected n w b in_b)
-    ∙ ap (reflected n) (turned-image n a b w long)
-    ∙ reflected-reflected n (turned n w ((b + 3 * a) % 4)) (length-turned n w ((b + 3 * a) % 4) long)
-    ∙ sym (image-turned n w ((b + 3 * a) % 4) (mod_below (b + 3 * a)))
+    ∙ ap (λ v. reflected n (after_turns n v a)) (image-reflected n w b in_b)
+    ∙ ap (reflected n) (after_turns-image n a b w long)
+    ∙ reflected-reflected n (after_turns n w ((b + 3 * a) % 4)) (length-after_turns n w ((b + 3 * a) % 4) long)
+    ∙ sym (image-after_turns n w ((b + 3 * a) % 4) (mod_below (b + 3 * a)))
     ∙ ap (λ k. image n w (image_number k)) (sym (behind-high-high a b in_a in_b))
 
 -- the same by an action that a number more than 3 is

@@ -37,8 +37,8 @@ turned_by class i zero = i
 turned_by class i (suc turns) = turned_variant class (turned_by class i turns)
 
 -- what it becomes by action k: as many quarter turns as k, or from 4 on a reflection behind k - 4 of them
-abbrev pub acted : Class → ℕ → ℕ → ℕ
-acted class i k = if nat_lt k 4 then turned_by class i k else reflected_variant class (turned_by class i (k - 4))
+abbrev pub variant_by_action : Class → ℕ → ℕ → ℕ
+variant_by_action class i k = if nat_lt k 4 then turned_by class i k else reflected_variant class (turned_by class i (k - 4))
 
 -- the action that is one action behind another: a reflection behind turns turns them round
 abbrev pub action_behind : ℕ → ℕ → ℕ

@@ -1,7 +1,7 @@
 //! The classes of tiles, and the eight actions of the square on the variants of a class.
 
 ghost use Rattle.std.specs.Prelude.{◌≡◌, ◌<◌};
-ghost use Rattle.wfc_symmetry.specs.Class.{variant_count, turned_variant, reflected_variant, acted};
+ghost use Rattle.wfc_symmetry.specs.Class.{variant_count, turned_variant, reflected_variant, variant_by_action};
 
 /// How a tile looks when it is turned and reflected, which says how many variants it has.
 #[derive(Clone, Copy, Debug, PartialEq, Eq)]
@@ -70,7 +70,7 @@ fn reflect(class: Class, variant: u8) -> u8
 pub fn act(class: Class, variant: u8, k: u8) -> u8
     requires variant_in { variant < variant_count class }
     requires action_in { k < 8 }
-    ensures exact { result ≡ acted class variant k }
+    ensures exact { result ≡ variant_by_action class variant k }
     ensures variant_in { result < variant_count class }
 {
     let mut turned = variant;

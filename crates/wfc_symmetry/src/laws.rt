@@ -2,7 +2,7 @@
 
 ghost use Rattle.std.specs.Prelude.{◌≡◌, ℕ, ◌*◌, ◌<◌, List, [], ◌∷◌, length, map};
 ghost use Rattle.std.specs.List.{range_with_len};
-ghost use Rattle.wfc_symmetry.specs.Class.{variant_count, turned_variant, reflected_variant, acted, acted_image};
+ghost use Rattle.wfc_symmetry.specs.Class.{variant_count, turned_variant, reflected_variant, variant_by_action, acted_image};
 ghost use Rattle.wfc_symmetry.specs.Class.{action_behind, image_number};
 ghost use Rattle.wfc_symmetry.specs.declared.class.Class.{Class};
 ghost use Rattle.wfc_symmetry.specs.declared.class.Class.TheVariants.{X, I, L, T, F, Slash};
@@ -21,15 +21,18 @@ pub fn variants_by_table()
         ≡ 1 ∷ 2 ∷ 3 ∷ 0 ∷ 7 ∷ 4 ∷ 5 ∷ 6 ∷ [] }
     ensures eight_over { map (reflected_variant F) (range_with_len 0 8)
         ≡ 4 ∷ 5 ∷ 6 ∷ 7 ∷ 0 ∷ 1 ∷ 2 ∷ 3 ∷ [] }
-    ensures cross { map (acted X 0) (range_with_len 0 8) ≡ 0 ∷ 0 ∷ 0 ∷ 0 ∷ 0 ∷ 0 ∷ 0 ∷ 0 ∷ [] }
+    ensures cross { map (variant_by_action X 0) (range_with_len 0 8)
+        ≡ 0 ∷ 0 ∷ 0 ∷ 0 ∷ 0 ∷ 0 ∷ 0 ∷ 0 ∷ [] }
     ensures counts { map variant_count (X ∷ I ∷ Slash ∷ L ∷ T ∷ F ∷ [])
         ≡ 1 ∷ 2 ∷ 2 ∷ 4 ∷ 4 ∷ 8 ∷ [] }
 {}
 
 /// The eight actions on the first variant of a junction, and on the second of a bend.
 pub fn actions_by_example()
-    ensures junction { map (acted T 0) (range_with_len 0 8) ≡ 0 ∷ 1 ∷ 2 ∷ 3 ∷ 0 ∷ 3 ∷ 2 ∷ 1 ∷ [] }
-    ensures bend { map (acted L 1) (range_with_len 0 8) ≡ 1 ∷ 2 ∷ 3 ∷ 0 ∷ 0 ∷ 3 ∷ 2 ∷ 1 ∷ [] }
+    ensures junction { map (variant_by_action T 0) (range_with_len 0 8)
+        ≡ 0 ∷ 1 ∷ 2 ∷ 3 ∷ 0 ∷ 3 ∷ 2 ∷ 1 ∷ [] }
+    ensures bend { map (variant_by_action L 1) (range_with_len 0 8)
+        ≡ 1 ∷ 2 ∷ 3 ∷ 0 ∷ 0 ∷ 3 ∷ 2 ∷ 1 ∷ [] }
     ensures images { map image_number (range_with_len 0 8) ≡ 0 ∷ 2 ∷ 4 ∷ 6 ∷ 1 ∷ 3 ∷ 5 ∷ 7 ∷ [] }
 {}
 
@@ -50,16 +53,17 @@ pub fn the_group_is_the_squares()
     ensures turns { action_behind 1 3 ∷ action_behind 2 2 ∷ [] ≡ 0 ∷ 0 ∷ [] }
     ensures reflections { action_behind 4 4 ≡ 0 }
     ensures turned_round { action_behind 1 4 ∷ action_behind 4 3 ∷ [] ≡ 7 ∷ 7 ∷ [] }
-    ensures differ { (a b : ℕ) → a < 8 → b < 8 → acted F 0 a ≡ acted F 0 b → a ≡ b }
+    ensures differ { (a b : ℕ) → a < 8 → b < 8
+        → variant_by_action F 0 a ≡ variant_by_action F 0 b → a ≡ b }
 {}
 
 /// The group acts on the variants of each class.
 pub fn the_group_acts_on_classes()
     ensures variants { (class : Class) (i a : ℕ) → i < variant_count class → a < 8
-        → acted class i a < variant_count class }
-    ensures first { (class : Class) (i : ℕ) → acted class i 0 ≡ i }
+        → variant_by_action class i a < variant_count class }
+    ensures first { (class : Class) (i : ℕ) → variant_by_action class i 0 ≡ i }
     ensures behind { (class : Class) (i a b : ℕ) → i < variant_count class → a < 8 → b < 8
-        → acted class (acted class i b) a ≡ acted class i (action_behind a b) }
+        → variant_by_action class (variant_by_action class i b) a ≡ variant_by_action class i (action_behind a b) }
 {}
 
 /// The images of a window compose as the actions do.

@@ -6,7 +6,7 @@ use Rattle.std.proofs.lemmas.Bool.Decides.{nat_tests}
 use Rattle.std.proofs.lemmas.List.Elements.{All-weaker}
 use Rattle.std.specs.List.{IsDistinct}
 use Rattle.std.specs.Prelude.{All, IsTrue, nat_le, nat_lt}
-use Rattle.wfc_lists.proofs.Unrepeated.{IsDistinct-unrepeated}
+use Rattle.wfc_lists.proofs.WithoutRepeats.{IsDistinct-without_repeats}
 use Rattle.wfc_model.specs.Raster.{Raster}
 use Rattle.wfc_outside.specs.Folder.{File, FolderView}
 use Rattle.wfc_pattern.specs.Learning.{patterns_of}
@@ -42,7 +42,7 @@ by_request : (asked : RequestView) (symbols : List Symbol) (width : ℕ) (made :
     → IsByRequest asked patterns made.1
 by_request asked symbols width made patterns numbered learned = record {
   side = ap (λ (p : PatternsView). p.n) (learned_is made.0 (window_side_of asked.source) asked.symmetry asked.wrap_in patterns learned).2;
-  apart = subst (IsDistinct same_symbol) (sym (ap (λ (m : Raster × List Symbol). m.1) (indexed_is symbols width made numbered))) (IsDistinct-unrepeated same_symbol symbols);
+  apart = subst (IsDistinct same_symbol) (sym (ap (λ (m : Raster × List Symbol). m.1) (indexed_is symbols width made numbered))) (IsDistinct-without_repeats same_symbol symbols);
 }
 
 -- of the sample of told files

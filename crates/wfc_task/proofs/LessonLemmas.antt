@@ -10,7 +10,7 @@ use Rattle.std.specs.List.{range_with_len}
 use Rattle.std.specs.Prelude.{All, Contains, IfOk, IsTrue}
 use Rattle.wfc_grid.specs.Grid.{GridView, IsGrid}
 use Rattle.wfc_grid.specs.declared.reading.TheConstants.{MAX_GRID_BYTES}
-use Rattle.wfc_lists.proofs.Unrepeated.{All-unrepeated, some_unrepeated}
+use Rattle.wfc_lists.proofs.WithoutRepeats.{All-without_repeats, some_unrepeated}
 use Rattle.wfc_model.proofs.CallerLemmas.{IsSized-raster_of, learned_known, numbers_of-raster_of}
 use Rattle.wfc_model.specs.Learned.{learned}
 use Rattle.wfc_model.specs.Legal.{Pin}
@@ -136,7 +136,7 @@ numbered_sample sampled made shows is =
       raster = (IsSized-raster_of sampled.width (length symbols / sampled.width) (palette_numbers symbols) filled).raster;
       shown = record {
         maxval = shows.maxval;
-        symbols = All-unrepeated same_symbol (λ symbol. IsTrue (is_of_kind sampled.kind symbol)) symbols shows.symbols;
+        symbols = All-without_repeats same_symbol (λ symbol. IsTrue (is_of_kind sampled.kind symbol)) symbols shows.symbols;
         some_symbol = some_unrepeated same_symbol symbols (sampled_some sampled shows);
       };
       numbers = subst (λ ns. All (λ number. number < length (palette_of symbols)) ns) (sym (numbers_of-raster_of sampled.width (length symbols / sampled.width) (palette_numbers symbols) filled.as_many)) (numbered_below symbols);

@@ -6,7 +6,7 @@ use Rattle.std.proofs.lemmas.List.{get_or_append_left, get_or-append-add}
 use Rattle.std.proofs.Common.{length-append, lit<}
 use Rattle.wfc_lists.proofs.Lists.{Contains_cases, Contains_none, Contains_later}
 use Rattle.wfc_symmetry.specs.Class.{action_behind, variant_count}
-use Rattle.wfc_symmetry.proofs.ClassLemmas.{acted_behind, acted_below}
+use Rattle.wfc_symmetry.proofs.ClassLemmas.{acted_behind, variant_by_action_below}
 use Rattle.wfc_symmetry.specs.declared.class.Class.{Class}
 use Rattle.wfc_symmetry.specs.declared.class.Class.TheVariants.{X, I, L, T, F, Slash}
 use Rattle.wfc_tileset.specs.declared.tile.End.{End}
@@ -84,7 +84,7 @@ abbrev pub Inside : List TileView → Variant → Type 0
 Inside tiles v = v.1 < variants_of_tile (tile_at tiles v.0)
 
 pub Inside_moved : (tiles : List TileView) (v : Variant) (k : ℕ) → Inside tiles v → k < 8 → Inside tiles (moved_variant tiles v k)
-Inside_moved tiles v k inside below = acted_below (tile_at tiles v.0).class v.1 k inside below
+Inside_moved tiles v k inside below = variant_by_action_below (tile_at tiles v.0).class v.1 k inside below
 
 -- each class has a variant
 pub some_of : (class : Class) → 0 < variant_count class

@@ -4,7 +4,7 @@ use Rattle.std.specs.List.{range_with_len, sum_by}
 use Rattle.std.specs.Str.{bytes_eq}
 use Rattle.wfc_picture.specs.declared.symbol.Kind.{Kind}
 use Rattle.wfc_picture.specs.declared.symbol.Symbol.{Symbol}
-use Rattle.wfc_symmetry.specs.Class.{variant_count, acted}
+use Rattle.wfc_symmetry.specs.Class.{variant_count, variant_by_action}
 use Rattle.wfc_symmetry.specs.declared.class.Class.{Class}
 use Rattle.wfc_symmetry.specs.declared.class.Class.TheVariants.{X}
 use Rattle.wfc_tileset.specs.declared.tile.Pair.{Pair}
@@ -68,7 +68,7 @@ variant_at tiles v = slice_index_or (variants tiles) v (0, 0)
 
 -- what an action makes of a variant
 abbrev pub moved_variant : List TileView → Variant → ℕ → Variant
-moved_variant tiles v k = (v.0, acted (tile_at tiles v.0).class v.1 k)
+moved_variant tiles v k = (v.0, variant_by_action (tile_at tiles v.0).class v.1 k)
 
 -- what an action makes of each of two variants
 abbrev pub moved_pair : List TileView → Variant → Variant → ℕ → Variant × Variant

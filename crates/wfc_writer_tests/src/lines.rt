@@ -8,7 +8,7 @@ use wfc_choose::RuleKind;
 use wfc_grid::GridFault;
 use wfc_lines::{
     budget_spent, build, check, chooser, command, grid, learn, map_exists, mask, mask_grid,
-    no_domains, no_map, no_memory, out_failed, palette, pins, ppm, range, reading, render, steps,
+    no_domains, no_map, no_memory, out_failed, palette, pins, ppm, range, render, steps,
     tiles,
 };
 use wfc_outside::{MemorySink, ReadFault, SinkFault};
@@ -69,7 +69,7 @@ fn put(sink: &mut MemorySink, kind: Kind, file: &str) -> Result<(), SinkFault> {
         Kind::NoMemory => no_memory(sink),
         Kind::Command(fault) => command(sink, fault),
         Kind::Chooser(rule) => chooser(sink, rule),
-        Kind::Reading(fault) => reading(sink, fault, file),
+        Kind::Reading(fault) => unread_file(sink, fault, file),
         Kind::Grid(fault) => grid(sink, fault, file),
         Kind::Ppm(fault) => ppm(sink, fault, file),
         Kind::Palette(fault) => palette(sink, fault, file),

@@ -107,7 +107,7 @@ fn the_longest_file_is_too_long_for_less(rt: HostRuntime) -> Result<(), Fail> {
     let mut folder = longest(rt.alloc())?;
     let got = read_all(rt.alloc(), &mut folder, "longest", MAX_FILE_BYTES - 1);
     assert_eq!(rt; got.err(), Some(ReadFault::TooLong));
-    assert_eq!(rt; folder.given(), MAX_FILE_BYTES);
+    assert_eq!(rt; folder.bytes_given(), MAX_FILE_BYTES);
     Ok(())
 }
 

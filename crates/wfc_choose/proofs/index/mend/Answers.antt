@@ -3,17 +3,17 @@ use Rattle.wfc_choose.specs.Index.{IsLeastIn}
 use Rattle.wfc_choose.proofs.IndexLemmas.{summary_falls, summary_same, summary_stays, summary_with, set_back}
 use Rattle.wfc_choose.proofs.index.mend.Goals as goal
 
-pub returns-then-coming-clause-summary : goal.returns-then-coming-clause-summary
-returns-then-coming-clause-summary c =
-    summary_falls c.args.below.now c.args.above.now c.args.at c.args.was c.requires.at_in c.requires.before (omega (arith, c.coming.ensures.value, c.coming-2.ensures.value))
+pub returns-then-time_of-clause-summary : goal.returns-then-time_of-clause-summary
+returns-then-time_of-clause-summary c =
+    summary_falls c.args.below.now c.args.above.now c.args.at c.args.was c.requires.at_in c.requires.before (omega (arith, c.time_of.ensures.value, c.time_of-2.ensures.value))
 
-pub returns-then-coming-clause-mended : goal.returns-then-coming-clause-mended
-returns-then-coming-clause-mended c = set_back c.args.above.now _ _
+pub returns-then-time_of-clause-mended : goal.returns-then-time_of-clause-mended
+returns-then-time_of-clause-mended c = set_back c.args.above.now _ _
 
-pub returns-then-coming-2-clause-summary : goal.returns-then-coming-2-clause-summary
-returns-then-coming-2-clause-summary c =
+pub returns-then-time_of-2-clause-summary : goal.returns-then-time_of-2-clause-summary
+returns-then-time_of-2-clause-summary c =
     summary_stays c.args.below.now c.args.above.now c.args.at c.args.was c.requires.at_in c.requires.before
-    (omega (arith, c.coming.ensures.value, c.coming-2.ensures.value)) (omega (arith, c.coming-3.ensures.value, c.coming-4.ensures.value))
+    (omega (arith, c.time_of.ensures.value, c.time_of-2.ensures.value)) (omega (arith, c.time_of-3.ensures.value, c.time_of-4.ensures.value))
 
 pub returns-then-least-old-clause-summary : goal.returns-then-least-old-clause-summary
 returns-then-least-old-clause-summary c =

@@ -2,7 +2,7 @@ use Rattle.std.proofs.Common.{◌≡◌, ℕ, ◌*◌, ◌≤◌, length, nat_eq
 use Rattle.std.specs.Cmp.Lexicographic.{pointwise}
 use Rattle.std.specs.List.{range_with_len}
 use Rattle.std.proofs.lemmas.Result.{IfOk-weaker}
-use Rattle.wfc_lists.specs.Unrepeated.{unrepeated}
+use Rattle.wfc_lists.specs.WithoutRepeats.{without_repeats}
 use Rattle.wfc_model.specs.Raster.{height_of}
 use Rattle.wfc_model.specs.Window.{starts}
 use Rattle.wfc_model.specs.Learned.{learned}
@@ -33,9 +33,9 @@ returns c =
     let wrap = c.args.wrap in
     let wide : c.starts-columns.result ≡ starts sample.width n wrap = c.starts-columns.ensures.value ∙ ap (λ side. starts side n wrap) c.width.ensures.value in
     let high : c.starts-rows.result ≡ starts (height_of sample) n wrap = c.starts-rows.ensures.value ∙ ap (λ side. starts side n wrap) c.height.ensures.value in
-    let many : ℕ → ℕ → ℕ = λ columns rows. length (unrepeated (pointwise nat_eq) (images_of sample n s columns (range_with_len 0 (rows * (columns * s))))) in
+    let many : ℕ → ℕ → ℕ = λ columns rows. length (without_repeats (pointwise nat_eq) (images_of sample n s columns (range_with_len 0 (rows * (columns * s))))) in
     let same : many c.starts-columns.result c.starts-rows.result ≡ length (learned sample n s wrap) =
-    ap (λ columns. many columns c.starts-rows.result) wide ∙ ap (many (starts sample.width n wrap)) high ∙ ap (λ ws. length (unrepeated (pointwise nat_eq) ws)) (sym (arising_numbered sample n s wrap c.requires.some_image)) in
+    ap (λ columns. many columns c.starts-rows.result) wide ∙ ap (many (starts sample.width n wrap)) high ∙ ap (λ ws. length (without_repeats (pointwise nat_eq) ws)) (sym (arising_numbered sample n s wrap c.requires.some_image)) in
     record {
       value =
           IfOk-weaker c.count_different.result (λ (count : ℕ). count ≡ many c.starts-columns.result c.starts-rows.result) (λ (count : ℕ). count ≡ length (learned sample n s wrap)) (λ count is. is ∙ same) c.count_different.ensures.value;

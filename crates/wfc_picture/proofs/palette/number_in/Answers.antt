@@ -1,6 +1,6 @@
 use Rattle.std.proofs.Common.{◌≡◌, ◌≤◌, length, sym, subst, arith, rules}
 use Rattle.std.specs.List.{position_or_len}
-use Rattle.wfc_lists.specs.Unrepeated.{with_new}
+use Rattle.wfc_lists.specs.WithoutRepeats.{with_new}
 use Rattle.wfc_picture.specs.declared.palette.TheConstants.{MAX_COLOURS}
 use Rattle.wfc_picture.specs.Symbol.{same_symbol}
 use Rattle.wfc_lists.proofs.Positions.{length_inserted}

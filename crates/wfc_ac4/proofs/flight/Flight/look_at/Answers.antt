@@ -2,7 +2,7 @@ use Rattle.std.proofs.Common.{sym, ◌∙◌, ap, arith}
 use Rattle.std.proofs.lemmas.Bool.{true≢false}
 use Rattle.wfc_problem.specs.Network.{values}
 use Rattle.wfc_domains.specs.declared.board.Board.{Board}
-use Rattle.wfc_domains.proofs.Boards.{lost-gone}
+use Rattle.wfc_domains.proofs.Boards.{board_without-gone}
 use Rattle.wfc_ac4.proofs.Opening.{scanned-removed, scanned-next}
 use Rattle.wfc_ac4.proofs.flight.Flight.look_at.Goals as goal
 use Rattle.wfc_ac4.proofs.flight.Flight.look_at.Goals.{else-is_alive-via-then-is_alive+else-has, else-is_alive-via-else-is_alive}
@@ -15,7 +15,7 @@ returns-in-Some-clause-scanned c =
     scanned-next _ _ c.args.cell c.args.value
     (scanned-removed c.args.self.now.board c.remove.new.self c.args.self.now.counters c.args.cell c.args.value c.in-Some.dir b.next c.requires.scanned alive c.requires.cell_in c.requires.value_in b.dir_in b.beside b.none b.first r)
     (omega (arith, c.requires.value_in, ap (λ (x : Board). values x.problem.now) r.same))
-    (λ _ t. absurd (true≢false (sym t ∙ lost-gone r.less)))
+    (λ _ t. absurd (true≢false (sym t ∙ board_without-gone r.less)))
 
 pub returns-in_default-clause-scanned : goal.returns-in_default-clause-scanned
 returns-in_default-clause-scanned c =

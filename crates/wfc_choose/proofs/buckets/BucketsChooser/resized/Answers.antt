@@ -1,6 +1,6 @@
 use Rattle.std.proofs.Common.{ℕ, ◌/◌, ◌<◌, List, length, sym, ◌∙◌, ap, subst, arith}
 use Rattle.std.proofs.lemmas.List.{get_or_default}
-use Rattle.wfc_choose.specs.Index.{coming, IsIndex}
+use Rattle.wfc_choose.specs.Index.{time_of, IsIndex}
 use Rattle.wfc_choose.proofs.IndexLemmas.{index_stays, set_back}
 use Rattle.wfc_choose.proofs.buckets.BucketsChooser.resized.Goals as goal
 
@@ -13,8 +13,8 @@ invariant_of-self c =
     let first = c.index.ensures ∙ get_or_default a.blocks.items (cell / 64) c.index.result.now 0 up in
     let was = c.index-was.ensures ∙ get_or_default a.sizes.items cell c.index-was.result.now 0 l in
     index_stays a.sizes.items a.blocks.items a.areas.items a.regions.items cell c.args.size l c.self.invariant
-    (omega (arith, c.if-least-coming.true, c.coming-least.ensures.value, c.coming.ensures.value, ap coming first))
-    (omega (arith, c.if-least-coming-2.true, c.coming-least.ensures.value, c.coming-then-least-coming.ensures.value, ap coming first, ap coming was))
+    (omega (arith, c.if-least-time_of.true, c.time_of-least.ensures.value, c.time_of.ensures.value, ap time_of first))
+    (omega (arith, c.if-least-time_of-2.true, c.time_of-least.ensures.value, c.time_of-then-least-time_of.ensures.value, ap time_of first, ap time_of was))
 
 pub mend_above-requires-clause-before : goal.mend_above-requires-clause-before
 mend_above-requires-clause-before c =

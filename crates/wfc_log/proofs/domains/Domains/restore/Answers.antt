@@ -4,7 +4,8 @@ use Rattle.std.proofs.lemmas.Bool.{cond-true}
 use Rattle.wfc_problem.specs.Network.{row_of}
 use Rattle.wfc_log.specs.Domains.{Flags, IsLess}
 use Rattle.wfc_log.specs.Sized.{AreSizes}
-use Rattle.wfc_log.proofs.Rows.{sizes-restored, flag-restored, flag-set, length-row_of, same_place}
+use Rattle.wfc_problem.proofs.CallerLemmas.{flag-set, length-row_of}
+use Rattle.wfc_log.proofs.Rows.{sizes-restored, flag-restored, same_place}
 use Rattle.wfc_log.proofs.domains.Domains.restore.Goals as goal
 
 pub invariant_of-self : goal.invariant_of-self

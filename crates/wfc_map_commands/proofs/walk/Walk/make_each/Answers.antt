@@ -2,7 +2,7 @@ use Rattle.std.proofs.Common.{Err, Ok, [], ap, arith, refl, take, ◌+◌, ◌�
 use Rattle.std.proofs.lemmas.Result.{err_from_is_err_and}
 use Rattle.wfc_map_commands.proofs.WalkLemmas.{blocks_end, next_on, next_out, walk_next}
 use Rattle.wfc_map_commands.proofs.walk.Walk.make_each.Goals as goal
-use Rattle.wfc_map_commands.specs.Walk.{stood}
+use Rattle.wfc_map_commands.specs.Walk.{literals_after_all}
 
 pub loop-line-init : goal.loop-line-init
 loop-line-init g c = record {
@@ -23,7 +23,7 @@ returns-in_err-make g c =
     record {
       put = rw p.1 (c.loop-line.invariant.rest _ (Err c.in_err-make.field-0.0)
           (next_out c.args.self.now.engine.problem c.make.new.self.engine.problem c.args.count c.args.cells lines i c.loop-line.number c.loop-line-test.true (c.in_err-make.ensures.problem ∙ c.loop-line.invariant.problem) c.loop-line.invariant.number _ _
-          (c.in_err-make.ensures.put (stood [] (take (i + 1) lines)) walk)));
+          (c.in_err-make.ensures.put (literals_after_all [] (take (i + 1) lines)) walk)));
     }
 
 pub loop-line-preserved : goal.loop-line-preserved
@@ -39,7 +39,7 @@ loop-line-preserved g c =
       number = ap (λ n. n + 1) c.loop-line.invariant.number;
       rest = λ new result rest. c.loop-line.invariant.rest new result
           (next_on c.args.self.now.engine.problem c.make.new.self.engine.problem c.args.count c.args.cells lines i c.loop-line.number c.loop-line-test.true (c.in_ok-make.ensures.problem ∙ c.loop-line.invariant.problem) c.loop-line.invariant.number _ _ new result
-          (c.in_ok-make.ensures.put (stood [] (take (i + 1) lines)) walk) rest);
+          (c.in_ok-make.ensures.put (literals_after_all [] (take (i + 1) lines)) walk) rest);
     }
 
 pub returns : goal.returns

@@ -16,7 +16,7 @@ loop-cell-preserved c =
       ];
       inside = elim c.if-column-side.branch [ then-column-side w ↦ omega arith | else-column-side w ↦ omega arith ];
       written =
-          square_more n (λ i j. number_at m ((c.args.x + i) % m.width) ((c.args.y + j) % height_of m)) _ _ _ _ _ c.loop-cell.invariant.place inside (omega arith) c.wrapped.ensures.value c.loop-cell.invariant.written;
+          square_more n (λ i j. number_at m ((c.args.x + i) % m.width) ((c.args.y + j) % height_of m)) _ _ _ _ _ c.loop-cell.invariant.place inside (omega arith) c.number_modulo.ensures.value c.loop-cell.invariant.written;
     }
 
 pub returns : goal.returns

@@ -6,33 +6,33 @@ use Rattle.std.proofs.lemmas.List.{append-nil, take-append-drop, drop_more}
 use Rattle.std.proofs.lemmas.List.Elements.{All-weaker, All-contains, All-contains_itself, recursion_from_All, filter-append, filter_passes}
 use Rattle.std.proofs.lemmas.List.Folds.{list_any-append}
 use Rattle.std.proofs.lemmas.List.Sums.{length-filter, count_by-le-length}
-use Rattle.wfc_lists.specs.Unrepeated.{unrepeated, with_new}
+use Rattle.wfc_lists.specs.WithoutRepeats.{without_repeats, with_new}
 use Rattle.wfc_lists.proofs.Lists.{Contains_cases, Contains_later, Contains-filter, filter-Contains, each_kept}
 
 -- ---- elements
 
 -- an element of the list without its repeats is one of the list
-pub unrepeated-Contains : {X : Type 0} (same : X → X → Bool) (xs : List X) (x : X) → Contains (unrepeated same xs) x → Contains xs x
-unrepeated-Contains same [] x within = within
-unrepeated-Contains same (w ∷ ws) x within = elim (Contains_cases w (filter (λ y. not (same w y)) (unrepeated same ws)) x within) [
+pub without_repeats-Contains : {X : Type 0} (same : X → X → Bool) (xs : List X) (x : X) → Contains (without_repeats same xs) x → Contains xs x
+without_repeats-Contains same [] x within = within
+without_repeats-Contains same (w ∷ ws) x within = elim (Contains_cases w (filter (λ y. not (same w y)) (without_repeats same ws)) x within) [
   | inl first ↦ (0, omega arith, first)
-  | inr later ↦ Contains_later w ws x (unrepeated-Contains same ws x (filter-Contains (λ y. not (same w y)) (unrepeated same ws) x later).1)
+  | inr later ↦ Contains_later w ws x (without_repeats-Contains same ws x (filter-Contains (λ y. not (same w y)) (without_repeats same ws) x later).1)
 ]
 
 -- what holds of each element holds of each that is left
-pub All-unrepeated : {X : Type 0} (same : X → X → Bool) (P : X → Type 0) (xs : List X) → All P xs → All P (unrepeated same xs)
-All-unrepeated same P xs all =
-    All-weaker (Contains xs) P (λ x within. All-contains P xs x all within) (unrepeated same xs)
-    (All-weaker (Contains (unrepeated same xs)) (Contains xs) (unrepeated-Contains same xs) (unrepeated same xs) (All-contains_itself (unrepeated same xs)))
+pub All-without_repeats : {X : Type 0} (same : X → X → Bool) (P : X → Type 0) (xs : List X) → All P xs → All P (without_repeats same xs)
+All-without_repeats same P xs all =
+    All-weaker (Contains xs) P (λ x within. All-contains P xs x all within) (without_repeats same xs)
+    (All-weaker (Contains (without_repeats same xs)) (Contains xs) (without_repeats-Contains same xs) (without_repeats same xs) (All-contains_itself (without_repeats same xs)))
 
 -- it is no longer
-pub length-unrepeated : {X : Type 0} (same : X → X → Bool) (xs : List X) → length (unrepeated same xs) ≤ length xs
-length-unrepeated same [] = omega arith
-length-unrepeated same (w ∷ ws) =
-    omega (arith, length-unrepeated same ws, length-filter (λ y. not (same w y)) (unrepeated same ws), count_by-le-length (λ y. not (same w y)) (unrepeated same ws))
+pub length-without_repeats : {X : Type 0} (same : X → X → Bool) (xs : List X) → length (without_repeats same xs) ≤ length xs
+length-without_repeats same [] = omega arith
+length-without_repeats same (w ∷ ws) =
+    omega (arith, length-without_repeats same ws, length-filter (λ y. not (same w y)) (without_repeats same ws), count_by-le-length (λ y. not (same w y)) (without_repeats same ws))
 
 -- and has an element where the list has one
-pub some_unrepeated : {X : Type 0} (same : X → X → Bool) (xs : List X) → 0 < length xs → 0 < length (unrepeated same xs)
+pub some_unrepeated : {X : Type 0} (same : X → X → Bool) (xs : List X) → 0 < length xs → 0 < length (without_repeats same xs)
 some_unrepeated same [] some = some
 some_unrepeated same (w ∷ ws) some = omega arith
 
@@ -47,14 +47,14 @@ IsDistinct-filter same p (x ∷ xs) apart = by (p x) refl (IsDistinct-filter sam
     by false drops rest = subst (λ b. IsDistinct same (cond b (x ∷ filter p xs) (filter p xs))) (sym drops) rest
 
 -- no two that are left are one
-pub IsDistinct-unrepeated : {X : Type 0} (same : X → X → Bool) (xs : List X) → IsDistinct same (unrepeated same xs)
+pub IsDistinct-without_repeats : {X : Type 0} (same : X → X → Bool) (xs : List X) → IsDistinct same (without_repeats same xs)
 unfolding IsDistinct
-IsDistinct-unrepeated same [] = tt
-IsDistinct-unrepeated {X = X} same (w ∷ ws) =
+IsDistinct-without_repeats same [] = tt
+IsDistinct-without_repeats {X = X} same (w ∷ ws) =
     let p : X → Bool = λ v. not (same w v) in
-    let rest = unrepeated same ws in (
+    let rest = without_repeats same ws in (
       recursion_from_All (λ v. same w v ≡ false) (filter p rest) (All-weaker (λ v. p v ≡ true) (λ v. same w v ≡ false) (λ v kept. not-true (same w v) kept) (filter p rest) (filter_passes p rest)),
-      IsDistinct-filter same p rest (IsDistinct-unrepeated same ws),
+      IsDistinct-filter same p rest (IsDistinct-without_repeats same ws),
     )
 
 -- ---- one more element
@@ -70,16 +70,16 @@ module _ {X : Type 0} (same : X → X → Bool) (sound : (x y : X) → same x y 
       by false e = e
 
   -- an element of the list is one of the list without its repeats
-  pub Contains-unrepeated : (xs : List X) (x : X) → Contains xs x → Contains (unrepeated same xs) x
-  Contains-unrepeated [] x within = within
-  Contains-unrepeated (w ∷ ws) x within = elim (Contains_cases w ws x within) [
+  pub Contains-without_repeats : (xs : List X) (x : X) → Contains xs x → Contains (without_repeats same xs) x
+  Contains-without_repeats [] x within = within
+  Contains-without_repeats (w ∷ ws) x within = elim (Contains_cases w ws x within) [
     | inl first ↦ (0, omega arith, first)
-    | inr later ↦ by (same w x) refl (Contains-unrepeated ws x later)
+    | inr later ↦ by (same w x) refl (Contains-without_repeats ws x later)
   ]
     where
-      by : (b : Bool) → same w x ≡ b → Contains (unrepeated same ws) x → Contains (unrepeated same (w ∷ ws)) x
+      by : (b : Bool) → same w x ≡ b → Contains (without_repeats same ws) x → Contains (without_repeats same (w ∷ ws)) x
       by true test there = (0, omega arith, sound w x test)
-      by false test there = Contains_later w (filter (λ y. not (same w y)) (unrepeated same ws)) x (Contains-filter (λ y. not (same w y)) (unrepeated same ws) x there (ap not test))
+      by false test there = Contains_later w (filter (λ y. not (same w y)) (without_repeats same ws)) x (Contains-filter (λ y. not (same w y)) (without_repeats same ws) x there (ap not test))
 
   -- what is left out for being w is no x that isn't w
   pub list_any-filter : (x w : X) → same x w ≡ false → (ks : List X) → list_any (same x) (filter (λ y. not (same w y)) ks) ≡ list_any (same x) ks
@@ -96,38 +96,38 @@ module _ {X : Type 0} (same : X → X → Bool) (sound : (x y : X) → same x y 
           ∙ ap (λ c. same x k || c) rest
 
   -- one more element goes last, if it is new
-  pub unrepeated_push : (xs : List X) (x : X) → unrepeated same (xs ++ x ∷ []) ≡ with_new same (unrepeated same xs) x
+  pub unrepeated_push : (xs : List X) (x : X) → without_repeats same (xs ++ x ∷ []) ≡ with_new same (without_repeats same xs) x
   unrepeated_push [] x = refl
-  unrepeated_push (w ∷ ws) x = by (same x w) refl (list_any (same x) (unrepeated same ws)) refl (unrepeated_push ws x)
+  unrepeated_push (w ∷ ws) x = by (same x w) refl (list_any (same x) (without_repeats same ws)) refl (unrepeated_push ws x)
     where
       others : List X → List X
       others ks = filter (λ y. not (same w y)) ks
 
       -- what the test of the whole palette computes to
-      in_all : (d : Bool) → (same x w || list_any (same x) (others (unrepeated same ws))) ≡ d → with_new same (unrepeated same (w ∷ ws)) x ≡ cond d (w ∷ others (unrepeated same ws)) ((w ∷ others (unrepeated same ws)) ++ x ∷ [])
-      in_all d test = ap (λ t. cond t (w ∷ others (unrepeated same ws)) ((w ∷ others (unrepeated same ws)) ++ x ∷ [])) test
+      in_all : (d : Bool) → (same x w || list_any (same x) (others (without_repeats same ws))) ≡ d → with_new same (without_repeats same (w ∷ ws)) x ≡ cond d (w ∷ others (without_repeats same ws)) ((w ∷ others (without_repeats same ws)) ++ x ∷ [])
+      in_all d test = ap (λ t. cond t (w ∷ others (without_repeats same ws)) ((w ∷ others (without_repeats same ws)) ++ x ∷ [])) test
 
       last : (b : Bool) → same w x ≡ b → others (x ∷ []) ≡ cond (not b) (x ∷ []) []
       last b e = ap (λ t. cond (not t) (x ∷ []) []) e
 
-      grown : (c : Bool) → list_any (same x) (unrepeated same ws) ≡ c → unrepeated same (ws ++ x ∷ []) ≡ with_new same (unrepeated same ws) x → unrepeated same (ws ++ x ∷ []) ≡ cond c (unrepeated same ws) (unrepeated same ws ++ x ∷ [])
-      grown c there step = step ∙ ap (λ t. cond t (unrepeated same ws) (unrepeated same ws ++ x ∷ [])) there
+      grown : (c : Bool) → list_any (same x) (without_repeats same ws) ≡ c → without_repeats same (ws ++ x ∷ []) ≡ with_new same (without_repeats same ws) x → without_repeats same (ws ++ x ∷ []) ≡ cond c (without_repeats same ws) (without_repeats same ws ++ x ∷ [])
+      grown c there step = step ∙ ap (λ t. cond t (without_repeats same ws) (without_repeats same ws ++ x ∷ [])) there
 
-      by : (b : Bool) → same x w ≡ b → (c : Bool) → list_any (same x) (unrepeated same ws) ≡ c → unrepeated same (ws ++ x ∷ []) ≡ with_new same (unrepeated same ws) x
-          → unrepeated same ((w ∷ ws) ++ x ∷ []) ≡ with_new same (unrepeated same (w ∷ ws)) x
+      by : (b : Bool) → same x w ≡ b → (c : Bool) → list_any (same x) (without_repeats same ws) ≡ c → without_repeats same (ws ++ x ∷ []) ≡ with_new same (without_repeats same ws) x
+          → without_repeats same ((w ∷ ws) ++ x ∷ []) ≡ with_new same (without_repeats same (w ∷ ws)) x
       by true e true there step = ap (λ ks. w ∷ others ks) (grown true there step) ∙ sym (in_all true (or_left (same x w) _ e))
       by true e false new step =
           let is_w : same w x ≡ true = subst (λ v. same w v ≡ true) (sym (sound x w e)) (whole w) in
           ap (λ ks. w ∷ others ks) (grown false new step)
-          ∙ ap (λ ks. w ∷ ks) (filter-append (λ y. not (same w y)) (unrepeated same ws) (x ∷ []) ∙ ap (λ ks. others (unrepeated same ws) ++ ks) (last true is_w) ∙ append-nil (others (unrepeated same ws)))
+          ∙ ap (λ ks. w ∷ ks) (filter-append (λ y. not (same w y)) (without_repeats same ws) (x ∷ []) ∙ ap (λ ks. others (without_repeats same ws) ++ ks) (last true is_w) ∙ append-nil (others (without_repeats same ws)))
           ∙ sym (in_all true (or_left (same x w) _ e))
       by false e true there step =
           ap (λ ks. w ∷ others ks) (grown true there step)
-          ∙ sym (in_all true (ap (λ t. t || list_any (same x) (others (unrepeated same ws))) e ∙ list_any-filter x w e (unrepeated same ws) ∙ there))
+          ∙ sym (in_all true (ap (λ t. t || list_any (same x) (others (without_repeats same ws))) e ∙ list_any-filter x w e (without_repeats same ws) ∙ there))
       by false e false new step =
           ap (λ ks. w ∷ others ks) (grown false new step)
-          ∙ ap (λ ks. w ∷ ks) (filter-append (λ y. not (same w y)) (unrepeated same ws) (x ∷ []) ∙ ap (λ ks. others (unrepeated same ws) ++ ks) (last false (flips x w e)))
-          ∙ sym (in_all false (ap (λ t. t || list_any (same x) (others (unrepeated same ws))) e ∙ list_any-filter x w e (unrepeated same ws) ∙ new))
+          ∙ ap (λ ks. w ∷ ks) (filter-append (λ y. not (same w y)) (without_repeats same ws) (x ∷ []) ∙ ap (λ ks. others (without_repeats same ws) ++ ks) (last false (flips x w e)))
+          ∙ sym (in_all false (ap (λ t. t || list_any (same x) (others (without_repeats same ws))) e ∙ list_any-filter x w e (without_repeats same ws) ∙ new))
 
   -- where x is there, its place stays when more elements are added
   place_kept : (x y : X) (ks : List X) → list_any (same x) ks ≡ true → position_or_len (same x) (ks ++ y ∷ []) ≡ position_or_len (same x) ks
@@ -186,27 +186,27 @@ module _ {X : Type 0} (same : X → X → Bool) (sound : (x y : X) → same x y 
           ∙ ap (λ t. t || false) (whole x)
 
   -- whatever follows, what stood in front keeps its place
-  place_stays : (x : X) (xs ys : List X) → list_any (same x) (unrepeated same xs) ≡ true → position_or_len (same x) (unrepeated same (xs ++ ys)) ≡ position_or_len (same x) (unrepeated same xs)
-  place_stays x xs [] there = ap (λ zs. position_or_len (same x) (unrepeated same zs)) (append-nil xs)
+  place_stays : (x : X) (xs ys : List X) → list_any (same x) (without_repeats same xs) ≡ true → position_or_len (same x) (without_repeats same (xs ++ ys)) ≡ position_or_len (same x) (without_repeats same xs)
+  place_stays x xs [] there = ap (λ zs. position_or_len (same x) (without_repeats same zs)) (append-nil xs)
   place_stays x xs (y ∷ ys) there =
-      ap (λ zs. position_or_len (same x) (unrepeated same zs)) (sym (append_assoc xs (y ∷ []) ys))
-      ∙ place_stays x (xs ++ y ∷ []) ys (ap (list_any (same x)) (unrepeated_push xs y) ∙ there_inserted x y (unrepeated same xs) there)
+      ap (λ zs. position_or_len (same x) (without_repeats same zs)) (sym (append_assoc xs (y ∷ []) ys))
+      ∙ place_stays x (xs ++ y ∷ []) ys (ap (list_any (same x)) (unrepeated_push xs y) ∙ there_inserted x y (without_repeats same xs) there)
       ∙ ap (position_or_len (same x)) (unrepeated_push xs y)
-      ∙ place_inserted x y (unrepeated same xs) there
+      ∙ place_inserted x y (without_repeats same xs) there
 
   -- the place that an element takes is the one that it has in the end
-  pub place_in_all : (xs : List X) (i : ℕ) (x : X) → i < length xs → x ≡ get_or xs i x → position_or_len (same x) (unrepeated same xs) ≡ position_or_len (same x) (unrepeated same (take i xs))
+  pub place_in_all : (xs : List X) (i : ℕ) (x : X) → i < length xs → x ≡ get_or xs i x → position_or_len (same x) (without_repeats same xs) ≡ position_or_len (same x) (without_repeats same (take i xs))
   place_in_all xs i x within read =
       let front : take i xs ++ x ∷ drop (i + 1) xs ≡ xs = ap (λ v. take i xs ++ v ∷ drop (i + 1) xs) read ∙ ap (λ ys. take i xs ++ ys) (sym (drop_more xs i x within)) ∙ take-append-drop i xs in
-      ap (λ zs. position_or_len (same x) (unrepeated same zs)) (sym front ∙ sym (append_assoc (take i xs) (x ∷ []) (drop (i + 1) xs)))
-      ∙ place_stays x (take i xs ++ x ∷ []) (drop (i + 1) xs) (ap (list_any (same x)) (unrepeated_push (take i xs) x) ∙ there_own x (unrepeated same (take i xs)))
+      ap (λ zs. position_or_len (same x) (without_repeats same zs)) (sym front ∙ sym (append_assoc (take i xs) (x ∷ []) (drop (i + 1) xs)))
+      ∙ place_stays x (take i xs ++ x ∷ []) (drop (i + 1) xs) (ap (list_any (same x)) (unrepeated_push (take i xs) x) ∙ there_own x (without_repeats same (take i xs)))
       ∙ ap (position_or_len (same x)) (unrepeated_push (take i xs) x)
-      ∙ place_own x (unrepeated same (take i xs))
+      ∙ place_own x (without_repeats same (take i xs))
 
   -- with one more element it is as long, or one longer
-  pub length_grown : (xs : List X) (x : X) → length (unrepeated same xs) ≤ length (unrepeated same (xs ++ x ∷ []))
-  length_grown xs x = subst (λ ks. length (unrepeated same xs) ≤ length ks) (sym (unrepeated_push xs x)) (by (list_any (same x) (unrepeated same xs)))
+  pub length_grown : (xs : List X) (x : X) → length (without_repeats same xs) ≤ length (without_repeats same (xs ++ x ∷ []))
+  length_grown xs x = subst (λ ks. length (without_repeats same xs) ≤ length ks) (sym (unrepeated_push xs x)) (by (list_any (same x) (without_repeats same xs)))
     where
-      by : (b : Bool) → length (unrepeated same xs) ≤ length (if b then unrepeated same xs else unrepeated same xs ++ x ∷ [])
+      by : (b : Bool) → length (without_repeats same xs) ≤ length (if b then without_repeats same xs else without_repeats same xs ++ x ∷ [])
       by true = omega arith
-      by false = omega (arith, length-append (unrepeated same xs) (x ∷ []))
+      by false = omega (arith, length-append (without_repeats same xs) (x ∷ []))
