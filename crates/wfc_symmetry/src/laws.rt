@@ -62,8 +62,8 @@ pub fn the_group_acts_on_classes()
     ensures variants { (class : Class) (i a : ℕ) → i < variant_count class → a < 8
         → variant_by_action class i a < variant_count class }
     ensures first { (class : Class) (i : ℕ) → variant_by_action class i 0 ≡ i }
-    ensures behind { (class : Class) (i a b : ℕ) → i < variant_count class → a < 8 → b < 8
-        → variant_by_action class (variant_by_action class i b) a ≡ variant_by_action class i (action_behind a b) }
+    ensures behind { (c : Class) (i a b : ℕ) → i < variant_count c → a < 8 → b < 8 →
+        variant_by_action c (variant_by_action c i b) a ≡ variant_by_action c i (action_behind a b) }
 {}
 
 /// The images of a window compose as the actions do.
