@@ -51,8 +51,8 @@ pub fn put_run<O: Sink, L: Ledger>(
     requires parts { blank.parts ≡ L.parts }
     requires some { 0 < blank.parts }
     requires side { writing.shape.n ≤ 6 }
-    ensures puts { PutsOrStops (told chooser).rule writing problem.now (O.seen out.old)
-        (O.seen out.new) result }
+    ensures puts { PutsOrStops (told chooser).rule writing problem.now (O.seen out.old) (O.seen
+        out.new) result }
 {
     let mut search = open_search(alloc, problem, chooser, writing.budget)?;
     put_search::<O, L>(writing, problem, &mut search, out, blank)
@@ -70,16 +70,14 @@ pub(crate) fn put_search<O: Sink, L: Ledger>(
     requires parts { blank.parts ≡ L.parts }
     requires some { 0 < blank.parts }
     requires side { writing.shape.n ≤ 6 }
-    requires ready { IsReady
-        (search_view (λ v. (⟦<dyn Chooser as Chooser>⟧ v).told) search.old) }
+    requires ready { IsReady (search_view told search.old) }
     requires going { IsGoing search.old.course }
     requires problem { search.old.problem.now ≡ problem.now }
     requires standing { search.old.store.standing ≡ [] }
     requires budget { search.old.course.budget ≡ writing.budget }
     requires retractions { search.old.course.retractions ≡ 0 }
-    ensures puts { PutsOrStops
-        ((⟦<dyn Chooser as Chooser>⟧ search.old.chooser.vtable).told search.old.chooser.value).rule
-        writing problem.now (O.seen out.old) (O.seen out.new) result }
+    ensures puts { PutsOrStops (search_view told search.old).chooser.rule writing problem.now
+        (O.seen out.old) (O.seen out.new) result }
     ensures answered { (fault : Fault) → result ≢ Err (Unanswered fault) }
 {
     put_head(out, writing, problem)?;
@@ -117,15 +115,12 @@ fn put_seeded<O: Sink, L: Ledger>(
     requires name { blank.name ≡ L.name }
     requires parts { blank.parts ≡ L.parts }
     requires some { 0 < blank.parts }
-    requires ready { IsReady
-        (search_view (λ v. (⟦<dyn Chooser as Chooser>⟧ v).told) search.old) }
+    requires ready { IsReady (search_view told search.old) }
     requires going { IsGoing search.old.course }
     requires bare { IsBare (written_format format) (O.seen out.old).told }
-    ensures put { IfOk result (λ outcome. PutsFrom (written_format format)
-        (search_view (λ v. (⟦<dyn Chooser as Chooser>⟧ v).told) search.old)
-        (words_of_seed seed) outcome (O.seen out.old) (O.seen out.new)) }
-    ensures cut { OnErr result (CutsFrom (written_format format)
-        (search_view (λ v. (⟦<dyn Chooser as Chooser>⟧ v).told) search.old)
+    ensures put { IfOk result (λ outcome. PutsFrom (written_format format) (search_view told
+        search.old) (words_of_seed seed) outcome (O.seen out.old) (O.seen out.new)) }
+    ensures cut { OnErr result (CutsFrom (written_format format) (search_view told search.old)
         (words_of_seed seed) (O.seen out.old) (O.seen out.new)) }
 {
     let mut words = words_of_seed(seed);
@@ -141,15 +136,12 @@ fn put_turns<R: Rng, O: Sink, L: Ledger>(
     out: &mut O,
     steps: &mut Steps<L>,
 ) -> Result<Outcome, JournalFault>
-    requires ready { IsReady
-        (search_view (λ v. (⟦<dyn Chooser as Chooser>⟧ v).told) search.old) }
+    requires ready { IsReady (search_view told search.old) }
     requires going { IsGoing search.old.course }
     requires bare { IsBare (written_format format) (O.seen out.old).told }
-    ensures put { IfOk result (λ outcome. PutsFrom (written_format format)
-        (search_view (λ v. (⟦<dyn Chooser as Chooser>⟧ v).told) search.old)
-        (R.stream words.old) outcome (O.seen out.old) (O.seen out.new)) }
-    ensures cut { OnErr result (CutsFrom (written_format format)
-        (search_view (λ v. (⟦<dyn Chooser as Chooser>⟧ v).told) search.old)
+    ensures put { IfOk result (λ outcome. PutsFrom (written_format format) (search_view told
+        search.old) (R.stream words.old) outcome (O.seen out.old) (O.seen out.new)) }
+    ensures cut { OnErr result (CutsFrom (written_format format) (search_view told search.old)
         (R.stream words.old) (O.seen out.old) (O.seen out.new)) }
 {
     if format == 1 {
@@ -166,15 +158,13 @@ fn put_lines<R: Rng, O: Sink, L: Ledger>(
     out: &mut O,
     steps: &mut Steps<L>,
 ) -> Result<Outcome, JournalFault>
-    requires ready { IsReady
-        (search_view (λ v. (⟦<dyn Chooser as Chooser>⟧ v).told) search.old) }
+    requires ready { IsReady (search_view told search.old) }
     requires going { IsGoing search.old.course }
     requires bare { IsBare One (O.seen out.old).told }
-    ensures put { IfOk result (λ outcome. PutsFrom One
-        (search_view (λ v. (⟦<dyn Chooser as Chooser>⟧ v).told) search.old)
-        (R.stream words.old) outcome (O.seen out.old) (O.seen out.new)) }
-    ensures cut { OnErr result (CutsFrom One (search_view (λ v. (⟦<dyn Chooser as Chooser>⟧ v).told)
-        search.old) (R.stream words.old) (O.seen out.old) (O.seen out.new)) }
+    ensures put { IfOk result (λ outcome. PutsFrom One (search_view told search.old) (R.stream
+        words.old) outcome (O.seen out.old) (O.seen out.new)) }
+    ensures cut { OnErr result (CutsFrom One (search_view told search.old) (R.stream words.old)
+        (O.seen out.old) (O.seen out.new)) }
 {
     let mut journal = ProofJournal::behind_head(out);
     search.run(words, &mut journal, steps)
@@ -187,15 +177,13 @@ fn put_spans<R: Rng, O: Sink, L: Ledger>(
     out: &mut O,
     steps: &mut Steps<L>,
 ) -> Result<Outcome, JournalFault>
-    requires ready { IsReady
-        (search_view (λ v. (⟦<dyn Chooser as Chooser>⟧ v).told) search.old) }
+    requires ready { IsReady (search_view told search.old) }
     requires going { IsGoing search.old.course }
     requires bare { IsBare Two (O.seen out.old).told }
-    ensures put { IfOk result (λ outcome. PutsFrom Two
-        (search_view (λ v. (⟦<dyn Chooser as Chooser>⟧ v).told) search.old)
-        (R.stream words.old) outcome (O.seen out.old) (O.seen out.new)) }
-    ensures cut { OnErr result (CutsFrom Two (search_view (λ v. (⟦<dyn Chooser as Chooser>⟧ v).told)
-        search.old) (R.stream words.old) (O.seen out.old) (O.seen out.new)) }
+    ensures put { IfOk result (λ outcome. PutsFrom Two (search_view told search.old) (R.stream
+        words.old) outcome (O.seen out.old) (O.seen out.new)) }
+    ensures cut { OnErr result (CutsFrom Two (search_view told search.old) (R.stream words.old)
+        (O.seen out.old) (O.seen out.new)) }
 {
     let mut journal = SpanJournal::behind_head(out);
     search.run(words, &mut journal, steps)

@@ -8,7 +8,7 @@ use Rattle.wfc_domains.specs.Store.{StoreView}
 use Rattle.wfc_problem.specs.Network.{Network}
 use Rattle.wfc_race.specs.Racers.{Racer, new_racer}
 use Rattle.wfc_race.specs.Rounds.{round_end_of}
-use Rattle.wfc_race.specs.Seen.{racer_of, racers_of, seen}
+use Rattle.wfc_race.specs.Seen.{racer_of, racers_of, runners_seen, seen}
 use Rattle.wfc_race.specs.declared.RaceEnd.{RaceEnd}
 use Rattle.wfc_race.specs.declared.RaceEnd.TheVariants as end
 use Rattle.wfc_race.specs.declared.runner.Runner.{Runner}
@@ -21,13 +21,13 @@ abbrev pub entrants : List Rule → ℕ → ℕ → List Racer
 entrants [] budget seed = []
 entrants (rule ∷ rules) budget seed = new_racer rule budget (words_of_seed seed) ∷ entrants rules budget (seed + 1)
 
--- a runner of the code as a racer: `told` says what its chooser is
-abbrev pub racer_seen : {D : Type 0} {V : D → Type 0} → ((v : D) → V v → Told) → Runner StoreView Lcg D V → Racer
-racer_seen told it = racer_of (seen (λ store. store) generator_words told it)
+-- a runner of the code as a racer, told what its chooser is
+abbrev pub racer_seen : {D : Type 0} {V : D → Type 0} → Told → Runner StoreView Lcg D V → Racer
+racer_seen chooser it = racer_of (seen (λ store. store) generator_words chooser it)
 
--- some runners of the code as racers
-abbrev pub racers_seen : {D : Type 0} {V : D → Type 0} → ((v : D) → V v → Told) → List (Runner StoreView Lcg D V) → List Racer
-racers_seen told runners = racers_of (map (seen (λ store. store) generator_words told) runners)
+-- some runners of the code as racers, told what the chooser of each is
+abbrev pub racers_seen : {D : Type 0} {V : D → Type 0} → (Runner StoreView Lcg D V → Told) → List (Runner StoreView Lcg D V) → List Racer
+racers_seen chooser runners = racers_of (runners_seen (λ store. store) generator_words chooser runners)
 
 -- the runner in this place of the runners at the end has made so many retractions
 abbrev pub IsRacerWith : List Racer → ℕ → ℕ → Type 0

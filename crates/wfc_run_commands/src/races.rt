@@ -2,7 +2,7 @@
 
 ghost use Rattle.std.specs.Prelude.{All, IfOk, length, map, ◌+◌, ◌-◌, ◌<◌, ◌^◌, ◌≡◌, ◌≤◌};
 ghost use Rattle.wfc_race.specs.Racers.{new_racer};
-ghost use Rattle.wfc_race.specs.Seen.{IsRunner, racers_of, seen, seens};
+ghost use Rattle.wfc_race.specs.Seen.{IsRunner, racers_of, runners_seen, seen, seens};
 ghost use Rattle.wfc_race.specs.Standing.{EndsTruly};
 ghost use Rattle.wfc_race.specs.declared.TheConstants.{MAX_RUNNERS};
 ghost use Rattle.wfc_run_commands.specs.Races.{AnswersTo, IsRaced, entrants, racer_seen, racers_seen};
@@ -39,10 +39,10 @@ fn runner<'p>(
     budget: u32,
     seed: u64,
 ) -> Result<Runner<'p, Ac4<'p>, Pcg64>, NoMemory>
-    ensures runner { IfOk result (λ made. IsRunner problem.now
-        (seen (λ store. store) generator_words (λ v. (⟦<dyn Chooser as Chooser>⟧ v).told) made)) }
-    ensures entered { IfOk result (λ made. racer_seen (λ v. (⟦<dyn Chooser as Chooser>⟧ v).told)
-        made ≡ new_racer (told chooser).rule budget (words_of_seed seed)) }
+    ensures runner { IfOk result (λ made. IsRunner problem.now (seen (λ store. store)
+        generator_words (told made.search.chooser) made)) }
+    ensures entered { IfOk result (λ made. racer_seen (told made.search.chooser) made ≡ new_racer
+        (told chooser).rule budget (words_of_seed seed)) }
 {
     let Ok(store) = Ac4::open(alloc, problem, problem.depth()) else {
         return Err(NoMemory);
@@ -63,10 +63,10 @@ fn runners<'p>(
     seed: u64,
 ) -> Result<Vec<Runner<'p, Ac4<'p>, Pcg64>>, NoMemory>
     requires fits { seed + length choosers.items ≤ 2 ^ 64 }
-    ensures runners { IfOk result (λ made. All (IsRunner problem.now) (map (seen (λ store. store)
-        generator_words (λ v. (⟦<dyn Chooser as Chooser>⟧ v).told)) made.items)) }
-    ensures entered { IfOk result (λ made. racers_seen (λ v. (⟦<dyn Chooser as Chooser>⟧ v).told)
-        made.items ≡ entrants (map (λ c. (told c).rule) choosers.items) budget seed) }
+    ensures runners { IfOk result (λ made. All (IsRunner problem.now) (runners_seen (λ store. store)
+        generator_words (λ it. told it.search.chooser) made.items)) }
+    ensures entered { IfOk result (λ made. racers_seen (λ it. told it.search.chooser) made.items ≡
+        entrants (map (λ c. (told c).rule) choosers.items) budget seed) }
 {
     let mut choosers = choosers;
     let count = choosers.len() as u64;
@@ -80,10 +80,9 @@ fn runners<'p>(
 
 /// What is told of the end of a race.
 fn told_of(race: &Race<'_, Ac4<'_>, Pcg64>, end: RaceEnd) -> Raced
-    requires true_end { EndsTruly (λ store. store) generator_words
-        (λ v. (⟦<dyn Chooser as Chooser>⟧ v).told) race.now end }
-    ensures answers { AnswersTo end (racers_of (seens (λ store. store) generator_words
-        (λ v. (⟦<dyn Chooser as Chooser>⟧ v).told) race.now)) result }
+    requires true_end { EndsTruly (λ store. store) generator_words told race.now end }
+    ensures answers { AnswersTo end (racers_of (seens (λ store. store) generator_words told
+        race.now)) result }
 {
     match end {
         RaceEnd::Map { runner } => Raced::Map {
@@ -113,8 +112,8 @@ pub(crate) fn race<L: Ledger>(
     requires few { length choosers.items ≤ MAX_RUNNERS }
     requires fits { seed + length choosers.items ≤ 2 ^ 64 }
     requires quantum { 1 ≤ quantum }
-    ensures raced { IfOk result (IsRaced problem.now
-        (map (λ chooser. (told chooser).rule) choosers.items) budget seed quantum) }
+    ensures raced { IfOk result (IsRaced problem.now (map (λ chooser. (told chooser).rule)
+        choosers.items) budget seed quantum) }
 {
     let runners = runners(alloc, problem, choosers, budget, seed)?;
     let mut race = Race::new(runners);

@@ -108,8 +108,8 @@ pub fn outcome_counted<L: Ledger>(
     seed: u64,
     steps: &mut Steps<L>,
 ) -> Result<Outcome, NoMemory>
-    ensures ends { IfOk result
-        (EndsIn problem.now (told chooser).rule budget (words_of_seed seed)) }
+    ensures ends { IfOk result (EndsIn problem.now (told chooser).rule budget (words_of_seed seed))
+        }
 {
     let mut search = open_search(alloc, problem, chooser, budget)?;
     Ok(seeded_outcome(&mut search, seed, steps))
@@ -123,8 +123,8 @@ pub fn open_search<'p>(
     chooser: Box<dyn Chooser>,
     budget: u32,
 ) -> Result<Search<'p, Ac4<'p>>, NoMemory>
-    ensures ready { IfOk result
-        (λ made. IsReady (view_of_search (λ store. store) made (told made.chooser))) }
+    ensures ready { IfOk result (λ made. IsReady (view_of_search (λ store. store) made (told
+        made.chooser))) }
     ensures going { IfOk result (λ made. IsGoing made.course) }
     ensures problem { IfOk result (λ made. made.problem.now ≡ problem.now) }
     ensures standing { IfOk result (λ made. made.store.standing ≡ []) }
@@ -147,14 +147,11 @@ fn seeded_outcome<L: Ledger>(
     seed: u64,
     steps: &mut Steps<L>,
 ) -> Outcome
-    requires ready { IsReady
-        (search_view (λ v. (⟦<dyn Chooser as Chooser>⟧ v).told) search.old) }
+    requires ready { IsReady (search_view told search.old) }
     requires going { IsGoing search.old.course }
-    ensures end { IsSeededEnd (λ v. (⟦<dyn Chooser as Chooser>⟧ v).told)
-        search.old seed result search.new }
+    ensures end { IsSeededEnd told search.old seed result search.new }
     ensures outcome { search.new.course.outcome ≡ Some result }
-    ensures ready { IsReady
-        (search_view (λ v. (⟦<dyn Chooser as Chooser>⟧ v).told) search.new) }
+    ensures ready { IsReady (search_view told search.new) }
     ensures problem { search.new.problem.now ≡ search.old.problem.now }
 {
     let mut words = words_of_seed(seed);
@@ -171,8 +168,7 @@ fn ran_of(
     search: &Search<'_, Ac4<'_>>,
     outcome: Outcome,
 ) -> Result<Ran, NoMemory>
-    requires ready { IsReady
-        (search_view (λ v. (⟦<dyn Chooser as Chooser>⟧ v).told) search.now) }
+    requires ready { IsReady (search_view told search.now) }
     requires problem { search.now.problem.now ≡ problem.now }
     requires outcome { search.now.course.outcome ≡ Some outcome }
     ensures end { IfOk result
@@ -194,8 +190,7 @@ fn end_of(
     search: &Search<'_, Ac4<'_>>,
     outcome: Outcome,
 ) -> Result<RunEnd, NoMemory>
-    requires ready { IsReady
-        (search_view (λ v. (⟦<dyn Chooser as Chooser>⟧ v).told) search.now) }
+    requires ready { IsReady (search_view told search.now) }
     requires problem { search.now.problem.now ≡ problem.now }
     requires outcome { search.now.course.outcome ≡ Some outcome }
     ensures end { IfOk result (HoldsOutcome problem.now search.now.store.standing outcome) }
@@ -215,8 +210,7 @@ fn assignment(
     problem: &Problem,
     search: &Search<'_, Ac4<'_>>,
 ) -> Result<Vec<u16>, NoMemory>
-    requires ready { IsReady
-        (search_view (λ v. (⟦<dyn Chooser as Chooser>⟧ v).told) search.now) }
+    requires ready { IsReady (search_view told search.now) }
     requires problem { search.now.problem.now ≡ problem.now }
     requires map { search.now.course.outcome ≡ Some Outcome.Map }
     ensures value { IfOk result

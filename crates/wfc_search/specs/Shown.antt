@@ -13,6 +13,10 @@ use Rattle.wfc_search.specs.declared.search.Search.{Search}
 abbrev pub view_of_search : {S D : Type 0} {V : D → Type 0} → (S → StoreView) → Search S D V → Told → SearchView
 view_of_search view it chooser = record { problem = it.problem.now; store = view it.store; chooser = chooser; course = it.course }
 
+-- a search, told how its store and any chooser are seen
+abbrev pub search_seen : {S D : Type 0} {V : D → Type 0} → (S → StoreView) → ((v : D) × V v → Told) → Search S D V → SearchView
+search_seen view told it = view_of_search view it (told (it.chooser.vtable, it.chooser.value))
+
 -- from one search, told what its chooser is and with these words to come, the run makes this turn to another, with those
 -- that are left
 abbrev pub IsTurnBetween : {S D : Type 0} {V : D → Type 0} → (S → StoreView)

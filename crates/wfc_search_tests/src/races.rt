@@ -2,7 +2,7 @@
 
 ghost use Rattle.std.specs.Prelude.{◌≡◌, ◌≤◌, ◌<◌, IfOk, None, length};
 ghost use Rattle.wfc_race.specs.Race.{IsRacing};
-ghost use Rattle.wfc_race.specs.Seen.{AreRunners, IsRunner, racers_of, seen, seens};
+ghost use Rattle.wfc_race.specs.Seen.{AreRunners, IsRunner, racers_of, runners_seen, seen, seens};
 ghost use Rattle.wfc_runs.specs.Words.{generator_words};
 
 use crate::problems::{grid, ring};
@@ -29,8 +29,8 @@ fn runner<'p>(
     budget: u32,
     seed: u64,
 ) -> Result<Runner<'p, Ac4<'p>, Pcg64>, NoMemory>
-    ensures runner { IfOk result (λ made. IsRunner problem.now
-        (seen (λ store. store) generator_words (λ v. (⟦<dyn Chooser as Chooser>⟧ v).told) made)) }
+    ensures runner { IfOk result (λ made. IsRunner problem.now (seen (λ store. store)
+        generator_words (told made.search.chooser) made)) }
     ensures free { IfOk result (λ made. made.search.course.outcome ≡ None) }
 {
     let Ok(store) = Ac4::open(alloc, problem, problem.depth()) else {
@@ -51,10 +51,10 @@ fn race_of_two<'p>(
     other: Box<dyn Chooser>,
     budgets: (u32, u32),
 ) -> Result<Race<'p, Ac4<'p>, Pcg64>, NoMemory>
-    ensures ready { IfOk result (λ race. AreRunners
-        (seens (λ store. store) generator_words (λ v. (⟦<dyn Chooser as Chooser>⟧ v).told) race)) }
-    ensures racing { IfOk result (λ race. IsRacing (racers_of
-        (seens (λ store. store) generator_words (λ v. (⟦<dyn Chooser as Chooser>⟧ v).told) race))) }
+    ensures ready { IfOk result (λ race. AreRunners (runners_seen (λ store. store) generator_words
+        (λ it. told it.search.chooser) race.runners.items)) }
+    ensures racing { IfOk result (λ race. IsRacing (racers_of (runners_seen (λ store. store)
+        generator_words (λ it. told it.search.chooser) race.runners.items))) }
     ensures two { IfOk result (λ race. length race.runners.items ≡ 2) }
 {
     let first = runner(alloc, problem, one, budgets.0, 0)?;
@@ -70,8 +70,8 @@ fn ends_so<L: Ledger>(
     want: (RaceEnd, u32, u32),
     blank: Blank,
 )
-    requires ready { AreRunners (seens (λ store. store) generator_words (λ v. (⟦<dyn Chooser as Chooser>⟧ v).told) race.old) }
-    requires racing { IsRacing (racers_of (seens (λ store. store) generator_words (λ v. (⟦<dyn Chooser as Chooser>⟧ v).told) race.old)) }
+    requires ready { AreRunners (seens (λ store. store) generator_words told race.old) }
+    requires racing { IsRacing (racers_of (seens (λ store. store) generator_words told race.old)) }
     requires two { length race.old.runners.items ≡ 2 }
     requires quantum { 1 ≤ quantum }
     requires name { blank.name ≡ L.name }
@@ -145,13 +145,13 @@ fn turns_so<L: Ledger>(
     want: Option<RaceEnd>,
     steps: &mut Steps<L>,
 )
-    requires ready { AreRunners (seens (λ store. store) generator_words (λ v. (⟦<dyn Chooser as Chooser>⟧ v).told) race.old) }
-    requires racing { IsRacing (racers_of (seens (λ store. store) generator_words (λ v. (⟦<dyn Chooser as Chooser>⟧ v).told) race.old)) }
+    requires ready { AreRunners (seens (λ store. store) generator_words told race.old) }
+    requires racing { IsRacing (racers_of (seens (λ store. store) generator_words told race.old)) }
     requires two { length race.old.runners.items ≡ 2 }
     requires who_in { who < 2 }
-    ensures ready { AreRunners (seens (λ store. store) generator_words (λ v. (⟦<dyn Chooser as Chooser>⟧ v).told) race.new) }
-    ensures racing { want ≡ None → IsRacing (racers_of (seens (λ store. store) generator_words (λ v.
-        (⟦<dyn Chooser as Chooser>⟧ v).told) race.new)) }
+    ensures ready { AreRunners (seens (λ store. store) generator_words told race.new) }
+    ensures racing { want ≡ None → IsRacing (racers_of (seens (λ store. store) generator_words told
+        race.new)) }
     ensures two { length race.new.runners.items ≡ 2 }
 {
     assert!(rt; race.search(who).outcome().is_none());

@@ -4,7 +4,7 @@ ghost use Rattle.std.specs.Prelude.{◌≡◌, ◌<◌, OnOk, Some, false};
 ghost use Rattle.wfc_domains.specs.Store.{IsOpened};
 ghost use Rattle.wfc_problem.specs.Rounds.{depth_of};
 ghost use Rattle.wfc_search.specs.Search.{IsGoing, IsReady};
-ghost use Rattle.wfc_search.specs.Shown.{view_of_search};
+ghost use Rattle.wfc_search.specs.Shown.{search_seen};
 
 use super::expecting::Expecting;
 use super::words::Words;
@@ -69,8 +69,7 @@ fn runs_to<S: Store, L: Ledger>(
     want: Option<Outcome>,
     blank: Blank,
 )
-    requires ready { IsReady (view_of_search S.view search.old
-        ((⟦<dyn Chooser as Chooser>⟧ search.old.chooser.vtable).told search.old.chooser.value)) }
+    requires ready { IsReady (search_seen S.view told search.old) }
     requires going { IsGoing search.old.course }
     requires journal { journal.old.failed ≡ false }
     requires name { blank.name ≡ L.name }
@@ -176,10 +175,8 @@ fn next_turn<S: Store, L: Ledger>(
     words: &mut Words,
     steps: &mut Steps<L>,
 ) -> Result<Turn, JournalFault>
-    requires ready { IsReady (view_of_search S.view search.old
-        ((⟦<dyn Chooser as Chooser>⟧ search.old.chooser.vtable).told search.old.chooser.value)) }
-    ensures ready { OnOk result (IsReady (view_of_search S.view search.new
-        ((⟦<dyn Chooser as Chooser>⟧ search.new.chooser.vtable).told search.new.chooser.value))) }
+    requires ready { IsReady (search_seen S.view told search.old) }
+    ensures ready { OnOk result (IsReady (search_seen S.view told search.new)) }
 {
     let (None, false) = (search.outcome(), search.broken()) else {
         return Err(JournalFault::Failed);
@@ -193,8 +190,7 @@ fn first_turns<S: Store, L: Ledger>(
     word: u64,
     steps: &mut Steps<L>,
 ) -> Result<(Turn, Turn), Fail>
-    requires ready { IsReady (view_of_search S.view search.old
-        ((⟦<dyn Chooser as Chooser>⟧ search.old.chooser.vtable).told search.old.chooser.value)) }
+    requires ready { IsReady (search_seen S.view told search.old) }
 {
     let mut words = Words(word);
     let first = next_turn(search, &mut words, steps)?;
@@ -268,10 +264,8 @@ fn values_agree<S: Store, T: Store>(
     other: &Search<'_, T>,
     cell: u32,
 )
-    requires one { IsReady (view_of_search S.view one.now
-        ((⟦<dyn Chooser as Chooser>⟧ one.now.chooser.vtable).told one.now.chooser.value)) }
-    requires other { IsReady (view_of_search T.view other.now
-        ((⟦<dyn Chooser as Chooser>⟧ other.now.chooser.vtable).told other.now.chooser.value)) }
+    requires one { IsReady (search_seen S.view told one.now) }
+    requires other { IsReady (search_seen T.view told other.now) }
     requires one_map { one.now.course.outcome ≡ Some Outcome.Map }
     requires other_map { other.now.course.outcome ≡ Some Outcome.Map }
     requires one_has_it { cell < one.now.problem.now.cells }
@@ -287,10 +281,8 @@ fn maps_agree<S: Store, T: Store>(
     one: &Search<'_, S>,
     other: &Search<'_, T>,
 )
-    requires one { IsReady (view_of_search S.view one.now
-        ((⟦<dyn Chooser as Chooser>⟧ one.now.chooser.vtable).told one.now.chooser.value)) }
-    requires other { IsReady (view_of_search T.view other.now
-        ((⟦<dyn Chooser as Chooser>⟧ other.now.chooser.vtable).told other.now.chooser.value)) }
+    requires one { IsReady (search_seen S.view told one.now) }
+    requires other { IsReady (search_seen T.view told other.now) }
     requires same_problem { one.now.problem.now ≡ problem.now }
     requires problem { other.now.problem.now ≡ problem.now }
 {
@@ -309,16 +301,12 @@ fn runs_agree<S: Store, T: Store, L: Ledger>(
     seed: u64,
     steps: &mut Steps<L>,
 ) -> Result<(), Fail>
-    requires one { IsReady (view_of_search S.view one.old
-        ((⟦<dyn Chooser as Chooser>⟧ one.old.chooser.vtable).told one.old.chooser.value)) }
-    requires other { IsReady (view_of_search T.view other.old
-        ((⟦<dyn Chooser as Chooser>⟧ other.old.chooser.vtable).told other.old.chooser.value)) }
+    requires one { IsReady (search_seen S.view told one.old) }
+    requires other { IsReady (search_seen T.view told other.old) }
     requires one_going { IsGoing one.old.course }
     requires other_going { IsGoing other.old.course }
-    ensures one { OnOk result (IsReady (view_of_search S.view one.new
-        ((⟦<dyn Chooser as Chooser>⟧ one.new.chooser.vtable).told one.new.chooser.value))) }
-    ensures other { OnOk result (IsReady (view_of_search T.view other.new
-        ((⟦<dyn Chooser as Chooser>⟧ other.new.chooser.vtable).told other.new.chooser.value))) }
+    ensures one { OnOk result (IsReady (search_seen S.view told one.new)) }
+    ensures other { OnOk result (IsReady (search_seen T.view told other.new)) }
     ensures one_problem { one.new.problem.now ≡ one.old.problem.now }
     ensures other_problem { other.new.problem.now ≡ other.old.problem.now }
 {
