@@ -3,7 +3,7 @@
 ghost use Rattle.std.specs.Prelude.{◌≡◌, []};
 ghost use Rattle.wfc_choose.specs.declared.RuleKind.TheVariants.{Fewest};
 
-use crate::index::{FAN, time_of, first_open, mend_above, summary_of};
+use crate::index::{FAN, first_open, mend_above, summary_of, time_of};
 use crate::sizes::narrow_sizes;
 use crate::{Chooser, RuleKind};
 use std::alloc::Global;

@@ -108,8 +108,7 @@ pub fn outcome_counted<L: Ledger>(
     seed: u64,
     steps: &mut Steps<L>,
 ) -> Result<Outcome, NoMemory>
-    ensures ends { IfOk result (EndsIn problem.now (told chooser).rule budget (words_of_seed seed))
-        }
+    ensures ends { IfOk result (EndsIn problem.now (told chooser).rule budget (words_of_seed seed)) }
 {
     let mut search = open_search(alloc, problem, chooser, budget)?;
     Ok(seeded_outcome(&mut search, seed, steps))
