@@ -1,6 +1,6 @@
 -- A race of seeds, and how the code holds its end.
 use Rattle.std.specs.List.{slice_get}
-use Rattle.std.specs.Prelude.{List, Some, [], map, ℕ, ⊤, ◌+◌, ◌∷◌, ◌≡◌}
+use Rattle.std.specs.Prelude.{List, Some, [], ℕ, ⊤, ◌+◌, ◌∷◌, ◌≡◌}
 use Rattle.rand_pcg.specs.Lcg.{Lcg}
 use Rattle.wfc_choose.specs.Pick.{Rule}
 use Rattle.wfc_choose.specs.Told.{Told}
