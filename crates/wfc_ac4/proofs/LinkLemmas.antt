@@ -17,6 +17,7 @@ use Rattle.wfc_domains.proofs.Loading.{place_in-row}
 use Rattle.wfc_domains.proofs.Problems.{in_values, in_cells, back, opposite-in, supports-below, few_values, few_pairs, dirs-le}
 use Rattle.wfc_ac4.specs.Places.{side_places, places_upto, counter_places, times}
 use Rattle.wfc_ac4.specs.Links.{no_link, AreLinks, link_to, side_links, links_upto, links_of, all_upto, link_place, link_places}
+use Rattle.wfc_ac4.specs.Starts.{AreStarts}
 use Rattle.wfc_ac4.specs.State.{IsWorking, counted_base}
 use Rattle.wfc_ac4.specs.declared.links.SupportLink.{SupportLink}
 use Rattle.wfc_ac4.specs.declared.links.Links.{Links}
@@ -310,6 +311,41 @@ link_at b a T A head c v k n row ls entries same fits h e l table wide is inside
     let some : n ≢ NO_CELL = let few = few_cells a.problem.now (subst IsProblem N h.board.traced.problem) in omega (arith, inside, few) in
     let wide' : row ≡ values b.problem.now * b.problem.now.dirs = wide ∙ (λ i. fits.same_values i * fits.same_dirs i) ∙ ap (λ P. values P * P.dirs) (sym N) in
     link_step b T head c v k n row ls h e' l (named_neighbour b.problem.now h.board.traced.problem c x.dir n (working-range h).0 hd entry some) wide'
+
+-- where a cell has four neighbours there are four directions
+pub four_dirs : (b a : Board) (T : Table) (head c v : ℕ) (lowered starts : List ℕ) (row : ℕ) → b.problem ≡ a.problem → IsWorking b T head c v lowered
+    → AreStarts (beside a.problem.now c) row a.problem.now.cells starts → b.problem.now.dirs ≡ 4
+four_dirs b a T head c v lowered starts row same h s =
+    let N = ap (λ p. p.now) same in
+    let p = subst IsProblem N h.board.traced.problem in
+    let hc = subst (λ (P : Network). c < P.cells) N (working-range h).0 in
+    ap (λ P. P.dirs) N ∙ sym (beside_length a.problem.now p c hc) ∙ s.four
+
+-- so a link leads in one of four
+pub four_in : (b a : Board) (T : Table) (head c v k : ℕ) (ls : List SupportLink) (starts : List ℕ) (row : ℕ) → b.problem ≡ a.problem
+    → IsWorking b T head c v (link_places b.problem.now c (take k ls)) → ls ≡ links_of a.problem.now v → k < length ls
+    → AreStarts (beside a.problem.now c) row a.problem.now.cells starts → (get_or ls k no_link).dir < 4
+four_in b a T head c v k ls starts row same h e l s =
+    let N = ap (λ p. p.now) same in
+    let e' = e ∙ ap (λ P. links_of P v) (sym N) in
+    omega (arith, (is_link b.problem.now h.board.traced.problem v k ls e' l).dir_in, four_dirs b a T head c v (link_places b.problem.now c (take k ls)) starts row same h s)
+
+-- the same where it is kept at which places the counters of four neighbours begin
+pub link_from : (b a : Board) (T A : Table) (head c v k n : ℕ) (ls : List SupportLink) (starts : List ℕ) → b.problem ≡ a.problem → FitsTable a.problem.now A
+    → IsWorking b T head c v (link_places b.problem.now c (take k ls)) → ls ≡ links_of a.problem.now v → k < length ls
+    → AreStarts (beside a.problem.now c) (A.values * A.dirs) a.problem.now.cells starts → n ≡ slice_index (beside a.problem.now c) (get_or ls k no_link).dir
+    → LinkStep b.problem.now (link_places b.problem.now c (take k ls)) (link_places b.problem.now c (take (k + 1) ls)) c v n (slice_index starts (get_or ls k no_link).dir + (get_or ls k no_link).offset) (get_or ls k no_link) T
+link_from b a T A head c v k n ls starts same fits h e l s is =
+    let x = get_or ls k no_link in
+    let row = A.values * A.dirs in
+    let below = four_in b a T head c v k ls starts row same h e l s in
+    subst (λ i. LinkStep b.problem.now (link_places b.problem.now c (take k ls)) (link_places b.problem.now c (take (k + 1) ls)) c v n (i + x.offset) x T)
+    (sym (s.begins x.dir below ∙ ap (λ m. m * row) (sym is)))
+    (link_at b a T A head c v k n row ls (beside a.problem.now c) same fits h e l refl refl is (subst (λ m. m < a.problem.now.cells) (sym is) (s.inside x.dir below)))
+
+-- the place of a counter, of a value and a direction that are called otherwise
+pub placed_as : (P : Network) (i n w w' d d' : ℕ) → i ≡ counter_place P n w d → w ≡ w' → d ≡ d' → i ≡ counter_place P n w' d'
+placed_as P i n w w' d d' is value way = is ∙ ap (λ v. counter_place P n v d) value ∙ ap (counter_place P n w') way
 
 -- the table with the counter at a link's place lowered
 pub lowered-at : (T T' : Table) (i n w d : ℕ) → i ≡ count_place T.values T.dirs n w d → T' ≡ record T { counts = slice_set T.counts i (slice_index T.counts i - 1) } → T' ≡ with_count T n w d (entry_of T n w d - 1)

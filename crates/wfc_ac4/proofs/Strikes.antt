@@ -29,3 +29,7 @@ struck_working old new T k c v n w d lowered next h s is_table one_left struck =
       subst (λ (f : Flight). IsWorking f.board f.counters k c v (next f.board.problem.now)) (sym x.same)
       (step_lowered old.board T old.counters k c v lowered (next old.board.problem.now) n w d h s is_table (λ alive _ stands. x.gone alive stands))
 ]
+
+-- the same of a value and a direction that are called otherwise
+pub struck_as : (old new : Flight) (n w w' d d' : ℕ) → w ≡ w' → d ≡ d' → IsStruck old new n w d → IsStruck old new n w' d'
+struck_as old new n w w' d d' value way struck = subst (λ v. IsStruck old new n v d') value (subst (IsStruck old new n w) way struck)

@@ -1,6 +1,6 @@
 -- What a flight's steps leave as it was.
-use Rattle.std.specs.Prelude.{◌≡◌, ℕ, ◌<◌, ◌⊎◌, ◌∷◌, ◌++◌, [], length, min, take, Some, IsTrue}
-use Rattle.wfc_problem.specs.Network.{neighbour}
+use Rattle.std.specs.Prelude.{◌≡◌, ℕ, ◌*◌, ◌<◌, ◌⊎◌, ◌∷◌, ◌++◌, List, [], length, min, take, Some, IsTrue}
+use Rattle.wfc_problem.specs.Network.{beside, neighbour}
 use Rattle.wfc_log.specs.declared.Cause.TheVariants.{Arc}
 use Rattle.wfc_log.specs.declared.Removal.{Removal}
 use Rattle.wfc_log.specs.declared.Verdict.TheVariants.{Alive}
@@ -8,6 +8,7 @@ use Rattle.wfc_log.specs.Domains.{has}
 use Rattle.wfc_domains.specs.Counters.{Table, IsMarked, Marks, count_of, cost_of}
 use Rattle.wfc_domains.specs.Board.{Grows, Loses}
 use Rattle.wfc_ac4.specs.declared.flight.Flight.{Flight}
+use Rattle.wfc_ac4.specs.Starts.{AreStarts}
 
 -- by the problem of one flight, how many counters count the first removals in the log of another
 abbrev pub front_cost : Flight → Flight → ℕ → ℕ
@@ -65,3 +66,8 @@ pub record IsFirstBare (f : Flight) (cell value d : ℕ) : Type 0 where
   pub dir_in : d < f.board.problem.now.dirs
   pub none : count_of f.counters cell value d ≡ 0
   pub first : (e n : ℕ) → e < d → neighbour f.board.problem.now cell e ≡ Some n → 0 < count_of f.counters cell value e
+
+-- the cell has four neighbours, whose counters begin at these places
+abbrev pub HasStarts : Flight → ℕ → List ℕ → Type 0
+HasStarts f cell starts =
+    AreStarts (beside f.board.problem.now cell) (f.counters.values * f.counters.dirs) f.board.problem.now.cells starts

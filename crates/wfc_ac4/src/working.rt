@@ -1,15 +1,15 @@
 //! Removals worked off.
 
-ghost use Rattle.std.specs.Prelude.{◌≡◌, ◌+◌, ◌/◌, ◌<◌, ◌≤◌, [], length, slice_get, Some};
-ghost use Rattle.wfc_model.specs.Direction.{opposite};
-ghost use Rattle.wfc_problem.specs.Network.{values};
+ghost use Rattle.std.specs.Prelude.{◌≡◌, ◌+◌, ◌/◌, ◌<◌, ◌≤◌, [], length, slice_get, IfSome, Some};
+ghost use Rattle.wfc_problem.specs.Network.{beside, values};
 ghost use Rattle.wfc_log.specs.declared.Verdict.TheVariants.{Alive};
 ghost use Rattle.wfc_domains.specs.Counters.{FitsTable, cost_at, counter_place};
 ghost use Rattle.wfc_domains.specs.Board.{Grows, HasValues, IsTraced};
 ghost use Rattle.wfc_ac4.specs.Places.{counter_places};
 ghost use Rattle.wfc_ac4.specs.Links.{AreLinks, links_of};
 ghost use Rattle.wfc_ac4.specs.State.{IsWorking, IsBetweenRemovals};
-ghost use Rattle.wfc_ac4.specs.Flight.{front_cost, GoesOn, IsStruck};
+ghost use Rattle.wfc_ac4.specs.Flight.{front_cost, GoesOn, HasStarts, IsStruck};
+ghost use Rattle.wfc_ac4.specs.Starts.{AreStarts};
 
 use crate::flight::Flight;
 use crate::links::{Links, SupportLink};
@@ -29,35 +29,108 @@ fn value_at(offset: u16, dirs: u8) -> u16
     }
 }
 
+/// Where the counters of the neighbours begin, if these are the numbers of four cells.
+#[inline]
+fn four_starts(beside: &[u32], row_len: usize, cells: u32) -> Option<[usize; 4]>
+    requires small { row_len ≤ 4294967295 }
+    ensures some { IfSome result (AreStarts beside.now row_len cells) }
+{
+    if beside.len() != 4 {
+        return None;
+    }
+    if beside[0] >= cells || beside[1] >= cells || beside[2] >= cells || beside[3] >= cells {
+        return None;
+    }
+    Some([
+        beside[0] as usize * row_len,
+        beside[1] as usize * row_len,
+        beside[2] as usize * row_len,
+        beside[3] as usize * row_len,
+    ])
+}
+
 impl<'p> Flight<'p> {
-    /// Removes the value to which a link leads at a neighbour, if it stands there and no cell is empty: its counter for
-    /// the way back, which stands at `at`, came to 0.
-    #[inline]
-    fn strike(&mut self, next: u32, link: SupportLink, at: usize)
+    /// Removes a value at a cell, if it stands there and no cell is empty: its counter for the way back, which stands at
+    /// `at`, came to 0.
+    #[inline(always)]
+    fn strike(&mut self, cell: u32, value: u16, back: u8, at: usize)
         requires traced { IsTraced self.old.board }
         requires filled { self.old.board.verdict ≡ Alive → HasValues self.old.board }
         requires fits { FitsTable self.old.board.problem.now self.old.counters }
-        requires next_in { next < self.old.board.problem.now.cells }
-        requires back { link.back ≡ opposite link.dir }
-        requires back_in { link.back < self.old.board.problem.now.dirs }
-        requires value_in { link.offset / self.old.board.problem.now.dirs
-            < values self.old.board.problem.now }
-        requires at { at ≡ counter_place self.old.board.problem.now next (link.offset /
-            self.old.board.problem.now.dirs) link.back }
-        ensures struck { IsStruck self.old self.new next
-            (link.offset / self.old.board.problem.now.dirs) (opposite link.dir) }
+        requires cell_in { cell < self.old.board.problem.now.cells }
+        requires value_in { value < values self.old.board.problem.now }
+        requires back_in { back < self.old.board.problem.now.dirs }
+        requires at { at ≡ counter_place self.old.board.problem.now cell value back }
+        ensures struck { IsStruck self.old self.new cell value back }
     {
-        let problem = self.board.problem;
-        let value = value_at(link.offset, problem.dirs());
-        if self.board.domains.has(next, value) && is_alive(self.board.verdict) {
-            self.board.remove(next, value, Cause::Arc(link.back));
-            self.counters.mark_at(at - link.back as usize, next, value);
+        if self.board.domains.has(cell, value) && is_alive(self.board.verdict) {
+            self.board.remove(cell, value, Cause::Arc(back));
+            self.counters.mark_at(at - back as usize, cell, value);
         }
     }
 
-    /// Lowers the counters that count a removal, and removes what has no support left. An entry beside the cell that names
-    /// no cell is above all their numbers.
+    /// Lowers the counters that count a removal, and removes what has no support left.
     fn work_links<L: Ledger>(
+        &mut self,
+        index: usize,
+        cell: u32,
+        value: u16,
+        links: &[SupportLink],
+        steps: &mut Steps<L>,
+    )
+        requires links { links.now ≡ links_of self.old.board.problem.now value }
+        requires working { IsWorking self.old.board self.old.counters index cell value [] }
+        ensures working { IsWorking self.new.board self.new.counters index cell value
+            (counter_places self.new.board.problem.now cell value) }
+        ensures goes_on { GoesOn self.old self.new }
+        ensures steps { steps.new ≡ steps.old + cost_at self.old.board.problem.now cell value }
+    {
+        let problem = self.board.problem;
+        let row_len = self.counters.row_len();
+        let entries = problem.beside(cell);
+        match four_starts(entries, row_len, problem.cells()) {
+            Some(starts) => self.work_four(index, cell, value, entries, starts, links, steps),
+            None => self.work_sides(index, cell, value, links, steps),
+        }
+    }
+
+    /// The same for a cell with four neighbours, which are these, and whose counters begin at `starts`.
+    #[inline]
+    fn work_four<L: Ledger>(
+        &mut self,
+        index: usize,
+        cell: u32,
+        value: u16,
+        entries: &[u32],
+        starts: [usize; 4],
+        links: &[SupportLink],
+        steps: &mut Steps<L>,
+    )
+        requires entries { entries.now ≡ beside self.old.board.problem.now cell }
+        requires starts { HasStarts self.old cell starts }
+        requires links { links.now ≡ links_of self.old.board.problem.now value }
+        requires working { IsWorking self.old.board self.old.counters index cell value [] }
+        ensures working { IsWorking self.new.board self.new.counters index cell value
+            (counter_places self.new.board.problem.now cell value) }
+        ensures goes_on { GoesOn self.old self.new }
+        ensures steps { steps.new ≡ steps.old + cost_at self.old.board.problem.now cell value }
+    {
+        for link in links {
+            let place = starts[link.dir as usize] + link.offset as usize;
+            if self.counters.down_at(place, steps) {
+                self.strike(
+                    entries[link.dir as usize],
+                    link.offset / 4,
+                    link.back,
+                    place,
+                );
+            }
+        }
+    }
+
+    /// The same for any cell. An entry beside it that names no cell is above all their numbers.
+    #[inline(never)]
+    fn work_sides<L: Ledger>(
         &mut self,
         index: usize,
         cell: u32,
@@ -81,7 +154,8 @@ impl<'p> Flight<'p> {
             if next < cells {
                 let place = next as usize * row_len + link.offset as usize;
                 if self.counters.down_at(place, steps) {
-                    self.strike(next, *link, place);
+                    let other = value_at(link.offset, problem.dirs());
+                    self.strike(next, other, link.back, place);
                 }
             }
         }

@@ -2,7 +2,7 @@ use Rattle.std.proofs.Common.{◌+◌, ◌≡◌, length, take}
 use Rattle.wfc_ac4.specs.Links.{link_places}
 use Rattle.wfc_ac4.specs.State.{IsWorking}
 use Rattle.wfc_ac4.specs.Flight.{GoesOn}
-use Rattle.wfc_ac4.proofs.flight.Flight.work_links.Given as goal
+use Rattle.wfc_ac4.proofs.flight.Flight.work_sides.Given as goal
 
 -- the counters of the links so far are lowered
 abbrev pub invariant-loop-link : goal.invariant-loop-link
