@@ -6,4 +6,3 @@ pub record AreStarts (entries : List ℕ) (row cells : ℕ) (starts : List ℕ) 
   pub four : length entries ≡ 4
   pub inside : (d : ℕ) → d < 4 → slice_index entries d < cells
   pub begins : (d : ℕ) → d < 4 → slice_index starts d ≡ slice_index entries d * row
-  pub as_many : length starts ≡ 4
