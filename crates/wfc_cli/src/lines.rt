@@ -9,7 +9,7 @@ ghost use Rattle.wfc_reply.specs.FileNames.{name_of};
 use wfc_grid::GridFault;
 use wfc_lines::{
     build, chooser, grid, learn, many_blocks, many_pins, mask, mask_grid, no_memory, palette, pins,
-    ppm, race, range, render, stack, steps, tiles,
+    ppm, race, range, render, stack, steps, tiles, unread_file,
 };
 use wfc_outside::{ReadFault, Sink, SinkFault};
 use wfc_plan::{Fault, Refusal, Source};

@@ -9,6 +9,7 @@ use wfc_grid::GridFault;
 use wfc_lines::{
     budget_spent, build, check, chooser, command, grid, learn, map_exists, mask, mask_grid,
     no_domains, no_map, no_memory, out_failed, palette, pins, ppm, range, render, steps, tiles,
+    unread_file,
 };
 use wfc_outside::{MemorySink, ReadFault, SinkFault};
 use wfc_pattern::LearnFault;
