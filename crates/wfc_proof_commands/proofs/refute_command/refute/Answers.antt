@@ -40,7 +40,7 @@ returns-in_err-outcome g c =
     let kinds = c.deref-2.ensures.value ∙ (rw c.deref.ensures.value at c.in_ok-kinds.ensures.value) in
     record {
       ends = rw (p.1, p.2) (refute_stopped flat_proofs _ c.args.request.now _ _ _ _ _ c.in_ok-problem.problem _ c.request.inside.rule _ c.in_err-outcome.field-0.0 kinds c.in_ok-problem.ensures.goes (ap (λ (r : RequestView). r.rule) c.request.view_is)
-          c.in_ok-chooser.ensures.first c.writing-writing_of.ensures.value c.in_err-outcome.ensures.puts);
+          c.in_ok-chooser.ensures.first c.writing_of-writing.ensures.value c.in_err-outcome.ensures.puts);
     }
 
 pub returns-in_err-finish : goal.returns-in_err-finish
@@ -49,7 +49,7 @@ returns-in_err-finish g c =
     let kinds = c.deref-2.ensures.value ∙ (rw c.deref.ensures.value at c.in_ok-kinds.ensures.value) in
     record {
       ends = rw (p.1, p.2) (refute_unfinished flat_proofs _ c.args.request.now _ _ _ _ _ _ c.in_ok-problem.problem _ c.request.inside.rule c.in_ok-outcome.outcome kinds c.in_ok-problem.ensures.goes (ap (λ (r : RequestView). r.rule) c.request.view_is)
-          c.in_ok-chooser.ensures.first (rw c.writing-writing_of.ensures.value at c.in_ok-outcome.ensures.puts) c.in_err-finish.ensures.finished);
+          c.in_ok-chooser.ensures.first (rw c.writing_of-writing.ensures.value at c.in_ok-outcome.ensures.puts) c.in_err-finish.ensures.finished);
     }
 
 pub returns : goal.returns
@@ -57,6 +57,6 @@ returns g c =
     let kinds = c.deref-2.ensures.value ∙ (rw c.deref.ensures.value at c.in_ok-kinds.ensures.value) in
     record {
       ends = refute_done flat_proofs _ c.args.request.now _ _ _ _ _ _ c.in_ok-problem.problem _ c.request.inside.rule c.in_ok-outcome.outcome _ kinds c.in_ok-problem.ensures.goes (ap (λ (r : RequestView). r.rule) c.request.view_is)
-          c.in_ok-chooser.ensures.first (rw c.writing-writing_of.ensures.value at c.in_ok-outcome.ensures.puts)
+          c.in_ok-chooser.ensures.first (rw c.writing_of-writing.ensures.value at c.in_ok-outcome.ensures.puts)
           c.in_ok-finish.ensures.finished (c.refute_verdict.ensures.value ∙ ap (λ (r : RequestView). refute_verdict r.budget c.in_ok-outcome.outcome) c.request.view_is);
     }
