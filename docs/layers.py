@@ -25,6 +25,8 @@ WIDTH = 82
 TOPICS = {"wfc_box_tests": ("pins",)}
 # Modules of tests whose name is another form of the library's.
 LIBRARIES = {"races": "wfc_race"}
+# Crates of tests of the whole program, and the library by which they call it.
+WHOLE, CALLED_BY = ("wfc_command_tests", "wfc_round_trip_tests"), "wfc_rows"
 
 
 def groups():
@@ -100,6 +102,11 @@ def tests(found, uses):
     yield "| Crate | Tests of |"
     yield "|---|---|"
     for name in found.get(TESTS, ("", []))[1]:
+        if name == CALLED_BY:
+            continue
+        if name in WHOLE:
+            yield f"| `{name}` | `wfc_cli`, by `{CALLED_BY}` |"
+            continue
         modules = re.findall(r"^mod (\w+);", open(f"{ROOT}/crates/{name}/src/lib.rt", encoding="utf-8").read(), re.M)
         named = {LIBRARIES.get(it, f"wfc_{it}") for it in modules if it not in TOPICS.get(name, ())} | {name.removesuffix("_tests")}
         yield f"| `{name}` | {', '.join(f'`{it}`' for it in uses if it in named)} |"

@@ -8,9 +8,6 @@ ghost use Rattle.wfc_cli.specs.Delivery.{Tells, said_of_words};
 ghost use Rattle.wfc_app.specs.Keeping.{KeepsWhereRead};
 ghost use Rattle.wfc_app.specs.Unread.{unread_fault};
 
-#[cfg(test)]
-mod tests;
-
 use std::alloc::Global;
 use std::io::BufWriter;
 use std::process::ExitCode;

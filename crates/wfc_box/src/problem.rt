@@ -21,7 +21,6 @@ use std::alloc::Global;
 use wfc_model::MAX_OUTPUT_SIDE;
 use wfc_outside::NoMemory;
 use wfc_pins::BuildFault;
-use wfc_places::problem_with;
 use wfc_problem::{MAX_PAIRS, Parts, Problem};
 use wfc_tiled::weights;
 use wfc_tileset::TileSet;
@@ -82,7 +81,7 @@ fn build_in(
     }
     let marks = marks(alloc, tiles, frame, pins)?;
     let parts = parts(alloc, tiles, stacks, frame, &marks)?;
-    Ok(problem_with(parts))
+    Ok(Problem::from_known(parts))
 }
 
 /// How many pairs of a cell and a variant there are.

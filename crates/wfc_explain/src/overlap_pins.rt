@@ -12,8 +12,7 @@ use std::marker::Model;
 use wfc_model::MAX_OUTPUT_SIDE;
 use wfc_outside::NoMemory;
 use wfc_overlap::{
-    PinMark, checked_window_marks, problem_with, support_lists, window_base_of_marks,
-    window_parts_of_marks,
+    PinMark, checked_window_marks, support_lists, window_base_of_marks, window_parts_of_marks,
 };
 use wfc_pattern::Patterns;
 use wfc_picture::Palette;
@@ -106,6 +105,6 @@ impl<'a> PinnedProblem for OverlapPins<'a> {
             &kept,
         )?;
         let parts = with_base(alloc, &self.shared, base)?;
-        Ok(problem_with(parts))
+        Ok(Problem::from_known(parts))
     }
 }

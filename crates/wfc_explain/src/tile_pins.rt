@@ -12,7 +12,7 @@ use std::alloc::Global;
 use std::marker::Model;
 use wfc_model::MAX_OUTPUT_SIDE;
 use wfc_outside::NoMemory;
-use wfc_overlap::{PinMark, problem_with};
+use wfc_overlap::PinMark;
 use wfc_pins::{BuildFault, PinLine};
 use wfc_problem::{Parts, Problem};
 use wfc_tiled::{Mask, checked_plain, checked_tile_marks, tile_base_of_marks, tile_parts_of_marks};
@@ -141,6 +141,6 @@ impl<'a> PinnedProblem for TilePins<'a> {
         let kept = kept_marks(alloc, &self.marks, keep)?;
         let base = tile_base_of_marks(alloc, self.tiles, self.mask.mask(), &kept)?;
         let parts = with_base(alloc, &self.shared, base)?;
-        Ok(problem_with(parts))
+        Ok(Problem::from_known(parts))
     }
 }

@@ -90,14 +90,14 @@ impl<'r, R: Files> DiskFolder<'r, R> {
         ensures within { IfOk result (λ n. n ≤ length buf.new) }
         ensures uncounted { self.new ≡ self.old }
     {
-        let last = self.last.take().filter(|file| file.is_named(name));
-        let mut file = match last {
-            Some(file) => file,
-            None => OpenFile::open(self.rt, name)?,
-        };
-        let given = file.read_at(at, buf);
-        self.last = Some(file);
-        given
+        if let Some(file) = &mut self.last {
+            if file.is_named(name) {
+                return file.read_at(at, buf);
+            }
+        }
+        self.last = None;
+        let file = self.last.insert(OpenFile::open(self.rt, name)?);
+        file.read_at(at, buf)
     }
 
     /// As `Folder` has it. Its count rises at each error.

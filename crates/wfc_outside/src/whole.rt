@@ -13,7 +13,7 @@ use thiserror::Error;
 pub const MAX_FILE_BYTES: u64 = 16_777_216;
 
 /// How many bytes are asked for at a time where the limit leaves room for as many.
-const PIECE: u64 = 65536;
+const PIECE: u64 = 8192;
 
 /// Why a file was not read whole.
 #[derive(Clone, Copy, Debug, PartialEq, Eq, Error)]

@@ -21,4 +21,4 @@ pub use problem::{
     build, checked_window_marks, problem_of_marks, window_base_of_marks, window_parts_of_marks,
 };
 pub use supports::support_lists;
-pub use wfc_places::{PinMark, problem_with};
+pub use wfc_places::PinMark;

@@ -1,6 +1,6 @@
 //! The problem of a sample.
 
-ghost use Rattle.std.specs.Prelude.{◌≡◌, ◌<◌, ◌≤◌, map, IfOk};
+ghost use Rattle.std.specs.Prelude.{◌≡◌, ◌<◌, ◌≤◌, [], map, IfOk};
 ghost use Rattle.wfc_outside.specs.Gives.{Gives};
 ghost use Rattle.wfc_pattern.specs.Patterns.{IsPatterns};
 ghost use Rattle.wfc_overlap.specs.Bridge.{AreInside, IsRoom};
@@ -19,7 +19,7 @@ use wfc_outside::NoMemory;
 use wfc_pattern::Patterns;
 use wfc_picture::Palette;
 use wfc_pins::{BuildFault, PinLine};
-use wfc_places::{PinMark, problem_with};
+use wfc_places::PinMark;
 use wfc_problem::{MAX_PAIRS, Parts, Problem};
 
 /// The problem of learned patterns for an output of `width` by `height` pixels: a cell for each
@@ -104,8 +104,13 @@ pub fn problem_of_marks(
     ensures value { IfOk result (λ problem. problem
         ≡ problem_of_sample patterns.now (output_with width height wrap) marks.now) }
 {
+    if marks.is_empty() {
+        let layout = Layout::new(patterns.n(), width, height, wrap);
+        let whole = parts(alloc, patterns, supports, layout, Vec::new(alloc))?;
+        return Ok(Problem::from_known_whole(whole));
+    }
     let parts = window_parts_of_marks(alloc, patterns, supports, width, height, wrap, marks)?;
-    Ok(problem_with(parts))
+    Ok(Problem::from_known(parts))
 }
 
 /// What that problem is made of.
@@ -128,7 +133,8 @@ pub fn window_parts_of_marks(
     ensures patterns { IsPatterns patterns.now }
 {
     let layout = Layout::new(patterns.n(), width, height, wrap);
-    parts(alloc, patterns, supports, layout, marks)
+    let base = base(alloc, patterns, layout, marks)?;
+    parts(alloc, patterns, supports, layout, base)
 }
 
 /// The base of that problem: for each place and pattern, place by place, whether the pattern meets
@@ -152,19 +158,18 @@ pub fn window_base_of_marks(
     base(alloc, patterns, layout, marks)
 }
 
-/// What the problem is made of.
+/// What the problem with this base is made of.
 fn parts(
     alloc: Global,
     patterns: &Patterns,
     supports: Vec<Vec<u16>>,
     layout: Layout,
-    marks: &[PinMark],
+    base: Vec<bool>,
 ) -> Result<Parts, NoMemory>
     requires n { layout.n ≡ patterns.now.n }
     requires supports { map (λ list. list.items) supports.items ≡ agreement_table patterns.now }
-    requires inside { AreInside (output_of layout) marks.now }
-    ensures value { IfOk result (λ parts. parts
-        ≡ problem_of_sample patterns.now (output_of layout) marks.now) }
+    ensures value { IfOk result (λ parts. parts ≡ record (problem_of_sample patterns.now (output_of
+        layout) []) { base = base.items }) }
 {
     Ok(Parts {
         cells: layout.cells(),
@@ -172,7 +177,7 @@ fn parts(
         neighbours: neighbours(alloc, layout)?,
         weights: weights(alloc, patterns)?,
         supports,
-        base: base(alloc, patterns, layout, marks)?,
+        base,
     })
 }
 

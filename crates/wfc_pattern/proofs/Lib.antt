@@ -4,6 +4,7 @@ pub mod CallerLemmas
 pub mod ChainLemmas
 pub mod DifferentLemmas
 pub mod LearningLemmas
+pub mod MetLemmas
 pub mod NotedLemmas
 pub mod NumberLemmas
 pub mod OverlapLemmas

@@ -3,6 +3,7 @@ pub mod Arising
 pub mod Chains
 pub mod Different
 pub mod Learning
+pub mod Met
 pub mod Patterns
 pub mod Small
 pub mod Tally

@@ -1,7 +1,8 @@
 //! Windows, counted in the order of their first appearance.
-ghost use Rattle.std.specs.Prelude.{◌≡◌, ◌+◌, ◌<◌, ◌^◌, [], length, OnOk};
+ghost use Rattle.std.specs.Prelude.{◌≡◌, ◌+◌, ◌<◌, ◌^◌, [], length, OnOk, IfOk};
+ghost use Rattle.wfc_pattern.specs.Met.{StandsAt, HasKept, noted_at};
 ghost use Rattle.wfc_pattern.specs.Patterns.{IsPatterns};
-ghost use Rattle.wfc_pattern.specs.Tally.{recount, total, patterns_from};
+ghost use Rattle.wfc_pattern.specs.Tally.{recount, total, windows_of, patterns_from};
 
 use crate::Patterns;
 use indexmap::IndexMap;
@@ -32,18 +33,33 @@ impl Tally {
         }
     }
 
-    /// Takes memory for a window that is new.
-    pub fn note(&mut self, alloc: Global, window: &[u32]) -> Result<(), NoMemory>
+    /// Answers the window's place. Takes memory for a window that is new.
+    pub fn note(&mut self, alloc: Global, window: &[u32]) -> Result<usize, NoMemory>
         requires fits { total self.old + 1 < 2 ^ 32 }
         ensures noted { OnOk result (self.new ≡ recount self.old window.now) }
+        ensures place { IfOk result (λ at. StandsAt self.new at window.now) }
+        ensures kept { HasKept self.old self.new }
     {
-        if let Some(count) = self.counts.get_mut(window) {
-            *count += 1;
-            return Ok(());
+        if let Some(at) = self.counts.get_index_of(window) {
+            self.raise(at);
+            return Ok(at);
         }
         let key = Vec::from_slice(alloc, window)?;
+        let at = self.counts.len();
         self.counts.insert(key, 1)?;
-        Ok(())
+        Ok(at)
+    }
+
+    /// Notes the window at a place once more. Takes no memory.
+    #[inline]
+    pub fn raise(&mut self, at: usize)
+        requires place_in { at < length self.old }
+        requires fits { total self.old + 1 < 2 ^ 32 }
+        ensures raised { self.new ≡ recount self.old (noted_at self.old at) }
+        ensures windows { windows_of self.new ≡ windows_of self.old }
+    {
+        let (_, count) = self.counts.pair_mut(at);
+        *count += 1;
     }
 
     /// How many windows were noted, each counted once.

@@ -1,27 +1,31 @@
 //! The images of a sample's windows, noted in the order in which they arise.
-ghost use Rattle.std.specs.Prelude.{◌≡◌, ℕ, ◌+◌, ◌*◌, ◌<◌, ◌≤◌, ◌%◌, ◌^◌, ◌==◌, [], length, map, fold, if◌then◌else◌, OnOk, IfOk};
+ghost use Rattle.std.specs.Prelude.{◌≡◌, ℕ, ◌+◌, ◌*◌, ◌<◌, ◌≤◌, ◌%◌, ◌^◌, ◌==◌, [], length, map, fold, All, if◌then◌else◌, OnOk, IfOk};
 ghost use Rattle.std.specs.Bool.{OnTrue, OnFalse};
-ghost use Rattle.std.specs.List.{range_with_len};
-ghost use Rattle.wfc_model.specs.Image.{image, reflected, rotated};
+ghost use Rattle.wfc_model.specs.Image.{reflected, rotated};
 ghost use Rattle.wfc_pattern.specs.Arising.{images_at, images_in_row};
+ghost use Rattle.wfc_pattern.specs.Met.{first_images, noted_at, StandsAt, HasKept, ArePlacesOf, AreMet, AreMet-prop, entries_met};
 ghost use Rattle.wfc_pattern.specs.Tally.{recount, total};
 
 use crate::MAX_PATTERNS;
 use crate::counts::Tally;
+use indexmap::IndexMap;
 use std::alloc::Global;
 use wfc_outside::NoMemory;
 use wfc_picture::Picture;
 use wfc_symmetry::{reflect_into, rotate_into};
 
-/// How windows are taken from a sample, the counts so far, and room for a window and for its image.
+/// How windows are taken from a sample, the counts so far, each window that was met with the places of its images among
+/// them, and room for a window and for its image.
 #[derive(Drop)]
 pub struct Learner {
     pub n: u32,
     pub symmetry: u8,
     pub tally: Tally,
     alloc: Global,
+    met: IndexMap<Vec<u32>, Vec<usize>>,
     window: Vec<u32>,
     spare: Vec<u32>,
+    ghost remembered: { AreMet n symmetry tally (entries_met met.entries) } by { AreMet-prop n symmetry tally (entries_met met.entries) },
     ghost square: { length window.items ≡ n * n },
     ghost room: { length spare.items ≡ n * n },
 }
@@ -40,6 +44,7 @@ impl Learner {
             symmetry,
             tally: Tally::new(alloc),
             alloc,
+            met: IndexMap::new(alloc),
             window,
             spare,
         })
@@ -83,18 +88,48 @@ impl Learner {
             (images_at picture.now self.old.n self.old.symmetry (x, y))) }
     {
         picture.window_into(x, y, self.n, &mut self.window);
-        note_images(
+        if let Some(places) = self.met.get(self.window.as_slice()) {
+            raise_all(&mut self.tally, places);
+            return Ok(());
+        }
+        self.note_first()
+    }
+
+    /// Notes the images of the window at hand, and remembers their places.
+    fn note_first(&mut self) -> Result<(), NoMemory>
+        requires fits { total self.old.tally + self.old.symmetry < 2 ^ 32 }
+        ensures n { self.new.n ≡ self.old.n }
+        ensures symmetry { self.new.symmetry ≡ self.old.symmetry }
+        ensures noted { OnOk result (self.new.tally ≡ fold recount self.old.tally
+            (first_images self.old.n self.old.symmetry self.old.window.items)) }
+    {
+        let key = Vec::from_slice(self.alloc, &self.window)?;
+        let places = note_images(
             self.alloc,
             &mut self.tally,
             &mut self.window,
             &mut self.spare,
             self.n,
             self.symmetry,
-        )
+        )?;
+        self.met.insert(key, places)?;
+        Ok(())
     }
 }
 
-/// Notes the first images of a window, which is used up.
+/// Notes the windows at these places once more.
+fn raise_all(tally: &mut Tally, places: &[usize])
+    requires places_in { All (λ at. at < length tally.old) places.now }
+    requires fits { total tally.old + length places.now < 2 ^ 32 }
+    ensures raised { tally.new ≡ fold recount tally.old (map (noted_at tally.old) places.now) }
+    ensures kept { HasKept tally.old tally.new }
+{
+    for at in places {
+        tally.raise(*at);
+    }
+}
+
+/// Notes the first images of a window, which is used up, and answers their places.
 fn note_images(
     alloc: Global,
     tally: &mut Tally,
@@ -102,20 +137,26 @@ fn note_images(
     spare: &mut [u32],
     n: u32,
     symmetry: u8,
-) -> Result<(), NoMemory>
+) -> Result<Vec<usize>, NoMemory>
     requires square { length window.old ≡ n * n }
     requires room { length spare.old ≡ n * n }
     requires fits { total tally.old + symmetry < 2 ^ 32 }
-    ensures noted { OnOk result (tally.new
-        ≡ fold recount tally.old (map (image n window.old) (range_with_len 0 symmetry))) }
+    ensures noted { OnOk result
+        (tally.new ≡ fold recount tally.old (first_images n symmetry window.old)) }
+    ensures places { IfOk result (λ places.
+        ArePlacesOf tally.new places.items (first_images n symmetry window.old)) }
+    ensures kept { HasKept tally.old tally.new }
 {
+    let mut places = Vec::with_capacity(alloc, symmetry as usize)?;
     for k in 0..symmetry {
-        note_image(alloc, tally, window, spare, n, k)?;
+        let at = note_image(alloc, tally, window, spare, n, k)?;
+        places.push(at)?;
     }
-    Ok(())
+    Ok(places)
 }
 
-/// Notes image `k` of a window that was turned half as often, and turns it once more behind its reflection.
+/// Notes image `k` of a window that was turned half as often, answers its place, and turns the window once more behind its
+/// reflection.
 fn note_image(
     alloc: Global,
     tally: &mut Tally,
@@ -123,12 +164,15 @@ fn note_image(
     spare: &mut [u32],
     n: u32,
     k: u8,
-) -> Result<(), NoMemory>
+) -> Result<usize, NoMemory>
     requires square { length window.old ≡ n * n }
     requires room { length spare.old ≡ n * n }
     requires fits { total tally.old + 1 < 2 ^ 32 }
     ensures noted { OnOk result (tally.new
         ≡ recount tally.old (if k % 2 == 0 then window.old else reflected n window.old)) }
+    ensures place { IfOk result (λ at. StandsAt tally.new at
+        (if k % 2 == 0 then window.old else reflected n window.old)) }
+    ensures kept { HasKept tally.old tally.new }
     ensures turned { OnOk result
         (window.new ≡ (if k % 2 == 0 then window.old else rotated n window.old)) }
 {
@@ -136,8 +180,8 @@ fn note_image(
         return tally.note(alloc, window);
     }
     reflect_into(window, n, spare);
-    tally.note(alloc, spare)?;
+    let at = tally.note(alloc, spare)?;
     rotate_into(window, n, spare);
     window.copy_from_slice(spare);
-    Ok(())
+    Ok(at)
 }

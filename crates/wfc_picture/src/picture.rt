@@ -109,8 +109,17 @@ impl Picture {
     fn number_modulo(&self, x: usize, y: usize) -> u32
         ensures value { result ≡ number_at self.now (x % self.now.width) (y % height_of self.now) }
     {
-        let column = x % self.width as usize;
-        let row = y % self.height as usize;
+        let column = modulo(x, self.width as usize);
+        let row = modulo(y, self.height as usize);
         self.cells[row * self.width as usize + column]
     }
+}
+
+/// A coordinate modulo a side. One within it, as nearly all are, takes no division.
+#[inline]
+fn modulo(at: usize, side: usize) -> usize
+    requires some { 0 < side }
+    ensures value { result ≡ at % side }
+{
+    if at < side { at } else { at % side }
 }

@@ -6,11 +6,9 @@ mod flags;
 pub mod laws;
 mod lists;
 mod mark;
-mod problem;
 mod steps;
 
 pub use flags::{all_set, cut_row};
 pub use lists::push_if;
 pub use mark::PinMark;
-pub use problem::problem_with;
 pub use steps::{along, down_by, left_by, right_by, up_by};

@@ -21,7 +21,7 @@ pub use Rattle.wfc_problem.proofs.Greatest.{IsAbove, base_above, cut_above, abov
 pub use Rattle.wfc_problem.proofs.Rounds.{InRange, round_contains, fixed_consistent, rounds_consistent, rounds_greatest, pairs_le, base_with_base, base_with_inside, depth_greatest, greatest_is}
 pub use Rattle.wfc_problem.proofs.Flags.{Tells, flags_inside, flags_are, depth_flags, tells_none, tells_push}
 pub use Rattle.wfc_problem.proofs.Rows.{flag-set, length-row_of, row_of-set_same, row_of-set_other}
-pub use Rattle.wfc_problem.proofs.Whole.{whole_base, all_base, whole_row}
+pub use Rattle.wfc_problem.proofs.Whole.{whole_base, whole_is, all_base, whole_row}
 pub use Rattle.wfc_problem.proofs.Sizes.{length-sizes_of, sizes_of_at, values_at_have, values_at_stand, values_at_are, values_at_rise, size_at_pos, size_at_le, size_at_without, size_at_one, dead_iff, alive_pos, pairs_less, first_values_at, only_first}
 
 -- ---- what holds of a problem

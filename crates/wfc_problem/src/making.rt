@@ -1,9 +1,10 @@
 //! A problem made of its parts, and taken apart.
 
-ghost use Rattle.std.specs.Prelude.{◌≡◌, ◌↔◌, IsOk, IfOk, map};
+ghost use Rattle.std.specs.Prelude.{◌≡◌, ◌↔◌, IsOk, IfOk, map, true};
 ghost use Rattle.std.specs.Result.{result_err};
 ghost use Rattle.wfc_problem.specs.Fault.{problem_fault_of};
 ghost use Rattle.wfc_problem.specs.Network.{IsProblem};
+ghost use Rattle.wfc_problem.specs.Whole.{network_of};
 
 use crate::checks::check;
 use crate::{Parts, Problem, ProblemFault};
@@ -23,22 +24,31 @@ impl Problem {
         ensures problem { IsOk result ↔ IsProblem parts }
     {
         check(&parts)?;
-        Ok(Problem::from_parts(parts))
+        Ok(Problem::from_known(parts))
     }
 
-    /// The problem of these parts, without the flags of the base where each of them is set.
-    fn from_parts(mut parts: Parts) -> Problem
+    /// The problem of parts that are known to make one, which aren't looked at again.
+    pub fn from_known(parts: Parts) -> Problem
         requires problem { IsProblem parts }
         ensures value { result ≡ parts }
     {
         if parts.is_whole() {
-            parts.forget_base();
-            return Problem { parts, whole: true };
+            return Problem::from_known_whole(parts);
         }
         Problem {
             parts,
             whole: false,
         }
+    }
+
+    /// The problem of parts that are known to make one where each cell may have each value. They need no flags of the base,
+    /// whose memory is given back.
+    pub fn from_known_whole(mut parts: Parts) -> Problem
+        requires problem { IsProblem (network_of true parts) }
+        ensures value { result ≡ network_of true parts }
+    {
+        parts.forget_base();
+        Problem { parts, whole: true }
     }
 
     /// The lists of values that may stand beside each value, direction by direction, which another

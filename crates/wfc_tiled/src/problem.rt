@@ -17,7 +17,7 @@ use std::alloc::Global;
 use wfc_model::MAX_OUTPUT_SIDE;
 use wfc_outside::NoMemory;
 use wfc_pins::{BuildFault, PinLine};
-use wfc_places::{PinMark, problem_with};
+use wfc_places::PinMark;
 use wfc_problem::{MAX_PAIRS, Parts, Problem};
 use wfc_tileset::TileSet;
 
@@ -85,7 +85,7 @@ pub fn build_masked(
 {
     let marks = checked_tile_marks(alloc, tiles, mask, pins)?;
     let parts = tile_parts_of_marks(alloc, tiles, mask, wrap, &marks)?;
-    Ok(problem_with(parts))
+    Ok(Problem::from_known(parts))
 }
 
 /// What the lines of a pins file mean for the problem that `build_masked` builds, or the first of

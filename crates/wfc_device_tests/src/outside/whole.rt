@@ -79,8 +79,8 @@ fn each_failing_call_fails_the_reading(rt: HostRuntime) -> Result<(), Fail> {
 fn a_long_file_is_read_in_large_pieces(rt: HostRuntime) -> Result<(), Fail> {
     let bytes = counted_bytes(rt.alloc(), 200000)?;
     let mut folder = folder_of(rt.alloc(), usize::MAX, &[("long", bytes.as_slice())])?;
-    // Four pieces, and one call more that finds the end.
-    folder.fail_at(6)?;
+    // Twenty-five pieces, and one call more that finds the end.
+    folder.fail_at(27)?;
     let got = read_all(rt.alloc(), &mut folder, "long", 200000);
     assert!(rt; got == Ok(bytes));
     Ok(())
@@ -164,7 +164,7 @@ fn asks_within(rt: &impl Abort, alloc: Global, piece: usize, limit: u64) -> Resu
 #[test]
 fn nothing_but_one_byte_past_the_limit_is_asked_for(rt: HostRuntime) -> Result<(), Fail> {
     for piece in [1, 3, 100] {
-        for limit in [0, 1, 9, 10, 11, 12, 65534, 65535, 65536, 200000] {
+        for limit in [0, 1, 9, 10, 11, 12, 8190, 8191, 8192, 200000] {
             asks_within(&rt, rt.alloc(), piece, limit)?;
         }
     }

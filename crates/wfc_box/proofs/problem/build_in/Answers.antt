@@ -28,8 +28,8 @@ parts-requires c =
       inside = subst (AreInBox c.args.frame) (sym c.deref.ensures.value) c.in_ok-marks.ensures.inside;
     }
 
-pub problem_with-requires : goal.problem_with-requires
-problem_with-requires c =
+pub from_known-requires : goal.from_known-requires
+from_known-requires c =
     let few : box_pairs c.args.tiles.now c.args.frame ≤ MAX_PAIRS = omega (arith, c.pairs-product.ensures.value, c.if-product-gt-MAX_PAIRS.false) in
     record {
       problem = subst IsProblem (sym c.in_ok-parts.ensures.value)
@@ -45,5 +45,5 @@ returns-clause-boxes c =
     let pins = c.deref.result.now in
     let few : box_pairs set frame ≤ MAX_PAIRS = omega (arith, c.pairs-product.ensures.value, c.if-product-gt-MAX_PAIRS.false) in
     let meant : box_pins_in set.tiles frame lines ≡ Ok pins = meant_by (λ marks. marks.items) c.in_ok-marks.marks pins (box_pins_in set.tiles frame lines) (sym c.deref.ensures.value) c.in_ok-marks.ensures.exact in
-    let value : problem_of_box set stacked frame pins ≡ c.problem_with.result = sym (c.problem_with.ensures.value ∙ c.in_ok-parts.ensures.value) in
+    let value : problem_of_box set stacked frame pins ≡ c.from_known.result = sym (c.from_known.ensures.value ∙ c.in_ok-parts.ensures.value) in
     (pins, subst (AreBoxes set stacked frame lines pins) value (boxes_of set stacked frame lines pins c.pairs-product.ensures.tile_set c.requires.frame few meant))

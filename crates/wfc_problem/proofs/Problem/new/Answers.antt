@@ -10,8 +10,8 @@ returns-in_err-check-clause-problem c =
     let named : result_err c.from_residual.result ≡ problem_fault_of c.args.parts = search rules in
     ok_problem c.args.parts c.from_residual.result named
 
-pub from_parts-requires : goal.from_parts-requires
-from_parts-requires c = record { problem = problem_from c.args.parts (sym c.in_ok-check.ensures.value) }
+pub from_known-requires : goal.from_known-requires
+from_known-requires c = record { problem = problem_from c.args.parts (sym c.in_ok-check.ensures.value) }
 
 pub returns-clause-problem : goal.returns-clause-problem
 returns-clause-problem c = ((λ _. problem_from c.args.parts (sym c.in_ok-check.ensures.value)), (λ _. refl))

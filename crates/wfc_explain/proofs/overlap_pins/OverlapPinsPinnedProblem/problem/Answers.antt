@@ -17,8 +17,8 @@ window_base_of_marks-requires-clause-inside c =
     c.deref-2.ensures.value ∙ c.in_ok-kept.ensures.value ∙ ap (kept_of c.args.keep.now) c.deref.ensures.value in
     subst (AreInside o) (sym kept) (All-kept (λ (pin : Pin). (pin.column < o.width) × (pin.row < o.height)) c.args.keep.now i.marks.items c.self.invariant.0.inside)
 
-pub problem_with-requires : goal.problem_with-requires
-problem_with-requires c =
+pub from_known-requires : goal.from_known-requires
+from_known-requires c =
     let i = c.self.inside in
     let o : Output = output_with i.width i.height i.wrap in
     let kept : c.deref-2.result.now ≡ kept_of c.args.keep.now i.marks.items =

@@ -21,8 +21,8 @@ tile_base_of_marks-requires c =
           (subst (ArePlaced mask) (sym kept) (All-kept (IsPlaced mask) c.args.keep.now i.marks.items c.self.invariant.0.placed));
     }
 
-pub problem_with-requires : goal.problem_with-requires
-problem_with-requires c =
+pub from_known-requires : goal.from_known-requires
+from_known-requires c =
     let i = c.self.inside in
     let mask : MaskView = held_mask i.mask in
     let kept : c.deref-2.result.now ≡ kept_of c.args.keep.now i.marks.items =

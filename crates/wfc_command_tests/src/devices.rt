@@ -3,11 +3,12 @@
 ghost use Rattle.std.specs.Prelude.{◌≤◌};
 ghost use Rattle.wfc_outside.specs.MemoryFolder.{seen_folder};
 
-use super::{check, folder_of, has_bytes, has_front, runs_to, sink_of};
+use crate::compare::{check, has_bytes, has_front, runs_to};
 use std::process::Abort;
 use std::test::Fail;
 use wfc_cli::refuse;
 use wfc_outside::{Folder, FolderFault, MemoryFolder, MemorySink};
+use wfc_rows::{folder_of, sink_of};
 use wfc_words::CommandFault;
 
 const LINE: &str = "fill chk.txt 2 3 3 --wrap-in --pins a.pins";

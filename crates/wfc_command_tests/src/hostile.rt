@@ -2,11 +2,12 @@
 
 ghost use Rattle.std.specs.Prelude.{◌≤◌};
 
-use super::{check, folder_of, has_bytes, has_front, has_status, runs_to, status_of_words};
+use crate::compare::{check, has_bytes, has_front, has_status, runs_to};
 use std::alloc::{AllocError, Global};
 use std::process::Abort;
 use std::test::Fail;
 use wfc_outside::{MemoryFolder, MemorySink};
+use wfc_rows::{folder_of, status_of_words};
 
 /// More calls than any line makes.
 const MOST_CALLS: u64 = 200;

@@ -1,10 +1,11 @@
 //! Refutations that are written, read again and brought to format 2.
 
-use super::{folder_of, has_bytes, has_status, status_of_words};
+use crate::compare::{has_bytes, has_status};
 use std::alloc::Global;
 use std::process::Abort;
 use std::test::Fail;
 use wfc_outside::{MemoryFolder, MemorySink};
+use wfc_rows::{folder_of, status_of_words};
 
 /// How many bytes the sinks of these tests take.
 const ROOM: usize = 200_000;

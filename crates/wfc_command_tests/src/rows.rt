@@ -1,7 +1,8 @@
 //! The rows of each command.
 
-use super::{Row, check_in_pieces};
+use crate::compare::check_in_pieces;
 use std::test::Fail;
+use wfc_rows::Row;
 
 static FILL: [Row; 35] = [
     ("fill chk.txt 2 2 2", 0, "ab\nba\n", ""),

@@ -1,10 +1,11 @@
 //! The lines of a pins file that are to blame.
 
-use super::{Row, check_in_pieces, folder_of, has_bytes, has_status, status_of_words};
+use crate::compare::{check_in_pieces, has_bytes, has_status};
 use std::alloc::{AllocError, Global};
 use std::process::Abort;
 use std::test::Fail;
 use wfc_outside::{MemoryFolder, MemorySink};
+use wfc_rows::{Row, folder_of, status_of_words};
 
 static EXPLAIN: [Row; 9] = [
     // The first line contradicts the second, which contradicts the third too.

@@ -1,44 +1,11 @@
 //! The rows of each command for boxes, and refutations of boxes that are written and read again.
 
-use super::{Row, check_in_pieces, folder_of, has_bytes, has_status, status_of_words};
+use crate::compare::{check_in_pieces, has_bytes, has_status};
 use std::alloc::Global;
 use std::process::Abort;
 use std::test::Fail;
 use wfc_outside::{MemoryFolder, MemorySink};
-
-/// A line whose turns stand on each other, a house of three tiles, corners that stand on themselves, and documents with
-/// faults; then pins.
-pub(super) const FILES: [(&str, &str); 11] = [
-    (
-        "tower.toml",
-        "[[tile]]\nname = \"line\"\nclass = \"I\"\n\n[[pair]]\nleft = \"line 0\"\nright = \"line 0\"\n\n\
-         [[stack]]\nlower = \"line 0\"\nupper = \"line 1\"\n",
-    ),
-    (
-        "house.toml",
-        "tile = [{name = 'ground', class = 'X'}, {name = 'wall', class = 'X'}, {name = 'roof', class = 'X'}]\n\
-         stack = [{lower = 'ground', upper = 'wall'}, {lower = 'wall', upper = 'wall'}, {lower = 'wall', upper = 'roof'}]\n",
-    ),
-    (
-        "piled.toml",
-        "[[tile]]\nname = \"corner\"\nclass = \"L\"\npicture = \"corner.txt\"\n\n[[pair]]\n\
-         left = \"corner 1\"\nright = \"corner 2\"\n\n[[stack]]\nlower = \"corner\"\nupper = \"corner\"\n",
-    ),
-    (
-        "bent_tower.toml",
-        "[[tile]]\nname = \"line\"\nclass = \"I\"\n\n[[stack]]\nlower = \"line 0\"\nupper = \"line 9\"\n",
-    ),
-    ("torn.toml", "tile = 3\nstack = 3\n"),
-    (
-        "lost_tower.toml",
-        "tile = [{name = 'a', class = 'X', picture = 'none.txt'}]\nstack = 3\n",
-    ),
-    ("tower.pins", "pin 0 0 0 line/0\n"),
-    ("house.pins", "pin 0 0 0 ground/0\npin 0 0 3 roof/0\n"),
-    ("roof.pins", "# a roof on the ground\npin 0 0 0 roof/0\n"),
-    ("deep.pins", "pin 0 0 3 line/7\n"),
-    ("piled.pins", "pin 0 0 0 corner/1\npin 1 0 1 corner/2\n"),
-];
+use wfc_rows::{Row, folder_of, status_of_words};
 
 static FILL: [Row; 12] = [
     (

@@ -1,62 +1,8 @@
 //! The rows of each command for tile sets and for maps with holes.
 
-use super::{Row, check_in_pieces};
+use crate::compare::check_in_pieces;
 use std::test::Fail;
-
-/// A straight line that may go on to the right, two corners that meet, a dot of colours, and documents with a fault; then
-/// pictures, pins, masks, steps and refutations.
-pub(super) const FILES: [(&str, &str); 26] = [
-    (
-        "lines.toml",
-        "[[tile]]\nname = \"line\"\nclass = \"I\"\n\n[[pair]]\nleft = \"line 0\"\nright = \"line 0\"\n",
-    ),
-    (
-        "corner.toml",
-        "[[tile]]\nname = \"corner\"\nclass = \"L\"\npicture = \"corner.txt\"\n\n[[pair]]\nleft = \"corner 1\"\nright = \"corner 2\"\n",
-    ),
-    ("corner.txt", "#.\n..\n"),
-    (
-        "dot.toml",
-        "tile = [{name = 'dot', class = 'X', weight = 9, picture = 'dot.ppm'}]\n",
-    ),
-    ("dot.ppm", "P3\n1 1\n255\n1 2 3\n"),
-    (
-        "lost.toml",
-        "tile = [{name = 'a', class = 'X', picture = 'corner.txt'}, {name = 'b', class = 'X', picture = 'none.txt'}]\n",
-    ),
-    (
-        "f.toml",
-        "[[tile]]\nname = \"f\"\nclass = \"F\"\n\n[[pair]]\nleft = \"f 8\"\nright = \"f\"\n",
-    ),
-    ("empty.toml", ""),
-    ("cut.toml", "x =\n"),
-    ("number.toml", "tile = 3\n"),
-    ("nameless.toml", "[[tile]]\n"),
-    ("corner.pins", "pin 0 0 corner/1\npin 1 0 corner/2\n"),
-    ("first.pins", "pin 0 0 corner/0\n"),
-    ("line.pins", "pin 0 0 line/0\npin 2 0 line/1\n"),
-    ("hole.pins", "pin 1 0 line/0\n"),
-    ("other.pins", "pin 0 0 line/2\n"),
-    ("m.txt", ".#.\n"),
-    ("half.txt", ".#\n"),
-    ("bend.txt", "..\n.#\n"),
-    ("odd.txt", ".x.\n"),
-    ("holes.txt", "###\n"),
-    ("ragged.txt", "..\n.\n"),
-    ("one.steps", "choose 1 1\n"),
-    (
-        "square.ref",
-        "wfc-refutation 1\ncells 4 values 2\nr 0 0 1\nr 0 1 2\nx 0\nq\n",
-    ),
-    (
-        "square_2.ref",
-        "wfc-refutation 2\ncells 4 values 2\nfor 0 2 2 1 1 0 0\nr 0 0 0 1\nr 0 1 1 2\nx 0\nq\n",
-    ),
-    (
-        "bend.ref",
-        "wfc-refutation 1\ncells 3 values 2\nr 0 0 1\nr 0 1 2\nx 0\nq\n",
-    ),
-];
+use wfc_rows::Row;
 
 static LEARN: [Row; 7] = [
     (

@@ -1,11 +1,12 @@
 //! Maps that are grown block by block, and blocks that are stuck.
 
 use super::cores::folder_with;
-use super::{Row, check_in_pieces, has_bytes, has_status, status_of_words};
+use crate::compare::{check_in_pieces, has_bytes, has_status};
 use std::alloc::Global;
 use std::process::Abort;
 use std::test::Fail;
 use wfc_outside::{MemoryFolder, MemorySink};
+use wfc_rows::{Row, status_of_words};
 
 static GROW: [Row; 13] = [
     (

@@ -1,0 +1,72 @@
+//! Command lines with what they answer, run over files and sinks in memory: what the tests of the whole program share.
+#![tactic(auto)]
+
+ghost use Rattle.std.specs.Prelude.{◌≤◌};
+
+mod files;
+
+use files::{BOX_FILES, FILES, TILE_FILES};
+use std::alloc::{AllocError, Global};
+use wfc_choose::{Buckets, Chooser, Scanning};
+use wfc_cli::run;
+use wfc_outside::{Folder, MemoryFolder, MemorySink};
+
+/// A folder with the files that command lines name, which gives so many bytes at a time.
+pub fn folder_of(alloc: Global, piece: usize) -> Result<MemoryFolder, AllocError>
+    requires some { 1 ≤ piece }
+{
+    let mut folder = MemoryFolder::new(alloc, piece);
+    add_all(alloc, &mut folder, &FILES)?;
+    add_all(alloc, &mut folder, &TILE_FILES)?;
+    add_all(alloc, &mut folder, &BOX_FILES)?;
+    Ok(folder)
+}
+
+fn add_all(
+    alloc: Global,
+    folder: &mut MemoryFolder,
+    files: &[(&'static str, &'static str)],
+) -> Result<(), AllocError> {
+    for (name, text) in files {
+        let name = String::from_str(alloc, name)?;
+        let bytes = Vec::from_slice(alloc, text.as_bytes())?;
+        folder.add(name, bytes).map_err(|_| AllocError)?;
+    }
+    Ok(())
+}
+
+/// A sink with room enough that never fails.
+pub fn sink_of(alloc: Global, piece: usize) -> Result<MemorySink, AllocError>
+    requires some { 1 ≤ piece }
+{
+    MemorySink::new(alloc, piece, 500).map_err(|_| AllocError)
+}
+
+/// The words of a command line, parted by blanks; no words where it is empty.
+fn words_of(alloc: Global, line: &str) -> Result<Vec<String>, AllocError> {
+    let mut words = Vec::new(alloc);
+    for word in line.split_whitespace() {
+        words.push(String::from_str(alloc, word)?)?;
+    }
+    Ok(words)
+}
+
+/// A command line with its status, its answer and its line on the error stream.
+pub type Row = (&'static str, u8, &'static str, &'static str);
+
+/// The status of a command line over these devices, with 65 choosers of the least cell and as many of the fewest values.
+pub fn status_of_words<F: Folder>(
+    alloc: Global,
+    line: &str,
+    folder: &mut F,
+    out: &mut MemorySink,
+    err: &mut MemorySink,
+) -> Result<u8, AllocError> {
+    let words = words_of(alloc, line)?;
+    let mut choosers: Vec<Box<dyn Chooser>> = Vec::new(alloc);
+    for _ in 0..65 {
+        choosers.push(Box::new(alloc, Scanning::scanline(alloc))?)?;
+        choosers.push(Box::new(alloc, Buckets::new(alloc))?)?;
+    }
+    Ok(run(alloc, &words, folder, out, err, choosers))
+}
