@@ -9,6 +9,7 @@ use Rattle.wfc_problem.specs.declared.TheConstants.{MAX_PAIRS, MAX_VALUES, MAX_W
 use Rattle.wfc_problem.specs.Network.{Network, values, value_weight, neighbour, supports_of, IsProblem}
 use Rattle.wfc_problem.proofs.Tables.{neighbour_read}
 pub use Rattle.wfc_problem.proofs.Tables.{IsRead, neighbour_read, neighbour_is, neighbour_not_none, neighbour_dir, beside_names, beside_length, supports_at, supports_past, supports_inside, flag_at, flag_past, flag_inside, base_inside}
+pub use Rattle.wfc_problem.proofs.HopLemmas.{hops_length, hop_names}
 pub use Rattle.wfc_problem.proofs.Supports.{support_in, supports_le, supports_few, ok_both}
 pub use Rattle.wfc_problem.proofs.Domains.{support_count_le, support_count_few, consistent_from_counts, counts_from_consistent}
 pub use Rattle.wfc_problem.proofs.Cuts.{leaves_is, leaves_not, leaves_other, cut_within, cut_both, base_with_none, base_with_more, base_with_falls, base_with-append}

@@ -14,3 +14,4 @@ pub mod Sizes
 pub mod Greatest
 pub mod CallerLemmas
 pub mod Corners
+pub mod HopLemmas

@@ -1,4 +1,6 @@
 pub mod Network
+pub mod Hops
+pub mod HopsMade
 pub mod Fault
 pub mod Assignment
 pub mod Domains

@@ -7,12 +7,14 @@ ghost use Rattle.wfc_problem.specs.Assignment.{IsLegalAssignment, LiesIn};
 ghost use Rattle.wfc_problem.specs.Corner.{corner, corner_with_neighbour, corner_with_supports};
 ghost use Rattle.wfc_problem.specs.Domains.{IsSupported, IsArcConsistent, IsDead, IsLiteralIn, HasOnly, base_with, leaves, support_count};
 ghost use Rattle.wfc_problem.specs.Fault.{problem_fault_of, pair_count_fault};
+ghost use Rattle.wfc_problem.specs.Hops.{hop_cell, hop_entry, hops_table};
+ghost use Rattle.wfc_problem.specs.HopsMade.{hop_of};
 ghost use Rattle.wfc_problem.specs.Network.{IsProblem, values, value_weight, neighbour, beside, supports_of, ok, in_base};
 ghost use Rattle.wfc_problem.specs.Rounds.{depth_of, greatest};
 ghost use Rattle.wfc_problem.specs.Sizes.{first_values, is_dead, sizes_of, values_at};
 ghost use Rattle.wfc_problem.specs.Whole.{is_whole, network_of};
 ghost use Rattle.wfc_problem.specs.declared.Literal.TheVariants.{Is, Not};
-ghost use Rattle.wfc_problem.specs.declared.TheConstants.{NO_CELL};
+ghost use Rattle.wfc_problem.specs.declared.TheConstants.{NO_CELL, NO_HOP};
 ghost use Rattle.wfc_problem.specs.declared.Part.TheVariants.{Cells, Neighbours, Weights, Supports, Base};
 ghost use Rattle.wfc_problem.specs.declared.ProblemFault.TheVariants.{TooLarge, NotSymmetric, BadIndex, NotBack, Lengths, BadWeight};
 
@@ -33,6 +35,21 @@ pub fn tables_are_read()
     ensures base { map (in_base corner 1) (range_with_len 0 4) ≡ false ∷ true ∷ true ∷ false ∷ [] }
     ensures base_no_cell { in_base corner 4 0 ≡ false }
     ensures depth { depth_of corner ≡ 9 }
+{}
+
+/// A hop is added to a cell's number, and cells of one kind have one row of hops.
+pub fn hops_are_read()
+    ensures cell { map (hop_cell 5) (4294967294 ∷ NO_HOP ∷ 3 ∷ 0 ∷ [])
+        ≡ Some 3 ∷ None ∷ Some 8 ∷ Some 5 ∷ [] }
+    ensures entry { map (hop_entry 5) (4294967294 ∷ NO_HOP ∷ 3 ∷ 0 ∷ [])
+        ≡ 3 ∷ NO_CELL ∷ 8 ∷ 5 ∷ [] }
+    ensures asked { map (hop_of 5) (3 ∷ NO_CELL ∷ 8 ∷ 5 ∷ [])
+        ≡ 4294967294 ∷ NO_HOP ∷ 3 ∷ 0 ∷ [] }
+    ensures by_kinds { hops_table 4 2 (2 ∷ 0 ∷ 0 ∷ 1 ∷ [])
+        (4294967295 ∷ 1 ∷ 4294967295 ∷ NO_HOP ∷ NO_HOP ∷ 1 ∷ [])
+        ≡ NO_CELL ∷ 1 ∷ 0 ∷ 2 ∷ 1 ∷ 3 ∷ 2 ∷ NO_CELL ∷ [] }
+    ensures by_cells { hops_table 2 3 [] (1 ∷ NO_HOP ∷ 0 ∷ NO_HOP ∷ 4294967295 ∷ 0 ∷ [])
+        ≡ 1 ∷ NO_CELL ∷ 0 ∷ NO_CELL ∷ 0 ∷ 1 ∷ [] }
 {}
 
 /// A base is whole where it has each value at each cell, the last one too.

@@ -3,7 +3,7 @@
 ghost use Rattle.std.specs.Prelude.{◌≡◌, ℕ, ◌<◌, ◌≤◌, ◌⊎◌, ◌≢◌, ◌↔◌, Contains, List, [], ◌∷◌, ◌++◌, IsTrue, slice_index, length};
 ghost use Rattle.std.specs.List.Sorted.{IsStrictlyIncreasing};
 ghost use Rattle.wfc_model.specs.Direction.{opposite};
-ghost use Rattle.wfc_problem.specs.declared.TheConstants.{MAX_PAIRS, MAX_VALUES, MAX_WEIGHT, NO_CELL};
+ghost use Rattle.wfc_problem.specs.declared.TheConstants.{MAX_PAIRS, MAX_VALUES, MAX_WEIGHT, NO_CELL, NO_HOP};
 ghost use Rattle.wfc_problem.specs.Assignment.{IsLegalAssignment, IsLegalWithin, LiesIn};
 ghost use Rattle.wfc_problem.specs.Domains.{Test, Within, IsSupported, IsArcConsistent, IsInGreatest, IsGreatest};
 ghost use Rattle.wfc_problem.specs.Domains.{IsConsistentWithin, IsDead, HasNoAssignment, HasOnly, StandsInGreatest, base_with, with_literal};
@@ -113,6 +113,7 @@ pub fn sizes_tell()
 /// The limits, and the entry that is no cell.
 pub fn numbers()
     ensures pairs { MAX_PAIRS ≡ 8388608 }
+    ensures no_hop { NO_HOP ≡ 2147483648 }
     ensures values { MAX_VALUES ≡ 4096 }
     ensures weight { MAX_WEIGHT ≡ 16777216 }
     ensures none { NO_CELL ≡ 4294967295 }

@@ -9,12 +9,15 @@ ghost use Rattle.wfc_model.specs.Direction.{opposite};
 mod checks;
 mod entries;
 pub mod examples;
+mod hops;
 pub mod laws;
 mod making;
 mod plain;
 mod reading;
 mod symmetry;
 
+use hops::Hops;
+pub use hops::{hop_cell, hop_end};
 pub use plain::greatest_domains;
 use std::marker::Model;
 use thiserror::Error;
@@ -30,6 +33,9 @@ pub const MAX_WEIGHT: u32 = 16_777_216;
 
 /// The entry of a neighbour table where a cell has no neighbour.
 pub const NO_CELL: u32 = 4_294_967_295;
+
+/// The hop of a cell where it has no neighbour. Between two cells no hop is so far, since there are at most `MAX_PAIRS`.
+pub const NO_HOP: u32 = 2_147_483_648;
 
 /// What a step of a search says of one cell: it has this value, or it doesn't have it. The value stands beside the tag,
 /// so that eight bytes hold it.
@@ -123,18 +129,20 @@ pub fn opposite(dir: u8) -> u8
 /// A constraint problem. Cells, values and directions count from 0.
 #[derive(Debug, Drop)]
 pub struct Problem {
-    /// With no flags in the base where each of them is set.
+    /// With no flags in the base where each of them is set, and with no neighbours.
     parts: Parts,
     whole: bool,
+    hops: Hops,
 }
 
 impl Model for Problem {
     ghost use Rattle.wfc_problem.specs.Network.{Network};
-    ghost use Rattle.wfc_problem.specs.Whole.{network_of, IsKept};
+    ghost use Rattle.wfc_problem.specs.Whole.{network_of};
+    ghost use Rattle.wfc_problem.specs.Hops.{HasBeside};
 
     ghost Value = { Network };
 
-    ghost view = { λ a. network_of a.whole a.parts };
+    ghost view = { λ a. network_of a.whole (record a.parts { neighbours = a.hops.entries }) };
 
-    ghost invariant = { λ a. IsKept a.whole a.parts };
+    ghost invariant = { λ a. HasBeside a.whole a.parts a.hops };
 }

@@ -4,14 +4,15 @@ ghost use Rattle.std.specs.Prelude.{◌≡◌, ◌↔◌, IsOk, IfOk, map, true}
 ghost use Rattle.std.specs.Result.{result_err};
 ghost use Rattle.wfc_problem.specs.Fault.{problem_fault_of};
 ghost use Rattle.wfc_problem.specs.Network.{IsProblem};
-ghost use Rattle.wfc_problem.specs.Whole.{network_of};
+ghost use Rattle.wfc_problem.specs.Whole.{network_of, IsKept};
 
 use crate::checks::check;
+use crate::hops::Hops;
 use crate::{Parts, Problem, ProblemFault};
+use std::mem::replace;
 
 impl Problem {
-    /// The problem of these parts. It takes no memory, and its time is linear in the length of the
-    /// tables.
+    /// The problem of these parts. Its time is linear in the length of the tables.
     ///
     /// The first check that fails names the fault, in this order: the lengths (cells and
     /// directions, weights, neighbours, supports, base), the number of pairs, the entries of the
@@ -35,10 +36,7 @@ impl Problem {
         if parts.is_whole() {
             return Problem::from_known_whole(parts);
         }
-        Problem {
-            parts,
-            whole: false,
-        }
+        Problem::kept(parts, false)
     }
 
     /// The problem of parts that are known to make one where each cell may have each value. They need no flags of the base,
@@ -48,7 +46,18 @@ impl Problem {
         ensures value { result ≡ network_of true parts }
     {
         parts.forget_base();
-        Problem { parts, whole: true }
+        Problem::kept(parts, true)
+    }
+
+    /// The problem that parts say, where the base of a whole one has no flags.
+    fn kept(mut parts: Parts, whole: bool) -> Problem
+        requires kept { IsKept whole parts }
+        ensures value { result ≡ network_of whole parts }
+    {
+        let alloc = *parts.neighbours.allocator();
+        let table = replace(&mut parts.neighbours, Vec::new(alloc));
+        let hops = Hops::of(table, parts.cells, parts.dirs);
+        Problem { parts, whole, hops }
     }
 
     /// The lists of values that may stand beside each value, direction by direction, which another

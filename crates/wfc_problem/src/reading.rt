@@ -1,11 +1,12 @@
 //! What a problem says of its cells and values.
 
-ghost use Rattle.std.specs.Prelude.{◌≡◌, ◌<◌, false, length, slice_index_or};
-ghost use Rattle.wfc_problem.specs.Network.{values, value_weight, neighbour, beside, supports_of, ok, in_base, IsProblem};
+ghost use Rattle.std.specs.Prelude.{◌≡◌, ◌<◌, false, length, map, slice_index_or};
+ghost use Rattle.wfc_problem.specs.Network.{values, value_weight, neighbour, entry_cell, beside, supports_of, ok, in_base, IsProblem};
+ghost use Rattle.wfc_problem.specs.Hops.{hop_cell};
 ghost use Rattle.wfc_problem.specs.Rounds.{depth_of};
 ghost use Rattle.wfc_problem.specs.Whole.{is_whole};
 
-use crate::Problem;
+use crate::{Problem, hop_cell};
 
 impl Problem {
     /// How many cells there are.
@@ -43,19 +44,17 @@ impl Problem {
         ensures value { result ≡ neighbour self.now cell dir }
         ensures problem { IsProblem self.now }
     {
-        self.parts.neighbour(cell, dir)
+        hop_cell(cell, self.hops(cell)[dir as usize])
     }
 
-    /// The cell beside `cell` in each direction, or `NO_CELL`.
+    /// What is added to the number of `cell` to come to the cell beside it, for each direction, or `NO_HOP`.
     #[inline]
-    pub fn beside(&self, cell: u32) -> &[u32]
+    pub fn hops(&self, cell: u32) -> &[u32]
         requires cell_in { cell < self.now.cells }
-        ensures value { result.now ≡ beside self.now cell }
+        ensures value { map (hop_cell cell) result.now ≡ map entry_cell (beside self.now cell) }
         ensures problem { IsProblem self.now }
     {
-        let dirs = self.parts.dirs as usize;
-        let start = cell as usize * dirs;
-        &self.parts.neighbours[start..start + dirs]
+        self.hops.row(cell)
     }
 
     /// The values that may stand beside `value` in direction `dir`, strictly rising.
