@@ -1,15 +1,16 @@
 -- The links of all values in one list, and the counters that a value's links lower.
-use Rattle.std.proofs.Common.{◌≡◌, ◌≢◌, ℕ, zero, suc, ◌+◌, ◌-◌, ◌*◌, ◌/◌, ◌%◌, ◌<◌, ◌≤◌, List, [], ◌∷◌, ◌++◌, length, get_or, take, drop, map, refl, sym, ◌∙◌, ap, subst, add-one, arith, Option, Some, None, inl, inr}
+use Rattle.std.proofs.Common.{◌≡◌, ℕ, zero, suc, ◌+◌, ◌-◌, ◌*◌, ◌/◌, ◌%◌, ◌<◌, ◌≤◌, List, [], ◌∷◌, ◌++◌, length, get_or, take, drop, map, refl, sym, ◌∙◌, ap, subst, add-one, arith, Option, Some, None, inl, inr}
 use Rattle.std.specs.Prelude.{Contains, slice_index, slice_set}
-use Rattle.std.proofs.lemmas.Bool.{cases_eq, cases_lt, cond-true, cond-false, eq-eqb, ne_eqb}
+use Rattle.std.proofs.lemmas.Bool.{cases_eq, cases_lt, cond-false, ne_eqb}
 use Rattle.std.proofs.lemmas.List.{get_or_default, get_or_append_left, get_or-append_right, get_or-map, length-map, length-append, length-drop, length_push, take-append-le, drop-append-le, take-append-drop, take_more, take_all, append_assoc, append-nil}
 use Rattle.std.proofs.Math.Seq.{drop-append_seam}
 use Rattle.std.proofs.lemmas.Nat.{div-mul-add}
 use Rattle.std.proofs.Math.Nat.{mul-le-mul}
 use Rattle.wfc_model.specs.Direction.{opposite}
-use Rattle.wfc_problem.specs.declared.TheConstants.{NO_CELL}
+use Rattle.wfc_problem.specs.declared.TheConstants.{NO_HOP}
+use Rattle.wfc_problem.specs.Hops.{hop_cell, hop_end}
 use Rattle.wfc_problem.specs.Network.{Network, values, neighbour, entry_cell, beside, supports_of, IsProblem}
-use Rattle.wfc_problem.proofs.CallerLemmas.{beside_names, beside_length, few_cells}
+use Rattle.wfc_problem.proofs.CallerLemmas.{hop_names, hops_length}
 use Rattle.wfc_domains.specs.Counters.{Table, FitsTable, counter_place, count_place, entry_of, with_count, counters_of, cost_at}
 use Rattle.wfc_domains.specs.declared.board.Board.{Board}
 use Rattle.wfc_domains.proofs.Places.{place-is}
@@ -227,21 +228,9 @@ counters-few P p = let few : counters_of P ≤ 8388608 * 6 = mul-le-mul (few_pai
 pub table-few : (P : Network) (T : Table) → IsProblem P → FitsTable P T → length T.counts ≤ 50331648
 table-few P T p fits = omega (arith, fits.whole, counters-few P p)
 
--- what the entries of a cell say of a direction
-entry-names : (P : Network) → IsProblem P → (c d n : ℕ) → c < P.cells → d < P.dirs → n ≡ slice_index (beside P c) d → neighbour P c d ≡ entry_cell n
-entry-names P p c d n hc hd is =
-    beside_names P c d hd ∙ ap entry_cell (get_or_default (beside P c) d NO_CELL 0 (omega (arith, beside_length P p c hc)) ∙ sym is)
-
--- an entry that names a cell names the neighbour
-named_neighbour : (P : Network) → IsProblem P → (c d n : ℕ) → c < P.cells → d < P.dirs → n ≡ slice_index (beside P c) d → n ≢ NO_CELL → neighbour P c d ≡ Some n
-named_neighbour P p c d n hc hd is some = entry-names P p c d n hc hd is ∙ cond-false _ None (Some n) (ne_eqb n NO_CELL some)
-
--- an entry that is no cell's number is of no neighbour
-pub no_neighbour : (P : Network) → IsProblem P → (c d n : ℕ) → c < P.cells → d < P.dirs → n ≡ slice_index (beside P c) d → P.cells ≤ n → neighbour P c d ≡ None
-no_neighbour P p c d n hc hd is past = elim (cases_eq n NO_CELL) [
-  | inl none ↦ entry-names P p c d n hc hd is ∙ cond-true _ None (Some n) (eq-eqb n NO_CELL none)
-  | inr some ↦ absurd (let inside = in_cells P p c d n (named_neighbour P p c d n hc hd is some) in omega (arith, inside, past))
-]
+-- these hops from a cell lead to its neighbours
+abbrev pub LeadBeside : Network → ℕ → List ℕ → Type 0
+LeadBeside P c hops = map (hop_cell c) hops ≡ map entry_cell (beside P c)
 
 -- ---- one link worked off
 
@@ -298,50 +287,58 @@ link_step b T head c v k n row ls h e l beside wide =
     }
 
 -- the same, where the facts are those of the board and the table at entry
-pub link_at : (b a : Board) (T A : Table) (head c v k n row : ℕ) (ls : List SupportLink) (entries : List ℕ) → b.problem ≡ a.problem → FitsTable a.problem.now A
+pub link_at : (b a : Board) (T A : Table) (head c v k n row : ℕ) (ls : List SupportLink) (hops : List ℕ) → b.problem ≡ a.problem → FitsTable a.problem.now A
     → IsWorking b T head c v (link_places b.problem.now c (take k ls)) → ls ≡ links_of a.problem.now v → k < length ls
-    → entries ≡ beside a.problem.now c → row ≡ A.values * A.dirs → n ≡ slice_index entries (get_or ls k no_link).dir → n < a.problem.now.cells
+    → LeadBeside a.problem.now c hops → row ≡ A.values * A.dirs → hop_cell c (slice_index hops (get_or ls k no_link).dir) ≡ Some n
     → LinkStep b.problem.now (link_places b.problem.now c (take k ls)) (link_places b.problem.now c (take (k + 1) ls)) c v n (n * row + (get_or ls k no_link).offset) (get_or ls k no_link) T
-link_at b a T A head c v k n row ls entries same fits h e l table wide is inside =
+link_at b a T A head c v k n row ls hops same fits h e l lead wide is =
     let N = ap (λ p. p.now) same in
     let x = get_or ls k no_link in
     let e' = e ∙ ap (λ P. links_of P v) (sym N) in
     let hd = (is_link b.problem.now h.board.traced.problem v k ls e' l).dir_in in
-    let entry = is ∙ ap (λ xs. slice_index xs x.dir) (table ∙ ap (λ P. beside P c) (sym N)) in
-    let some : n ≢ NO_CELL = let few = few_cells a.problem.now (subst IsProblem N h.board.traced.problem) in omega (arith, inside, few) in
     let wide' : row ≡ values b.problem.now * b.problem.now.dirs = wide ∙ (λ i. fits.same_values i * fits.same_dirs i) ∙ ap (λ P. values P * P.dirs) (sym N) in
-    link_step b T head c v k n row ls h e' l (named_neighbour b.problem.now h.board.traced.problem c x.dir n (working-range h).0 hd entry some) wide'
+    let named = hop_names b.problem.now h.board.traced.problem c x.dir hops (working-range h).0 hd (lead ∙ ap (λ P. map entry_cell (beside P c)) (sym N)) in
+    link_step b T head c v k n row ls h e' l (named ∙ is) wide'
 
--- where a cell has four neighbours there are four directions
-pub four_dirs : (b a : Board) (T : Table) (head c v : ℕ) (lowered starts : List ℕ) (row : ℕ) → b.problem ≡ a.problem → IsWorking b T head c v lowered
-    → AreStarts (beside a.problem.now c) row a.problem.now.cells starts → b.problem.now.dirs ≡ 4
-four_dirs b a T head c v lowered starts row same h s =
+-- a link whose hop leads nowhere leads to no cell
+pub no_neighbour : (b a : Board) (T : Table) (head c v k : ℕ) (lowered : List ℕ) (ls : List SupportLink) (hops : List ℕ) → b.problem ≡ a.problem → IsWorking b T head c v lowered
+    → ls ≡ links_of a.problem.now v → k < length ls → LeadBeside a.problem.now c hops → hop_cell c (slice_index hops (get_or ls k no_link).dir) ≡ None → neighbour a.problem.now c (get_or ls k no_link).dir ≡ None
+no_neighbour b a T head c v k lowered ls hops same h e l lead none =
     let N = ap (λ p. p.now) same in
     let p = subst IsProblem N h.board.traced.problem in
     let hc = subst (λ (P : Network). c < P.cells) N (working-range h).0 in
-    ap (λ P. P.dirs) N ∙ sym (beside_length a.problem.now p c hc) ∙ s.four
+    hop_names a.problem.now p c (get_or ls k no_link).dir hops hc (is_link a.problem.now p v k ls e l).dir_in lead ∙ none
+
+-- where a cell has four neighbours there are four directions
+pub four_dirs : (b a : Board) (T : Table) (head c v : ℕ) (lowered hops starts : List ℕ) (row : ℕ) → b.problem ≡ a.problem → IsWorking b T head c v lowered
+    → LeadBeside a.problem.now c hops → AreStarts c hops row starts → b.problem.now.dirs ≡ 4
+four_dirs b a T head c v lowered hops starts row same h lead s =
+    let N = ap (λ p. p.now) same in
+    sym (hops_length b.problem.now h.board.traced.problem c hops (working-range h).0 (lead ∙ ap (λ P. map entry_cell (beside P c)) (sym N))) ∙ s.four
 
 -- so a link leads in one of four
-pub four_in : (b a : Board) (T : Table) (head c v k : ℕ) (ls : List SupportLink) (starts : List ℕ) (row : ℕ) → b.problem ≡ a.problem
+pub four_in : (b a : Board) (T : Table) (head c v k : ℕ) (ls : List SupportLink) (hops starts : List ℕ) (row : ℕ) → b.problem ≡ a.problem
     → IsWorking b T head c v (link_places b.problem.now c (take k ls)) → ls ≡ links_of a.problem.now v → k < length ls
-    → AreStarts (beside a.problem.now c) row a.problem.now.cells starts → (get_or ls k no_link).dir < 4
-four_in b a T head c v k ls starts row same h e l s =
+    → LeadBeside a.problem.now c hops → AreStarts c hops row starts → (get_or ls k no_link).dir < 4
+four_in b a T head c v k ls hops starts row same h e l lead s =
     let N = ap (λ p. p.now) same in
     let e' = e ∙ ap (λ P. links_of P v) (sym N) in
-    omega (arith, (is_link b.problem.now h.board.traced.problem v k ls e' l).dir_in, four_dirs b a T head c v (link_places b.problem.now c (take k ls)) starts row same h s)
+    omega (arith, (is_link b.problem.now h.board.traced.problem v k ls e' l).dir_in, four_dirs b a T head c v (link_places b.problem.now c (take k ls)) hops starts row same h lead s)
 
 -- the same where it is kept at which places the counters of four neighbours begin
-pub link_from : (b a : Board) (T A : Table) (head c v k n : ℕ) (ls : List SupportLink) (starts : List ℕ) → b.problem ≡ a.problem → FitsTable a.problem.now A
+pub link_from : (b a : Board) (T A : Table) (head c v k n : ℕ) (ls : List SupportLink) (hops starts : List ℕ) → b.problem ≡ a.problem → FitsTable a.problem.now A
     → IsWorking b T head c v (link_places b.problem.now c (take k ls)) → ls ≡ links_of a.problem.now v → k < length ls
-    → AreStarts (beside a.problem.now c) (A.values * A.dirs) a.problem.now.cells starts → n ≡ slice_index (beside a.problem.now c) (get_or ls k no_link).dir
+    → LeadBeside a.problem.now c hops → AreStarts c hops (A.values * A.dirs) starts → n ≡ hop_end c (slice_index hops (get_or ls k no_link).dir)
     → LinkStep b.problem.now (link_places b.problem.now c (take k ls)) (link_places b.problem.now c (take (k + 1) ls)) c v n (slice_index starts (get_or ls k no_link).dir + (get_or ls k no_link).offset) (get_or ls k no_link) T
-link_from b a T A head c v k n ls starts same fits h e l s is =
+link_from b a T A head c v k n ls hops starts same fits h e l lead s is =
     let x = get_or ls k no_link in
     let row = A.values * A.dirs in
-    let below = four_in b a T head c v k ls starts row same h e l s in
+    let below = four_in b a T head c v k ls hops starts row same h e l lead s in
+    let hop = slice_index hops x.dir in
+    let leads : hop_cell c hop ≡ Some n = cond-false _ None (Some (hop_end c hop)) (ne_eqb hop NO_HOP (s.some x.dir below)) ∙ ap (λ (m : ℕ). Some m) (sym is) in
     subst (λ i. LinkStep b.problem.now (link_places b.problem.now c (take k ls)) (link_places b.problem.now c (take (k + 1) ls)) c v n (i + x.offset) x T)
     (sym (s.begins x.dir below ∙ ap (λ m. m * row) (sym is)))
-    (link_at b a T A head c v k n row ls (beside a.problem.now c) same fits h e l refl refl is (subst (λ m. m < a.problem.now.cells) (sym is) (s.inside x.dir below)))
+    (link_at b a T A head c v k n row ls hops same fits h e l lead refl leads)
 
 -- the place of a counter, of a value and a direction that are called otherwise
 pub placed_as : (P : Network) (i n w w' d d' : ℕ) → i ≡ counter_place P n w d → w ≡ w' → d ≡ d' → i ≡ counter_place P n w' d'

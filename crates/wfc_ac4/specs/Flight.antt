@@ -1,6 +1,6 @@
 -- What a flight's steps leave as it was.
 use Rattle.std.specs.Prelude.{◌≡◌, ℕ, ◌*◌, ◌<◌, ◌⊎◌, ◌∷◌, ◌++◌, List, [], length, min, take, Some, IsTrue}
-use Rattle.wfc_problem.specs.Network.{beside, neighbour}
+use Rattle.wfc_problem.specs.Network.{neighbour}
 use Rattle.wfc_log.specs.declared.Cause.TheVariants.{Arc}
 use Rattle.wfc_log.specs.declared.Removal.{Removal}
 use Rattle.wfc_log.specs.declared.Verdict.TheVariants.{Alive}
@@ -67,7 +67,6 @@ pub record IsFirstBare (f : Flight) (cell value d : ℕ) : Type 0 where
   pub none : count_of f.counters cell value d ≡ 0
   pub first : (e n : ℕ) → e < d → neighbour f.board.problem.now cell e ≡ Some n → 0 < count_of f.counters cell value e
 
--- the cell has four neighbours, whose counters begin at these places
-abbrev pub HasStarts : Flight → ℕ → List ℕ → Type 0
-HasStarts f cell starts =
-    AreStarts (beside f.board.problem.now cell) (f.counters.values * f.counters.dirs) f.board.problem.now.cells starts
+-- these hops from the cell lead to four neighbours, whose counters begin at these places
+abbrev pub HasStarts : Flight → ℕ → List ℕ → List ℕ → Type 0
+HasStarts f cell hops starts = AreStarts cell hops (f.counters.values * f.counters.dirs) starts

@@ -1,7 +1,8 @@
 //! Removals worked off.
 
-ghost use Rattle.std.specs.Prelude.{◌≡◌, ◌+◌, ◌/◌, ◌<◌, ◌≤◌, [], length, slice_get, IfSome, Some};
-ghost use Rattle.wfc_problem.specs.Network.{beside, values};
+ghost use Rattle.std.specs.Prelude.{◌≡◌, ◌+◌, ◌/◌, ◌<◌, ◌≤◌, [], length, map, slice_get, IfSome, Some};
+ghost use Rattle.wfc_problem.specs.Hops.{hop_cell};
+ghost use Rattle.wfc_problem.specs.Network.{beside, entry_cell, values};
 ghost use Rattle.wfc_log.specs.declared.Verdict.TheVariants.{Alive};
 ghost use Rattle.wfc_domains.specs.Counters.{FitsTable, cost_at, counter_place};
 ghost use Rattle.wfc_domains.specs.Board.{Grows, HasValues, IsTraced};
@@ -15,6 +16,7 @@ use crate::flight::Flight;
 use crate::links::{Links, SupportLink};
 use std::sync::ledger::Ledger;
 use wfc_domains::{Cause, Removal, Steps, is_alive};
+use wfc_problem::{NO_HOP, hop_cell, hop_end};
 
 /// The value whose entry stands at an offset within its cell. Division by 4 alone is a shift.
 #[inline]
@@ -29,23 +31,23 @@ fn value_at(offset: u16, dirs: u8) -> u16
     }
 }
 
-/// Where the counters of the neighbours begin, if these are the numbers of four cells.
+/// Where the counters of the neighbours begin, if these hops lead to four cells.
 #[inline]
-fn four_starts(beside: &[u32], row_len: usize, cells: u32) -> Option<[usize; 4]>
+fn four_starts(cell: u32, hops: &[u32], row_len: usize) -> Option<[usize; 4]>
     requires small { row_len ≤ 4294967295 }
-    ensures some { IfSome result (AreStarts beside.now row_len cells) }
+    ensures some { IfSome result (AreStarts cell hops.now row_len) }
 {
-    if beside.len() != 4 {
+    if hops.len() != 4 {
         return None;
     }
-    if beside[0] >= cells || beside[1] >= cells || beside[2] >= cells || beside[3] >= cells {
+    if hops[0] == NO_HOP || hops[1] == NO_HOP || hops[2] == NO_HOP || hops[3] == NO_HOP {
         return None;
     }
     Some([
-        beside[0] as usize * row_len,
-        beside[1] as usize * row_len,
-        beside[2] as usize * row_len,
-        beside[3] as usize * row_len,
+        hop_end(cell, hops[0]) as usize * row_len,
+        hop_end(cell, hops[1]) as usize * row_len,
+        hop_end(cell, hops[2]) as usize * row_len,
+        hop_end(cell, hops[3]) as usize * row_len,
     ])
 }
 
@@ -87,27 +89,28 @@ impl<'p> Flight<'p> {
     {
         let problem = self.board.problem;
         let row_len = self.counters.row_len();
-        let entries = problem.beside(cell);
-        match four_starts(entries, row_len, problem.cells()) {
-            Some(starts) => self.work_four(index, cell, value, entries, starts, links, steps),
+        let hops = problem.hops(cell);
+        match four_starts(cell, hops, row_len) {
+            Some(starts) => self.work_four(index, cell, value, hops, starts, links, steps),
             None => self.work_sides(index, cell, value, links, steps),
         }
     }
 
-    /// The same for a cell with four neighbours, which are these, and whose counters begin at `starts`.
+    /// The same for a cell with four neighbours, to which these hops lead, and whose counters begin at `starts`.
     #[inline]
     fn work_four<L: Ledger>(
         &mut self,
         index: usize,
         cell: u32,
         value: u16,
-        entries: &[u32],
+        hops: &[u32],
         starts: [usize; 4],
         links: &[SupportLink],
         steps: &mut Steps<L>,
     )
-        requires entries { entries.now ≡ beside self.old.board.problem.now cell }
-        requires starts { HasStarts self.old cell starts }
+        requires hops { map (hop_cell cell) hops.now
+            ≡ map entry_cell (beside self.old.board.problem.now cell) }
+        requires starts { HasStarts self.old cell hops.now starts }
         requires links { links.now ≡ links_of self.old.board.problem.now value }
         requires working { IsWorking self.old.board self.old.counters index cell value [] }
         ensures working { IsWorking self.new.board self.new.counters index cell value
@@ -118,17 +121,13 @@ impl<'p> Flight<'p> {
         for link in links {
             let place = starts[link.dir as usize] + link.offset as usize;
             if self.counters.down_at(place, steps) {
-                self.strike(
-                    entries[link.dir as usize],
-                    link.offset / 4,
-                    link.back,
-                    place,
-                );
+                let next = hop_end(cell, hops[link.dir as usize]);
+                self.strike(next, link.offset / 4, link.back, place);
             }
         }
     }
 
-    /// The same for any cell. An entry beside it that names no cell is above all their numbers.
+    /// The same for any cell.
     #[inline(never)]
     fn work_sides<L: Ledger>(
         &mut self,
@@ -146,12 +145,10 @@ impl<'p> Flight<'p> {
         ensures steps { steps.new ≡ steps.old + cost_at self.old.board.problem.now cell value }
     {
         let problem = self.board.problem;
-        let beside = problem.beside(cell);
+        let hops = problem.hops(cell);
         let row_len = self.counters.row_len();
-        let cells = problem.cells();
         for link in links {
-            let next = beside[link.dir as usize];
-            if next < cells {
+            if let Some(next) = hop_cell(cell, hops[link.dir as usize]) {
                 let place = next as usize * row_len + link.offset as usize;
                 if self.counters.down_at(place, steps) {
                     let other = value_at(link.offset, problem.dirs());

@@ -1,5 +1,5 @@
 use Rattle.wfc_ac4.proofs.Steps.{working-range}
 use Rattle.wfc_ac4.proofs.flight.Flight.work_links.Goals as goal
 
-pub beside-entries-requires : goal.beside-entries-requires
-beside-entries-requires g c = record { cell_in = (working-range c.requires.working).0 }
+pub hops-hops-requires : goal.hops-hops-requires
+hops-hops-requires g c = record { cell_in = (working-range c.requires.working).0 }
