@@ -45,9 +45,8 @@ pub fn hops_are_read()
         ≡ 3 ∷ NO_CELL ∷ 8 ∷ 5 ∷ [] }
     ensures asked { map (hop_of 5) (3 ∷ NO_CELL ∷ 8 ∷ 5 ∷ [])
         ≡ 4294967294 ∷ NO_HOP ∷ 3 ∷ 0 ∷ [] }
-    ensures by_kinds { hops_table 4 2 (2 ∷ 0 ∷ 0 ∷ 1 ∷ [])
-        (4294967295 ∷ 1 ∷ 4294967295 ∷ NO_HOP ∷ NO_HOP ∷ 1 ∷ [])
-        ≡ NO_CELL ∷ 1 ∷ 0 ∷ 2 ∷ 1 ∷ 3 ∷ 2 ∷ NO_CELL ∷ [] }
+    ensures by_kinds { hops_table 3 2 (1 ∷ 0 ∷ 0 ∷ []) (4294967295 ∷ NO_HOP ∷ NO_HOP ∷ 1 ∷ [])
+        ≡ NO_CELL ∷ 1 ∷ 0 ∷ NO_CELL ∷ 1 ∷ NO_CELL ∷ [] }
     ensures by_cells { hops_table 2 3 [] (1 ∷ NO_HOP ∷ 0 ∷ NO_HOP ∷ 4294967295 ∷ 0 ∷ [])
         ≡ 1 ∷ NO_CELL ∷ 0 ∷ NO_CELL ∷ 0 ∷ 1 ∷ [] }
 {}

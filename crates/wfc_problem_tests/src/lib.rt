@@ -2,6 +2,8 @@
 #![tactic(auto)]
 
 #[cfg(test)]
+mod hops;
+#[cfg(test)]
 mod pins;
 #[cfg(test)]
 mod problem;

@@ -189,7 +189,12 @@ fn the_other(alloc: Global, dirs: u8) -> Result<Vec<Vec<u16>>, AllocError> {
 
 /// Cells with this table of neighbours, and two values that may stand in each direction beside the
 /// other alone.
-fn striped(alloc: Global, cells: u16, dirs: u8, neighbours: &[u32]) -> Result<Parts, AllocError> {
+pub(crate) fn striped(
+    alloc: Global,
+    cells: u16,
+    dirs: u8,
+    neighbours: &[u32],
+) -> Result<Parts, AllocError> {
     Ok(Parts {
         cells: cells as u32,
         dirs,
