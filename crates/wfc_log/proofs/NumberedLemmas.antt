@@ -9,7 +9,7 @@ use Rattle.wfc_log.specs.declared.Cause.{Cause}
 use Rattle.wfc_log.specs.declared.Cause.TheVariants.{Assumed, Arc}
 use Rattle.wfc_log.specs.declared.Removal.{Removal}
 use Rattle.wfc_log.specs.Log.{IsCauseBelow, cells_of, fewer_at, sizes_after}
-use Rattle.wfc_log.specs.Numbered.{cause_number, numbered_cause, removal_count, removal_number, placed_cell, placed_removal, placed_removals, number_from, numbers_from}
+use Rattle.wfc_log.specs.Numbered.{cause_number, numbered_cause, removal_count, removal_number, placed_cell, placed_removal, placed_removals, number_from, numbers_from, wide_limit}
 
 -- a cause's number is one of those of causes
 pub cause-few : (k : ℕ) (c : Cause) → IsCauseBelow k c → cause_number k c < k + 1
@@ -59,8 +59,8 @@ cell-few cells values dirs n some h =
     let pair = (div-lt_iff_lt-mul {x = n} {y = cells * values} k_some).1 h in
     (div-lt_iff_lt-mul {x = n / (dirs + 1)} {y = cells} some).1 pair
 
--- numbers of four bytes are enough for a problem
-pub number-limit : (p d : ℕ) → p ≤ 8388608 → (d ≡ 4) ⊎ (d ≡ 6) → p * (d + 1) ≤ 2 ^ 32
+-- wide numbers are enough for a problem
+pub number-limit : (p d : ℕ) → p ≤ 8388608 → (d ≡ 4) ⊎ (d ≡ 6) → p * (d + 1) ≤ wide_limit
 number-limit p d few dirs =
     let times : (k : ℕ) → d ≡ k → p * (d + 1) ≡ p * (k + 1) = λ k e. ap (λ n. p * (n + 1)) e in
     elim dirs [
@@ -91,35 +91,35 @@ placed-push values dirs s (x ∷ ns) n =
 -- ---- numbers in two parts
 
 -- a number from its two parts
-pub number-parts : (n : ℕ) → number_from (n % 65536) (n / 65536) ≡ n
-number-parts n = div-add-mod n 65536
+pub number-parts : (b n : ℕ) → number_from b (n % b) (n / b) ≡ n
+number-parts b n = div-add-mod n b
 
 -- as many numbers as low parts
-pub numbers-length : (ns hs : List ℕ) → length hs ≡ length ns → length (numbers_from ns hs) ≡ length ns
-numbers-length [] hs l = refl
-numbers-length (n ∷ ns) [] l = absurd (omega (arith, l))
-numbers-length (n ∷ ns) (h ∷ hs) l = ap suc (numbers-length ns hs (omega (arith, l)))
+pub numbers-length : (b : ℕ) (ns hs : List ℕ) → length hs ≡ length ns → length (numbers_from b ns hs) ≡ length ns
+numbers-length b [] hs l = refl
+numbers-length b (n ∷ ns) [] l = absurd (omega (arith, l))
+numbers-length b (n ∷ ns) (h ∷ hs) l = ap suc (numbers-length b ns hs (omega (arith, l)))
 
 -- one number more
-pub numbers-push : (ns hs : List ℕ) (n h : ℕ) → length hs ≡ length ns → numbers_from (ns ++ n ∷ []) (hs ++ h ∷ []) ≡ numbers_from ns hs ++ number_from n h ∷ []
-numbers-push [] [] n h l = refl
-numbers-push [] (y ∷ hs) n h l = absurd (omega (arith, l))
-numbers-push (x ∷ ns) [] n h l = absurd (omega (arith, l))
-numbers-push (x ∷ ns) (y ∷ hs) n h l = ap (λ rs. number_from x y ∷ rs) (numbers-push ns hs n h (omega (arith, l)))
+pub numbers-push : (b : ℕ) (ns hs : List ℕ) (n h : ℕ) → length hs ≡ length ns → numbers_from b (ns ++ n ∷ []) (hs ++ h ∷ []) ≡ numbers_from b ns hs ++ number_from b n h ∷ []
+numbers-push b [] [] n h l = refl
+numbers-push b [] (y ∷ hs) n h l = absurd (omega (arith, l))
+numbers-push b (x ∷ ns) [] n h l = absurd (omega (arith, l))
+numbers-push b (x ∷ ns) (y ∷ hs) n h l = ap (λ rs. number_from b x y ∷ rs) (numbers-push b ns hs n h (omega (arith, l)))
 
 -- the first numbers
-pub numbers-take : (k : ℕ) (ns hs : List ℕ) → numbers_from (take k ns) (take k hs) ≡ take k (numbers_from ns hs)
-numbers-take zero ns hs = refl
-numbers-take (suc k) [] hs = refl
-numbers-take (suc k) (n ∷ ns) [] = refl
-numbers-take (suc k) (n ∷ ns) (h ∷ hs) = ap (λ rs. number_from n h ∷ rs) (numbers-take k ns hs)
+pub numbers-take : (b k : ℕ) (ns hs : List ℕ) → numbers_from b (take k ns) (take k hs) ≡ take k (numbers_from b ns hs)
+numbers-take b zero ns hs = refl
+numbers-take b (suc k) [] hs = refl
+numbers-take b (suc k) (n ∷ ns) [] = refl
+numbers-take b (suc k) (n ∷ ns) (h ∷ hs) = ap (λ rs. number_from b n h ∷ rs) (numbers-take b k ns hs)
 
 -- the number at an index
-pub numbers-at : (ns hs : List ℕ) (i n h : ℕ) → slice_get ns i ≡ Some n → slice_get hs i ≡ Some h → slice_get (numbers_from ns hs) i ≡ Some (number_from n h)
-numbers-at [] hs i n h l m = cc
-numbers-at (x ∷ ns) [] i n h l m = cc
-numbers-at (x ∷ ns) (y ∷ hs) zero n h l m = let p : x ≡ n = cc in let q : y ≡ h = cc in λ i. Some (number_from (p i) (q i))
-numbers-at (x ∷ ns) (y ∷ hs) (suc i) n h l m = numbers-at ns hs i n h l m
+pub numbers-at : (b : ℕ) (ns hs : List ℕ) (i n h : ℕ) → slice_get ns i ≡ Some n → slice_get hs i ≡ Some h → slice_get (numbers_from b ns hs) i ≡ Some (number_from b n h)
+numbers-at b [] hs i n h l m = cc
+numbers-at b (x ∷ ns) [] i n h l m = cc
+numbers-at b (x ∷ ns) (y ∷ hs) zero n h l m = let p : x ≡ n = cc in let q : y ≡ h = cc in λ i. Some (number_from b (p i) (q i))
+numbers-at b (x ∷ ns) (y ∷ hs) (suc i) n h l m = numbers-at b ns hs i n h l m
 
 -- a list with its last element
 pub split-last : {X : Type 0} (xs : List X) (n : ℕ) (x : X) → slice_get xs n ≡ Some x → length xs ≡ n + 1 → xs ≡ take n xs ++ x ∷ []

@@ -3,6 +3,7 @@ pub mod Bits
 pub mod Sized
 pub mod Log
 pub mod Numbered
+pub mod Tops
 pub mod Packed
 pub mod Kept
 pub mod Recent

@@ -56,15 +56,27 @@ sizes_before sizes (c ∷ cells) = more_at (sizes_before sizes cells) c
 abbrev pub first_sizes : ℕ → ℕ → List ℕ → List ℕ → List ℕ
 first_sizes values dirs sizes places = sizes_before sizes (map (placed_cell values dirs) places)
 
--- the number with this rest by 2 ^ 16, which goes into it so many times
-abbrev pub number_from : ℕ → ℕ → ℕ
-number_from low high = 65536 * high + low
+-- the number with this rest by the base, which goes into it so many times
+abbrev pub number_from : ℕ → ℕ → ℕ → ℕ
+number_from base low high = base * high + low
 
 -- the numbers in these two parts
-abbrev pub numbers_from : List ℕ → List ℕ → List ℕ
-numbers_from [] highs = []
-numbers_from (n ∷ lows) [] = []
-numbers_from (n ∷ lows) (h ∷ highs) = number_from n h ∷ numbers_from lows highs
+abbrev pub numbers_from : ℕ → List ℕ → List ℕ → List ℕ
+numbers_from base [] highs = []
+numbers_from base (n ∷ lows) [] = []
+numbers_from base (n ∷ lows) (h ∷ highs) = number_from base n h ∷ numbers_from base lows highs
+
+-- how many numbers three bytes tell apart
+abbrev pub short_limit : ℕ
+short_limit = 16777216
+
+-- and how many three bytes and two bits do, which are enough for a problem
+abbrev pub wide_limit : ℕ
+wide_limit = 67108864
+
+-- what is above each number, wide or not
+abbrev pub limit_of : Bool → ℕ
+limit_of wide = if wide then wide_limit else short_limit
 
 -- numbers, how many of them there is room for, and what is above each that there is room for
 pub record Packed : Type 0 where
@@ -72,13 +84,9 @@ pub record Packed : Type 0 where
   pub limit : ℕ
   pub numbers : List ℕ
 
--- no numbers, and room for so many: below 2 ^ 32 where they are wide, else below 2 ^ 24
+-- no numbers, and room for so many
 abbrev pub empty_numbers : ℕ → Bool → Packed
-empty_numbers room wide = record {
-  room = room;
-  limit = (if wide then 4294967296 else 16777216);
-  numbers = [];
-}
+empty_numbers room wide = record { room = room; limit = limit_of wide; numbers = [] }
 
 -- removals of earlier levels, and how many of them there is room for
 pub record Earlier : Type 0 where

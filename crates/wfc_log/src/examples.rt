@@ -7,8 +7,9 @@ ghost use Rattle.wfc_problem.specs.Corner.{corner};
 ghost use Rattle.wfc_problem.specs.Network.{in_base};
 ghost use Rattle.wfc_log.specs.Domains.{has, size_of, flags_of, base_of, less, Fits};
 ghost use Rattle.wfc_log.specs.Log.{AreLogged, IsLogged, extent_of, sizes_after};
-ghost use Rattle.wfc_log.specs.Numbered.{first_sizes, numbers_from, removal_number, placed_removals};
+ghost use Rattle.wfc_log.specs.Numbered.{first_sizes, limit_of, numbers_from, removal_number, placed_removals};
 ghost use Rattle.wfc_log.specs.Sample.{two_rows, unsupported_removal, cut_first, later};
+ghost use Rattle.wfc_log.specs.Tops.{tops_in};
 ghost use Rattle.wfc_log.specs.declared.Cause.TheVariants.{Arc};
 
 /// Flags are read row by row, and nothing stands out of range; a value less is one at its cell alone.
@@ -41,5 +42,7 @@ pub fn logs_are_read()
     ensures numbers { map (removal_number 3 4) (unsupported_removal ∷ cut_first ∷ []) ≡ 38 ∷ 4 ∷ [] }
     ensures removals { placed_removals 3 4 (2 ∷ 2 ∷ 3 ∷ 2 ∷ []) (38 ∷ 4 ∷ [])
         ≡ unsupported_removal ∷ cut_first ∷ [] }
-    ensures parts { numbers_from (38 ∷ 4 ∷ []) (0 ∷ 1 ∷ []) ≡ 38 ∷ 65540 ∷ [] }
+    ensures parts { numbers_from 65536 (38 ∷ 4 ∷ []) (0 ∷ 1 ∷ []) ≡ 38 ∷ 65540 ∷ [] }
+    ensures limits { map limit_of (false ∷ true ∷ []) ≡ 16777216 ∷ 67108864 ∷ [] }
+    ensures tops { tops_in 6 (228 ∷ 54 ∷ []) ≡ 0 ∷ 1 ∷ 2 ∷ 3 ∷ 2 ∷ 1 ∷ [] }
 {}

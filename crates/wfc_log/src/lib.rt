@@ -6,6 +6,7 @@ mod domains;
 pub mod examples;
 mod older;
 mod packed;
+mod tops;
 mod trail;
 
 pub use domains::Domains;

@@ -1,20 +1,17 @@
-//! Removals of earlier levels, in three or four bytes each.
+//! Removals of earlier levels, in three bytes each, or in three bytes and two bits.
 
-ghost use Rattle.std.specs.Prelude.{◌≡◌, ◌+◌, ◌<◌, ◌≤◌, ◌^◌, ◌++◌, ◌∷◌, [], length, reverse, IfOk, vec_len, vec_capacity};
+ghost use Rattle.std.specs.Prelude.{◌≡◌, ◌+◌, ◌<◌, ◌≤◌, ◌++◌, ◌∷◌, [], length, reverse, IfOk, vec_len, vec_capacity};
 ghost use Rattle.wfc_log.specs.Domains.{base_of};
 ghost use Rattle.wfc_log.specs.Log.{IsLogged, AreLogged, cells_of, extent_of, sizes_after};
-ghost use Rattle.wfc_log.specs.Numbered.{cause_number, numbered_cause, removal_number};
+ghost use Rattle.wfc_log.specs.Numbered.{cause_number, numbered_cause, removal_number, wide_limit};
 
 use crate::domains::Domains;
-use crate::packed::Numbers;
+use crate::packed::{Numbers, SHORT};
 use crate::{Cause, Removal};
 use std::alloc::Global;
 use std::marker::Model;
 use wfc_outside::NoMemory;
 use wfc_problem::Problem;
-
-/// How many numbers three bytes tell apart.
-const SHORT: u64 = 16_777_216;
 
 /// Removals, each kept as one number, which tells its cell, value and cause. How many values stood before it follows
 /// from how many each cell has left.
@@ -63,7 +60,7 @@ fn numbered_cause(number: u8, dirs: u8) -> Cause
 /// The number of a removal's cell, value and cause among all that there can be.
 #[inline]
 fn removal_number(removal: Removal, values: u16, dirs: u8) -> u32
-    requires few { removal_number values dirs removal < 2 ^ 32 }
+    requires few { removal_number values dirs removal < wide_limit }
     ensures value { result ≡ removal_number values dirs removal }
 {
     let pair = removal.cell * u32::from(values) + u32::from(removal.value);
@@ -130,7 +127,7 @@ impl Older {
             values,
             dirs,
             sizes: Vec::from_slice(alloc, domains.sizes())?,
-            numbers: Numbers::new(alloc, room, places > SHORT)?,
+            numbers: Numbers::new(alloc, room, places > SHORT as u64)?,
         })
     }
 

@@ -1,23 +1,27 @@
-//! Numbers of three bytes or of four.
+//! Numbers of three bytes, or of three bytes and two bits.
 
 ghost use Rattle.std.specs.Prelude.{◌≡◌, ◌<◌, ◌++◌, ◌∷◌, [], length, take, slice_get, Some, IfOk};
 ghost use Rattle.wfc_log.specs.Numbered.{empty_numbers};
 
+use crate::tops::Tops;
 use std::alloc::{AllocError, Global};
 use std::marker::Model;
 
-/// How many numbers the low part of a number tells apart.
+/// How many numbers two bytes tell apart.
 const LOWS: u32 = 65_536;
 
-/// Numbers in two parts each. The high part takes a byte, or two where the numbers that there can be are too many for
-/// three bytes.
+/// And three bytes.
+pub const SHORT: u32 = 16_777_216;
+
+/// Numbers in parts: a low one of two bytes, one of a byte, and, where the numbers that there can be are too many for
+/// three bytes, a top one of two bits.
 #[derive(Drop)]
 pub struct Numbers {
     room: usize,
     wide: bool,
     lows: Vec<u16>,
     bytes: Vec<u8>,
-    halves: Vec<u16>,
+    tops: Tops,
 }
 
 impl Model for Numbers {
@@ -32,17 +36,16 @@ impl Model for Numbers {
 }
 
 impl Numbers {
-    /// No numbers, and room for so many: below 2 ^ 32 where they are wide, else below 2 ^ 24.
+    /// No numbers, and room for so many: below 2 ^ 26 where they are wide, else below 2 ^ 24.
     pub fn new(alloc: Global, room: usize, wide: bool) -> Result<Numbers, AllocError>
         ensures ok { IfOk result (λ numbers. numbers ≡ empty_numbers room wide) }
     {
-        let (byte_room, half_room) = if wide { (0, room) } else { (room, 0) };
         Ok(Numbers {
             room,
             wide,
             lows: Vec::with_capacity(alloc, room)?,
-            bytes: Vec::with_capacity(alloc, byte_room)?,
-            halves: Vec::with_capacity(alloc, half_room)?,
+            bytes: Vec::with_capacity(alloc, room)?,
+            tops: Tops::new(alloc, if wide { room } else { 0 })?,
         })
     }
 
@@ -60,13 +63,12 @@ impl Numbers {
         requires index_in { index < length self.now.numbers }
         ensures value { slice_get self.now.numbers index ≡ Some result }
     {
-        let low = u32::from(self.lows[index]);
-        let high = if self.wide {
-            u32::from(self.halves[index])
+        let short = LOWS * u32::from(self.bytes[index]) + u32::from(self.lows[index]);
+        if self.wide {
+            SHORT * u32::from(self.tops.at(index)) + short
         } else {
-            u32::from(self.bytes[index])
-        };
-        LOWS * high + low
+            short
+        }
     }
 
     /// One more.
@@ -77,10 +79,9 @@ impl Numbers {
         ensures more { self.new ≡ record self.old { numbers = self.old.numbers ++ number ∷ [] } }
     {
         self.lows.push_reserved((number % LOWS) as u16);
+        self.bytes.push_reserved((number / LOWS % 256) as u8);
         if self.wide {
-            self.halves.push_reserved((number / LOWS) as u16);
-        } else {
-            self.bytes.push_reserved((number / LOWS) as u8);
+            self.tops.push((number / SHORT) as u8);
         }
     }
 
@@ -91,6 +92,6 @@ impl Numbers {
     {
         self.lows.truncate(keep);
         self.bytes.truncate(keep);
-        self.halves.truncate(keep);
+        self.tops.truncate(keep);
     }
 }
