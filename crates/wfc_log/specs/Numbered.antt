@@ -74,6 +74,11 @@ short_limit = 16777216
 abbrev pub wide_limit : ℕ
 wide_limit = 67108864
 
+-- the numbers in these parts, of two bytes, one byte and, where they are wide, two bits
+abbrev pub packed_numbers : Bool → List ℕ → List ℕ → List ℕ → List ℕ
+packed_numbers wide lows bytes tops =
+    let shorts = numbers_from 65536 lows bytes in if wide then numbers_from short_limit shorts tops else shorts
+
 -- what is above each number, wide or not
 abbrev pub limit_of : Bool → ℕ
 limit_of wide = if wide then wide_limit else short_limit

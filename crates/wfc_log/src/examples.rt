@@ -7,7 +7,7 @@ ghost use Rattle.wfc_problem.specs.Corner.{corner};
 ghost use Rattle.wfc_problem.specs.Network.{in_base};
 ghost use Rattle.wfc_log.specs.Domains.{has, size_of, flags_of, base_of, less, Fits};
 ghost use Rattle.wfc_log.specs.Log.{AreLogged, IsLogged, extent_of, sizes_after};
-ghost use Rattle.wfc_log.specs.Numbered.{first_sizes, limit_of, numbers_from, removal_number, placed_removals};
+ghost use Rattle.wfc_log.specs.Numbered.{first_sizes, limit_of, numbers_from, packed_numbers, removal_number, placed_removals};
 ghost use Rattle.wfc_log.specs.Sample.{two_rows, unsupported_removal, cut_first, later};
 ghost use Rattle.wfc_log.specs.Tops.{tops_in};
 ghost use Rattle.wfc_log.specs.declared.Cause.TheVariants.{Arc};
@@ -43,6 +43,8 @@ pub fn logs_are_read()
     ensures removals { placed_removals 3 4 (2 ∷ 2 ∷ 3 ∷ 2 ∷ []) (38 ∷ 4 ∷ [])
         ≡ unsupported_removal ∷ cut_first ∷ [] }
     ensures parts { numbers_from 65536 (38 ∷ 4 ∷ []) (0 ∷ 1 ∷ []) ≡ 38 ∷ 65540 ∷ [] }
+    ensures wide { packed_numbers true (5 ∷ 7 ∷ []) (2 ∷ 1 ∷ []) (3 ∷ 0 ∷ []) ≡ 50462725 ∷ 65543 ∷ [] }
+    ensures narrow { packed_numbers false (5 ∷ 7 ∷ []) (2 ∷ 1 ∷ []) [] ≡ 131077 ∷ 65543 ∷ [] }
     ensures limits { map limit_of (false ∷ true ∷ []) ≡ 16777216 ∷ 67108864 ∷ [] }
     ensures tops { tops_in 6 (228 ∷ 54 ∷ []) ≡ 0 ∷ 1 ∷ 2 ∷ 3 ∷ 2 ∷ 1 ∷ [] }
 {}

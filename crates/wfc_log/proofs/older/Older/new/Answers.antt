@@ -6,7 +6,7 @@ use Rattle.std.proofs.lemmas.List.FromFn.{length-map-range_with_len}
 use Rattle.wfc_problem.specs.Network.{in_base, values}
 use Rattle.wfc_problem.specs.Sizes.{size_at, sizes_of}
 use Rattle.wfc_log.specs.Domains.{size_of}
-use Rattle.wfc_log.specs.Numbered.{removal_count, placed_removals, first_sizes}
+use Rattle.wfc_log.specs.Numbered.{limit_of, removal_count, placed_removals, first_sizes, short_limit, wide_limit}
 use Rattle.wfc_log.proofs.NumberedLemmas.{number-limit}
 use Rattle.wfc_log.proofs.OlderLemmas.{base-few}
 use Rattle.wfc_log.proofs.older.Older.new.Goals as goal
@@ -28,14 +28,14 @@ invariant_of-result c =
     let counted : places ≡ P.cells * values P * (P.dirs + 1) = λ i. (c.from.ensures ∙ c.cells-cells.ensures.value) i * (c.from-2.ensures ∙ c.values-values.ensures.value) i * ((c.from-3.ensures ∙ c.dirs-dirs.ensures.value) i + 1) in
     let made = c.in_ok-new.ensures.ok in
     let none = ap (λ z. z.numbers) made in
-    let limit : c.in_ok-new.field-0.limit ≡ cond (ltb 16777216 places) 4294967296 16777216 = ap (λ z. z.limit) made in
+    let limit : c.in_ok-new.field-0.limit ≡ limit_of (ltb short_limit places) = ap (λ z. z.limit) made in
     let first = ap (first_sizes v d sizes.items) none in
     record {
       some_value = omega (arith, c.values-values.ensures.value, t.some_value);
       few_places = omega (arith, count, few);
-      places_in = elim (cases_Bool (ltb 16777216 places)) [
-        | inl wide ↦ omega (arith, limit, cond-true {A = ℕ} (ltb 16777216 places) 4294967296 16777216 wide, count, few)
-        | inr narrow ↦ omega (arith, limit, cond-false {A = ℕ} (ltb 16777216 places) 4294967296 16777216 narrow, ltb-false _ _ narrow, count, counted)
+      places_in = elim (cases_Bool (ltb short_limit places)) [
+        | inl wide ↦ omega (arith, limit, cond-true {A = ℕ} (ltb short_limit places) wide_limit short_limit wide, count, few)
+        | inr narrow ↦ omega (arith, limit, cond-false {A = ℕ} (ltb short_limit places) wide_limit short_limit narrow, ltb-false _ _ narrow, count, counted)
       ];
       numbers_in = λ k e l. absurd (omega (arith, l, ap length none));
       few_values = λ k. omega (arith, ap (λ s. slice_index s k) (first ∙ is), base-few P p k);

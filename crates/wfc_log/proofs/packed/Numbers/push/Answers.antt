@@ -1,9 +1,7 @@
-use Rattle.std.proofs.Common.{◌≡◌, ◌/◌, ◌%◌, ◌∷◌, ◌++◌, [], ◌∙◌, ap, sym, arith, cond}
+use Rattle.std.proofs.Common.{◌≡◌, ◌<◌, ◌/◌, ◌%◌, ◌∷◌, ◌++◌, [], ℕ, ◌∙◌, ap, arith, length}
 use Rattle.std.proofs.lemmas.Bool.{cond-true, cond-false}
-use Rattle.wfc_log.specs.Packed.{highs_of}
-use Rattle.wfc_log.specs.Numbered.{numbers_from}
-use Rattle.wfc_log.proofs.NumberedLemmas.{numbers-push, number-parts}
-use Rattle.wfc_log.proofs.PackedLemmas.{highs-length, packed-length}
+use Rattle.wfc_log.specs.Numbered.{limit_of, packed_numbers, short_limit, wide_limit}
+use Rattle.wfc_log.proofs.PackedLemmas.{narrow-push, packed-length, wide-push}
 use Rattle.wfc_log.proofs.packed.Numbers.push.Goals as goal
 
 pub push_reserved-requires : goal.push_reserved-requires
@@ -12,42 +10,42 @@ push_reserved-requires c =
     let h = rw (← c.self.view_is) at c.requires.room in
     omega (arith, h, a.lows.ok.0, c.self.invariant.lows_fit, packed-length a c.self.invariant)
 
-pub push_reserved-requires-then-self : goal.push_reserved-requires-then-self
-push_reserved-requires-then-self c =
+pub push_reserved-requires-2 : goal.push_reserved-requires-2
+push_reserved-requires-2 c =
     let a = c.self.inside in
     let h = rw (← c.self.view_is) at c.requires.room in
-    omega (arith, h, a.lows.ok.0, c.self.invariant.halves_fit c.if-self.true, c.self.invariant.one_half_each c.if-self.true, packed-length a c.self.invariant)
+    omega (arith, h, a.lows.ok.0, c.self.invariant.one_byte_each, c.self.invariant.bytes_fit, packed-length a c.self.invariant)
 
-pub push_reserved-requires-else-self : goal.push_reserved-requires-else-self
-push_reserved-requires-else-self c =
+pub push-requires : goal.push-requires
+push-requires c =
     let a = c.self.inside in
     let h = rw (← c.self.view_is) at c.requires.room in
-    omega (arith, h, a.lows.ok.0, c.self.invariant.bytes_fit c.if-self.false, c.self.invariant.one_byte_each c.if-self.false, packed-length a c.self.invariant)
+    let few = rw (← c.self.view_is) at c.requires.few in
+    let t = c.if-self.true in
+    record {
+      room = omega (arith, h, a.lows.ok.0, c.self.invariant.one_top_each t, c.self.invariant.tops_fit t, packed-length a c.self.invariant);
+      few = omega (arith, few, cond-true {A = ℕ} a.wide wide_limit short_limit t);
+    }
 
 pub returns-then-self : goal.returns-then-self
 returns-then-self c =
     let a = c.self.inside in
     let n = c.args.number in
-    let high : highs_of a ≡ a.halves.items = cond-true a.wide _ _ c.if-self.true in
-    let high' : cond a.wide c.push_reserved-then-self.new.self.items a.bytes.items ≡ a.halves.items ++ n / 65536 ∷ [] = cond-true a.wide _ _ c.if-self.true ∙ c.push_reserved-then-self.ensures.items in
-    let long = highs-length a c.self.invariant in
-    let more : numbers_from c.push_reserved.new.self.items (cond a.wide c.push_reserved-then-self.new.self.items a.bytes.items) ≡ numbers_from a.lows.items (highs_of a) ++ n ∷ [] =
-    ap (λ ns. numbers_from ns (cond a.wide c.push_reserved-then-self.new.self.items a.bytes.items)) c.push_reserved.ensures.items
-    ∙ ap (numbers_from (a.lows.items ++ n % 65536 ∷ [])) (high' ∙ ap (λ hs. hs ++ n / 65536 ∷ []) (sym high))
-    ∙ numbers-push a.lows.items (highs_of a) _ _ long
-    ∙ ap (λ x. numbers_from a.lows.items (highs_of a) ++ x ∷ []) (number-parts n) in
-    rw (← c.self.view_is) (record { more = λ i. record { room = a.room; limit = cond a.wide 4294967296 16777216; numbers = more i } })
+    let h = c.self.invariant in
+    let t = c.if-self.true in
+    let tops = ap (λ z. z.numbers) c.push.ensures.more in
+    let more = (λ i. packed_numbers a.wide (c.push_reserved.ensures.items i) (c.push_reserved-2.ensures.items i) (tops i))
+      ∙ wide-push a.wide a.lows.items a.bytes.items a.tops.numbers n t (omega (arith, h.one_byte_each, a.lows.ok.0, a.bytes.ok.0)) (omega (arith, h.one_top_each t, a.lows.ok.0)) in
+    rw (← c.self.view_is) (record { more = λ i. record { room = a.room; limit = limit_of a.wide; numbers = more i } })
 
 pub returns-else-self : goal.returns-else-self
 returns-else-self c =
     let a = c.self.inside in
     let n = c.args.number in
-    let high : highs_of a ≡ a.bytes.items = cond-false a.wide _ _ c.if-self.false in
-    let high' : cond a.wide a.halves.items c.push_reserved-else-self.new.self.items ≡ a.bytes.items ++ n / 65536 ∷ [] = cond-false a.wide _ _ c.if-self.false ∙ c.push_reserved-else-self.ensures.items in
-    let long = highs-length a c.self.invariant in
-    let more : numbers_from c.push_reserved.new.self.items (cond a.wide a.halves.items c.push_reserved-else-self.new.self.items) ≡ numbers_from a.lows.items (highs_of a) ++ n ∷ [] =
-    ap (λ ns. numbers_from ns (cond a.wide a.halves.items c.push_reserved-else-self.new.self.items)) c.push_reserved.ensures.items
-    ∙ ap (numbers_from (a.lows.items ++ n % 65536 ∷ [])) (high' ∙ ap (λ hs. hs ++ n / 65536 ∷ []) (sym high))
-    ∙ numbers-push a.lows.items (highs_of a) _ _ long
-    ∙ ap (λ x. numbers_from a.lows.items (highs_of a) ++ x ∷ []) (number-parts n) in
-    rw (← c.self.view_is) (record { more = λ i. record { room = a.room; limit = cond a.wide 4294967296 16777216; numbers = more i } })
+    let h = c.self.invariant in
+    let f = c.if-self.false in
+    let few = rw (← c.self.view_is) at c.requires.few in
+    let below : n < short_limit = omega (arith, few, cond-false {A = ℕ} a.wide wide_limit short_limit f) in
+    let more = (λ i. packed_numbers a.wide (c.push_reserved.ensures.items i) (c.push_reserved-2.ensures.items i) a.tops.numbers)
+      ∙ narrow-push a.wide a.lows.items a.bytes.items a.tops.numbers n f (omega (arith, h.one_byte_each, a.lows.ok.0, a.bytes.ok.0)) below in
+    rw (← c.self.view_is) (record { more = λ i. record { room = a.room; limit = limit_of a.wide; numbers = more i } })
