@@ -5,3 +5,5 @@
 mod ac4;
 #[cfg(test)]
 mod choose;
+#[cfg(test)]
+mod largest;

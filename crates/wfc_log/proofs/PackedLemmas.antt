@@ -1,6 +1,5 @@
 -- Numbers in parts, as they are kept.
 use Rattle.std.proofs.Common.{◌≡◌, ℕ, ◌/◌, ◌%◌, ◌<◌, Bool, true, false, List, [], ◌∷◌, ◌++◌, length, take, ◌∙◌, ap, sym, arith, inl, inr}
-use Rattle.std.specs.Prelude.{Some, slice_get}
 use Rattle.std.proofs.lemmas.Bool.{cases_Bool, cond-true, cond-false}
 use Rattle.wfc_log.specs.Packed.{ArePacked}
 use Rattle.wfc_log.specs.Numbered.{number_from, numbers_from, packed_numbers, short_limit}

@@ -1,5 +1,5 @@
 -- Numbers of two bits: one is read, and one is written behind the others.
-use Rattle.std.proofs.Common.{◌≡◌, ℕ, zero, suc, ◌+◌, ◌*◌, ◌/◌, ◌%◌, ◌^◌, ◌<◌, ◌≤◌, List, [], ◌∷◌, ◌++◌, length, take, get_or, set, refl, sym, ◌∙◌, ap, arith, inl, inr}
+use Rattle.std.proofs.Common.{◌≡◌, ℕ, zero, suc, ◌+◌, ◌*◌, ◌/◌, ◌%◌, ◌^◌, ◌<◌, ◌≤◌, List, [], ◌∷◌, ◌++◌, length, take, set, sym, ◌∙◌, ap, arith, inl, inr}
 use Rattle.std.specs.Prelude.{Some, slice_get, slice_index}
 use Rattle.std.proofs.lemmas.Bool.{cases_eq, cases_lt}
 use Rattle.std.proofs.lemmas.List.{ext_get_or, get_or-set_other, get_or-set_same, get_or_append_left, take_all}
@@ -64,8 +64,8 @@ tops-more n t xs ys same here =
     map-range_with_len_more (top_in ys) 0 n n (omega arith)
     ∙ ap (λ x. tops_in n ys ++ x ∷ []) here
     ∙ ap (λ zs. zs ++ t ∷ []) (ext_get_or 0 _ _ (tops-length n ys ∙ sym (tops-length n xs)) (λ i l.
-      let small : i < n = omega (arith, l, tops-length n ys) in
-      get_or-map-range_with_len (top_in ys) 0 n i i 0 small (omega arith) ∙ same i small ∙ sym (get_or-map-range_with_len (top_in xs) 0 n i i 0 small (omega arith))))
+    let small : i < n = omega (arith, l, tops-length n ys) in
+    get_or-map-range_with_len (top_in ys) 0 n i i 0 small (omega arith) ∙ same i small ∙ sym (get_or-map-range_with_len (top_in xs) 0 n i i 0 small (omega arith))))
 
 -- in a byte that is there
 pub tops-written : (n t y : ℕ) (bytes : List ℕ) → n / 4 < length bytes → top_at y (n % 4) ≡ t

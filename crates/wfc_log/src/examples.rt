@@ -43,7 +43,8 @@ pub fn logs_are_read()
     ensures removals { placed_removals 3 4 (2 ∷ 2 ∷ 3 ∷ 2 ∷ []) (38 ∷ 4 ∷ [])
         ≡ unsupported_removal ∷ cut_first ∷ [] }
     ensures parts { numbers_from 65536 (38 ∷ 4 ∷ []) (0 ∷ 1 ∷ []) ≡ 38 ∷ 65540 ∷ [] }
-    ensures wide { packed_numbers true (5 ∷ 7 ∷ []) (2 ∷ 1 ∷ []) (3 ∷ 0 ∷ []) ≡ 50462725 ∷ 65543 ∷ [] }
+    ensures wide { packed_numbers true (5 ∷ 7 ∷ []) (2 ∷ 1 ∷ []) (3 ∷ 0 ∷ [])
+        ≡ 50462725 ∷ 65543 ∷ [] }
     ensures narrow { packed_numbers false (5 ∷ 7 ∷ []) (2 ∷ 1 ∷ []) [] ≡ 131077 ∷ 65543 ∷ [] }
     ensures limits { map limit_of (false ∷ true ∷ []) ≡ 16777216 ∷ 67108864 ∷ [] }
     ensures tops { tops_in 6 (228 ∷ 54 ∷ []) ≡ 0 ∷ 1 ∷ 2 ∷ 3 ∷ 2 ∷ 1 ∷ [] }

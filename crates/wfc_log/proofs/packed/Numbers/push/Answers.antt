@@ -1,4 +1,4 @@
-use Rattle.std.proofs.Common.{◌≡◌, ◌<◌, ◌/◌, ◌%◌, ◌∷◌, ◌++◌, [], ℕ, ◌∙◌, ap, arith, length}
+use Rattle.std.proofs.Common.{◌<◌, ℕ, ◌∙◌, ap, arith}
 use Rattle.std.proofs.lemmas.Bool.{cond-true, cond-false}
 use Rattle.wfc_log.specs.Numbered.{limit_of, packed_numbers, short_limit, wide_limit}
 use Rattle.wfc_log.proofs.PackedLemmas.{narrow-push, packed-length, wide-push}
@@ -35,7 +35,7 @@ returns-then-self c =
     let t = c.if-self.true in
     let tops = ap (λ z. z.numbers) c.push.ensures.more in
     let more = (λ i. packed_numbers a.wide (c.push_reserved.ensures.items i) (c.push_reserved-2.ensures.items i) (tops i))
-      ∙ wide-push a.wide a.lows.items a.bytes.items a.tops.numbers n t (omega (arith, h.one_byte_each, a.lows.ok.0, a.bytes.ok.0)) (omega (arith, h.one_top_each t, a.lows.ok.0)) in
+    ∙ wide-push a.wide a.lows.items a.bytes.items a.tops.numbers n t (omega (arith, h.one_byte_each, a.lows.ok.0, a.bytes.ok.0)) (omega (arith, h.one_top_each t, a.lows.ok.0)) in
     rw (← c.self.view_is) (record { more = λ i. record { room = a.room; limit = limit_of a.wide; numbers = more i } })
 
 pub returns-else-self : goal.returns-else-self
@@ -47,5 +47,5 @@ returns-else-self c =
     let few = rw (← c.self.view_is) at c.requires.few in
     let below : n < short_limit = omega (arith, few, cond-false {A = ℕ} a.wide wide_limit short_limit f) in
     let more = (λ i. packed_numbers a.wide (c.push_reserved.ensures.items i) (c.push_reserved-2.ensures.items i) a.tops.numbers)
-      ∙ narrow-push a.wide a.lows.items a.bytes.items a.tops.numbers n f (omega (arith, h.one_byte_each, a.lows.ok.0, a.bytes.ok.0)) below in
+    ∙ narrow-push a.wide a.lows.items a.bytes.items a.tops.numbers n f (omega (arith, h.one_byte_each, a.lows.ok.0, a.bytes.ok.0)) below in
     rw (← c.self.view_is) (record { more = λ i. record { room = a.room; limit = limit_of a.wide; numbers = more i } })

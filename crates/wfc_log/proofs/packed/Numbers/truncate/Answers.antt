@@ -1,4 +1,4 @@
-use Rattle.std.proofs.Common.{◌≡◌, ◌∙◌, ap}
+use Rattle.std.proofs.Common.{◌∙◌, ap}
 use Rattle.wfc_log.specs.Numbered.{limit_of, packed_numbers}
 use Rattle.wfc_log.proofs.PackedLemmas.{packed-take}
 use Rattle.wfc_log.proofs.packed.Numbers.truncate.Goals as goal

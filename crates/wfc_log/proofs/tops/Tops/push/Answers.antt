@@ -1,4 +1,4 @@
-use Rattle.std.proofs.Common.{◌<◌, ◌≤◌, ◌+◌, ◌/◌, ◌%◌, ◌∙◌, ap, arith, length}
+use Rattle.std.proofs.Common.{◌<◌, ◌≤◌, ◌+◌, ◌/◌, ◌∙◌, ap, arith, length}
 use Rattle.std.proofs.lemmas.List.{get_or_read}
 use Rattle.wfc_log.specs.Tops.{top_at, tops_in}
 use Rattle.wfc_log.proofs.TopLemmas.{tops-length, tops-pushed, tops-written}

@@ -1,4 +1,4 @@
-use Rattle.std.proofs.Common.{◌≡◌, arith}
+use Rattle.std.proofs.Common.{arith}
 use Rattle.wfc_log.proofs.TopLemmas.{tops-take}
 use Rattle.wfc_log.proofs.tops.Tops.truncate.Goals as goal
 
