@@ -44,7 +44,7 @@ impl Tops {
         Ok(Tops {
             room,
             len: 0,
-            bytes: Vec::with_capacity(alloc, room / 4 + 1)?,
+            bytes: Vec::with_capacity(alloc, room.div_ceil(4))?,
         })
     }
 
