@@ -15,3 +15,4 @@ pub mod Greatest
 pub mod CallerLemmas
 pub mod Corners
 pub mod HopLemmas
+pub mod StrideLemmas

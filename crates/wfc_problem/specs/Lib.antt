@@ -1,6 +1,7 @@
 pub mod Network
 pub mod Hops
 pub mod HopsMade
+pub mod Strides
 pub mod Fault
 pub mod Assignment
 pub mod Domains

@@ -1,14 +1,17 @@
 //! What lies beside the cells, kept by hops. A hop is what is added to a cell's number to come to the cell beside it, with the
 //! sum cut to 32 bits. Cells that lie in rows have few rows of hops, so that a byte for each cell says which is its own.
 
-ghost use Rattle.std.specs.Prelude.{◌≡◌, ◌+◌, ◌*◌, ◌<◌, ◌≤◌, ◌↔◌, All, IfSome, length, map, slice_index_or, take, true};
+ghost use Rattle.std.specs.Prelude.{◌≡◌, ◌+◌, ◌*◌, ◌<◌, ◌≤◌, ◌↔◌, All, IfOk, IfSome, length, map, slice_index_or, take, true};
 ghost use Rattle.wfc_problem.specs.Network.{entry_cell};
 ghost use Rattle.wfc_problem.specs.Hops.{hop_cell, hop_end, hops_table, table_row, AreHops};
 ghost use Rattle.wfc_problem.specs.HopsMade.{hop_of, IsEntry, AreHopsAt, AreTurned, AreKinds};
+ghost use Rattle.wfc_problem.specs.Strides.{HaveTheirHops};
 
+use crate::strides::Strides;
 use crate::{MAX_PAIRS, NO_CELL, NO_HOP};
 use std::alloc::Global;
 use std::marker::Model;
+use wfc_outside::NoMemory;
 
 /// How many kinds of cells there may be.
 const MAX_KINDS: u8 = 255;
@@ -110,6 +113,14 @@ impl Hops {
         let dirs = self.dirs as usize;
         let start = kind_at(&self.kinds, cell) * dirs;
         &self.rows[start..start + dirs]
+    }
+
+    /// The sides of the cells with four neighbours, where a byte for each cell says its kind.
+    pub(crate) fn strides(&self, alloc: Global, row_len: u32) -> Result<Strides<'_>, NoMemory>
+        requires some_dir { 0 < self.now.dirs }
+        ensures sides { IfOk result (HaveTheirHops self.now row_len) }
+    {
+        Strides::new(alloc, &self.kinds, &self.rows, self.dirs, row_len)
     }
 }
 

@@ -14,12 +14,14 @@ pub mod laws;
 mod making;
 mod plain;
 mod reading;
+mod strides;
 mod symmetry;
 
 use hops::Hops;
 pub use hops::{hop_cell, hop_end};
 pub use plain::greatest_domains;
 use std::marker::Model;
+pub use strides::{FourSides, Strides};
 use thiserror::Error;
 
 /// The most values that a problem has.

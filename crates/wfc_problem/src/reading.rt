@@ -1,12 +1,15 @@
 //! What a problem says of its cells and values.
 
-ghost use Rattle.std.specs.Prelude.{◌≡◌, ◌<◌, false, length, map, slice_index_or};
+ghost use Rattle.std.specs.Prelude.{◌≡◌, ◌*◌, ◌^◌, ◌<◌, IfOk, false, length, map, slice_index_or};
 ghost use Rattle.wfc_problem.specs.Network.{values, value_weight, neighbour, entry_cell, beside, supports_of, ok, in_base, IsProblem};
 ghost use Rattle.wfc_problem.specs.Hops.{hop_cell};
 ghost use Rattle.wfc_problem.specs.Rounds.{depth_of};
 ghost use Rattle.wfc_problem.specs.Whole.{is_whole};
+ghost use Rattle.wfc_problem.specs.Strides.{AreStrides};
 
-use crate::{Problem, hop_cell};
+use crate::{Problem, Strides, hop_cell};
+use std::alloc::Global;
+use wfc_outside::NoMemory;
 
 impl Problem {
     /// How many cells there are.
@@ -55,6 +58,16 @@ impl Problem {
         ensures problem { IsProblem self.now }
     {
         self.hops.row(cell)
+    }
+
+    /// The hops from cells with four neighbours, and what they are in a table that has a row of so many entries for each
+    /// cell. Its time is linear in the number of kinds of cells.
+    pub fn strides(&self, alloc: Global, row_len: u32) -> Result<Strides<'_>, NoMemory>
+        requires small { self.now.cells * row_len < 2 ^ 32 }
+        ensures sides { IfOk result (AreStrides self.now row_len) }
+        ensures problem { IsProblem self.now }
+    {
+        self.hops.strides(alloc, row_len)
     }
 
     /// The values that may stand beside `value` in direction `dir`, strictly rising.
