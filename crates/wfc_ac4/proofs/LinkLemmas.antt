@@ -1,24 +1,24 @@
 -- The links of all values in one list, and the counters that a value's links lower.
 use Rattle.std.proofs.Common.{◌≡◌, ℕ, zero, suc, ◌+◌, ◌-◌, ◌*◌, ◌/◌, ◌%◌, ◌<◌, ◌≤◌, List, [], ◌∷◌, ◌++◌, length, get_or, take, drop, map, refl, sym, ◌∙◌, ap, subst, add-one, arith, Option, Some, None, inl, inr}
 use Rattle.std.specs.Prelude.{Contains, slice_index, slice_set}
-use Rattle.std.proofs.lemmas.Bool.{cases_eq, cases_lt, cond-false, ne_eqb}
-use Rattle.std.proofs.lemmas.List.{get_or_default, get_or_append_left, get_or-append_right, get_or-map, length-map, length-append, length-drop, length_push, take-append-le, drop-append-le, take-append-drop, take_more, take_all, append_assoc, append-nil}
+use Rattle.std.proofs.lemmas.Bool.{cases_eq, cases_lt}
+use Rattle.std.proofs.lemmas.List.{get_or_default, get_or_append_left, get_or-append-add, get_or-append_right, get_or-map, length-map, length-append, length-drop, length-set, length_push, take-append-le, drop-append-le, take-append-drop, take_more, take_all, append_assoc, append-nil}
 use Rattle.std.proofs.Math.Seq.{drop-append_seam}
 use Rattle.std.proofs.lemmas.Nat.{div-mul-add}
-use Rattle.std.proofs.Math.Nat.{mul-le-mul}
+use Rattle.std.proofs.Math.Nat.{mul_assoc, mul-le-mul, mul-le-mul_right}
 use Rattle.wfc_model.specs.Direction.{opposite}
-use Rattle.wfc_problem.specs.declared.TheConstants.{NO_HOP}
 use Rattle.wfc_problem.specs.Hops.{hop_cell, hop_end}
+use Rattle.wfc_problem.specs.Strides.{AreSides}
+use Rattle.wfc_problem.specs.declared.strides.FourSides.{FourSides}
 use Rattle.wfc_problem.specs.Network.{Network, values, neighbour, entry_cell, beside, supports_of, IsProblem}
-use Rattle.wfc_problem.proofs.CallerLemmas.{hop_names, hops_length}
+use Rattle.wfc_problem.proofs.CallerLemmas.{hop_names}
 use Rattle.wfc_domains.specs.Counters.{Table, FitsTable, counter_place, count_place, entry_of, with_count, counters_of, cost_at}
 use Rattle.wfc_domains.specs.declared.board.Board.{Board}
 use Rattle.wfc_domains.proofs.Places.{place-is}
 use Rattle.wfc_domains.proofs.Loading.{place_in-row}
 use Rattle.wfc_domains.proofs.Problems.{in_values, in_cells, back, opposite-in, supports-below, few_values, few_pairs, dirs-le}
 use Rattle.wfc_ac4.specs.Places.{side_places, places_upto, counter_places, times}
-use Rattle.wfc_ac4.specs.Links.{no_link, AreLinks, link_to, side_links, links_upto, links_of, all_upto, link_place, link_places}
-use Rattle.wfc_ac4.specs.Starts.{AreStarts}
+use Rattle.wfc_ac4.specs.Links.{no_link, counter_row, AreLinks, link_to, side_links, links_upto, links_of, all_upto, link_place, link_places}
 use Rattle.wfc_ac4.specs.State.{IsWorking, counted_base}
 use Rattle.wfc_ac4.specs.declared.links.SupportLink.{SupportLink}
 use Rattle.wfc_ac4.specs.declared.links.Links.{Links}
@@ -55,6 +55,20 @@ part-is P (suc m) v h = elim (cases_eq v m) [
       ∙ take-append-le (length (all_upto P (suc v)) - length (all_upto P v)) rest (links_of P m) (omega arith)
       ∙ part-is P m v l
 ]
+
+-- one value more has its place among where the links begin
+pub starts_more : (P : Network) (k n : ℕ) (old new : List ℕ) → length old ≡ k + 1 → ((v : ℕ) → v ≤ k → get_or old v 0 ≡ length (all_upto P v)) → new ≡ old ++ n ∷ [] → n ≡ length (all_upto P (k + 1))
+    → (v : ℕ) → v ≤ k + 1 → get_or new v 0 ≡ length (all_upto P v)
+starts_more P k n old new so_many h is last v l = elim (cases_eq v (k + 1)) [
+  | inl same ↦
+      ap (λ xs. get_or xs v 0) is ∙ ap (λ i. get_or (old ++ n ∷ []) i 0) (let z : v ≡ length old + 0 = omega (arith, so_many, same) in z) ∙ get_or-append-add old (n ∷ []) 0 0 ∙ last
+      ∙ ap (λ j. length (all_upto P j)) (sym same)
+  | inr ne ↦ ap (λ xs. get_or xs v 0) is ∙ get_or_append_left old (n ∷ []) 0 v (omega (arith, so_many, l, ne)) ∙ h v (omega (arith, l, ne))
+]
+
+-- and its links behind the others
+pub upto_more : (P : Network) (k : ℕ) (old new : List SupportLink) → old ≡ all_upto P k → new ≡ old ++ links_of P k → new ≡ all_upto P (k + 1)
+upto_more P k old new e is = is ∙ ap (λ ls. ls ++ links_of P k) e ∙ ap (all_upto P) (sym (add-one k))
 
 -- the links of a value lie within the list
 pub of_within : (P : Network) (x : Links) (v : ℕ) → AreLinks P x → v < values P → (slice_index x.starts.items v ≤ slice_index x.starts.items (v + 1)) × (slice_index x.starts.items (v + 1) ≤ length x.links.items)
@@ -228,6 +242,18 @@ counters-few P p = let few : counters_of P ≤ 8388608 * 6 = mul-le-mul (few_pai
 pub table-few : (P : Network) (T : Table) → IsProblem P → FitsTable P T → length T.counts ≤ 50331648
 table-few P T p fits = omega (arith, fits.whole, counters-few P p)
 
+-- so the rows of counters of all cells fit 32 bits
+pub rows_few : (P : Network) → IsProblem P → P.cells * counter_row P < 4294967296
+rows_few P p = let same : P.cells * counter_row P ≡ counters_of P = sym (mul_assoc P.cells (values P) P.dirs) in omega (arith, same, counters-few P p)
+
+-- the counters of a cell begin within them
+pub begin_few : (P : Network) → IsProblem P → (T : Table) → FitsTable P T → (c n : ℕ) → c < P.cells → n ≡ T.values * T.dirs → c * n ≤ 50331648
+begin_few P p T fits c n l e =
+    let wide : n ≡ counter_row P = e ∙ (λ i. fits.same_values i * fits.same_dirs i) in
+    let le : c * counter_row P ≤ P.cells * counter_row P = mul-le-mul_right (counter_row P) (let z : c ≤ P.cells = omega arith in z) in
+    let same : P.cells * counter_row P ≡ counters_of P = sym (mul_assoc P.cells (values P) P.dirs) in
+    omega (arith, ap (λ m. c * m) wide, le, same, counters-few P p)
+
 -- these hops from a cell lead to its neighbours
 abbrev pub LeadBeside : Network → ℕ → List ℕ → Type 0
 LeadBeside P c hops = map (hop_cell c) hops ≡ map entry_cell (beside P c)
@@ -309,36 +335,37 @@ no_neighbour b a T head c v k lowered ls hops same h e l lead none =
     let hc = subst (λ (P : Network). c < P.cells) N (working-range h).0 in
     hop_names a.problem.now p c (get_or ls k no_link).dir hops hc (is_link a.problem.now p v k ls e l).dir_in lead ∙ none
 
--- where a cell has four neighbours there are four directions
-pub four_dirs : (b a : Board) (T : Table) (head c v : ℕ) (lowered hops starts : List ℕ) (row : ℕ) → b.problem ≡ a.problem → IsWorking b T head c v lowered
-    → LeadBeside a.problem.now c hops → AreStarts c hops row starts → b.problem.now.dirs ≡ 4
-four_dirs b a T head c v lowered hops starts row same h lead s =
-    let N = ap (λ p. p.now) same in
-    sym (hops_length b.problem.now h.board.traced.problem c hops (working-range h).0 (lead ∙ ap (λ P. map entry_cell (beside P c)) (sym N))) ∙ s.four
+-- where a cell has sides there are four directions
+pub four_dirs : (b a : Board) (c : ℕ) (x : FourSides) → b.problem ≡ a.problem → AreSides a.problem.now (counter_row a.problem.now) c x → b.problem.now.dirs ≡ 4
+four_dirs b a c x same s = ap (λ p. p.now.dirs) same ∙ s.four
 
 -- so a link leads in one of four
-pub four_in : (b a : Board) (T : Table) (head c v k : ℕ) (ls : List SupportLink) (hops starts : List ℕ) (row : ℕ) → b.problem ≡ a.problem
+pub four_in : (b a : Board) (T : Table) (head c v k : ℕ) (ls : List SupportLink) (x : FourSides) → b.problem ≡ a.problem
     → IsWorking b T head c v (link_places b.problem.now c (take k ls)) → ls ≡ links_of a.problem.now v → k < length ls
-    → LeadBeside a.problem.now c hops → AreStarts c hops row starts → (get_or ls k no_link).dir < 4
-four_in b a T head c v k ls hops starts row same h e l lead s =
+    → AreSides a.problem.now (counter_row a.problem.now) c x → (get_or ls k no_link).dir < 4
+four_in b a T head c v k ls x same h e l s =
     let N = ap (λ p. p.now) same in
     let e' = e ∙ ap (λ P. links_of P v) (sym N) in
-    omega (arith, (is_link b.problem.now h.board.traced.problem v k ls e' l).dir_in, four_dirs b a T head c v (link_places b.problem.now c (take k ls)) hops starts row same h lead s)
+    omega (arith, (is_link b.problem.now h.board.traced.problem v k ls e' l).dir_in, four_dirs b a c x same s)
 
--- the same where it is kept at which places the counters of four neighbours begin
-pub link_from : (b a : Board) (T A : Table) (head c v k n : ℕ) (ls : List SupportLink) (hops starts : List ℕ) → b.problem ≡ a.problem → FitsTable a.problem.now A
+-- the same along the side of a cell, from where its counters begin to where those of the neighbour do
+pub link_along : (b a : Board) (T A : Table) (head c v k n base start : ℕ) (ls : List SupportLink) (x : FourSides) → b.problem ≡ a.problem → FitsTable a.problem.now A
     → IsWorking b T head c v (link_places b.problem.now c (take k ls)) → ls ≡ links_of a.problem.now v → k < length ls
-    → LeadBeside a.problem.now c hops → AreStarts c hops (A.values * A.dirs) starts → n ≡ hop_end c (slice_index hops (get_or ls k no_link).dir)
-    → LinkStep b.problem.now (link_places b.problem.now c (take k ls)) (link_places b.problem.now c (take (k + 1) ls)) c v n (slice_index starts (get_or ls k no_link).dir + (get_or ls k no_link).offset) (get_or ls k no_link) T
-link_from b a T A head c v k n ls hops starts same fits h e l lead s is =
-    let x = get_or ls k no_link in
+    → AreSides a.problem.now (counter_row a.problem.now) c x → base ≡ c * (A.values * A.dirs)
+    → start ≡ hop_end base (slice_index x.strides (get_or ls k no_link).dir) → n ≡ hop_end c (slice_index x.hops (get_or ls k no_link).dir)
+    → LinkStep b.problem.now (link_places b.problem.now c (take k ls)) (link_places b.problem.now c (take (k + 1) ls)) c v n (start + (get_or ls k no_link).offset) (get_or ls k no_link) T
+link_along b a T A head c v k n base start ls x same fits h e l s is_base is_start is =
+    let N = ap (λ p. p.now) same in
+    let one = get_or ls k no_link in
     let row = A.values * A.dirs in
-    let below = four_in b a T head c v k ls hops starts row same h e l lead s in
-    let hop = slice_index hops x.dir in
-    let leads : hop_cell c hop ≡ Some n = cond-false _ None (Some (hop_end c hop)) (ne_eqb hop NO_HOP (s.some x.dir below)) ∙ ap (λ (m : ℕ). Some m) (sym is) in
-    subst (λ i. LinkStep b.problem.now (link_places b.problem.now c (take k ls)) (link_places b.problem.now c (take (k + 1) ls)) c v n (i + x.offset) x T)
-    (sym (s.begins x.dir below ∙ ap (λ m. m * row) (sym is)))
-    (link_at b a T A head c v k n row ls hops same fits h e l lead refl leads)
+    let wide : row ≡ counter_row a.problem.now = λ i. fits.same_values i * fits.same_dirs i in
+    let side = s.each one.dir (four_in b a T head c v k ls x same h e l s) in
+    let beside : neighbour b.problem.now c one.dir ≡ Some n = ap (λ P. neighbour P c one.dir) N ∙ side.beside ∙ ap (λ (m : ℕ). Some m) (sym is) in
+    let begins : start ≡ n * row =
+    is_start ∙ ap (λ m. hop_end m (slice_index x.strides one.dir)) (is_base ∙ ap (λ m. c * m) wide) ∙ side.begins ∙ ap (λ m. m * counter_row a.problem.now) (sym is) ∙ ap (λ m. n * m) (sym wide) in
+    subst (λ i. LinkStep b.problem.now (link_places b.problem.now c (take k ls)) (link_places b.problem.now c (take (k + 1) ls)) c v n (i + one.offset) one T)
+    (sym begins)
+    (link_step b T head c v k n row ls h (e ∙ ap (λ P. links_of P v) (sym N)) l beside (wide ∙ ap counter_row (sym N)))
 
 -- the place of a counter, of a value and a direction that are called otherwise
 pub placed_as : (P : Network) (i n w w' d d' : ℕ) → i ≡ counter_place P n w d → w ≡ w' → d ≡ d' → i ≡ counter_place P n w' d'
@@ -347,6 +374,16 @@ placed_as P i n w w' d d' is value way = is ∙ ap (λ v. counter_place P n v d)
 -- the table with the counter at a link's place lowered
 pub lowered-at : (T T' : Table) (i n w d : ℕ) → i ≡ count_place T.values T.dirs n w d → T' ≡ record T { counts = slice_set T.counts i (slice_index T.counts i - 1) } → T' ≡ with_count T n w d (entry_of T n w d - 1)
 lowered-at T T' i n w d e is = is ∙ ap (λ j. record T { counts = slice_set T.counts j (slice_index T.counts j - 1) }) e
+
+-- it is a table of the problem's size
+pub fits-lowered : (P : Network) (T T' : Table) (i x : ℕ) → FitsTable P T → T' ≡ record T { counts = slice_set T.counts i x } → FitsTable P T'
+fits-lowered P T T' i x fits is = record {
+  same_cells = ap (λ t. t.cells) is ∙ fits.same_cells;
+  same_values = ap (λ t. t.values) is ∙ fits.same_values;
+  same_dirs = ap (λ t. t.dirs) is ∙ fits.same_dirs;
+  whole = ap (λ t. length t.counts) is ∙ length-set T.counts i x ∙ fits.whole;
+  few = λ v d. omega (arith, fits.few v d, ap (λ t. t.limit) is);
+}
 
 -- a link that leads to no cell lowers nothing
 pub link_skipped : (b a : Board) (T : Table) (head c v k : ℕ) (ls : List SupportLink) → b.problem ≡ a.problem

@@ -1,6 +1,8 @@
 -- What a flight's steps leave as it was.
-use Rattle.std.specs.Prelude.{◌≡◌, ℕ, ◌*◌, ◌<◌, ◌⊎◌, ◌∷◌, ◌++◌, List, [], length, min, take, Some, IsTrue}
+use Rattle.std.specs.Prelude.{◌≡◌, ℕ, ◌<◌, ◌⊎◌, ◌∷◌, ◌++◌, [], length, min, take, Some, IsTrue}
 use Rattle.wfc_problem.specs.Network.{neighbour}
+use Rattle.wfc_problem.specs.Strides.{AreSides}
+use Rattle.wfc_problem.specs.declared.strides.FourSides.{FourSides}
 use Rattle.wfc_log.specs.declared.Cause.TheVariants.{Arc}
 use Rattle.wfc_log.specs.declared.Removal.{Removal}
 use Rattle.wfc_log.specs.declared.Verdict.TheVariants.{Alive}
@@ -8,7 +10,7 @@ use Rattle.wfc_log.specs.Domains.{has}
 use Rattle.wfc_domains.specs.Counters.{Table, IsMarked, Marks, count_of, cost_of}
 use Rattle.wfc_domains.specs.Board.{Grows, Loses}
 use Rattle.wfc_ac4.specs.declared.flight.Flight.{Flight}
-use Rattle.wfc_ac4.specs.Starts.{AreStarts}
+use Rattle.wfc_ac4.specs.Links.{counter_row}
 
 -- by the problem of one flight, how many counters count the first removals in the log of another
 abbrev pub front_cost : Flight → Flight → ℕ → ℕ
@@ -67,6 +69,6 @@ pub record IsFirstBare (f : Flight) (cell value d : ℕ) : Type 0 where
   pub none : count_of f.counters cell value d ≡ 0
   pub first : (e n : ℕ) → e < d → neighbour f.board.problem.now cell e ≡ Some n → 0 < count_of f.counters cell value e
 
--- these hops from the cell lead to four neighbours, whose counters begin at these places
-abbrev pub HasStarts : Flight → ℕ → List ℕ → List ℕ → Type 0
-HasStarts f cell hops starts = AreStarts cell hops (f.counters.values * f.counters.dirs) starts
+-- these are the sides of the cell, with the strides from its counters to those of its neighbours
+abbrev pub HasSides : Flight → ℕ → FourSides → Type 0
+HasSides f cell sides = AreSides f.board.problem.now (counter_row f.board.problem.now) cell sides

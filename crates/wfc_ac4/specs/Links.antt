@@ -1,7 +1,8 @@
 -- What may stand beside each value, of all directions in one list.
-use Rattle.std.specs.Prelude.{◌≡◌, ℕ, zero, suc, ◌+◌, ◌≤◌, List, [], ◌∷◌, ◌++◌, length, map, slice_index, Option, Some, None}
+use Rattle.std.specs.Prelude.{◌≡◌, ℕ, zero, suc, ◌+◌, ◌*◌, ◌≤◌, List, [], ◌∷◌, ◌++◌, length, map, slice_index, Option, Some, None}
 use Rattle.wfc_model.specs.Direction.{opposite}
 use Rattle.wfc_problem.specs.Network.{Network, values, neighbour, supports_of}
+use Rattle.wfc_problem.specs.Strides.{AreStrides}
 use Rattle.wfc_domains.specs.Counters.{counter_place}
 use Rattle.wfc_ac4.specs.declared.links.SupportLink.{SupportLink}
 use Rattle.wfc_ac4.specs.declared.links.Links.{Links}
@@ -32,11 +33,16 @@ abbrev pub all_upto : Network → ℕ → List SupportLink
 all_upto P zero = []
 all_upto P (suc v) = all_upto P v ++ links_of P v
 
--- the lists of all values, one after the other, and where each begins
+-- how many counters a cell has
+abbrev pub counter_row : Network → ℕ
+counter_row P = values P * P.dirs
+
+-- the lists of all values, one after the other, and where each begins; and the sides of cells in the table of counters
 pub record AreLinks (P : Network) (x : Links) : Type 0 where
   pub starts : (v : ℕ) → v ≤ values P → slice_index x.starts.items v ≡ length (all_upto P v)
   pub whole : length x.starts.items ≡ values P + 1
   pub links : x.links.items ≡ all_upto P (values P)
+  pub strides : AreStrides P (counter_row P) x.strides
 
 -- the counter that a link of a removed value lowers, if there is a cell in its direction
 abbrev pub link_place : Network → SupportLink → Option ℕ → List ℕ

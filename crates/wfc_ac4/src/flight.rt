@@ -62,7 +62,7 @@ impl<'p> Flight<'p> {
     }
 
     /// Closes the base domains, with the counters loaded.
-    pub fn settle<L: Ledger>(&mut self, links: &Links, steps: &mut Steps<L>)
+    pub fn settle<L: Ledger>(&mut self, links: &Links<'_>, steps: &mut Steps<L>)
         requires fresh { IsFresh self.old.board self.old.board.levels.spare }
         requires linked { AreLinks self.old.board.problem.now links.now }
         requires loaded { self.old.counters ≡ counts_of self.old.board.problem.now

@@ -29,7 +29,7 @@ use wfc_problem::{Literal, Problem};
 #[derive(Drop)]
 pub struct Ac4<'p> {
     flight: Flight<'p>,
-    links: Links,
+    links: Links<'p>,
 }
 
 impl<'p> Model for Ac4<'p> {

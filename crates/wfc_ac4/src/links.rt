@@ -1,12 +1,14 @@
-//! What may stand beside each value, of all directions in one list: a removal is worked off in one loop.
+//! What may stand beside each value, of all directions in one list, and how far it is to the counters of a cell's neighbours: a
+//! removal is worked off in one loop.
 
-ghost use Rattle.std.specs.Prelude.{◌≡◌, ◌++◌, ◌<◌, IsOk, IfOk};
+ghost use Rattle.std.specs.Prelude.{◌≡◌, ◌++◌, ◌<◌, IsOk, IfOk, IfSome};
 ghost use Rattle.wfc_problem.specs.Network.{values};
-ghost use Rattle.wfc_ac4.specs.Links.{AreLinks, links_of, side_links};
+ghost use Rattle.wfc_problem.specs.Strides.{AreSides, AreStrides};
+ghost use Rattle.wfc_ac4.specs.Links.{AreLinks, counter_row, links_of, side_links};
 
 use std::alloc::{AllocError, Global};
 use wfc_outside::NoMemory;
-use wfc_problem::{Problem, opposite};
+use wfc_problem::{FourSides, Problem, Strides, opposite};
 
 /// A value that may stand beside another: where its counter for the way back stands among the entries of its cell,
 /// the direction that leads there, and the one that leads back.
@@ -17,18 +19,21 @@ pub struct SupportLink {
     pub back: u8,
 }
 
-/// The links of each value, one value after the other, and where those of each begin.
+/// The links of each value, one value after the other, and where those of each begin. Beside them the sides of the cells, with
+/// the strides from the counters of a cell to those of its neighbours.
 #[derive(Drop)]
-pub struct Links {
+pub struct Links<'p> {
     starts: Vec<usize>,
     links: Vec<SupportLink>,
+    strides: Strides<'p>,
 }
 
-impl Links {
+impl<'p> Links<'p> {
     /// The links of a problem's values.
-    pub fn new(alloc: Global, problem: &Problem) -> Result<Links, NoMemory>
+    pub fn new(alloc: Global, problem: &'p Problem) -> Result<Links<'p>, NoMemory>
         ensures linked { IfOk result (λ links. AreLinks problem.now links) }
     {
+        let strides = counter_strides(alloc, problem)?;
         let mut starts = Vec::with_capacity(alloc, problem.values() as usize + 1)?;
         let mut links = Vec::new(alloc);
         starts.push(0)?;
@@ -36,7 +41,11 @@ impl Links {
             push_value(problem, value, &mut links)?;
             starts.push(links.len())?;
         }
-        Ok(Links { starts, links })
+        Ok(Links {
+            starts,
+            links,
+            strides,
+        })
     }
 
     /// The links of one value, the directions in rising order, and in each the values.
@@ -50,6 +59,27 @@ impl Links {
         let _ = problem;
         &self.links[self.starts[value as usize]..self.starts[value as usize + 1]]
     }
+
+    /// The sides of a cell with four neighbours, if they are kept.
+    #[inline]
+    pub fn sides(&self, problem: &Problem, cell: u32) -> Option<&FourSides>
+        requires linked { AreLinks problem.now self.now }
+        requires cell_in { cell < problem.now.cells }
+        ensures some { IfSome result (λ sides. AreSides problem.now (counter_row problem.now) cell
+            sides.now) }
+    {
+        let _ = problem;
+        self.strides.of(cell)
+    }
+}
+
+/// The sides of the cells of a problem in the table of its counters.
+#[tactic(auto, using(crate::proofs::LinkLemmas::rows_few))]
+fn counter_strides<'p>(alloc: Global, problem: &'p Problem) -> Result<Strides<'p>, NoMemory>
+    ensures strides { IfOk result (AreStrides problem.now (counter_row problem.now)) }
+{
+    let row_len = u32::from(problem.values()) * u32::from(problem.dirs());
+    problem.strides(alloc, row_len)
 }
 
 /// The links of a value, behind those that are there.

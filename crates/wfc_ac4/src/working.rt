@@ -1,22 +1,20 @@
 //! Removals worked off.
 
-ghost use Rattle.std.specs.Prelude.{◌≡◌, ◌+◌, ◌/◌, ◌<◌, ◌≤◌, [], length, map, slice_get, IfSome, Some};
-ghost use Rattle.wfc_problem.specs.Hops.{hop_cell};
-ghost use Rattle.wfc_problem.specs.Network.{beside, entry_cell, values};
+ghost use Rattle.std.specs.Prelude.{◌≡◌, ◌+◌, ◌/◌, ◌<◌, ◌≤◌, [], length, slice_get, IfSome, Some};
+ghost use Rattle.wfc_problem.specs.Network.{values};
 ghost use Rattle.wfc_log.specs.declared.Verdict.TheVariants.{Alive};
 ghost use Rattle.wfc_domains.specs.Counters.{FitsTable, cost_at, counter_place};
 ghost use Rattle.wfc_domains.specs.Board.{Grows, HasValues, IsTraced};
 ghost use Rattle.wfc_ac4.specs.Places.{counter_places};
 ghost use Rattle.wfc_ac4.specs.Links.{AreLinks, links_of};
 ghost use Rattle.wfc_ac4.specs.State.{IsWorking, IsBetweenRemovals};
-ghost use Rattle.wfc_ac4.specs.Flight.{front_cost, GoesOn, HasStarts, IsStruck};
-ghost use Rattle.wfc_ac4.specs.Starts.{AreStarts};
+ghost use Rattle.wfc_ac4.specs.Flight.{front_cost, GoesOn, HasSides, IsStruck};
 
 use crate::flight::Flight;
 use crate::links::{Links, SupportLink};
 use std::sync::ledger::Ledger;
 use wfc_domains::{Cause, Removal, Steps, is_alive};
-use wfc_problem::{NO_HOP, hop_cell, hop_end};
+use wfc_problem::{FourSides, hop_cell, hop_end};
 
 /// The value whose entry stands at an offset within its cell. Division by 4 alone is a shift.
 #[inline]
@@ -29,26 +27,6 @@ fn value_at(offset: u16, dirs: u8) -> u16
     } else {
         offset / u16::from(dirs)
     }
-}
-
-/// Where the counters of the neighbours begin, if these hops lead to four cells.
-#[inline]
-fn four_starts(cell: u32, hops: &[u32], row_len: usize) -> Option<[usize; 4]>
-    requires small { row_len ≤ 4294967295 }
-    ensures some { IfSome result (AreStarts cell hops.now row_len) }
-{
-    if hops.len() != 4 {
-        return None;
-    }
-    if hops[0] == NO_HOP || hops[1] == NO_HOP || hops[2] == NO_HOP || hops[3] == NO_HOP {
-        return None;
-    }
-    Some([
-        hop_end(cell, hops[0]) as usize * row_len,
-        hop_end(cell, hops[1]) as usize * row_len,
-        hop_end(cell, hops[2]) as usize * row_len,
-        hop_end(cell, hops[3]) as usize * row_len,
-    ])
 }
 
 impl<'p> Flight<'p> {
@@ -77,9 +55,11 @@ impl<'p> Flight<'p> {
         index: usize,
         cell: u32,
         value: u16,
+        sides: Option<&FourSides>,
         links: &[SupportLink],
         steps: &mut Steps<L>,
     )
+        requires sides { IfSome sides (λ s. HasSides self.old cell s.now) }
         requires links { links.now ≡ links_of self.old.board.problem.now value }
         requires working { IsWorking self.old.board self.old.counters index cell value [] }
         ensures working { IsWorking self.new.board self.new.counters index cell value
@@ -87,30 +67,24 @@ impl<'p> Flight<'p> {
         ensures goes_on { GoesOn self.old self.new }
         ensures steps { steps.new ≡ steps.old + cost_at self.old.board.problem.now cell value }
     {
-        let problem = self.board.problem;
-        let row_len = self.counters.row_len();
-        let hops = problem.hops(cell);
-        match four_starts(cell, hops, row_len) {
-            Some(starts) => self.work_four(index, cell, value, hops, starts, links, steps),
+        match sides {
+            Some(sides) => self.work_four(index, cell, value, sides, links, steps),
             None => self.work_sides(index, cell, value, links, steps),
         }
     }
 
-    /// The same for a cell with four neighbours, to which these hops lead, and whose counters begin at `starts`.
+    /// The same for a cell with four neighbours, which has these sides.
     #[inline]
     fn work_four<L: Ledger>(
         &mut self,
         index: usize,
         cell: u32,
         value: u16,
-        hops: &[u32],
-        starts: [usize; 4],
+        sides: &FourSides,
         links: &[SupportLink],
         steps: &mut Steps<L>,
     )
-        requires hops { map (hop_cell cell) hops.now
-            ≡ map entry_cell (beside self.old.board.problem.now cell) }
-        requires starts { HasStarts self.old cell hops.now starts }
+        requires sides { HasSides self.old cell sides.now }
         requires links { links.now ≡ links_of self.old.board.problem.now value }
         requires working { IsWorking self.old.board self.old.counters index cell value [] }
         ensures working { IsWorking self.new.board self.new.counters index cell value
@@ -118,10 +92,12 @@ impl<'p> Flight<'p> {
         ensures goes_on { GoesOn self.old self.new }
         ensures steps { steps.new ≡ steps.old + cost_at self.old.board.problem.now cell value }
     {
+        let base = (cell as usize * self.counters.row_len()) as u32;
         for link in links {
-            let place = starts[link.dir as usize] + link.offset as usize;
+            let start = hop_end(base, sides.strides[link.dir as usize]);
+            let place = start as usize + link.offset as usize;
             if self.counters.down_at(place, steps) {
-                let next = hop_end(cell, hops[link.dir as usize]);
+                let next = hop_end(cell, sides.hops[link.dir as usize]);
                 self.strike(next, link.offset / 4, link.back, place);
             }
         }
@@ -164,7 +140,7 @@ impl<'p> Flight<'p> {
         &mut self,
         index: usize,
         removal: Removal,
-        links: &Links,
+        links: &Links<'_>,
         steps: &mut Steps<L>,
     )
         requires between { IsBetweenRemovals self.old.board self.old.counters index }
@@ -176,11 +152,12 @@ impl<'p> Flight<'p> {
             ≡ steps.old + front_cost self.old self.old (index + 1) }
     {
         let list = links.of(self.board.problem, removal.value);
-        self.work_links(index, removal.cell, removal.value, list, steps);
+        let sides = links.sides(self.board.problem, removal.cell);
+        self.work_links(index, removal.cell, removal.value, sides, list, steps);
     }
 
     /// Works off what is pending, until nothing is or a cell is empty.
-    pub fn close<L: Ledger>(&mut self, links: &Links, steps: &mut Steps<L>)
+    pub fn close<L: Ledger>(&mut self, links: &Links<'_>, steps: &mut Steps<L>)
         requires between { IsBetweenRemovals self.old.board self.old.counters self.old.head }
         requires linked { AreLinks self.old.board.problem.now links.now }
         requires recent { self.old.board.trail.start ≤ self.old.head }

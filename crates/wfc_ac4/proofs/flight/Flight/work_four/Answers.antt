@@ -1,72 +1,73 @@
-use Rattle.std.proofs.Common.{◌+◌, ◌/◌, ◌<◌, refl, sym, ◌∙◌, ap, subst, arith, take, get_or}
+use Rattle.std.proofs.Common.{◌+◌, ◌*◌, ◌/◌, ◌<◌, refl, sym, ◌∙◌, ap, subst, arith, take, get_or}
 use Rattle.std.specs.Prelude.{slice_index}
 use Rattle.std.proofs.lemmas.Bool.{true≢false}
 use Rattle.wfc_problem.specs.Network.{Network, neighbour, values}
 use Rattle.wfc_domains.proofs.Boards.{grows-more}
 use Rattle.wfc_ac4.specs.Links.{no_link, link_places}
-use Rattle.wfc_ac4.proofs.Steps.{step_lowered}
-use Rattle.wfc_ac4.proofs.LinkLemmas.{all_links, four_dirs, four_in, length-some, link_from, lowered-at, placed_as, table-few, whole-cost}
+use Rattle.wfc_ac4.proofs.Steps.{step_lowered, working-range}
+use Rattle.wfc_ac4.proofs.LinkLemmas.{all_links, begin_few, fits-lowered, four_dirs, four_in, length-some, link_along, lowered-at, placed_as, whole-cost}
 use Rattle.wfc_ac4.proofs.Strikes.{struck_as, struck_on, struck_working}
 use Rattle.wfc_ac4.proofs.flight.Flight.work_four.Goals as goal
 use Rattle.wfc_ac4.proofs.flight.Flight.work_four.Goals.{then-down_at, else-down_at}
 
-pub bounds-starts-link : goal.bounds-starts-link
-bounds-starts-link g c =
-    let h = c.loop-link.invariant in
-    four_in _ c.args.self.now.board _ _ _ _ _ _ _ _ _ h.goes_on.grows.problem h.working c.requires.links c.loop-link-test.true c.requires.hops c.requires.starts
+pub overflow_cast-base-2 : goal.overflow_cast-base-2
+overflow_cast-base-2 g c =
+    let h = c.requires.working in
+    omega (arith, begin_few c.args.self.now.board.problem.now h.board.traced.problem c.args.self.now.counters h.counters.fits c.args.cell c.row_len.result (working-range h).0 c.row_len.ensures.value)
 
-pub overflow_add-place : goal.overflow_add-place
-overflow_add-place g c =
+pub bounds-sides-link : goal.bounds-sides-link
+bounds-sides-link g c =
     let h = c.loop-link.invariant in
-    let s = link_from _ c.args.self.now.board _ c.args.self.now.counters _ _ _ _ _ _ _ _ h.goes_on.grows.problem c.requires.working.counters.fits h.working c.requires.links c.loop-link-test.true c.requires.hops c.requires.starts refl in
-    omega (arith, s.inside, table-few _ _ h.working.board.traced.problem h.working.counters.fits)
+    four_in _ c.args.self.now.board _ _ _ _ _ _ _ h.goes_on.grows.problem h.working c.requires.links c.loop-link-test.true c.requires.sides
 
 pub down_at-requires-clause-place_in : goal.down_at-requires-clause-place_in
 down_at-requires-clause-place_in g c =
     let h = c.loop-link.invariant in
-    let s = link_from _ c.args.self.now.board _ c.args.self.now.counters _ _ _ _ _ _ _ _ h.goes_on.grows.problem c.requires.working.counters.fits h.working c.requires.links c.loop-link-test.true c.requires.hops c.requires.starts refl in
+    let s = link_along _ c.args.self.now.board _ c.args.self.now.counters _ _ _ _ _ _ _ _ _ h.goes_on.grows.problem c.requires.working.counters.fits h.working c.requires.links c.loop-link-test.true c.requires.sides (ap (λ n. c.args.cell * n) c.row_len.ensures.value) c.hop_end-start.ensures.value refl in
     s.inside
 
 pub down_at-requires-clause-some : goal.down_at-requires-clause-some
 down_at-requires-clause-some g c =
     let h = c.loop-link.invariant in
-    let s = link_from _ c.args.self.now.board _ c.args.self.now.counters _ _ _ _ _ _ _ _ h.goes_on.grows.problem c.requires.working.counters.fits h.working c.requires.links c.loop-link-test.true c.requires.hops c.requires.starts refl in
+    let s = link_along _ c.args.self.now.board _ c.args.self.now.counters _ _ _ _ _ _ _ _ _ h.goes_on.grows.problem c.requires.working.counters.fits h.working c.requires.links c.loop-link-test.true c.requires.sides (ap (λ n. c.args.cell * n) c.row_len.ensures.value) c.hop_end-start.ensures.value refl in
     s.some
 
-pub bounds-hops-link : goal.bounds-hops-link
-bounds-hops-link g c =
+pub bounds-sides-link-then-down_at : goal.bounds-sides-link-then-down_at
+bounds-sides-link-then-down_at g c =
     let h = c.loop-link.invariant in
-    let s = link_from _ c.args.self.now.board _ c.args.self.now.counters _ _ _ _ _ _ _ _ h.goes_on.grows.problem c.requires.working.counters.fits h.working c.requires.links c.loop-link-test.true c.requires.hops c.requires.starts refl in
-    omega (arith, four_in _ c.args.self.now.board _ _ _ _ _ _ _ _ _ h.goes_on.grows.problem h.working c.requires.links c.loop-link-test.true c.requires.hops c.requires.starts, c.requires.starts.four)
+    four_in _ c.args.self.now.board _ _ _ _ _ _ _ h.goes_on.grows.problem h.working c.requires.links c.loop-link-test.true c.requires.sides
+
+pub strike-requires-clause-fits : goal.strike-requires-clause-fits
+strike-requires-clause-fits g c = fits-lowered _ _ _ _ _ c.loop-link.invariant.working.counters.fits c.down_at.ensures.changed
 
 pub strike-requires-clause-cell_in : goal.strike-requires-clause-cell_in
 strike-requires-clause-cell_in g c =
     let h = c.loop-link.invariant in
     let x = get_or c.args.links.now c.loop-link.link-index no_link in
-    let s = link_from _ c.args.self.now.board _ c.args.self.now.counters _ _ _ _ _ _ _ _ h.goes_on.grows.problem c.requires.working.counters.fits h.working c.requires.links c.loop-link-test.true c.requires.hops c.requires.starts c.hop_end-next.ensures.value in
+    let s = link_along _ c.args.self.now.board _ c.args.self.now.counters _ _ _ _ _ _ _ _ _ h.goes_on.grows.problem c.requires.working.counters.fits h.working c.requires.links c.loop-link-test.true c.requires.sides (ap (λ n. c.args.cell * n) c.row_len.ensures.value) c.hop_end-start.ensures.value c.hop_end-next.ensures.value in
     s.side.cell_in
 
 pub strike-requires-clause-value_in : goal.strike-requires-clause-value_in
 strike-requires-clause-value_in g c =
     let h = c.loop-link.invariant in
     let x = get_or c.args.links.now c.loop-link.link-index no_link in
-    let s = link_from _ c.args.self.now.board _ c.args.self.now.counters _ _ _ _ _ _ _ _ h.goes_on.grows.problem c.requires.working.counters.fits h.working c.requires.links c.loop-link-test.true c.requires.hops c.requires.starts c.hop_end-next.ensures.value in
-    let four = four_dirs _ c.args.self.now.board _ _ _ _ _ _ _ _ h.goes_on.grows.problem h.working c.requires.hops c.requires.starts in
+    let s = link_along _ c.args.self.now.board _ c.args.self.now.counters _ _ _ _ _ _ _ _ _ h.goes_on.grows.problem c.requires.working.counters.fits h.working c.requires.links c.loop-link-test.true c.requires.sides (ap (λ n. c.args.cell * n) c.row_len.ensures.value) c.hop_end-start.ensures.value c.hop_end-next.ensures.value in
+    let four = four_dirs c.loop-link.self.board c.args.self.now.board _ _ h.goes_on.grows.problem c.requires.sides in
     subst (λ d. x.offset / d < values c.loop-link.self.board.problem.now) four s.side.value_in
 
 pub strike-requires-clause-back_in : goal.strike-requires-clause-back_in
 strike-requires-clause-back_in g c =
     let h = c.loop-link.invariant in
     let x = get_or c.args.links.now c.loop-link.link-index no_link in
-    let s = link_from _ c.args.self.now.board _ c.args.self.now.counters _ _ _ _ _ _ _ _ h.goes_on.grows.problem c.requires.working.counters.fits h.working c.requires.links c.loop-link-test.true c.requires.hops c.requires.starts c.hop_end-next.ensures.value in
+    let s = link_along _ c.args.self.now.board _ c.args.self.now.counters _ _ _ _ _ _ _ _ _ h.goes_on.grows.problem c.requires.working.counters.fits h.working c.requires.links c.loop-link-test.true c.requires.sides (ap (λ n. c.args.cell * n) c.row_len.ensures.value) c.hop_end-start.ensures.value c.hop_end-next.ensures.value in
     omega (arith, s.back_is, s.side.dir_in)
 
 pub strike-requires-clause-at : goal.strike-requires-clause-at
 strike-requires-clause-at g c =
     let h = c.loop-link.invariant in
     let x = get_or c.args.links.now c.loop-link.link-index no_link in
-    let s = link_from _ c.args.self.now.board _ c.args.self.now.counters _ _ _ _ _ _ _ _ h.goes_on.grows.problem c.requires.working.counters.fits h.working c.requires.links c.loop-link-test.true c.requires.hops c.requires.starts c.hop_end-next.ensures.value in
-    let four = four_dirs _ c.args.self.now.board _ _ _ _ _ _ _ _ h.goes_on.grows.problem h.working c.requires.hops c.requires.starts in
+    let s = link_along _ c.args.self.now.board _ c.args.self.now.counters _ _ _ _ _ _ _ _ _ h.goes_on.grows.problem c.requires.working.counters.fits h.working c.requires.links c.loop-link-test.true c.requires.sides (ap (λ n. c.args.cell * n) c.row_len.ensures.value) c.hop_end-start.ensures.value c.hop_end-next.ensures.value in
+    let four = four_dirs c.loop-link.self.board c.args.self.now.board _ _ h.goes_on.grows.problem c.requires.sides in
     placed_as c.loop-link.self.board.problem.now _ _ _ _ _ _ s.place_of (ap (λ d. x.offset / d) four) (sym s.back_is)
 
 pub loop-link-preserved : goal.loop-link-preserved
@@ -79,10 +80,10 @@ loop-link-preserved g c =
     let x = get_or ls k no_link in
     elim c.if-down_at.branch [
       | then-down_at w ↦
-          let s = link_from _ c.args.self.now.board _ c.args.self.now.counters _ _ _ _ _ _ _ _ h.goes_on.grows.problem c.requires.working.counters.fits h.working c.requires.links c.loop-link-test.true c.requires.hops c.requires.starts w.hop_end-next.ensures.value in
+          let s = link_along _ c.args.self.now.board _ c.args.self.now.counters _ _ _ _ _ _ _ _ _ h.goes_on.grows.problem c.requires.working.counters.fits h.working c.requires.links c.loop-link-test.true c.requires.sides (ap (λ n. c.args.cell * n) c.row_len.ensures.value) c.hop_end-start.ensures.value w.hop_end-next.ensures.value in
           let longer = length-some P c.args.cell k _ ls c.loop-link-test.true (ap (λ p. neighbour p.now c.args.cell x.dir) (sym h.goes_on.grows.problem) ∙ s.beside) in
           let one_left = ap (slice_index T.counts) (sym s.place_is) ∙ c.down_at.ensures.bare.0 w.if-down_at.true in
-          let four = four_dirs _ c.args.self.now.board _ _ _ _ _ _ _ _ h.goes_on.grows.problem h.working c.requires.hops c.requires.starts in
+          let four = four_dirs c.loop-link.self.board c.args.self.now.board _ _ h.goes_on.grows.problem c.requires.sides in
           let struck = struck_as _ _ _ _ _ _ _ (ap (λ d. x.offset / d) (sym four)) s.back_is w.strike.ensures.struck in
           let on = struck_on _ _ _ _ _ struck in
           rw (w.self-is) (record {
@@ -91,7 +92,7 @@ loop-link-preserved g c =
             steps = omega (arith, c.down_at.ensures.steps, h.steps, longer);
           })
       | else-down_at w ↦
-          let s = link_from _ c.args.self.now.board _ c.args.self.now.counters _ _ _ _ _ _ _ _ h.goes_on.grows.problem c.requires.working.counters.fits h.working c.requires.links c.loop-link-test.true c.requires.hops c.requires.starts refl in
+          let s = link_along _ c.args.self.now.board _ c.args.self.now.counters _ _ _ _ _ _ _ _ _ h.goes_on.grows.problem c.requires.working.counters.fits h.working c.requires.links c.loop-link-test.true c.requires.sides (ap (λ n. c.args.cell * n) c.row_len.ensures.value) c.hop_end-start.ensures.value refl in
           let longer = length-some P c.args.cell k _ ls c.loop-link-test.true (ap (λ p. neighbour p.now c.args.cell x.dir) (sym h.goes_on.grows.problem) ∙ s.beside) in
           let next = step_lowered _ T _ _ _ _ _ _ _ _ _ h.working s.side (lowered-at T _ _ _ _ _ s.place_is c.down_at.ensures.changed)
           (λ alive one_left stands. true≢false (sym (c.down_at.ensures.bare.1 (ap (slice_index T.counts) s.place_is ∙ one_left)) ∙ w.if-down_at.false)) in

@@ -6,8 +6,12 @@ use Rattle.wfc_ac4.proofs.flight.Flight.work_off.Goals as goal
 pub of-list-requires-clause-value_in : goal.of-list-requires-clause-value_in
 of-list-requires-clause-value_in g c = (working-range (start_working _ _ _ _ c.requires.between c.requires.there)).1
 
+pub sides-sides-requires-clause-cell_in : goal.sides-sides-requires-clause-cell_in
+sides-sides-requires-clause-cell_in g c = (working-range (start_working _ _ _ _ c.requires.between c.requires.there)).0
+
 pub work_links-requires : goal.work_links-requires
 work_links-requires g c = record {
+  sides = c.sides-sides.ensures.some;
   links = c.of-list.ensures.value;
   working = start_working _ _ _ _ c.requires.between c.requires.there;
 }
