@@ -1,6 +1,7 @@
 -- A small problem without symmetry, on which laws try the definitions.
 use Rattle.std.specs.Prelude.{ℕ, true, false, List, [], ◌∷◌, slice_set}
 use Rattle.wfc_problem.specs.declared.TheConstants.{NO_CELL}
+use Rattle.wfc_problem.specs.declared.strides.FourSides.{FourSides}
 use Rattle.wfc_problem.specs.Network.{Network}
 
 -- cells 0, 1 and 3 in a row and 2 below 0, with three values
@@ -32,3 +33,22 @@ corner_with_neighbour place cell = record corner { neighbours = slice_set corner
 -- the same problem with other values in a row of the table of what may stand beside what
 abbrev pub corner_with_supports : ℕ → List ℕ → Network
 corner_with_supports row supports = record corner { supports = slice_set corner.supports row supports }
+
+-- cells where 2 alone has four neighbours: 0, 3, 4 and 1 in the order of the directions
+abbrev pub crossing : Network
+crossing = record corner {
+  cells = 5;
+  neighbours =
+      NO_CELL ∷ NO_CELL ∷ 2 ∷ NO_CELL
+      ∷ NO_CELL ∷ 2 ∷ NO_CELL ∷ NO_CELL
+      ∷ 0 ∷ 3 ∷ 4 ∷ 1
+      ∷ NO_CELL ∷ NO_CELL ∷ NO_CELL ∷ 2
+      ∷ 2 ∷ NO_CELL ∷ NO_CELL ∷ NO_CELL ∷ [];
+}
+
+-- its sides, in a table with rows of three entries
+abbrev pub crossing_sides : FourSides
+crossing_sides = record {
+  hops = 4294967294 ∷ 1 ∷ 2 ∷ 4294967295 ∷ [];
+  strides = 4294967290 ∷ 3 ∷ 6 ∷ 4294967293 ∷ [];
+}

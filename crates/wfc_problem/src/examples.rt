@@ -4,7 +4,7 @@
 ghost use Rattle.std.specs.Prelude.{◌≡◌, ℕ, true, false, List, [], ◌∷◌, map, replicate, slice_set, Option, Some, None};
 ghost use Rattle.std.specs.List.{range_with_len};
 ghost use Rattle.wfc_problem.specs.Assignment.{IsLegalAssignment, LiesIn};
-ghost use Rattle.wfc_problem.specs.Corner.{corner, corner_with_neighbour, corner_with_supports};
+ghost use Rattle.wfc_problem.specs.Corner.{corner, corner_with_neighbour, corner_with_supports, crossing, crossing_sides};
 ghost use Rattle.wfc_problem.specs.Domains.{IsSupported, IsArcConsistent, IsDead, IsLiteralIn, HasOnly, base_with, leaves, support_count};
 ghost use Rattle.wfc_problem.specs.Fault.{problem_fault_of, pair_count_fault};
 ghost use Rattle.wfc_problem.specs.Hops.{hop_cell, hop_entry, hops_table};
@@ -12,6 +12,7 @@ ghost use Rattle.wfc_problem.specs.HopsMade.{hop_of};
 ghost use Rattle.wfc_problem.specs.Network.{IsProblem, values, value_weight, neighbour, beside, supports_of, ok, in_base};
 ghost use Rattle.wfc_problem.specs.Rounds.{depth_of, greatest};
 ghost use Rattle.wfc_problem.specs.Sizes.{first_values, is_dead, sizes_of, values_at};
+ghost use Rattle.wfc_problem.specs.Strides.{AreSides, AreStrides, IsSide, sides_at, sides_by_kind};
 ghost use Rattle.wfc_problem.specs.Whole.{is_whole, network_of};
 ghost use Rattle.wfc_problem.specs.declared.Literal.TheVariants.{Is, Not};
 ghost use Rattle.wfc_problem.specs.declared.TheConstants.{NO_CELL, NO_HOP};
@@ -49,6 +50,27 @@ pub fn hops_are_read()
         ≡ NO_CELL ∷ 1 ∷ 0 ∷ NO_CELL ∷ 1 ∷ NO_CELL ∷ [] }
     ensures by_cells { hops_table 2 3 [] (1 ∷ NO_HOP ∷ 0 ∷ NO_HOP ∷ 4294967295 ∷ 0 ∷ [])
         ≡ 1 ∷ NO_CELL ∷ 0 ∷ NO_CELL ∷ 0 ∷ 1 ∷ [] }
+{}
+
+/// A stride leads from where the row of a cell begins to where that of its neighbour does, and a cell has the sides of its
+/// kind, if there are any.
+pub fn sides_are_told()
+    ensures to_the_right { IsSide corner 3 0 2 1 3 }
+    ensures down { IsSide corner 3 0 1 2 6 }
+    ensures back { IsSide corner 3 1 0 4294967295 4294967293 }
+    ensures no_neighbour { IsSide corner 3 0 0 NO_HOP 0 → ⊥ }
+    ensures other_stride { IsSide corner 3 0 2 1 6 → ⊥ }
+    ensures other_hop { IsSide corner 3 0 2 2 6 → ⊥ }
+    ensures four { AreSides crossing 3 2 crossing_sides }
+    ensures other_cell { AreSides crossing 3 1 crossing_sides → ⊥ }
+    ensures other_row { AreSides crossing 5 2 crossing_sides → ⊥ }
+    ensures no_four { AreSides (record crossing { dirs = 6 }) 3 2 crossing_sides → ⊥ }
+    ensures by_kind { sides_by_kind (1 ∷ 0 ∷ 2 ∷ 1 ∷ []) (None ∷ Some crossing_sides ∷ [])
+        ≡ Some crossing_sides ∷ None ∷ None ∷ Some crossing_sides ∷ [] }
+    ensures at_cell { sides_at (None ∷ Some crossing_sides ∷ []) 1 ≡ Some crossing_sides }
+    ensures past { sides_at (Some crossing_sides ∷ []) 1 ≡ None }
+    ensures none_kept { AreStrides corner 3 [] }
+    ensures not_its_own { AreStrides corner 3 (Some crossing_sides ∷ []) → ⊥ }
 {}
 
 /// A base is whole where it has each value at each cell, the last one too.
