@@ -7,3 +7,5 @@ mod hops;
 mod pins;
 #[cfg(test)]
 mod problem;
+#[cfg(test)]
+mod strides;
