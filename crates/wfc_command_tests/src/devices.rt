@@ -3,7 +3,7 @@
 ghost use Rattle.std.specs.Prelude.{◌≤◌};
 ghost use Rattle.wfc_outside.specs.MemoryFolder.{seen_folder};
 
-use crate::compare::{check, has_bytes, has_front, runs_to};
+use crate::compare::{check, has_front, runs_to};
 use std::process::Abort;
 use std::test::Fail;
 use wfc_cli::refuse;
@@ -189,7 +189,7 @@ fn fill_a_town(
 ) -> Result<(), Fail> {
     let mut err = sink_of(rt.alloc(), 100)?;
     runs_to(rt, TOWN, folder, sink, &mut err, status)?;
-    has_bytes(rt, TOWN, &err, told);
+    assert_eq!(rt; err.bytes(), told, "{TOWN}");
     Ok(())
 }
 
@@ -224,6 +224,6 @@ fn towns_are_filled(rt: HostRuntime) -> Result<(), Fail> {
 /// What three sinks took of a town: the whole answer, the same again, and a front of it.
 fn are_of_a_town(rt: &impl Abort, whole: &MemorySink, again: &MemorySink, cut: &MemorySink) {
     assert_eq!(rt; whole.bytes().len(), 2352);
-    has_bytes(rt, TOWN, again, whole.bytes());
+    assert_eq!(rt; again.bytes(), whole.bytes(), "{TOWN}");
     has_front(rt, TOWN, cut, whole.bytes(), 100);
 }

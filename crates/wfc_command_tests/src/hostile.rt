@@ -2,7 +2,7 @@
 
 ghost use Rattle.std.specs.Prelude.{◌≤◌};
 
-use crate::compare::{check, has_bytes, has_front, has_status, runs_to};
+use crate::compare::{check, has_front, runs_to};
 use std::alloc::{AllocError, Global};
 use std::process::Abort;
 use std::test::Fail;
@@ -56,7 +56,7 @@ fn whole(rt: &(impl Abort + AllocGlobal), line: &str, piece: usize) -> Result<Me
     let mut out = sink_with_room(rt.alloc(), piece)?;
     let mut err = sink_with_room(rt.alloc(), piece)?;
     runs_to(rt, line, &mut folder, &mut out, &mut err, 0)?;
-    has_bytes(rt, line, &err, b"");
+    assert_eq!(rt; err.bytes(), b"".as_slice(), "{line}");
     Ok(out)
 }
 
@@ -87,11 +87,11 @@ fn is_behind_the_reads(
     let mut err = sink_with_room(rt.alloc(), 100)?;
     let status = status_of_words(rt.alloc(), line, &mut folder, &mut out, &mut err)?;
     if status == 0 {
-        has_bytes(rt, line, &out, answer.bytes());
+        assert_eq!(rt; out.bytes(), answer.bytes(), "{line}");
         return Ok(true);
     }
-    has_status(rt, line, status, 5);
-    has_bytes(rt, line, &out, b"");
+    assert_eq!(rt; status, 5, "{line}");
+    assert_eq!(rt; out.bytes(), b"".as_slice(), "{line}");
     tells_of_a_file(rt, line, &err);
     Ok(false)
 }
@@ -143,13 +143,17 @@ fn is_behind_the_writes(
     let mut err = sink_with_room(rt.alloc(), 100)?;
     let status = status_of_words(rt.alloc(), line, &mut folder, &mut out, &mut err)?;
     if status == 0 {
-        has_bytes(rt, line, &out, answer.bytes());
+        assert_eq!(rt; out.bytes(), answer.bytes(), "{line}");
         return Ok(true);
     }
-    has_status(rt, line, status, 5);
+    assert_eq!(rt; status, 5, "{line}");
     let taken = (call - 1).saturating_mul(piece as u64);
     has_front(rt, line, &out, answer.bytes(), taken as usize);
-    has_bytes(rt, line, &err, b"wfc: device Failed out\n");
+    assert_eq!(rt;
+        err.bytes(),
+        b"wfc: device Failed out\n".as_slice(),
+        "{line}"
+    );
     Ok(false)
 }
 
@@ -205,7 +209,11 @@ fn a_full_output_has_a_front(rt: HostRuntime) -> Result<(), Fail> {
     let mut err = sink_with_room(rt.alloc(), 100)?;
     runs_to(&rt, TOWN, &mut folder, &mut out, &mut err, 5)?;
     has_front(&rt, TOWN, &out, answer.bytes(), 100);
-    has_bytes(&rt, TOWN, &err, b"wfc: device Failed out\n");
+    assert_eq!(rt;
+        err.bytes(),
+        b"wfc: device Failed out\n".as_slice(),
+        "{TOWN}"
+    );
     Ok(())
 }
 

@@ -1,8 +1,7 @@
 //! The rows of each command.
 
-use crate::compare::check_in_pieces;
 use std::test::Fail;
-use wfc_rows::Row;
+use wfc_rows::{Row, first_wrong_row};
 
 static FILL: [Row; 35] = [
     ("fill chk.txt 2 2 2", 0, "ab\nba\n", ""),
@@ -483,16 +482,17 @@ static DEMO: [Row; 3] = [
 
 #[test]
 fn commands_answer(rt: HostRuntime) -> Result<(), Fail> {
-    check_in_pieces(&rt, 1, &FILL)?;
-    check_in_pieces(&rt, 64, &FILL)?;
-    check_in_pieces(&rt, 7, &LEARN)?;
-    check_in_pieces(&rt, 3, &PICTURES)?;
-    check_in_pieces(&rt, 5, &DOMAINS)?;
-    check_in_pieces(&rt, 1, &REFUTE)?;
-    check_in_pieces(&rt, 64, &REFUTE)?;
-    check_in_pieces(&rt, 1, &CHECK)?;
-    check_in_pieces(&rt, 64, &CHECK)?;
-    check_in_pieces(&rt, 1, &UPGRADE)?;
-    check_in_pieces(&rt, 64, &UPGRADE)?;
-    check_in_pieces(&rt, 64, &DEMO)
+    assert_eq!(rt; first_wrong_row(rt.alloc(), 1, &FILL)?, None);
+    assert_eq!(rt; first_wrong_row(rt.alloc(), 64, &FILL)?, None);
+    assert_eq!(rt; first_wrong_row(rt.alloc(), 7, &LEARN)?, None);
+    assert_eq!(rt; first_wrong_row(rt.alloc(), 3, &PICTURES)?, None);
+    assert_eq!(rt; first_wrong_row(rt.alloc(), 5, &DOMAINS)?, None);
+    assert_eq!(rt; first_wrong_row(rt.alloc(), 1, &REFUTE)?, None);
+    assert_eq!(rt; first_wrong_row(rt.alloc(), 64, &REFUTE)?, None);
+    assert_eq!(rt; first_wrong_row(rt.alloc(), 1, &CHECK)?, None);
+    assert_eq!(rt; first_wrong_row(rt.alloc(), 64, &CHECK)?, None);
+    assert_eq!(rt; first_wrong_row(rt.alloc(), 1, &UPGRADE)?, None);
+    assert_eq!(rt; first_wrong_row(rt.alloc(), 64, &UPGRADE)?, None);
+    assert_eq!(rt; first_wrong_row(rt.alloc(), 64, &DEMO)?, None);
+    Ok(())
 }

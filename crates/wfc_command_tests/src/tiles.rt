@@ -1,8 +1,7 @@
 //! The rows of each command for tile sets and for maps with holes.
 
-use crate::compare::check_in_pieces;
 use std::test::Fail;
-use wfc_rows::Row;
+use wfc_rows::{Row, first_wrong_row};
 
 static LEARN: [Row; 7] = [
     (
@@ -326,14 +325,15 @@ static UPGRADE: [Row; 3] = [
 
 #[test]
 fn commands_take_tiles(rt: HostRuntime) -> Result<(), Fail> {
-    check_in_pieces(&rt, 7, &LEARN)?;
-    check_in_pieces(&rt, 1, &FILL)?;
-    check_in_pieces(&rt, 64, &FILL)?;
-    check_in_pieces(&rt, 3, &HOLES)?;
-    check_in_pieces(&rt, 5, &DOMAINS)?;
-    check_in_pieces(&rt, 64, &REFUTE)?;
-    check_in_pieces(&rt, 1, &CHECK)?;
-    check_in_pieces(&rt, 64, &CHECK)?;
-    check_in_pieces(&rt, 1, &UPGRADE)?;
-    check_in_pieces(&rt, 64, &UPGRADE)
+    assert_eq!(rt; first_wrong_row(rt.alloc(), 7, &LEARN)?, None);
+    assert_eq!(rt; first_wrong_row(rt.alloc(), 1, &FILL)?, None);
+    assert_eq!(rt; first_wrong_row(rt.alloc(), 64, &FILL)?, None);
+    assert_eq!(rt; first_wrong_row(rt.alloc(), 3, &HOLES)?, None);
+    assert_eq!(rt; first_wrong_row(rt.alloc(), 5, &DOMAINS)?, None);
+    assert_eq!(rt; first_wrong_row(rt.alloc(), 64, &REFUTE)?, None);
+    assert_eq!(rt; first_wrong_row(rt.alloc(), 1, &CHECK)?, None);
+    assert_eq!(rt; first_wrong_row(rt.alloc(), 64, &CHECK)?, None);
+    assert_eq!(rt; first_wrong_row(rt.alloc(), 1, &UPGRADE)?, None);
+    assert_eq!(rt; first_wrong_row(rt.alloc(), 64, &UPGRADE)?, None);
+    Ok(())
 }

@@ -1,11 +1,10 @@
 //! The rows of each command for boxes, and refutations of boxes that are written and read again.
 
-use crate::compare::{check_in_pieces, has_bytes, has_status};
 use std::alloc::Global;
 use std::process::Abort;
 use std::test::Fail;
 use wfc_outside::{MemoryFolder, MemorySink};
-use wfc_rows::{Row, folder_of, status_of_words};
+use wfc_rows::{Row, first_wrong_row, folder_of, status_of_words};
 
 static FILL: [Row; 12] = [
     (
@@ -164,14 +163,16 @@ static FAULTS: [Row; 14] = [
 
 #[test]
 fn boxes(rt: HostRuntime) -> Result<(), Fail> {
-    check_in_pieces(&rt, 1, &FILL)?;
-    check_in_pieces(&rt, 64, &FILL)
+    assert_eq!(rt; first_wrong_row(rt.alloc(), 1, &FILL)?, None);
+    assert_eq!(rt; first_wrong_row(rt.alloc(), 64, &FILL)?, None);
+    Ok(())
 }
 
 #[test]
 fn faults_of_boxes(rt: HostRuntime) -> Result<(), Fail> {
-    check_in_pieces(&rt, 1, &FAULTS)?;
-    check_in_pieces(&rt, 64, &FAULTS)
+    assert_eq!(rt; first_wrong_row(rt.alloc(), 1, &FAULTS)?, None);
+    assert_eq!(rt; first_wrong_row(rt.alloc(), 64, &FAULTS)?, None);
+    Ok(())
 }
 
 /// How many bytes the sinks of these tests take.
@@ -215,22 +216,22 @@ fn is_refuted(rt: &(impl Abort + AllocGlobal), boxed: Boxed, format: u32) -> Res
     let (problem, other) = boxed;
     let line = format!(in alloc; "box-refute {problem} --format {format}")?;
     let (status, proof) = written(alloc, &line, b"")?;
-    has_status(rt, &line, status, 0);
+    assert_eq!(rt; status, 0, "{line}");
     let line = format!(in alloc; "box-check {problem} refutation")?;
     let (status, accepted) = written(alloc, &line, proof.bytes())?;
-    has_status(rt, &line, status, 0);
-    has_bytes(rt, &line, &accepted, b"accepted\n");
+    assert_eq!(rt; status, 0, "{line}");
+    assert_eq!(rt; accepted.bytes(), b"accepted\n".as_slice(), "{line}");
     let deeper = format!(in alloc; "box-check {other} refutation")?;
     let (status, _) = written(alloc, &deeper, proof.bytes())?;
-    has_status(rt, &deeper, status, 1);
+    assert_eq!(rt; status, 1, "{deeper}");
     for place in 0..proof.bytes().len() {
         let mut changed = Vec::from_slice(alloc, proof.bytes())?;
         if let Some(byte) = changed.get_mut(place) {
             *byte ^= 1;
         }
         let (status, said) = written(alloc, &line, &changed)?;
-        has_status(rt, &line, status, 1);
-        has_bytes(rt, &line, &said, b"");
+        assert_eq!(rt; status, 1, "{line}");
+        assert_eq!(rt; said.bytes(), b"".as_slice(), "{line}");
     }
     Ok(())
 }

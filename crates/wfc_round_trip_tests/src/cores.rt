@@ -1,11 +1,10 @@
 //! The lines of a pins file that are to blame.
 
-use crate::compare::{check_in_pieces, has_bytes, has_status};
 use std::alloc::{AllocError, Global};
 use std::process::Abort;
 use std::test::Fail;
 use wfc_outside::{MemoryFolder, MemorySink};
-use wfc_rows::{Row, folder_of, status_of_words};
+use wfc_rows::{Row, first_wrong_row, folder_of, status_of_words};
 
 static EXPLAIN: [Row; 9] = [
     // The first line contradicts the second, which contradicts the third too.
@@ -57,8 +56,9 @@ static EXPLAIN: [Row; 9] = [
 
 #[test]
 fn lines_to_blame(rt: HostRuntime) -> Result<(), Fail> {
-    check_in_pieces(&rt, 1, &EXPLAIN)?;
-    check_in_pieces(&rt, 64, &EXPLAIN)
+    assert_eq!(rt; first_wrong_row(rt.alloc(), 1, &EXPLAIN)?, None);
+    assert_eq!(rt; first_wrong_row(rt.alloc(), 64, &EXPLAIN)?, None);
+    Ok(())
 }
 
 /// A problem, how its runs are made, the lines of its pins file, and which of them are to blame, counted from 1.
@@ -198,7 +198,7 @@ fn answer(
     let mut out = MemorySink::new(alloc, 4000, ROOM)?;
     let mut err = MemorySink::new(alloc, 4000, ROOM)?;
     let status = status_of_words(alloc, &line, &mut folder, &mut out, &mut err)?;
-    has_status(rt, &line, status, 0);
+    assert_eq!(rt; status, 0, "{line}");
     Ok(out)
 }
 
@@ -216,12 +216,12 @@ fn is_blamed(rt: &(impl Abort + AllocGlobal), blame: Blame) -> Result<(), Fail> 
         }
     }
     let said = answer(rt, "explain", &words, text_of(alloc, lines, &all, 0)?, b"")?;
-    has_bytes(rt, problem, &said, text.as_bytes());
+    assert_eq!(rt; said.bytes(), text.as_bytes(), "{problem}");
     let proof = answer(rt, "refute", &words, text_of(alloc, lines, core, 0)?, b"")?;
     let checked = format!(in alloc; "{problem} refutation")?;
     let pins = text_of(alloc, lines, core, 0)?;
     let accepted = answer(rt, "check", &checked, pins, proof.bytes())?;
-    has_bytes(rt, problem, &accepted, b"accepted\n");
+    assert_eq!(rt; accepted.bytes(), b"accepted\n".as_slice(), "{problem}");
     for place in core {
         answer(
             rt,

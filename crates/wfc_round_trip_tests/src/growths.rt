@@ -1,12 +1,11 @@
 //! Maps that are grown block by block, and blocks that are stuck.
 
 use super::cores::folder_with;
-use crate::compare::{check_in_pieces, has_bytes, has_status};
 use std::alloc::Global;
 use std::process::Abort;
 use std::test::Fail;
 use wfc_outside::{MemoryFolder, MemorySink};
-use wfc_rows::{Row, status_of_words};
+use wfc_rows::{Row, first_wrong_row, status_of_words};
 
 static GROW: [Row; 13] = [
     (
@@ -82,8 +81,9 @@ static GROW: [Row; 13] = [
 
 #[test]
 fn maps_by_blocks(rt: HostRuntime) -> Result<(), Fail> {
-    check_in_pieces(&rt, 1, &GROW)?;
-    check_in_pieces(&rt, 64, &GROW)
+    assert_eq!(rt; first_wrong_row(rt.alloc(), 1, &GROW)?, None);
+    assert_eq!(rt; first_wrong_row(rt.alloc(), 64, &GROW)?, None);
+    Ok(())
 }
 
 /// How many bytes the sinks of these tests take.
@@ -99,7 +99,7 @@ fn written(
     let mut out = MemorySink::new(rt.alloc(), 4000, ROOM)?;
     let mut err = MemorySink::new(rt.alloc(), 4000, ROOM)?;
     let got = status_of_words(rt.alloc(), line, folder, &mut out, &mut err)?;
-    has_status(rt, line, got, status);
+    assert_eq!(rt; got, status, "{line}");
     Ok(out)
 }
 
@@ -163,7 +163,7 @@ fn is_refuted(rt: &(impl Abort + AllocGlobal), sample: &str, rest: &str) -> Resu
     let pins = Vec::from_slice(alloc, &parts.pins)?;
     let mut whole = folder_with(alloc, pins, &parts.proof)?;
     let accepted = written(rt, &mut whole, &check, 0)?;
-    has_bytes(rt, &check, &accepted, b"accepted\n");
+    assert_eq!(rt; accepted.bytes(), b"accepted\n".as_slice(), "{check}");
     let pins = Vec::from_slice(alloc, &parts.pins)?;
     let proof = broken(alloc, &parts.proof, 4, b'7')?;
     let mut other = folder_with(alloc, pins, &proof)?;

@@ -4,8 +4,6 @@
 #[cfg(test)]
 mod boxes;
 #[cfg(test)]
-mod compare;
-#[cfg(test)]
 mod cores;
 #[cfg(test)]
 mod growths;

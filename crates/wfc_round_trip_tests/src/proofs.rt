@@ -1,6 +1,5 @@
 //! Refutations that are written, read again and brought to format 2.
 
-use crate::compare::{has_bytes, has_status};
 use std::alloc::Global;
 use std::process::Abort;
 use std::test::Fail;
@@ -51,7 +50,7 @@ fn answer(
 ) -> Result<MemorySink, Fail> {
     let line = line_of(rt.alloc(), command, size, rest)?;
     let (status, answer) = written(rt.alloc(), folder, &line)?;
-    has_status(rt, &line, status, 0);
+    assert_eq!(rt; status, 0, "{line}");
     Ok(answer)
 }
 
@@ -64,9 +63,9 @@ fn is_accepted(
     shaped: &MemorySink,
 ) -> Result<(), Fail> {
     let accepted = answer(rt, folder, "check", size, name)?;
-    has_bytes(rt, name, &accepted, b"accepted\n");
+    assert_eq!(rt; accepted.bytes(), b"accepted\n".as_slice(), "{name}");
     let upgraded = answer(rt, folder, "upgrade", size, name)?;
-    has_bytes(rt, name, &upgraded, shaped.bytes());
+    assert_eq!(rt; upgraded.bytes(), shaped.bytes(), "{name}");
     Ok(())
 }
 

@@ -54,6 +54,14 @@ fn words_of(alloc: Global, line: &str) -> Result<Vec<String>, AllocError> {
 /// A command line with its status, its answer and its line on the error stream.
 pub type Row = (&'static str, u8, &'static str, &'static str);
 
+/// What may come otherwise than a row says.
+#[derive(Clone, Copy, Debug, PartialEq, Eq)]
+pub enum RowPart {
+    Status,
+    Answer,
+    ErrorStream,
+}
+
 /// The status of a command line over these devices, with 65 choosers of the least cell and as many of the fewest values.
 pub fn status_of_words<F: Folder>(
     alloc: Global,
@@ -69,4 +77,46 @@ pub fn status_of_words<F: Folder>(
         choosers.push(Box::new(alloc, Buckets::new(alloc))?)?;
     }
     Ok(run(alloc, &words, folder, out, err, choosers))
+}
+
+/// Runs a row over these devices, and tells what comes of it otherwise than it says: the first of the parts, if there is one.
+pub fn first_wrong<F: Folder>(
+    alloc: Global,
+    row: Row,
+    folder: &mut F,
+    mut out: MemorySink,
+    mut err: MemorySink,
+) -> Result<Option<RowPart>, AllocError> {
+    let (line, status, answer, told) = row;
+    let got = status_of_words(alloc, line, folder, &mut out, &mut err)?;
+    if got != status {
+        return Ok(Some(RowPart::Status));
+    }
+    if out.bytes() != answer.as_bytes() {
+        return Ok(Some(RowPart::Answer));
+    }
+    if err.bytes() != told.as_bytes() {
+        return Ok(Some(RowPart::ErrorStream));
+    }
+    Ok(None)
+}
+
+/// Runs rows over devices that give and take so many bytes at a time, each row over new ones. Answers the first command line
+/// of which something comes otherwise than its row says, and what.
+pub fn first_wrong_row(
+    alloc: Global,
+    piece: usize,
+    rows: &[Row],
+) -> Result<Option<(&'static str, RowPart)>, AllocError>
+    requires some { 1 ≤ piece }
+{
+    for row in rows {
+        let mut folder = folder_of(alloc, piece)?;
+        let out = sink_of(alloc, piece)?;
+        let err = sink_of(alloc, piece)?;
+        if let Some(part) = first_wrong(alloc, *row, &mut folder, out, err)? {
+            return Ok(Some((row.0, part)));
+        }
+    }
+    Ok(None)
 }
