@@ -70,5 +70,5 @@ pub record IsFirstBare (f : Flight) (cell value d : ℕ) : Type 0 where
   pub first : (e n : ℕ) → e < d → neighbour f.board.problem.now cell e ≡ Some n → 0 < count_of f.counters cell value e
 
 -- these are the sides of the cell, with the strides from its counters to those of its neighbours
-abbrev pub HasSides : Flight → ℕ → FourSides → Type 0
-HasSides f cell sides = AreSides f.board.problem.now (counter_row f.board.problem.now) cell sides
+abbrev pub HasFourSides : Flight → ℕ → FourSides → Type 0
+HasFourSides f cell sides = AreSides f.board.problem.now (counter_row f.board.problem.now) cell sides

@@ -8,7 +8,7 @@ ghost use Rattle.wfc_domains.specs.Board.{Grows, HasValues, IsTraced};
 ghost use Rattle.wfc_ac4.specs.Places.{counter_places};
 ghost use Rattle.wfc_ac4.specs.Links.{AreLinks, links_of};
 ghost use Rattle.wfc_ac4.specs.State.{IsWorking, IsBetweenRemovals};
-ghost use Rattle.wfc_ac4.specs.Flight.{front_cost, GoesOn, HasSides, IsStruck};
+ghost use Rattle.wfc_ac4.specs.Flight.{front_cost, GoesOn, HasFourSides, IsStruck};
 
 use crate::flight::Flight;
 use crate::links::{Links, SupportLink};
@@ -59,7 +59,7 @@ impl<'p> Flight<'p> {
         links: &[SupportLink],
         steps: &mut Steps<L>,
     )
-        requires sides { IfSome sides (λ s. HasSides self.old cell s.now) }
+        requires sides { IfSome sides (λ s. HasFourSides self.old cell s.now) }
         requires links { links.now ≡ links_of self.old.board.problem.now value }
         requires working { IsWorking self.old.board self.old.counters index cell value [] }
         ensures working { IsWorking self.new.board self.new.counters index cell value
@@ -84,7 +84,7 @@ impl<'p> Flight<'p> {
         links: &[SupportLink],
         steps: &mut Steps<L>,
     )
-        requires sides { HasSides self.old cell sides.now }
+        requires sides { HasFourSides self.old cell sides.now }
         requires links { links.now ≡ links_of self.old.board.problem.now value }
         requires working { IsWorking self.old.board self.old.counters index cell value [] }
         ensures working { IsWorking self.new.board self.new.counters index cell value

@@ -35,8 +35,8 @@ abbrev pub corner_with_supports : ℕ → List ℕ → Network
 corner_with_supports row supports = record corner { supports = slice_set corner.supports row supports }
 
 -- cells where 2 alone has four neighbours: 0, 3, 4 and 1 in the order of the directions
-abbrev pub crossing : Network
-crossing = record corner {
+abbrev pub crossroads : Network
+crossroads = record corner {
   cells = 5;
   neighbours =
       NO_CELL ∷ NO_CELL ∷ 2 ∷ NO_CELL
@@ -47,8 +47,8 @@ crossing = record corner {
 }
 
 -- its sides, in a table with rows of three entries
-abbrev pub crossing_sides : FourSides
-crossing_sides = record {
+abbrev pub crossroads_sides : FourSides
+crossroads_sides = record {
   hops = 4294967294 ∷ 1 ∷ 2 ∷ 4294967295 ∷ [];
   strides = 4294967290 ∷ 3 ∷ 6 ∷ 4294967293 ∷ [];
 }

@@ -4,7 +4,7 @@
 ghost use Rattle.std.specs.Prelude.{◌≡◌, ℕ, true, false, List, [], ◌∷◌, map, replicate, slice_set, Option, Some, None};
 ghost use Rattle.std.specs.List.{range_with_len};
 ghost use Rattle.wfc_problem.specs.Assignment.{IsLegalAssignment, LiesIn};
-ghost use Rattle.wfc_problem.specs.Corner.{corner, corner_with_neighbour, corner_with_supports, crossing, crossing_sides};
+ghost use Rattle.wfc_problem.specs.Corner.{corner, corner_with_neighbour, corner_with_supports, crossroads, crossroads_sides};
 ghost use Rattle.wfc_problem.specs.Domains.{IsSupported, IsArcConsistent, IsDead, IsLiteralIn, HasOnly, base_with, leaves, support_count};
 ghost use Rattle.wfc_problem.specs.Fault.{problem_fault_of, pair_count_fault};
 ghost use Rattle.wfc_problem.specs.Hops.{hop_cell, hop_entry, hops_table};
@@ -61,16 +61,16 @@ pub fn sides_are_told()
     ensures no_neighbour { IsSide corner 3 0 0 NO_HOP 0 → ⊥ }
     ensures other_stride { IsSide corner 3 0 2 1 6 → ⊥ }
     ensures other_hop { IsSide corner 3 0 2 2 6 → ⊥ }
-    ensures four { AreSides crossing 3 2 crossing_sides }
-    ensures other_cell { AreSides crossing 3 1 crossing_sides → ⊥ }
-    ensures other_row { AreSides crossing 5 2 crossing_sides → ⊥ }
-    ensures no_four { AreSides (record crossing { dirs = 6 }) 3 2 crossing_sides → ⊥ }
-    ensures by_kind { sides_by_kind (1 ∷ 0 ∷ 2 ∷ 1 ∷ []) (None ∷ Some crossing_sides ∷ [])
-        ≡ Some crossing_sides ∷ None ∷ None ∷ Some crossing_sides ∷ [] }
-    ensures at_cell { sides_at (None ∷ Some crossing_sides ∷ []) 1 ≡ Some crossing_sides }
-    ensures past { sides_at (Some crossing_sides ∷ []) 1 ≡ None }
+    ensures four { AreSides crossroads 3 2 crossroads_sides }
+    ensures other_cell { AreSides crossroads 3 1 crossroads_sides → ⊥ }
+    ensures other_row { AreSides crossroads 5 2 crossroads_sides → ⊥ }
+    ensures no_four { AreSides (record crossroads { dirs = 6 }) 3 2 crossroads_sides → ⊥ }
+    ensures by_kind { sides_by_kind (1 ∷ 0 ∷ 2 ∷ 1 ∷ []) (None ∷ Some crossroads_sides ∷ [])
+        ≡ Some crossroads_sides ∷ None ∷ None ∷ Some crossroads_sides ∷ [] }
+    ensures at_cell { sides_at (None ∷ Some crossroads_sides ∷ []) 1 ≡ Some crossroads_sides }
+    ensures past { sides_at (Some crossroads_sides ∷ []) 1 ≡ None }
     ensures none_kept { AreStrides corner 3 [] }
-    ensures not_its_own { AreStrides corner 3 (Some crossing_sides ∷ []) → ⊥ }
+    ensures not_its_own { AreStrides corner 3 (Some crossroads_sides ∷ []) → ⊥ }
 {}
 
 /// A base is whole where it has each value at each cell, the last one too.
