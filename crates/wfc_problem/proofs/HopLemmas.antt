@@ -147,63 +147,74 @@ turned_more old now next dirs c h s = record {
       s.behind i (omega arith) ∙ h.behind i (omega arith);
 }
 
--- the rows of what became hops say the table
-turned_row : (old new : List ℕ) (dirs cells c : ℕ) → AreTurned old new dirs cells → length old ≡ cells * dirs → cells ≤ MAX_PAIRS → All IsEntry old → c < cells
-    → (map (hop_entry c) (table_row dirs new c) ≡ table_row dirs old c) × (map (hop_cell c) (table_row dirs new c) ≡ map entry_cell (table_row dirs old c))
-turned_row old new dirs cells c t e few all l =
-    let le : suc c * dirs ≤ cells * dirs = mul-le-mul_right dirs l in
+-- the rows of what became hops are the hops of the table
+turned_row : (old new : List ℕ) (dirs cells c : ℕ) → AreTurned old new dirs cells → length old ≡ cells * dirs → c < cells → table_row dirs new c ≡ map (hop_of c) (table_row dirs old c)
+turned_row old new dirs cells c t e l =
     let row = table_row dirs new c in
     let was = table_row dirs old c in
     let long : length row ≡ dirs = row_length dirs new c cells (t.long ∙ e) l in
     let long_was : length was ≡ dirs = row_length dirs old c cells e l in
-    let small : c < MAX_PAIRS = omega arith in
-    let at : (d : ℕ) → d < dirs → slice_index row d ≡ hop_of c (slice_index was d) = λ d m. row_at dirs new c d m ∙ t.turned c d l m ∙ ap (hop_of c) (sym (row_at dirs old c d m)) in
-    let entry : (d : ℕ) → d < dirs → IsEntry (slice_index was d) = λ d m. subst IsEntry (sym (row_at dirs old c d m)) (all (c * dirs + d) 0 (omega arith)) in (
-      ext_get_or 0 (map (hop_entry c) row) was (length-map row (hop_entry c) ∙ long ∙ sym long_was)
-          (λ d m.
-          let inside : d < dirs = omega (arith, m, length-map row (hop_entry c), long) in
-          get_or-map (hop_entry c) row d 0 0 (omega arith) ∙ ap (hop_entry c) (at d inside) ∙ hop_entry_is c (slice_index was d) small (entry d inside)),
-      ext_get_or None (map (hop_cell c) row) (map entry_cell was) (length-map row (hop_cell c) ∙ long ∙ sym long_was ∙ sym (length-map was entry_cell))
-          (λ d m.
-          let inside : d < dirs = omega (arith, m, length-map row (hop_cell c), long) in
-          get_or-map (hop_cell c) row d 0 None (omega arith) ∙ ap (hop_cell c) (at d inside) ∙ hop_cell_is c (slice_index was d) small (entry d inside)
-          ∙ sym (get_or-map entry_cell was d 0 None (omega arith))),
+    ext_get_or 0 row (map (hop_of c) was) (long ∙ sym long_was ∙ sym (length-map was (hop_of c)))
+    (λ d m.
+    let inside : d < dirs = omega (arith, m, long) in
+    row_at dirs new c d inside ∙ t.turned c d l inside ∙ ap (hop_of c) (sym (row_at dirs old c d inside))
+    ∙ sym (get_or-map (hop_of c) was d 0 0 (omega (arith, long_was))))
+
+-- the hops of entries say these
+row_says : (c : ℕ) (row : List ℕ) → c < MAX_PAIRS → All IsEntry row → (map (hop_entry c) (map (hop_of c) row) ≡ row) × (map (hop_cell c) (map (hop_of c) row) ≡ map entry_cell row)
+row_says c [] small all = (refl, refl)
+row_says c (x ∷ xs) small all =
+    let entry : IsEntry x = all 0 0 (omega arith) in
+    let more = row_says c xs small (λ k d l. all (suc k) d (omega arith)) in (
+      ap (λ y. y ∷ map (hop_entry c) (map (hop_of c) xs)) (hop_entry_is c x small entry) ∙ ap (λ ys. x ∷ ys) more.0,
+      ap (λ y. y ∷ map (hop_cell c) (map (hop_of c) xs)) (hop_cell_is c x small entry) ∙ ap (λ ys. entry_cell x ∷ ys) more.1,
     )
 
--- what the rows of a table that became hops say, where each cell has its own among some rows
-pub record SaysTable (old : List ℕ) (cells dirs : ℕ) (kinds rows : List ℕ) : Type 0 where
-  pub hops : AreHops cells dirs kinds rows
-  pub table : hops_table cells dirs kinds rows ≡ old
+-- the entries of a row are those of its table
+row_entries : (dirs : ℕ) (table : List ℕ) (c cells : ℕ) → length table ≡ cells * dirs → All IsEntry table → c < cells → All IsEntry (table_row dirs table c)
+row_entries dirs table c cells e all l k d m =
+    let le : suc c * dirs ≤ cells * dirs = mul-le-mul_right dirs l in
+    let row = table_row dirs table c in
+    let inside : k < dirs = omega (arith, m, row_length dirs table c cells e l) in
+    subst IsEntry (sym (get_or_default row k d 0 m ∙ row_at dirs table c k inside)) (all (c * dirs + k) 0 (omega arith))
 
-says_table : (old new : List ℕ) (dirs cells : ℕ) (kinds rows : List ℕ) → AreTurned old new dirs cells → length old ≡ cells * dirs → cells ≤ MAX_PAIRS → All IsEntry old
-    → (kinds ≡ []) ⊎ (length kinds ≡ cells) → ((c : ℕ) → c < cells → hops_row dirs kinds rows c ≡ table_row dirs new c) → SaysTable old cells dirs kinds rows
-says_table old new dirs cells kinds rows t e few all some_or_none own = record {
+-- what rows of hops say, where each cell has its own among them
+pub record SaysTable (table : List ℕ) (cells dirs : ℕ) (kinds rows : List ℕ) : Type 0 where
+  pub hops : AreHops cells dirs kinds rows
+  pub entries : hops_table cells dirs kinds rows ≡ table
+
+says_table : (table : List ℕ) (dirs cells : ℕ) (kinds rows : List ℕ) → length table ≡ cells * dirs → cells ≤ MAX_PAIRS → All IsEntry table
+    → (kinds ≡ []) ⊎ (length kinds ≡ cells) → ((c : ℕ) → c < cells → hops_row dirs kinds rows c ≡ map (hop_of c) (table_row dirs table c)) → SaysTable table cells dirs kinds rows
+says_table table dirs cells kinds rows e few all some_or_none own = record {
   hops = record {
     some_or_none = some_or_none;
     each = λ c l.
-        let says = turned_row old new dirs cells c t e few all l in
-        subst (λ row. IsHopsRow dirs row c) (sym (own c l)) (record {
-          long = row_length dirs new c cells (t.long ∙ e) l;
+        let row = table_row dirs table c in
+        let says = row_says c row (omega arith) (row_entries dirs table c cells e all l) in
+        subst (λ hops. IsHopsRow dirs hops c) (sym (own c l)) (record {
+          long = length-map row (hop_of c) ∙ row_length dirs table c cells e l;
           named = says.1 ∙ ap (map entry_cell) (sym says.0);
         });
   };
-  table =
-      rows_same (λ c. map (hop_entry c) (hops_row dirs kinds rows c)) (table_row dirs old) 0 cells
-      (λ c low high. let l : c < cells = omega arith in ap (map (hop_entry c)) (own c l) ∙ (turned_row old new dirs cells c t e few all l).0)
-      ∙ rows_joined dirs 0 cells old
-      ∙ ap (λ m. take (cells * dirs) (drop m old)) (let none : 0 * dirs ≡ 0 = omega arith in none)
-      ∙ take_all (cells * dirs) old (omega (arith, e));
+  entries =
+      rows_same (λ c. map (hop_entry c) (hops_row dirs kinds rows c)) (table_row dirs table) 0 cells
+      (λ c low high.
+      let l : c < cells = omega arith in
+      ap (map (hop_entry c)) (own c l) ∙ (row_says c (table_row dirs table c) (omega arith) (row_entries dirs table c cells e all l)).0)
+      ∙ rows_joined dirs 0 cells table
+      ∙ ap (λ m. take (cells * dirs) (drop m table)) (let none : 0 * dirs ≡ 0 = omega arith in none)
+      ∙ take_all (cells * dirs) table (omega (arith, e));
 }
 
 -- where each keeps its row
 pub own_rows : (old new : List ℕ) (dirs cells : ℕ) → AreTurned old new dirs cells → length old ≡ cells * dirs → cells ≤ MAX_PAIRS → All IsEntry old → SaysTable old cells dirs [] new
-own_rows old new dirs cells t e few all = says_table old new dirs cells [] new t e few all (inl refl) (λ c l. refl)
+own_rows old new dirs cells t e few all = says_table old dirs cells [] new e few all (inl refl) (λ c l. turned_row old new dirs cells c t e l)
 
 -- where each has a kind
-pub kind_rows : (old new : List ℕ) (dirs cells : ℕ) (kinds rows : List ℕ) → AreTurned old new dirs cells → length old ≡ cells * dirs → cells ≤ MAX_PAIRS → All IsEntry old
-    → AreKinds dirs new cells kinds rows → SaysTable old cells dirs kinds rows
-kind_rows old new dirs cells kinds rows t e few all k =
-    says_table old new dirs cells kinds rows t e few all (inr k.so_many)
+pub kind_rows : (table : List ℕ) (dirs cells : ℕ) (kinds rows : List ℕ) → length table ≡ cells * dirs → cells ≤ MAX_PAIRS → All IsEntry table → AreKinds dirs table cells kinds rows
+    → SaysTable table cells dirs kinds rows
+kind_rows table dirs cells kinds rows e few all k =
+    says_table table dirs cells kinds rows e few all (inr k.so_many)
     (λ c l. ap (table_row dirs rows) (get_or_default kinds c c 0 (omega (arith, k.so_many, l))) ∙ k.same c l)
 
 -- ---- kinds
@@ -219,20 +230,20 @@ row_stays dirs rows more k some long e =
 
 -- one more cell has its kind
 pub kinds_more : (dirs : ℕ) (table : List ℕ) (cells n : ℕ) (kinds rows kinds' rows' : List ℕ) (k : ℕ) → 0 < dirs → length table ≡ cells * dirs → n < cells → AreKinds dirs table n kinds rows
-    → take (length rows) rows' ≡ rows → table_row dirs rows' k ≡ table_row dirs table n → kinds' ≡ kinds ++ k ∷ [] → AreKinds dirs table (n + 1) kinds' rows'
+    → take (length rows) rows' ≡ rows → table_row dirs rows' k ≡ map (hop_of n) (table_row dirs table n) → kinds' ≡ kinds ++ k ∷ [] → AreKinds dirs table (n + 1) kinds' rows'
 kinds_more dirs table cells n kinds rows kinds' rows' k some e l h stay row is = record {
   so_many = ap length is ∙ length_push kinds k ∙ ap (λ m. m + 1) h.so_many;
   same = λ c m. elim (cases_eq c n) [
     | inl same ↦
         let at : slice_index kinds' c ≡ k =
         ap (λ xs. slice_index xs c) is ∙ ap (λ i. slice_index (kinds ++ k ∷ []) i) (let z : c ≡ length kinds + 0 = omega (arith, h.so_many) in z) ∙ get_or-append-add kinds (k ∷ []) 0 0 in
-        ap (table_row dirs rows') at ∙ row ∙ ap (table_row dirs table) (sym same)
+        ap (table_row dirs rows') at ∙ row ∙ ap (λ m. map (hop_of m) (table_row dirs table m)) (sym same)
     | inr ne ↦
         let before : c < n = omega arith in
         let at : slice_index kinds' c ≡ slice_index kinds c = ap (λ xs. slice_index xs c) is ∙ get_or_append_left kinds (k ∷ []) 0 c (omega (arith, h.so_many)) in
         let was = h.same c before in
         ap (table_row dirs rows') at
-        ∙ row_stays dirs rows rows' (slice_index kinds c) some (ap length was ∙ row_length dirs table c cells e (omega arith)) stay
+        ∙ row_stays dirs rows rows' (slice_index kinds c) some (ap length was ∙ length-map (table_row dirs table c) (hop_of c) ∙ row_length dirs table c cells e (omega arith)) stay
         ∙ was
   ];
 }

@@ -1,5 +1,5 @@
 -- How hops are made of a table of neighbours.
-use Rattle.std.specs.Prelude.{◌≡◌, ℕ, ◌+◌, ◌*◌, ◌-◌, ◌%◌, ◌^◌, ◌<◌, ◌≤◌, ◌⊎◌, ◌==◌, List, length, slice_index, if◌then◌else◌}
+use Rattle.std.specs.Prelude.{◌≡◌, ℕ, ◌+◌, ◌*◌, ◌-◌, ◌%◌, ◌^◌, ◌<◌, ◌≤◌, ◌⊎◌, ◌==◌, List, length, map, slice_index, if◌then◌else◌}
 use Rattle.wfc_problem.specs.declared.TheConstants.{MAX_PAIRS, NO_CELL, NO_HOP}
 use Rattle.wfc_problem.specs.Hops.{table_row}
 
@@ -24,7 +24,7 @@ pub record AreTurned (old new : List ℕ) (dirs n : ℕ) : Type 0 where
   pub turned : (c d : ℕ) → c < n → d < dirs → slice_index new (c * dirs + d) ≡ hop_of c (slice_index old (c * dirs + d))
   pub behind : (i : ℕ) → n * dirs ≤ i → slice_index new i ≡ slice_index old i
 
--- the first n rows of a table stand among others, each as the row of its kind
+-- the hops of the first n rows of a table stand among others, each as the row of its kind
 pub record AreKinds (dirs : ℕ) (table : List ℕ) (n : ℕ) (kinds rows : List ℕ) : Type 0 where
   pub so_many : length kinds ≡ n
-  pub same : (c : ℕ) → c < n → table_row dirs rows (slice_index kinds c) ≡ table_row dirs table c
+  pub same : (c : ℕ) → c < n → table_row dirs rows (slice_index kinds c) ≡ map (hop_of c) (table_row dirs table c)

@@ -1,7 +1,7 @@
 //! What lies beside the cells, kept by hops. A hop is what is added to a cell's number to come to the cell beside it, with the
 //! sum cut to 32 bits. Cells that lie in rows have few rows of hops, so that a byte for each cell says which is its own.
 
-ghost use Rattle.std.specs.Prelude.{◌≡◌, ◌+◌, ◌*◌, ◌<◌, ◌≤◌, ◌↔◌, All, IfOk, IfSome, length, map, slice_index_or, take, true};
+ghost use Rattle.std.specs.Prelude.{◌≡◌, ◌+◌, ◌*◌, ◌<◌, ◌≤◌, ◌↔◌, ◌++◌, All, IfOk, IfSome, length, map, slice_index_or, take, true};
 ghost use Rattle.wfc_problem.specs.Network.{entry_cell};
 ghost use Rattle.wfc_problem.specs.Hops.{hop_cell, hop_end, hops_table, table_row, AreHops};
 ghost use Rattle.wfc_problem.specs.HopsMade.{hop_of, IsEntry, AreHopsAt, AreTurned, AreKinds};
@@ -81,10 +81,12 @@ impl Hops {
         ensures entries { result.entries ≡ table.items }
     {
         let alloc = *table.allocator();
-        turn(&mut table, cells, dirs);
         match kinds_of(alloc, &table, cells, dirs) {
             Some(made) => Hops::with(cells, dirs, made.kinds, made.rows),
-            None => Hops::with(cells, dirs, Vec::new(alloc), table),
+            None => {
+                turn(&mut table, cells, dirs);
+                Hops::with(cells, dirs, Vec::new(alloc), table)
+            }
         }
     }
 
@@ -169,7 +171,8 @@ fn turn_row(table: &mut [u32], start: usize, cell: u32, dirs: u8)
     }
 }
 
-/// The kind of each cell, and a row of hops for each kind, if there is memory and there are few enough.
+/// The kind of each cell of a table of neighbours, and a row of hops for each kind, if there is memory and there are few
+/// enough.
 fn kinds_of(alloc: Global, table: &[u32], cells: u32, dirs: u8) -> Option<Kinds>
     requires some_dir { 0 < dirs }
     requires table { length table.now ≡ cells * dirs }
@@ -181,43 +184,84 @@ fn kinds_of(alloc: Global, table: &[u32], cells: u32, dirs: u8) -> Option<Kinds>
     let mut kind = 0;
     for cell in 0..cells {
         let start = cell as usize * dirs as usize;
-        kind = kind_of(&mut rows, &table[start..start + dirs as usize], kind)?;
+        kind = kind_of(&mut rows, &table[start..start + dirs as usize], cell, kind)?;
         kinds.push(kind).ok()?;
     }
     Some(Kinds { kinds, rows })
 }
 
-/// The kind of a row, which may be a new one. The kind of the cell before is tried first.
-fn kind_of(rows: &mut Vec<u32>, row: &[u32], last: u8) -> Option<u8>
-    requires some { 0 < length row.now }
-    requires few { length row.now ≤ 255 }
+/// The kind of a cell with these entries, which may be a new one. The kind of the cell before is tried first.
+#[inline]
+fn kind_of(rows: &mut Vec<u32>, entries: &[u32], cell: u32, last: u8) -> Option<u8>
+    requires some { 0 < length entries.now }
+    requires few { length entries.now ≤ 255 }
     ensures stay { IfSome result (λ kind.
         take (length rows.old.items) rows.new.items ≡ rows.old.items) }
     ensures kind { IfSome result (λ kind.
-        table_row (length row.now) rows.new.items kind ≡ row.now) }
+        table_row (length entries.now) rows.new.items kind ≡ map (hop_of cell) entries.now) }
 {
-    if has_row(rows, row, last) {
-        return Some(last);
+    if has_row(rows, entries, cell, last) {
+        Some(last)
+    } else {
+        find_kind(rows, entries, cell)
     }
+}
+
+/// The least kind with the hops of these entries, or a new one behind the others.
+fn find_kind(rows: &mut Vec<u32>, entries: &[u32], cell: u32) -> Option<u8>
+    requires some { 0 < length entries.now }
+    requires few { length entries.now ≤ 255 }
+    ensures stay { IfSome result (λ kind.
+        take (length rows.old.items) rows.new.items ≡ rows.old.items) }
+    ensures kind { IfSome result (λ kind.
+        table_row (length entries.now) rows.new.items kind ≡ map (hop_of cell) entries.now) }
+{
     for kind in 0..MAX_KINDS {
-        if rows.len() == kind as usize * row.len() {
-            rows.extend_from_slice(row).ok()?;
+        if rows.len() == kind as usize * entries.len() {
+            push_hops(rows, entries, cell).ok()?;
             return Some(kind);
         }
-        if has_row(rows, row, kind) {
+        if has_row(rows, entries, cell, kind) {
             return Some(kind);
         }
     }
     None
 }
 
-/// Whether a row stands in a table as the row of a kind.
+/// Whether the hops that the entries of a cell ask for stand in a table as the row of a kind.
 #[inline]
-fn has_row(rows: &[u32], row: &[u32], kind: u8) -> bool
-    requires some { 0 < length row.now }
-    requires few { length row.now ≤ 255 }
-    ensures value { result ≡ true ↔ table_row (length row.now) rows.now kind ≡ row.now }
+fn has_row(rows: &[u32], entries: &[u32], cell: u32, kind: u8) -> bool
+    requires some { 0 < length entries.now }
+    requires few { length entries.now ≤ 255 }
+    ensures value { result ≡ true
+        ↔ table_row (length entries.now) rows.now kind ≡ map (hop_of cell) entries.now }
 {
-    let start = kind as usize * row.len();
-    start + row.len() <= rows.len() && &rows[start..start + row.len()] == row
+    let start = kind as usize * entries.len();
+    let end = start + entries.len();
+    end <= rows.len() && are_hops(&rows[start..end], entries, cell)
+}
+
+/// Whether these are the hops that the entries of a cell ask for.
+#[inline]
+fn are_hops(hops: &[u32], entries: &[u32], cell: u32) -> bool
+    requires long { length hops.now ≡ length entries.now }
+    ensures value { result ≡ true ↔ hops.now ≡ map (hop_of cell) entries.now }
+{
+    for dir in 0..entries.len() {
+        if hops[dir] != hop_of(cell, entries[dir]) {
+            return false;
+        }
+    }
+    true
+}
+
+/// Writes the hops that the entries of a cell ask for behind a table.
+fn push_hops(rows: &mut Vec<u32>, entries: &[u32], cell: u32) -> Result<(), NoMemory>
+    ensures pushed { IfOk result (λ done.
+        rows.new.items ≡ rows.old.items ++ map (hop_of cell) entries.now) }
+{
+    for entry in entries {
+        rows.push(hop_of(cell, *entry))?;
+    }
+    Ok(())
 }
