@@ -1,13 +1,13 @@
 //! What stands beside a cell.
 
-ghost use Rattle.std.specs.Prelude.{◌≡◌, ℕ, ◌<◌, IsTrue, length};
-ghost use Rattle.wfc_problem.specs.Network.{values, supports_of};
+ghost use Rattle.std.specs.Prelude.{◌≡◌, ◌<◌, IsTrue};
+ghost use Rattle.wfc_problem.specs.Network.{values};
 ghost use Rattle.wfc_problem.specs.Domains.{support_count};
 ghost use Rattle.wfc_log.specs.Domains.{Fits, has};
 ghost use Rattle.wfc_domains.specs.Loaded.{IsSurrounded};
 
 use wfc_log::Domains;
-use wfc_problem::Problem;
+use wfc_problem::{Problem, hop_cell};
 
 /// Whether the cell has a neighbour in each direction, at which all values stand.
 pub fn is_surrounded(problem: &Problem, domains: &Domains, cell: u32) -> bool
@@ -15,26 +15,16 @@ pub fn is_surrounded(problem: &Problem, domains: &Domains, cell: u32) -> bool
     requires cell_in { cell < problem.now.cells }
     ensures all { IsTrue result → IsSurrounded problem.now (has domains.now) cell problem.now.dirs }
 {
-    for dir in 0..problem.dirs() {
-        if !is_filled(problem, domains, cell, dir) {
+    let values = u32::from(problem.values());
+    for hop in problem.hops(cell) {
+        let Some(next) = hop_cell(cell, *hop) else {
+            return false;
+        };
+        if domains.size(next) != values {
             return false;
         }
     }
     true
-}
-
-/// Whether the cell has a neighbour in a direction, at which all values stand.
-fn is_filled(problem: &Problem, domains: &Domains, cell: u32, dir: u8) -> bool
-    requires domains { Fits problem.now domains.now }
-    requires cell_in { cell < problem.now.cells }
-    requires dir_in { dir < problem.now.dirs }
-    ensures all { IsTrue result → (v : ℕ) → support_count problem.now (has domains.now) cell v dir
-        ≡ length (supports_of problem.now v dir) }
-{
-    match problem.neighbour(cell, dir) {
-        None => false,
-        Some(next) => domains.size(next) == u32::from(problem.values()),
-    }
 }
 
 /// How many supports of the value stand beside the cell in a direction. Where all values stand there, they are not
