@@ -348,21 +348,22 @@ four_in b a T head c v k ls x same h e l s =
     let e' = e ∙ ap (λ P. links_of P v) (sym N) in
     omega (arith, (is_link b.problem.now h.board.traced.problem v k ls e' l).dir_in, four_dirs b a c x same s)
 
--- the same along the side of a cell, from where its counters begin to where those of the neighbour do
-pub link_along : (b a : Board) (T A : Table) (head c v k n base start : ℕ) (ls : List SupportLink) (x : FourSides) → b.problem ≡ a.problem → FitsTable a.problem.now A
+-- the same along the side of a cell, from where its counters begin to where those of the neighbours do
+pub link_along : (b a : Board) (T A : Table) (head c v k n base : ℕ) (starts : List ℕ) (ls : List SupportLink) (x : FourSides) → b.problem ≡ a.problem → FitsTable a.problem.now A
     → IsWorking b T head c v (link_places b.problem.now c (take k ls)) → ls ≡ links_of a.problem.now v → k < length ls
     → AreSides a.problem.now (counter_row a.problem.now) c x → base ≡ c * (A.values * A.dirs)
-    → start ≡ hop_end base (slice_index x.strides (get_or ls k no_link).dir) → n ≡ hop_end c (slice_index x.hops (get_or ls k no_link).dir)
-    → LinkStep b.problem.now (link_places b.problem.now c (take k ls)) (link_places b.problem.now c (take (k + 1) ls)) c v n (start + (get_or ls k no_link).offset) (get_or ls k no_link) T
-link_along b a T A head c v k n base start ls x same fits h e l s is_base is_start is =
+    → ((d : ℕ) → d < 4 → slice_index starts d ≡ hop_end base (slice_index x.strides d)) → n ≡ hop_end c (slice_index x.hops (get_or ls k no_link).dir)
+    → LinkStep b.problem.now (link_places b.problem.now c (take k ls)) (link_places b.problem.now c (take (k + 1) ls)) c v n (slice_index starts (get_or ls k no_link).dir + (get_or ls k no_link).offset) (get_or ls k no_link) T
+link_along b a T A head c v k n base starts ls x same fits h e l s is_base are_starts is =
     let N = ap (λ p. p.now) same in
     let one = get_or ls k no_link in
     let row = A.values * A.dirs in
     let wide : row ≡ counter_row a.problem.now = λ i. fits.same_values i * fits.same_dirs i in
-    let side = s.each one.dir (four_in b a T head c v k ls x same h e l s) in
+    let four = four_in b a T head c v k ls x same h e l s in
+    let side = s.each one.dir four in
     let beside : neighbour b.problem.now c one.dir ≡ Some n = ap (λ P. neighbour P c one.dir) N ∙ side.beside ∙ ap (λ (m : ℕ). Some m) (sym is) in
-    let begins : start ≡ n * row =
-    is_start ∙ ap (λ m. hop_end m (slice_index x.strides one.dir)) (is_base ∙ ap (λ m. c * m) wide) ∙ side.begins ∙ ap (λ m. m * counter_row a.problem.now) (sym is) ∙ ap (λ m. n * m) (sym wide) in
+    let begins : slice_index starts one.dir ≡ n * row =
+    are_starts one.dir four ∙ ap (λ m. hop_end m (slice_index x.strides one.dir)) (is_base ∙ ap (λ m. c * m) wide) ∙ side.begins ∙ ap (λ m. m * counter_row a.problem.now) (sym is) ∙ ap (λ m. n * m) (sym wide) in
     subst (λ i. LinkStep b.problem.now (link_places b.problem.now c (take k ls)) (link_places b.problem.now c (take (k + 1) ls)) c v n (i + one.offset) one T)
     (sym begins)
     (link_step b T head c v k n row ls h (e ∙ ap (λ P. links_of P v) (sym N)) l beside (wide ∙ ap counter_row (sym N)))

@@ -1,6 +1,7 @@
 //! Removals worked off.
 
-ghost use Rattle.std.specs.Prelude.{◌≡◌, ◌+◌, ◌/◌, ◌<◌, ◌≤◌, [], length, slice_get, IfSome, Some};
+ghost use Rattle.std.specs.Prelude.{◌≡◌, ℕ, ◌+◌, ◌/◌, ◌<◌, ◌≤◌, ◌^◌, [], length, slice_get, slice_index, IfSome, Some};
+ghost use Rattle.wfc_problem.specs.Hops.{hop_end};
 ghost use Rattle.wfc_problem.specs.Network.{values};
 ghost use Rattle.wfc_log.specs.declared.Verdict.TheVariants.{Alive};
 ghost use Rattle.wfc_domains.specs.Counters.{FitsTable, cost_at, counter_place};
@@ -27,6 +28,22 @@ fn value_at(offset: u16, dirs: u8) -> u16
     } else {
         offset / u16::from(dirs)
     }
+}
+
+/// Where the counters of four neighbours begin: a stride each from where those of the cell do. They are found once for a
+/// removal.
+#[inline]
+fn starts_of(base: u32, strides: &[u32; 4]) -> [usize; 4]
+    ensures begins { (d : ℕ) → d < 4 → slice_index result d
+        ≡ hop_end base (slice_index strides.now d) }
+    ensures small { (d : ℕ) → d < 4 → slice_index result d < 2 ^ 32 }
+{
+    [
+        hop_end(base, strides[0]) as usize,
+        hop_end(base, strides[1]) as usize,
+        hop_end(base, strides[2]) as usize,
+        hop_end(base, strides[3]) as usize,
+    ]
 }
 
 impl<'p> Flight<'p> {
@@ -93,9 +110,9 @@ impl<'p> Flight<'p> {
         ensures steps { steps.new ≡ steps.old + cost_at self.old.board.problem.now cell value }
     {
         let base = (cell as usize * self.counters.row_len()) as u32;
+        let starts = starts_of(base, &sides.strides);
         for link in links {
-            let start = hop_end(base, sides.strides[link.dir as usize]);
-            let place = start as usize + link.offset as usize;
+            let place = starts[link.dir as usize] + link.offset as usize;
             if self.counters.down_at(place, steps) {
                 let next = hop_end(cell, sides.hops[link.dir as usize]);
                 self.strike(next, link.offset / 4, link.back, place);

@@ -1,5 +1,8 @@
 //! Stacks and problems of boxes, worked out by hand.
 
+ghost use Rattle.std.specs.Prelude.{◌≡◌};
+ghost use Rattle.wfc_problem.specs.Network.{values};
+
 use crate::pins::lines_of;
 use crate::sets::{TOWER, stacks_of, tile_set, towers};
 use std::alloc::{AllocError, Global};
@@ -168,14 +171,23 @@ fn up_and_down(rt: HostRuntime) -> Result<(), Fail> {
     Ok(())
 }
 
+/// Whether the lower of two cells may have both values, and the upper one the second alone.
+fn is_pinned_above(problem: &Problem) -> bool
+    requires two_cells { problem.now.cells ≡ 2 }
+    requires two_values { values problem.now ≡ 2 }
+{
+    let lower = problem.in_base(0, 0) && problem.in_base(0, 1);
+    let upper = !problem.in_base(1, 0) && problem.in_base(1, 1);
+    lower && upper
+}
+
 #[test]
 fn pins_of_a_tower(rt: HostRuntime) -> Result<(), Fail> {
     let alloc = rt.alloc();
     let sides = (1, 1, 2, false);
     let problem = tower(&rt, alloc, sides, b"pin 0 0 1 line/1\n")??;
     assert!(rt; problem.cells() == 2 && problem.values() == 2);
-    assert!(rt; problem.in_base(0, 0) && problem.in_base(0, 1));
-    assert!(rt; !problem.in_base(1, 0) && problem.in_base(1, 1));
+    assert!(rt; is_pinned_above(&problem));
     let outside = tower(&rt, alloc, sides, b"pin 0 0 1 line/1\nban 0 0 2 line/2\n")?;
     assert!(rt; matches!(&outside, Err(BuildFault::PinOutside { line: 2 })));
     let unknown = tower(&rt, alloc, sides, b"pin 0 0 1 line/2\n")?;

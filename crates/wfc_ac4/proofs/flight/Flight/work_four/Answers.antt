@@ -15,25 +15,32 @@ overflow_cast-base-2 g c =
     let h = c.requires.working in
     omega (arith, begin_few c.args.self.now.board.problem.now h.board.traced.problem c.args.self.now.counters h.counters.fits c.args.cell c.row_len.result (working-range h).0 c.row_len.ensures.value)
 
-pub bounds-sides-link : goal.bounds-sides-link
-bounds-sides-link g c =
+pub overflow_add-place : goal.overflow_add-place
+overflow_add-place g c =
+    let h = c.loop-link.invariant in
+    let x = get_or c.args.links.now c.loop-link.link-index no_link in
+    let four = four_in _ c.args.self.now.board _ _ _ _ _ _ _ h.goes_on.grows.problem h.working c.requires.links c.loop-link-test.true c.requires.sides in
+    omega (arith, c.starts_of-starts.ensures.small x.dir four)
+
+pub bounds-starts-link : goal.bounds-starts-link
+bounds-starts-link g c =
     let h = c.loop-link.invariant in
     four_in _ c.args.self.now.board _ _ _ _ _ _ _ h.goes_on.grows.problem h.working c.requires.links c.loop-link-test.true c.requires.sides
 
 pub down_at-requires-clause-place_in : goal.down_at-requires-clause-place_in
 down_at-requires-clause-place_in g c =
     let h = c.loop-link.invariant in
-    let s = link_along _ c.args.self.now.board _ c.args.self.now.counters _ _ _ _ _ _ _ _ _ h.goes_on.grows.problem c.requires.working.counters.fits h.working c.requires.links c.loop-link-test.true c.requires.sides (ap (λ n. c.args.cell * n) c.row_len.ensures.value) c.hop_end-start.ensures.value refl in
+    let s = link_along _ c.args.self.now.board _ c.args.self.now.counters _ _ _ _ _ _ _ _ _ h.goes_on.grows.problem c.requires.working.counters.fits h.working c.requires.links c.loop-link-test.true c.requires.sides (ap (λ n. c.args.cell * n) c.row_len.ensures.value) c.starts_of-starts.ensures.begins refl in
     s.inside
 
 pub down_at-requires-clause-some : goal.down_at-requires-clause-some
 down_at-requires-clause-some g c =
     let h = c.loop-link.invariant in
-    let s = link_along _ c.args.self.now.board _ c.args.self.now.counters _ _ _ _ _ _ _ _ _ h.goes_on.grows.problem c.requires.working.counters.fits h.working c.requires.links c.loop-link-test.true c.requires.sides (ap (λ n. c.args.cell * n) c.row_len.ensures.value) c.hop_end-start.ensures.value refl in
+    let s = link_along _ c.args.self.now.board _ c.args.self.now.counters _ _ _ _ _ _ _ _ _ h.goes_on.grows.problem c.requires.working.counters.fits h.working c.requires.links c.loop-link-test.true c.requires.sides (ap (λ n. c.args.cell * n) c.row_len.ensures.value) c.starts_of-starts.ensures.begins refl in
     s.some
 
-pub bounds-sides-link-then-down_at : goal.bounds-sides-link-then-down_at
-bounds-sides-link-then-down_at g c =
+pub bounds-sides-link : goal.bounds-sides-link
+bounds-sides-link g c =
     let h = c.loop-link.invariant in
     four_in _ c.args.self.now.board _ _ _ _ _ _ _ h.goes_on.grows.problem h.working c.requires.links c.loop-link-test.true c.requires.sides
 
@@ -44,14 +51,14 @@ pub strike-requires-clause-cell_in : goal.strike-requires-clause-cell_in
 strike-requires-clause-cell_in g c =
     let h = c.loop-link.invariant in
     let x = get_or c.args.links.now c.loop-link.link-index no_link in
-    let s = link_along _ c.args.self.now.board _ c.args.self.now.counters _ _ _ _ _ _ _ _ _ h.goes_on.grows.problem c.requires.working.counters.fits h.working c.requires.links c.loop-link-test.true c.requires.sides (ap (λ n. c.args.cell * n) c.row_len.ensures.value) c.hop_end-start.ensures.value c.hop_end-next.ensures.value in
+    let s = link_along _ c.args.self.now.board _ c.args.self.now.counters _ _ _ _ _ _ _ _ _ h.goes_on.grows.problem c.requires.working.counters.fits h.working c.requires.links c.loop-link-test.true c.requires.sides (ap (λ n. c.args.cell * n) c.row_len.ensures.value) c.starts_of-starts.ensures.begins c.hop_end-next.ensures.value in
     s.side.cell_in
 
 pub strike-requires-clause-value_in : goal.strike-requires-clause-value_in
 strike-requires-clause-value_in g c =
     let h = c.loop-link.invariant in
     let x = get_or c.args.links.now c.loop-link.link-index no_link in
-    let s = link_along _ c.args.self.now.board _ c.args.self.now.counters _ _ _ _ _ _ _ _ _ h.goes_on.grows.problem c.requires.working.counters.fits h.working c.requires.links c.loop-link-test.true c.requires.sides (ap (λ n. c.args.cell * n) c.row_len.ensures.value) c.hop_end-start.ensures.value c.hop_end-next.ensures.value in
+    let s = link_along _ c.args.self.now.board _ c.args.self.now.counters _ _ _ _ _ _ _ _ _ h.goes_on.grows.problem c.requires.working.counters.fits h.working c.requires.links c.loop-link-test.true c.requires.sides (ap (λ n. c.args.cell * n) c.row_len.ensures.value) c.starts_of-starts.ensures.begins c.hop_end-next.ensures.value in
     let four = four_dirs c.loop-link.self.board c.args.self.now.board _ _ h.goes_on.grows.problem c.requires.sides in
     subst (λ d. x.offset / d < values c.loop-link.self.board.problem.now) four s.side.value_in
 
@@ -59,14 +66,14 @@ pub strike-requires-clause-back_in : goal.strike-requires-clause-back_in
 strike-requires-clause-back_in g c =
     let h = c.loop-link.invariant in
     let x = get_or c.args.links.now c.loop-link.link-index no_link in
-    let s = link_along _ c.args.self.now.board _ c.args.self.now.counters _ _ _ _ _ _ _ _ _ h.goes_on.grows.problem c.requires.working.counters.fits h.working c.requires.links c.loop-link-test.true c.requires.sides (ap (λ n. c.args.cell * n) c.row_len.ensures.value) c.hop_end-start.ensures.value c.hop_end-next.ensures.value in
+    let s = link_along _ c.args.self.now.board _ c.args.self.now.counters _ _ _ _ _ _ _ _ _ h.goes_on.grows.problem c.requires.working.counters.fits h.working c.requires.links c.loop-link-test.true c.requires.sides (ap (λ n. c.args.cell * n) c.row_len.ensures.value) c.starts_of-starts.ensures.begins c.hop_end-next.ensures.value in
     omega (arith, s.back_is, s.side.dir_in)
 
 pub strike-requires-clause-at : goal.strike-requires-clause-at
 strike-requires-clause-at g c =
     let h = c.loop-link.invariant in
     let x = get_or c.args.links.now c.loop-link.link-index no_link in
-    let s = link_along _ c.args.self.now.board _ c.args.self.now.counters _ _ _ _ _ _ _ _ _ h.goes_on.grows.problem c.requires.working.counters.fits h.working c.requires.links c.loop-link-test.true c.requires.sides (ap (λ n. c.args.cell * n) c.row_len.ensures.value) c.hop_end-start.ensures.value c.hop_end-next.ensures.value in
+    let s = link_along _ c.args.self.now.board _ c.args.self.now.counters _ _ _ _ _ _ _ _ _ h.goes_on.grows.problem c.requires.working.counters.fits h.working c.requires.links c.loop-link-test.true c.requires.sides (ap (λ n. c.args.cell * n) c.row_len.ensures.value) c.starts_of-starts.ensures.begins c.hop_end-next.ensures.value in
     let four = four_dirs c.loop-link.self.board c.args.self.now.board _ _ h.goes_on.grows.problem c.requires.sides in
     placed_as c.loop-link.self.board.problem.now _ _ _ _ _ _ s.place_of (ap (λ d. x.offset / d) four) (sym s.back_is)
 
@@ -80,7 +87,7 @@ loop-link-preserved g c =
     let x = get_or ls k no_link in
     elim c.if-down_at.branch [
       | then-down_at w ↦
-          let s = link_along _ c.args.self.now.board _ c.args.self.now.counters _ _ _ _ _ _ _ _ _ h.goes_on.grows.problem c.requires.working.counters.fits h.working c.requires.links c.loop-link-test.true c.requires.sides (ap (λ n. c.args.cell * n) c.row_len.ensures.value) c.hop_end-start.ensures.value w.hop_end-next.ensures.value in
+          let s = link_along _ c.args.self.now.board _ c.args.self.now.counters _ _ _ _ _ _ _ _ _ h.goes_on.grows.problem c.requires.working.counters.fits h.working c.requires.links c.loop-link-test.true c.requires.sides (ap (λ n. c.args.cell * n) c.row_len.ensures.value) c.starts_of-starts.ensures.begins w.hop_end-next.ensures.value in
           let longer = length-some P c.args.cell k _ ls c.loop-link-test.true (ap (λ p. neighbour p.now c.args.cell x.dir) (sym h.goes_on.grows.problem) ∙ s.beside) in
           let one_left = ap (slice_index T.counts) (sym s.place_is) ∙ c.down_at.ensures.bare.0 w.if-down_at.true in
           let four = four_dirs c.loop-link.self.board c.args.self.now.board _ _ h.goes_on.grows.problem c.requires.sides in
@@ -92,7 +99,7 @@ loop-link-preserved g c =
             steps = omega (arith, c.down_at.ensures.steps, h.steps, longer);
           })
       | else-down_at w ↦
-          let s = link_along _ c.args.self.now.board _ c.args.self.now.counters _ _ _ _ _ _ _ _ _ h.goes_on.grows.problem c.requires.working.counters.fits h.working c.requires.links c.loop-link-test.true c.requires.sides (ap (λ n. c.args.cell * n) c.row_len.ensures.value) c.hop_end-start.ensures.value refl in
+          let s = link_along _ c.args.self.now.board _ c.args.self.now.counters _ _ _ _ _ _ _ _ _ h.goes_on.grows.problem c.requires.working.counters.fits h.working c.requires.links c.loop-link-test.true c.requires.sides (ap (λ n. c.args.cell * n) c.row_len.ensures.value) c.starts_of-starts.ensures.begins refl in
           let longer = length-some P c.args.cell k _ ls c.loop-link-test.true (ap (λ p. neighbour p.now c.args.cell x.dir) (sym h.goes_on.grows.problem) ∙ s.beside) in
           let next = step_lowered _ T _ _ _ _ _ _ _ _ _ h.working s.side (lowered-at T _ _ _ _ _ s.place_is c.down_at.ensures.changed)
           (λ alive one_left stands. true≢false (sym (c.down_at.ensures.bare.1 (ap (slice_index T.counts) s.place_is ∙ one_left)) ∙ w.if-down_at.false)) in
