@@ -5,6 +5,7 @@ use Rattle.std.proofs.lemmas.Bool.{cases_lt, cases_eq, cond-true, cond-false, le
 use Rattle.std.proofs.lemmas.List.{length-set, get_or-set_same, get_or-set_other, set-get_or, set-set}
 use Rattle.wfc_choose.specs.Index.{time_of, IsInBlock, IsLeastIn, IsSummary, IsFirst, IsIndex}
 use Rattle.wfc_choose.specs.Pick.{Rule, picked_cell}
+use Rattle.wfc_choose.specs.declared.index.TheConstants.{FAN}
 use Rattle.wfc_choose.specs.declared.RuleKind.TheVariants.{Fewest}
 use Rattle.wfc_choose.proofs.PickLemmas.{picked_is, picked_is_none}
 
@@ -34,7 +35,7 @@ pub record IsLeastBelow (list : List ℕ) (block high time : ℕ) : Type 0 where
   pub at : ℕ
   pub inside : IsInBlock list block at
   pub stands : time_of (get_or list at 0) ≡ time
-  pub least : (j : ℕ) → block * 64 ≤ j → j < high → time ≤ time_of (get_or list j 0)
+  pub least : (j : ℕ) → block * FAN ≤ j → j < high → time ≤ time_of (get_or list j 0)
 
 -- the earlier of two times
 min_cases : (a b : ℕ) → ((min a b ≡ a) × (a ≤ b)) ⊎ ((min a b ≡ b) × (b ≤ a))
@@ -81,7 +82,7 @@ pub record AreLeast (below above : List ℕ) : Type 0 where
 -- ---- an entry mended
 
 -- a block without the changed entry
-least_elsewhere : (below : List ℕ) (at was block size : ℕ) → at < length below → block ≢ at / 64 → IsLeastIn (set below at was) block size → IsLeastIn below block size
+least_elsewhere : (below : List ℕ) (at was block size : ℕ) → at < length below → block ≢ at / FAN → IsLeastIn (set below at was) block size → IsLeastIn below block size
 least_elsewhere below at was block size l ne h =
     let off : (j : ℕ) → IsInBlock below block j → get_or (set below at was) j 0 ≡ get_or below j 0 = λ j i. get_or-set_other below at j was 0 (let low = i.low in let high = i.high in omega arith) in
     let here : IsInBlock below block h.at = record { low = h.inside.low; high = h.inside.high; within = omega (arith, h.inside.within, length-set below at was) } in
@@ -95,23 +96,23 @@ least_elsewhere below at was block size l ne h =
     }
 
 -- the list above, with the size of the one block that changed
-pub summary_with : (below above : List ℕ) (at was size : ℕ) → at < length below → IsSummary (set below at was) above → IsLeastIn below (at / 64) size
-    → IsSummary below (set above (at / 64) size)
+pub summary_with : (below above : List ℕ) (at was size : ℕ) → at < length below → IsSummary (set below at was) above → IsLeastIn below (at / FAN) size
+    → IsSummary below (set above (at / FAN) size)
 summary_with below above at was size l h new = record {
-  long = length-set above (at / 64) size ∙ h.long ∙ ap (λ (n : ℕ). (n + 63) / 64) (length-set below at was);
+  long = length-set above (at / FAN) size ∙ h.long ∙ ap (λ (n : ℕ). (n + (FAN - 1)) / FAN) (length-set below at was);
   each = λ block inside.
-      let within : block < length above = omega (arith, inside, length-set above (at / 64) size) in
-      elim (cases_eq block (at / 64)) [
-        | inl e ↦ subst (λ (n : ℕ). IsLeastIn below n (get_or (set above (at / 64) size) n 0)) (sym e)
-            (subst (λ (n : ℕ). IsLeastIn below (at / 64) n) (sym (get_or-set_same above (at / 64) size 0 (omega (arith, e)))) new)
-        | inr ne ↦ subst (λ (n : ℕ). IsLeastIn below block n) (sym (get_or-set_other above (at / 64) block size 0 ne))
+      let within : block < length above = omega (arith, inside, length-set above (at / FAN) size) in
+      elim (cases_eq block (at / FAN)) [
+        | inl e ↦ subst (λ (n : ℕ). IsLeastIn below n (get_or (set above (at / FAN) size) n 0)) (sym e)
+            (subst (λ (n : ℕ). IsLeastIn below (at / FAN) n) (sym (get_or-set_same above (at / FAN) size 0 (omega (arith, e)))) new)
+        | inr ne ↦ subst (λ (n : ℕ). IsLeastIn below block n) (sym (get_or-set_other above (at / FAN) block size 0 ne))
             (least_elsewhere below at was block (get_or above block 0) l ne (h.each block within))
       ];
 }
 
 -- an entry that comes before all of its block
-pub least_falls : (below : List ℕ) (at was old : ℕ) → at < length below → IsLeastIn (set below at was) (at / 64) old → time_of (get_or below at 0) < time_of old
-    → IsLeastIn below (at / 64) (get_or below at 0)
+pub least_falls : (below : List ℕ) (at was old : ℕ) → at < length below → IsLeastIn (set below at was) (at / FAN) old → time_of (get_or below at 0) < time_of old
+    → IsLeastIn below (at / FAN) (get_or below at 0)
 least_falls below at was old l h less = record {
   at = at;
   inside = record { low = omega arith; high = omega arith; within = l };
@@ -119,15 +120,15 @@ least_falls below at was old l h less = record {
   least = λ j i. elim (cases_eq j at) [
     | inl e ↦ subst (λ (n : ℕ). time_of (get_or below at 0) ≤ time_of (get_or below n 0)) (sym e) (omega arith)
     | inr ne ↦
-        let there : IsInBlock (set below at was) (at / 64) j = record { low = i.low; high = i.high; within = omega (arith, i.within, length-set below at was) } in
+        let there : IsInBlock (set below at was) (at / FAN) j = record { low = i.low; high = i.high; within = omega (arith, i.within, length-set below at was) } in
         let le : time_of old ≤ time_of (get_or below j 0) = subst (λ (n : ℕ). time_of old ≤ time_of n) (get_or-set_other below at j was 0 ne) (h.least j there) in
         omega arith
   ];
 }
 
 -- an entry that wasn't the one that comes first, and doesn't come before it now
-pub least_stays : (below : List ℕ) (at was old : ℕ) → at < length below → IsLeastIn (set below at was) (at / 64) old → time_of old ≤ time_of (get_or below at 0)
-    → time_of old < time_of was → IsLeastIn below (at / 64) old
+pub least_stays : (below : List ℕ) (at was old : ℕ) → at < length below → IsLeastIn (set below at was) (at / FAN) old → time_of old ≤ time_of (get_or below at 0)
+    → time_of old < time_of was → IsLeastIn below (at / FAN) old
 least_stays below at was old l h le less =
     let other : h.at ≢ at = λ e. let same : was ≡ old = sym (get_or-set_same below at was 0 l) ∙ ap (λ (n : ℕ). get_or (set below at was) n 0) (sym e) ∙ h.stands in
     let clash : time_of was ≡ time_of old = ap time_of same in omega arith in
@@ -138,32 +139,32 @@ least_stays below at was old l h le less =
       least = λ j i. elim (cases_eq j at) [
         | inl e ↦ subst (λ (n : ℕ). time_of old ≤ time_of (get_or below n 0)) (sym e) le
         | inr ne ↦
-            let there : IsInBlock (set below at was) (at / 64) j = record { low = i.low; high = i.high; within = omega (arith, i.within, length-set below at was) } in
+            let there : IsInBlock (set below at was) (at / FAN) j = record { low = i.low; high = i.high; within = omega (arith, i.within, length-set below at was) } in
             subst (λ (n : ℕ). time_of old ≤ time_of n) (get_or-set_other below at j was 0 ne) (h.least j there)
       ];
     }
 
 -- the block of the changed entry, as it was
-pub least_before : (below above : List ℕ) (at was : ℕ) → at < length below → IsSummary (set below at was) above → IsLeastIn (set below at was) (at / 64) (get_or above (at / 64) 0)
-least_before below above at was l h = h.each (at / 64) (omega (arith, h.long, length-set below at was))
+pub least_before : (below above : List ℕ) (at was : ℕ) → at < length below → IsSummary (set below at was) above → IsLeastIn (set below at was) (at / FAN) (get_or above (at / FAN) 0)
+least_before below above at was l h = h.each (at / FAN) (omega (arith, h.long, length-set below at was))
 
 -- the list above, where the block's size is as it was
-pub summary_same : (below above : List ℕ) (at was : ℕ) → at < length below → IsSummary (set below at was) above → IsLeastIn below (at / 64) (get_or above (at / 64) 0)
+pub summary_same : (below above : List ℕ) (at was : ℕ) → at < length below → IsSummary (set below at was) above → IsLeastIn below (at / FAN) (get_or above (at / FAN) 0)
     → IsSummary below above
 summary_same below above at was l h new =
-    subst (λ (xs : List ℕ). IsSummary below xs) (set-get_or above (at / 64) 0) (summary_with below above at was (get_or above (at / 64) 0) l h new)
+    subst (λ (xs : List ℕ). IsSummary below xs) (set-get_or above (at / FAN) 0) (summary_with below above at was (get_or above (at / FAN) 0) l h new)
 
 -- the list above, where the entry needs no mending
-pub summary_stays : (below above : List ℕ) (at was : ℕ) → at < length below → IsSummary (set below at was) above → time_of (get_or above (at / 64) 0) ≤ time_of (get_or below at 0)
-    → time_of (get_or above (at / 64) 0) < time_of was → IsSummary below above
+pub summary_stays : (below above : List ℕ) (at was : ℕ) → at < length below → IsSummary (set below at was) above → time_of (get_or above (at / FAN) 0) ≤ time_of (get_or below at 0)
+    → time_of (get_or above (at / FAN) 0) < time_of was → IsSummary below above
 summary_stays below above at was l h le less =
-    summary_same below above at was l h (least_stays below at was (get_or above (at / 64) 0) l (least_before below above at was l h) le less)
+    summary_same below above at was l h (least_stays below at was (get_or above (at / FAN) 0) l (least_before below above at was l h) le less)
 
 -- the list above, where the changed entry comes first
-pub summary_falls : (below above : List ℕ) (at was : ℕ) → at < length below → IsSummary (set below at was) above → time_of (get_or below at 0) < time_of (get_or above (at / 64) 0)
-    → IsSummary below (set above (at / 64) (get_or below at 0))
+pub summary_falls : (below above : List ℕ) (at was : ℕ) → at < length below → IsSummary (set below at was) above → time_of (get_or below at 0) < time_of (get_or above (at / FAN) 0)
+    → IsSummary below (set above (at / FAN) (get_or below at 0))
 summary_falls below above at was l h less =
-    summary_with below above at was (get_or below at 0) l h (least_falls below at was (get_or above (at / 64) 0) l (least_before below above at was l h) less)
+    summary_with below above at was (get_or below at 0) l h (least_falls below at was (get_or above (at / FAN) 0) l (least_before below above at was l h) less)
 
 -- what stood there goes back
 pub set_back : (xs : List ℕ) (i x : ℕ) → set (set xs i x) i (get_or xs i 0) ≡ xs
@@ -171,13 +172,13 @@ set_back xs i x = set-set xs i x (get_or xs i 0) ∙ set-get_or xs i 0
 
 -- the whole index, where the new size comes not before the first of its block, which the size that was there didn't come first in
 pub index_stays : (sizes blocks areas regions : List ℕ) (cell size : ℕ) → cell < length sizes → IsIndex sizes blocks areas regions
-    → time_of (get_or blocks (cell / 64) 0) ≤ time_of size → time_of (get_or blocks (cell / 64) 0) < time_of (get_or sizes cell 0)
+    → time_of (get_or blocks (cell / FAN) 0) ≤ time_of size → time_of (get_or blocks (cell / FAN) 0) < time_of (get_or sizes cell 0)
     → IsIndex (set sizes cell size) blocks areas regions
 index_stays sizes blocks areas regions cell size l index le less =
     let was = get_or sizes cell 0 in
     let inside : cell < length (set sizes cell size) = omega (arith, l, length-set sizes cell size) in
     let before : IsSummary (set (set sizes cell size) cell was) blocks = subst (λ (xs : List ℕ). IsSummary xs blocks) (sym (set_back sizes cell size)) index.blocks in
-    let le_now : time_of (get_or blocks (cell / 64) 0) ≤ time_of (get_or (set sizes cell size) cell 0) = subst (λ (n : ℕ). time_of (get_or blocks (cell / 64) 0) ≤ time_of n) (sym (get_or-set_same sizes cell size 0 l)) le in
+    let le_now : time_of (get_or blocks (cell / FAN) 0) ≤ time_of (get_or (set sizes cell size) cell 0) = subst (λ (n : ℕ). time_of (get_or blocks (cell / FAN) 0) ≤ time_of n) (sym (get_or-set_same sizes cell size 0 l)) le in
     record {
       limit = omega (arith, index.limit, length-set sizes cell size);
       blocks = summary_stays (set sizes cell size) blocks cell was inside before le_now less;
@@ -229,22 +230,22 @@ first_all list n at e h = record { within = omega (arith, h.within); least = λ 
 
 -- the first entry of a list, told from the block that comes first
 pub first_down : (below above : List ℕ) (block at : ℕ) → IsSummary below above → IsFirst above block → ((k : ℕ) → get_or below k 0 < 2 ^ 16) → IsInBlock below block at
-    → get_or below at 0 ≡ get_or above block 0 → ((j : ℕ) → block * 64 ≤ j → j < at → get_or below j 0 ≢ get_or above block 0) → IsFirst below at
+    → get_or below at 0 ≡ get_or above block 0 → ((j : ℕ) → block * FAN ≤ j → j < at → get_or below j 0 ≢ get_or above block 0) → IsFirst below at
 first_down below above block at h f smalls i is others = record {
   within = i.within;
   least = λ j l.
-      let up = h.each (j / 64) (omega (arith, h.long)) in
+      let up = h.each (j / FAN) (omega (arith, h.long)) in
       let le = up.least j (record { low = omega arith; high = omega arith; within = l }) in
-      let over = f.least (j / 64) (omega (arith, h.long)) in
+      let over = f.least (j / FAN) (omega (arith, h.long)) in
       subst (λ (n : ℕ). time_of n ≤ time_of (get_or below j 0)) (sym is) (omega arith);
   first = λ j l.
       let inside : j < length below = omega (arith, i.within) in
-      let up = h.each (j / 64) (omega (arith, h.long)) in
+      let up = h.each (j / FAN) (omega (arith, h.long)) in
       let le = up.least j (record { low = omega arith; high = omega arith; within = inside }) in
-      subst (λ (n : ℕ). time_of n < time_of (get_or below j 0)) (sym is) (elim (cases_lt (j / 64) block) [
-        | inl before ↦ let less = f.first (j / 64) before in omega arith
+      subst (λ (n : ℕ). time_of n < time_of (get_or below j 0)) (sym is) (elim (cases_lt (j / FAN) block) [
+        | inl before ↦ let less = f.first (j / FAN) before in omega arith
         | inr here ↦
-            let e : j / 64 ≡ block = omega (arith, i.high) in
+            let e : j / FAN ≡ block = omega (arith, i.high) in
             let le_here : time_of (get_or above block 0) ≤ time_of (get_or below j 0) = subst (λ (n : ℕ). time_of (get_or above n 0) ≤ time_of (get_or below j 0)) e le in
             elim (cases_lt (time_of (get_or above block 0)) (time_of (get_or below j 0))) [
               | inl less ↦ less

@@ -1,5 +1,6 @@
--- An index of sizes: which of them comes first in each block of 64, in each block of these, and so on.
+-- An index of sizes: which of them comes first in each block of FAN, in each block of these, and so on.
 use Rattle.std.specs.Prelude.{◌≡◌, ℕ, ◌+◌, ◌-◌, ◌*◌, ◌/◌, ◌<◌, ◌≤◌, ◌^◌, List, length, nat_le, if◌then◌else◌, slice_index}
+use Rattle.wfc_choose.specs.declared.index.TheConstants.{FAN}
 use Rattle.wfc_problem.specs.declared.TheConstants.{MAX_PAIRS}
 
 -- when a cell of this size comes: 2 first, 0 and 1 behind all that are open
@@ -8,8 +9,8 @@ time_of size = if nat_le 2 size then size - 2 else size + (2 ^ 16 - 2)
 
 -- this entry is in the block
 pub record IsInBlock (list : List ℕ) (block at : ℕ) : Type 0 where
-  pub low : block * 64 ≤ at
-  pub high : at < block * 64 + 64
+  pub low : block * FAN ≤ at
+  pub high : at < block * FAN + FAN
   pub within : at < length list
 
 -- this size stands in the block, and none there comes before it
@@ -21,7 +22,7 @@ pub record IsLeastIn (list : List ℕ) (block size : ℕ) : Type 0 where
 
 -- one list has for each block of another the size that comes first there
 pub record IsSummary (below above : List ℕ) : Type 0 where
-  pub long : length above ≡ (length below + 63) / 64
+  pub long : length above ≡ (length below + (FAN - 1)) / FAN
   pub each : (block : ℕ) → block < length above → IsLeastIn below block (slice_index above block)
 
 -- no entry comes before this one, and each before it in the list comes later
@@ -30,9 +31,9 @@ pub record IsFirst (list : List ℕ) (at : ℕ) : Type 0 where
   pub least : (j : ℕ) → j < length list → time_of (slice_index list at) ≤ time_of (slice_index list j)
   pub first : (j : ℕ) → j < at → time_of (slice_index list at) < time_of (slice_index list j)
 
--- of these sizes the lists of those that come first, one for each 64, 4,096 and 262,144 cells
-pub record IsIndex (sizes of_64 of_4096 of_262144 : List ℕ) : Type 0 where
+-- of these sizes the lists of those that come first, one for each 32, 1,024 and 32,768 cells
+pub record IsIndex (sizes of_32 of_1024 of_32768 : List ℕ) : Type 0 where
   pub limit : length sizes ≤ MAX_PAIRS
-  pub blocks : IsSummary sizes of_64
-  pub areas : IsSummary of_64 of_4096
-  pub regions : IsSummary of_4096 of_262144
+  pub blocks : IsSummary sizes of_32
+  pub areas : IsSummary of_32 of_1024
+  pub regions : IsSummary of_1024 of_32768

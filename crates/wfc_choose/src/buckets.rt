@@ -16,11 +16,11 @@ pub struct Buckets {
     alloc: Global,
     /// The size of each cell.
     sizes: Vec<u16>,
-    /// Of each 64 cells the size that comes first.
+    /// Of each 32 cells the size that comes first.
     blocks: Vec<u16>,
-    /// Of each 64 blocks the size that comes first.
+    /// Of each 32 blocks the size that comes first.
     areas: Vec<u16>,
-    /// Of each 64 areas the size that comes first.
+    /// Of each 32 areas the size that comes first.
     regions: Vec<u16>,
 }
 

@@ -1,20 +1,21 @@
 //! An index of sizes: the functions that make it, mend it, and look the first cell up.
 //!
-//! It is a tree of least sizes. A block is 64 cells, an area 64 blocks, a region 64 areas, and of each of these the size
-//! of the cell that comes first is kept. A problem has at most 8,388,608 cells, so at most 32 regions. A new size changes
-//! at most one entry of each of the three lists, and looks at 64 entries of a list at most; a pick goes down from the
-//! regions to the cell, and looks at 32 regions and 64 entries of each other list at most.
+//! It is a tree of least sizes. A block is 32 cells, an area 32 blocks, a region 32 areas, and of each of these the size
+//! of the cell that comes first is kept. A region is 32,768 cells, and a problem has at most 8,388,608, so at most 256
+//! regions. A new size changes at most one entry of each of the three lists, and looks at 32 entries of a list at most; a
+//! pick goes down from the regions to the cell, and looks at 256 regions and 32 entries of each other list at most.
 
 ghost use Rattle.std.specs.Prelude.{◌≡◌, ℕ, ◌+◌, ◌*◌, ◌/◌, ◌<◌, ◌≤◌, ◌^◌, [], length, slice_index, slice_set, IfOk, IfNone, IfSome};
 ghost use Rattle.wfc_choose.specs.Index.{time_of, IsFirst, IsIndex, IsLeastIn, IsSummary};
 ghost use Rattle.wfc_choose.specs.Pick.{picked_cell};
 ghost use Rattle.wfc_choose.specs.declared.RuleKind.TheVariants.{Fewest};
+ghost use Rattle.wfc_choose.specs.declared.index.TheConstants.{FAN};
 ghost use Rattle.wfc_problem.specs.declared.TheConstants.{MAX_PAIRS};
 
 use std::alloc::{AllocError, Global};
 
 /// How many entries of one list have one entry in the next.
-pub const FAN: usize = 64;
+pub const FAN: usize = 32;
 
 /// When a cell of this size comes: 2 first, 0 and 1 last.
 #[inline]
@@ -35,12 +36,12 @@ fn size_at_time(time: u16) -> u16
 /// Where a block ends in a list.
 #[inline]
 fn block_end(list: &[u16], block: usize) -> usize
-    requires block_in { block * 64 < length list.now }
+    requires block_in { block * FAN < length list.now }
     requires limit { length list.now ≤ MAX_PAIRS }
-    ensures some { block * 64 < result }
+    ensures some { block * FAN < result }
     ensures within { result ≤ length list.now }
-    ensures block { result ≤ block * 64 + 64 }
-    ensures whole { (j : ℕ) → j < block * 64 + 64 → j < length list.now → j < result }
+    ensures block { result ≤ block * FAN + FAN }
+    ensures whole { (j : ℕ) → j < block * FAN + FAN → j < length list.now → j < result }
 {
     (block * FAN + FAN).min(list.len())
 }
@@ -48,7 +49,7 @@ fn block_end(list: &[u16], block: usize) -> usize
 /// The size of a block that comes first.
 #[inline]
 fn least_of(list: &[u16], block: usize) -> u16
-    requires block_in { block * 64 < length list.now }
+    requires block_in { block * FAN < length list.now }
     requires limit { length list.now ≤ MAX_PAIRS }
     ensures least { IsLeastIn list.now block result }
 {
@@ -81,7 +82,7 @@ fn mend(below: &[u16], above: &mut [u16], at: usize, was: u16) -> Option<u16>
     requires before { IsSummary (slice_set below.now at was) above.old }
     ensures summary { IsSummary below.now above.new }
     ensures same { IfNone result (above.new ≡ above.old) }
-    ensures mended { IfSome result (λ old. slice_set above.new (at / 64) old ≡ above.old) }
+    ensures mended { IfSome result (λ old. slice_set above.new (at / FAN) old ≡ above.old) }
 {
     let block = at / FAN;
     let old = above[block];

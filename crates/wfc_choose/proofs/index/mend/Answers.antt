@@ -1,5 +1,6 @@
 use Rattle.std.proofs.Common.{ℕ, ◌/◌, subst, arith}
 use Rattle.wfc_choose.specs.Index.{IsLeastIn}
+use Rattle.wfc_choose.specs.declared.index.TheConstants.{FAN}
 use Rattle.wfc_choose.proofs.IndexLemmas.{summary_falls, summary_same, summary_stays, summary_with, set_back}
 use Rattle.wfc_choose.proofs.index.mend.Goals as goal
 
@@ -18,7 +19,7 @@ returns-then-time_of-2-clause-summary c =
 pub returns-then-least-old-clause-summary : goal.returns-then-least-old-clause-summary
 returns-then-least-old-clause-summary c =
     summary_same c.args.below.now c.args.above.now c.args.at c.args.was c.requires.at_in c.requires.before
-    (subst (λ (n : ℕ). IsLeastIn c.args.below.now (c.args.at / 64) n) c.if-least-old.true c.least_of-least.ensures.least)
+    (subst (λ (n : ℕ). IsLeastIn c.args.below.now (c.args.at / FAN) n) c.if-least-old.true c.least_of-least.ensures.least)
 
 pub returns-clause-summary : goal.returns-clause-summary
 returns-clause-summary c = summary_with c.args.below.now c.args.above.now c.args.at c.args.was _ c.requires.at_in c.requires.before c.least_of-least.ensures.least
