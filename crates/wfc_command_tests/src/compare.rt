@@ -10,10 +10,10 @@ pub fn check<F: Folder>(
     rt: &(impl Abort + AllocGlobal),
     row: Row,
     folder: &mut F,
-    out: MemorySink,
-    err: MemorySink,
+    mut out: MemorySink,
+    mut err: MemorySink,
 ) -> Result<(), Fail> {
-    let wrong = first_wrong(rt.alloc(), row, folder, out, err)?;
+    let wrong = first_wrong(rt.alloc(), row, folder, &mut out, &mut err)?;
     assert_eq!(rt; wrong, None, "{}", row.0);
     Ok(())
 }

@@ -1,7 +1,7 @@
 //! The rows of each command.
 
 use std::test::Fail;
-use wfc_rows::{Row, first_wrong_row};
+use wfc_rows::{Row, RowPart, first_wrong_row};
 
 static FILL: [Row; 35] = [
     ("fill chk.txt 2 2 2", 0, "ab\nba\n", ""),
@@ -494,5 +494,31 @@ fn commands_answer(rt: HostRuntime) -> Result<(), Fail> {
     assert_eq!(rt; first_wrong_row(rt.alloc(), 1, &UPGRADE)?, None);
     assert_eq!(rt; first_wrong_row(rt.alloc(), 64, &UPGRADE)?, None);
     assert_eq!(rt; first_wrong_row(rt.alloc(), 64, &DEMO)?, None);
+    Ok(())
+}
+
+/// Rows that say otherwise than what comes, one part each, behind one that is right.
+static WRONG: [[Row; 2]; 3] = [
+    [
+        ("fill chk.txt 2 2 2", 0, "ab\nba\n", ""),
+        ("fill chk.txt 2 3 2", 0, "", "wfc: no map\n"),
+    ],
+    [
+        ("fill chk.txt 2 2 2", 0, "ab\nba\n", ""),
+        ("fill chk.txt 2 2 2 --seed 1", 0, "ab\nb", ""),
+    ],
+    [
+        ("fill chk.txt 2 2 2", 0, "ab\nba\n", ""),
+        ("fill chk.txt 2 3 2", 1, "", "wfc: no map"),
+    ],
+];
+
+#[test]
+fn what_a_row_says_otherwise_is_told(rt: HostRuntime) -> Result<(), Fail> {
+    let parts = [RowPart::Status, RowPart::Answer, RowPart::ErrorStream];
+    for at in 0..3 {
+        let wrong = first_wrong_row(rt.alloc(), 64, &WRONG[at])?;
+        assert_eq!(rt; wrong, Some((WRONG[at][1].0, parts[at])));
+    }
     Ok(())
 }

@@ -1,7 +1,7 @@
 //! Command lines with what they answer, run over files and sinks in memory: what the tests of the whole program share.
 #![tactic(auto)]
 
-ghost use Rattle.std.specs.Prelude.{◌≤◌};
+ghost use Rattle.std.specs.Prelude.{◌≡◌, ◌≤◌, [], IfNone, IfOk};
 
 mod files;
 
@@ -14,6 +14,7 @@ use wfc_outside::{Folder, MemoryFolder, MemorySink};
 /// A folder with the files that command lines name, which gives so many bytes at a time.
 pub fn folder_of(alloc: Global, piece: usize) -> Result<MemoryFolder, AllocError>
     requires some { 1 ≤ piece }
+    ensures piece { IfOk result (λ folder. folder.piece ≡ piece) }
 {
     let mut folder = MemoryFolder::new(alloc, piece);
     add_all(alloc, &mut folder, &FILES)?;
@@ -38,6 +39,8 @@ fn add_all(
 /// A sink with room enough that never fails.
 pub fn sink_of(alloc: Global, piece: usize) -> Result<MemorySink, AllocError>
     requires some { 1 ≤ piece }
+    ensures empty { IfOk result (λ sink. sink.bytes ≡ []) }
+    ensures piece { IfOk result (λ sink. sink.piece ≡ piece) }
 {
     MemorySink::new(alloc, piece, 500).map_err(|_| AllocError)
 }
@@ -79,26 +82,36 @@ pub fn status_of_words<F: Folder>(
     Ok(run(alloc, &words, folder, out, err, choosers))
 }
 
+/// What came of a command line otherwise than its row says: the first of the parts, if there is one.
+fn wrong_part(row: Row, status: u8, out: &MemorySink, err: &MemorySink) -> Option<RowPart>
+    ensures none { IfNone result ((status ≡ row.entry.1)
+        × (out.now.bytes ≡ row.entry.2.now) × (err.now.bytes ≡ row.entry.3.now)) }
+{
+    if status != row.1 {
+        return Some(RowPart::Status);
+    }
+    if out.bytes() != row.2.as_bytes() {
+        return Some(RowPart::Answer);
+    }
+    if err.bytes() != row.3.as_bytes() {
+        return Some(RowPart::ErrorStream);
+    }
+    None
+}
+
 /// Runs a row over these devices, and tells what comes of it otherwise than it says: the first of the parts, if there is one.
 pub fn first_wrong<F: Folder>(
     alloc: Global,
     row: Row,
     folder: &mut F,
-    mut out: MemorySink,
-    mut err: MemorySink,
-) -> Result<Option<RowPart>, AllocError> {
-    let (line, status, answer, told) = row;
-    let got = status_of_words(alloc, line, folder, &mut out, &mut err)?;
-    if got != status {
-        return Ok(Some(RowPart::Status));
-    }
-    if out.bytes() != answer.as_bytes() {
-        return Ok(Some(RowPart::Answer));
-    }
-    if err.bytes() != told.as_bytes() {
-        return Ok(Some(RowPart::ErrorStream));
-    }
-    Ok(None)
+    out: &mut MemorySink,
+    err: &mut MemorySink,
+) -> Result<Option<RowPart>, AllocError>
+    ensures none { IfOk result (λ wrong. IfNone wrong
+        ((out.new.bytes ≡ row.entry.2.now) × (err.new.bytes ≡ row.entry.3.now))) }
+{
+    let status = status_of_words(alloc, row.0, folder, out, err)?;
+    Ok(wrong_part(row, status, out, err))
 }
 
 /// Runs rows over devices that give and take so many bytes at a time, each row over new ones. Answers the first command line
@@ -112,9 +125,9 @@ pub fn first_wrong_row(
 {
     for row in rows {
         let mut folder = folder_of(alloc, piece)?;
-        let out = sink_of(alloc, piece)?;
-        let err = sink_of(alloc, piece)?;
-        if let Some(part) = first_wrong(alloc, *row, &mut folder, out, err)? {
+        let mut out = sink_of(alloc, piece)?;
+        let mut err = sink_of(alloc, piece)?;
+        if let Some(part) = first_wrong(alloc, *row, &mut folder, &mut out, &mut err)? {
             return Ok(Some((row.0, part)));
         }
     }
