@@ -140,10 +140,11 @@ fn both_fewest_pick_alike(rt: HostRuntime) -> Result<(), Fail> {
     let mut state = 1;
     for (count, steps) in [
         (1, 200),
-        (64, 5000),
-        (65, 5000),
+        (32, 5000),
+        (33, 5000),
         (300, 20_000),
-        (4100, 20_000),
+        (1030, 20_000),
+        (33_000, 5000),
         (270_000, 2000),
     ] {
         let sizes = mixed_sizes(alloc, count, &mut state)?;
