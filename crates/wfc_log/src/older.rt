@@ -8,6 +8,7 @@ ghost use Rattle.wfc_log.specs.Numbered.{cause_number, numbered_cause, removal_n
 use crate::domains::Domains;
 use crate::packed::{Numbers, SHORT};
 use crate::{Cause, Removal};
+use core::mem::replace_with;
 use std::alloc::Global;
 use std::marker::Model;
 use wfc_outside::NoMemory;
@@ -67,17 +68,19 @@ fn removal_number(removal: Removal, values: u16, dirs: u8) -> u32
     pair * (u32::from(dirs) + 1) + u32::from(cause_number(removal.cause, dirs))
 }
 
-/// Adds removals.
-fn add_all(older: &mut Older, removals: &[Removal])
-    requires room { length older.old.removals + length removals.now ≤ older.old.room }
-    requires logged { AreLogged older.old.extent (sizes_after older.old.extent.sizes (cells_of
-        older.old.removals)) removals.now }
-    ensures more { older.new ≡ record older.old { removals = older.old.removals ++ removals.now } }
+/// More removals behind these. They are taken out of where they stand and given back, so that pointers and lengths stay
+/// in registers: a write through a reference might change them.
+#[inline]
+fn with_all(mut older: Older, removals: &[Removal]) -> Older
+    requires room { length older.removals + length removals.now ≤ older.room }
+    requires logged { AreLogged older.extent (sizes_after older.extent.sizes (cells_of
+        older.removals)) removals.now }
+    ensures more { result ≡ record older { removals = older.removals ++ removals.now } }
 {
-    let (values, dirs) = (older.values, older.dirs);
     for removal in removals {
-        older.push(*removal, values, dirs);
+        older.push(*removal);
     }
+    older
 }
 
 /// Moves all removals of a list behind the others.
@@ -90,7 +93,11 @@ pub fn move_to(older: &mut Older, list: &mut Vec<Removal>)
     ensures empty { list.new.items ≡ [] }
     ensures capacity { vec_capacity list.new ≡ vec_capacity list.old }
 {
-    add_all(older, list);
+    replace_with(
+        older,
+        list.as_slice(),
+        |older, removals| (with_all(older, removals), ()),
+    );
     list.clear();
 }
 
@@ -139,18 +146,17 @@ impl Older {
         self.numbers.len()
     }
 
-    /// One more. The numbers of values and of directions are those that are kept here too.
+    /// One more.
     #[inline]
-    fn push(&mut self, removal: Removal, values: u16, dirs: u8)
-        requires values { values ≡ self.old.extent.values }
-        requires dirs { dirs ≡ self.old.extent.dirs }
+    fn push(&mut self, removal: Removal)
         requires room { length self.old.removals < self.old.room }
         requires logged { IsLogged self.old.extent (sizes_after self.old.extent.sizes (cells_of
             self.old.removals)) removal }
         ensures more { self.new ≡ record self.old { removals = self.old.removals ++ removal ∷ [] } }
     {
         self.sizes[removal.cell as usize] = removal.before - 1;
-        self.numbers.push(removal_number(removal, values, dirs));
+        self.numbers
+            .push(removal_number(removal, self.values, self.dirs));
     }
 
     /// Takes the last away.
