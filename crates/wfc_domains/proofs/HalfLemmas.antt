@@ -340,3 +340,8 @@ wide-plain ss ls i some both split = elim (cases_lt i (length ss)) [
       omega (arith, wide-at ss ls i h there, split.limit)
   | inr past ↦ omega (arith, get_or_past (entries_from ss ls) i 0 (omega (arith, past, halves-length ss ls)))
 ]
+
+-- counts that have bytes of their own can be above 7
+pub limit_above : (ls : List ℕ) → limit_from ls ≡ 7 → ⊥
+limit_above [] e = absurd (omega (arith, e))
+limit_above (l ∷ ls) e = absurd (omega (arith, e))

@@ -1,5 +1,6 @@
 pub mod Counters
 pub mod Halves
+pub mod Pairs
 pub mod Parts
 pub mod Removals
 pub mod Store

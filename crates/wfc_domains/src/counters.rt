@@ -1,15 +1,16 @@
 //! Support counters: how many supports each value has left beside each cell.
 
-ghost use Rattle.std.specs.Prelude.{◌≡◌, ℕ, ◌*◌, ◌%◌, ◌<◌, ◌≤◌, ◌⊎◌, IfOk, IsFalse, length, slice_index};
+ghost use Rattle.std.specs.Prelude.{◌≡◌, ℕ, ◌*◌, ◌%◌, ◌<◌, ◌≤◌, ◌⊎◌, ◌↔◌, IfOk, IsFalse, IsTrue, length, slice_index};
 ghost use Rattle.wfc_problem.specs.Network.{values, supports_of};
 ghost use Rattle.wfc_domains.specs.Counters.{FitsTable, count_of, count_place, no_counts};
 
 mod loading;
-mod lowering;
+pub mod lowering;
 mod marking;
 
 use std::alloc::Global;
 use std::marker::Model;
+use std::mem::replace;
 use wfc_outside::NoMemory;
 use wfc_problem::Problem;
 
@@ -80,6 +81,31 @@ impl Counters {
         ensures value { result ≡ self.now.values * self.now.dirs }
     {
         self.values * self.dirs
+    }
+
+    /// Whether two counts share a byte: none can be above 7 then, and else more can.
+    #[inline]
+    pub fn is_paired(&self) -> bool
+        ensures paired { IsTrue result ↔ (self.now.limit ≡ 7) }
+    {
+        let _ = self.large.len();
+        false
+    }
+
+    /// Hands the table over, and leaves one without cells. It takes no memory.
+    #[inline]
+    pub fn take(&mut self) -> Counters
+        ensures taken { result ≡ self.old }
+    {
+        let alloc = *self.small.allocator();
+        let none = Counters {
+            cells: 0,
+            values: 0,
+            dirs: 0,
+            small: Vec::new(alloc),
+            large: Vec::new(alloc),
+        };
+        replace(self, none)
     }
 
     /// How many supports of `value` are counted beside `cell` in direction `dir`.

@@ -13,6 +13,7 @@ mod store;
 
 pub use board::{Board, is_alive};
 pub use counters::Counters;
+pub use counters::lowering::{mask_at, unit_at};
 pub use levels::Levels;
 pub use plain::PlainStore;
 use std::alloc::AllocError;

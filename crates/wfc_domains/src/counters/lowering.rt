@@ -1,8 +1,9 @@
 //! Counters lowered and raised by one.
 
-ghost use Rattle.std.specs.Prelude.{◌≡◌, ◌+◌, ◌-◌, ◌%◌, ◌<◌, ◌↔◌, IsTrue};
+ghost use Rattle.std.specs.Prelude.{◌≡◌, ◌≢◌, ◌+◌, ◌-◌, ◌%◌, ◌<◌, ◌↔◌, IsTrue};
 ghost use Rattle.std.specs.Prelude.{IsFalse, length, slice_index, slice_set, vec_len};
 ghost use Rattle.wfc_domains.specs.Counters.{count_of, entry_of, with_count, with_entry};
+ghost use Rattle.wfc_domains.specs.Pairs.{unit_at, mask_at};
 
 use super::Counters;
 use crate::steps::Steps;
@@ -47,6 +48,44 @@ impl Counters {
         refill(&mut self.small, &mut self.large, place)
     }
 
+    /// What `down_at` does where each count has a byte of its own.
+    #[inline(always)]
+    pub fn down_alone<L: Ledger>(&mut self, place: usize, steps: &mut Steps<L>) -> bool
+        requires alone { self.old.limit ≢ 7 }
+        requires place_in { place < length self.old.counts }
+        requires some { 0 < slice_index self.old.counts place % 32768 }
+        ensures bare { IsTrue result ↔ (slice_index self.old.counts place ≡ 1) }
+        ensures changed { self.new
+            ≡ with_entry self.old place (slice_index self.old.counts place - 1) }
+        ensures steps { steps.new ≡ steps.old + 1 }
+    {
+        self.down_at(place, steps)
+    }
+
+    /// What `down_at` does where two counts share a byte: what one more at the place is in its byte, and which bits of it the
+    /// place has, are told.
+    #[inline(always)]
+    pub fn down_pair<L: Ledger>(
+        &mut self,
+        place: usize,
+        unit: u8,
+        mask: u8,
+        steps: &mut Steps<L>,
+    ) -> bool
+        requires paired { self.old.limit ≡ 7 }
+        requires unit { unit ≡ unit_at place }
+        requires mask { mask ≡ mask_at place }
+        requires place_in { place < length self.old.counts }
+        requires some { 0 < slice_index self.old.counts place % 32768 }
+        ensures bare { IsTrue result ↔ (slice_index self.old.counts place ≡ 1) }
+        ensures changed { self.new
+            ≡ with_entry self.old place (slice_index self.old.counts place - 1) }
+        ensures steps { steps.new ≡ steps.old + 1 }
+    {
+        let _ = (unit, mask);
+        self.down_at(place, steps)
+    }
+
     /// One more. It is one step.
     #[inline]
     pub fn up<L: Ledger>(&mut self, cell: u32, value: u16, dir: u8, steps: &mut Steps<L>)
@@ -67,6 +106,22 @@ impl Counters {
             self.small[place] = small + 1;
         }
     }
+}
+
+/// What one more at a place is in a byte that two counts share.
+#[inline]
+pub fn unit_at(place: usize) -> u8
+    ensures value { result ≡ unit_at place }
+{
+    if place % 2 == 0 { 1 } else { 16 }
+}
+
+/// Which bits a place has of a byte that two counts share.
+#[inline]
+pub fn mask_at(place: usize) -> u8
+    ensures value { result ≡ mask_at place }
+{
+    if place % 2 == 0 { 15 } else { 240 }
 }
 
 /// Fills the small part of a count, which came to 0, from the large one. Whether there is nothing to fill it from.
