@@ -22,21 +22,22 @@ pub record GoesOn (old new : Flight) : Type 0 where
   pub head : new.head ≡ old.head
 
 -- w stood at n, and no cell was empty: it was removed for want of support in direction d, and its counts were marked
-pub record Strikes (old new : Flight) (n w d : ℕ) : Type 0 where
+pub record Strikes (old new : Flight) (T U : Table) (n w d : ℕ) : Type 0 where
   pub stood : IsTrue (has old.board.domains n w)
   pub alive : old.board.verdict ≡ Alive
   pub board : Loses old.board new.board n w (Arc d)
-  pub marks : Marks old.counters new.counters n w
+  pub marks : Marks T U n w
   pub head : new.head ≡ old.head
 
 -- w did not stand at n, or a cell was empty, and nothing changed
-pub record PassesOver (old new : Flight) (n w : ℕ) : Type 0 where
+pub record PassesOver (old new : Flight) (T U : Table) (n w : ℕ) : Type 0 where
   pub gone : old.board.verdict ≡ Alive → IsTrue (has old.board.domains n w) → ⊥
   pub same : new ≡ old
+  pub same_counts : U ≡ T
 
--- w is removed at n for want of support in direction d, if it stands and no cell is empty
-abbrev pub IsStruck : Flight → Flight → ℕ → ℕ → ℕ → Type 0
-IsStruck old new n w d = Strikes old new n w d ⊎ PassesOver old new n w
+-- w is removed at n for want of support in direction d, if it stands and no cell is empty, with counters T that become U
+abbrev pub IsStruck : Flight → Flight → Table → Table → ℕ → ℕ → ℕ → Type 0
+IsStruck old new T U n w d = Strikes old new T U n w d ⊎ PassesOver old new T U n w
 
 -- only the counters changed
 abbrev pub Recounts : Flight → Flight → Type 0

@@ -4,16 +4,21 @@ use Rattle.wfc_model.specs.Direction.{opposite}
 use Rattle.wfc_problem.specs.Network.{Network, values, neighbour, supports_of}
 use Rattle.wfc_problem.specs.Strides.{AreStrides}
 use Rattle.wfc_domains.specs.Counters.{counter_place}
+use Rattle.wfc_domains.specs.Pairs.{unit_at, mask_at}
 use Rattle.wfc_ac4.specs.declared.links.SupportLink.{SupportLink}
 use Rattle.wfc_ac4.specs.declared.links.Links.{Links}
 
 -- what is read where there is no link
 abbrev pub no_link : SupportLink
-no_link = record { offset = 0; dir = 0; back = 0 }
+no_link = record { offset = 0; dir = 0; back = 0; unit = 1; mask = 15 }
+
+-- the link that lowers the counter at an offset within a cell in direction d, with what one more there is in a byte of two
+abbrev pub link_at : ℕ → ℕ → SupportLink
+link_at offset d = record { offset = offset; dir = d; back = opposite d; unit = unit_at offset; mask = mask_at offset }
 
 -- the link to w in direction d: the counter of w for the way back, the direction, and the way back
 abbrev pub link_to : Network → ℕ → ℕ → SupportLink
-link_to P d w = record { offset = counter_place P 0 w (opposite d); dir = d; back = opposite d }
+link_to P d w = link_at (counter_place P 0 w (opposite d)) d
 
 -- the links of v in direction d
 abbrev pub side_links : Network → ℕ → ℕ → List SupportLink

@@ -7,16 +7,20 @@ ghost use Rattle.wfc_problem.specs.Strides.{AreSides, AreStrides};
 ghost use Rattle.wfc_ac4.specs.Links.{AreLinks, counter_row, links_of, side_links};
 
 use std::alloc::{AllocError, Global};
+use wfc_domains::{mask_at, unit_at};
 use wfc_outside::NoMemory;
 use wfc_problem::{FourSides, Problem, Strides, opposite};
 
 /// A value that may stand beside another: where its counter for the way back stands among the entries of its cell,
-/// the direction that leads there, and the one that leads back.
+/// the direction that leads there, and the one that leads back. Where two counters share a byte, what one more in that
+/// counter is, and which bits it has.
 #[derive(Clone, Copy)]
 pub struct SupportLink {
-    pub offset: u16,
+    pub offset: u32,
     pub dir: u8,
     pub back: u8,
+    pub unit: u8,
+    pub mask: u8,
 }
 
 /// The links of each value, one value after the other, and where those of each begin. Beside them the sides of the cells, with
@@ -105,13 +109,16 @@ fn push_side(
     ensures more { IsOk result → links.new.items
         ≡ links.old.items ++ side_links problem.now value dir }
 {
-    let dirs = u16::from(problem.dirs());
+    let dirs = u32::from(problem.dirs());
     let back = opposite(dir);
     for other in problem.supports(value, dir) {
+        let offset = u32::from(*other) * dirs + u32::from(back);
         links.push(SupportLink {
-            offset: *other * dirs + u16::from(back),
+            offset,
             dir,
             back,
+            unit: unit_at(offset as usize),
+            mask: mask_at(offset as usize),
         })?;
     }
     Ok(())
