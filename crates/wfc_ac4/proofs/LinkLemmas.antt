@@ -1,11 +1,11 @@
 -- The links of all values in one list, and the counters that a value's links lower.
 use Rattle.std.proofs.Common.{◌≡◌, ℕ, zero, suc, ◌+◌, ◌-◌, ◌*◌, ◌/◌, ◌%◌, ◌<◌, ◌≤◌, List, [], ◌∷◌, ◌++◌, length, get_or, take, drop, map, refl, sym, ◌∙◌, ap, subst, add-one, arith, Option, Some, None, inl, inr}
-use Rattle.std.specs.Prelude.{Contains, slice_index, slice_set}
+use Rattle.std.specs.Prelude.{Contains, ◌==◌, if◌then◌else◌, slice_index, slice_set}
 use Rattle.std.proofs.lemmas.Bool.{cases_eq, cases_lt}
 use Rattle.std.proofs.lemmas.List.{get_or_default, get_or_append_left, get_or-append-add, get_or-append_right, get_or-map, length-map, length-append, length-drop, length-set, length_push, take-append-le, drop-append-le, take-append-drop, take_more, take_all, append_assoc, append-nil}
 use Rattle.std.proofs.Math.Seq.{drop-append_seam}
 use Rattle.std.proofs.lemmas.Nat.{div-mul-add}
-use Rattle.std.proofs.Math.Nat.{mul_assoc, mul-le-mul, mul-le-mul_right}
+use Rattle.std.proofs.Math.Nat.{mul_assoc, mul-add-mod_self_right, mul-le-mul, mul-le-mul_right}
 use Rattle.wfc_model.specs.Direction.{opposite}
 use Rattle.wfc_problem.specs.Hops.{hop_cell, hop_end}
 use Rattle.wfc_problem.specs.Strides.{AreSides}
@@ -18,7 +18,8 @@ use Rattle.wfc_domains.proofs.Places.{place-is}
 use Rattle.wfc_domains.proofs.Loading.{place_in-row}
 use Rattle.wfc_domains.proofs.Problems.{in_values, in_cells, back, opposite-in, supports-below, few_values, few_pairs, dirs-le}
 use Rattle.wfc_ac4.specs.Places.{side_places, places_upto, counter_places, times}
-use Rattle.wfc_ac4.specs.Links.{no_link, counter_row, AreLinks, link_to, side_links, links_upto, links_of, all_upto, link_place, link_places}
+use Rattle.wfc_domains.specs.Pairs.{unit_at, mask_at}
+use Rattle.wfc_ac4.specs.Links.{no_link, link_at, counter_row, AreLinks, link_to, side_links, links_upto, links_of, all_upto, link_place, link_places}
 use Rattle.wfc_ac4.specs.State.{IsWorking, counted_base}
 use Rattle.wfc_ac4.specs.declared.links.SupportLink.{SupportLink}
 use Rattle.wfc_ac4.specs.declared.links.Links.{Links}
@@ -98,14 +99,18 @@ offset-few P p v d k xs is_xs hd l =
     (mul-le-mul w dirs, omega (arith, opposite-in P p d hd))
 
 -- one link more of a side
-pub side_more : (P : Network) (v d k at turned : ℕ) (xs : List ℕ) (old now : List SupportLink) → xs ≡ supports_of P v d → k < length xs → turned ≡ opposite d → at ≡ counter_place P 0 (get_or xs k 0) (opposite d)
-    → now ≡ old ++ take k (side_links P v d) → now ++ record { offset = at; dir = d; back = turned } ∷ [] ≡ old ++ take (k + 1) (side_links P v d)
-side_more P v d k at turned xs old now is_xs l is_turned is_at is_now =
+pub side_more : (P : Network) (v d k at turned unit mask : ℕ) (xs : List ℕ) (old now : List SupportLink) → xs ≡ supports_of P v d → k < length xs → turned ≡ opposite d → at ≡ counter_place P 0 (get_or xs k 0) (opposite d)
+    → unit ≡ unit_at at → mask ≡ mask_at at
+    → now ≡ old ++ take k (side_links P v d) → now ++ record { offset = at; dir = d; back = turned; unit = unit; mask = mask } ∷ [] ≡ old ++ take (k + 1) (side_links P v d)
+side_more P v d k at turned unit mask xs old now is_xs l is_turned is_at is_unit is_mask is_now =
     let l' : k < length (supports_of P v d) = omega (arith, ap length is_xs) in
     let side = side_links P v d in
-    let one : record { offset = at; dir = d; back = turned } ≡ get_or side k no_link =
-    ap (λ x. record { offset = x; dir = d; back = turned }) is_at ∙ ap (λ t. record { offset = counter_place P 0 (get_or xs k 0) (opposite d); dir = d; back = t }) is_turned ∙ ap (λ ys. link_to P d (get_or ys k 0)) is_xs ∙ sym (get_or-map (link_to P d) (supports_of P v d) k 0 no_link l') in
-    ap (λ ls. ls ++ record { offset = at; dir = d; back = turned } ∷ []) is_now
+    let link : SupportLink = record { offset = at; dir = d; back = turned; unit = unit; mask = mask } in
+    let made : link ≡ link_at at d =
+    ap (λ t. record link { back = t }) is_turned ∙ ap (λ u. record link { back = opposite d; unit = u }) is_unit ∙ ap (λ m. record (link_at at d) { mask = m }) is_mask in
+    let one : link ≡ get_or side k no_link =
+    made ∙ ap (λ x. link_at x d) is_at ∙ ap (λ ys. link_to P d (get_or ys k 0)) is_xs ∙ sym (get_or-map (link_to P d) (supports_of P v d) k 0 no_link l') in
+    ap (λ ls. ls ++ link ∷ []) is_now
     ∙ append_assoc old (take k side) _
     ∙ ap (λ x. old ++ (take k side ++ x ∷ [])) one
     ∙ ap (λ x. old ++ x) (sym (take_more side k no_link (omega (arith, length-map (supports_of P v d) (link_to P d)))))
@@ -129,6 +134,8 @@ pub record IsLink (P : Network) (v : ℕ) (l : SupportLink) : Type 0 where
   pub back_is : l.back ≡ opposite l.dir
   pub offset_is : l.offset ≡ counter_place P 0 (l.offset / P.dirs) (opposite l.dir)
   pub supported : Contains (supports_of P v l.dir) (l.offset / P.dirs)
+  pub unit_is : l.unit ≡ unit_at l.offset
+  pub mask_is : l.mask ≡ mask_at l.offset
 
 -- the value of a link
 link-value : (P : Network) → IsProblem P → (d w : ℕ) → d < P.dirs → (link_to P d w).offset / P.dirs ≡ w
@@ -152,6 +159,8 @@ links-are P p v (suc m) k hm l = elim (cases_lt k (length (links_upto P v m))) [
         back_is = refl;
         offset_is = ap (λ x. counter_place P 0 x (opposite m)) turned;
         supported = subst (λ x. Contains xs x) turned (j, lj, get_or_default xs j w 0 lj);
+        unit_is = refl;
+        mask_is = refl;
       })
 ]
 
@@ -265,6 +274,9 @@ pub record LinkStep (P : Network) (lowered next : List ℕ) (c v n i : ℕ) (l :
   pub beside : neighbour P c l.dir ≡ Some n
   pub dir_in : l.dir < P.dirs
   pub back_is : l.back ≡ opposite l.dir
+  pub unit_is : l.unit ≡ unit_at l.offset
+  pub mask_is : l.mask ≡ mask_at l.offset
+  pub row_is : i ≡ n * counter_row P + l.offset
   pub place_is : i ≡ count_place T.values T.dirs n (l.offset / P.dirs) (opposite l.dir)
   pub place_of : i ≡ counter_place P n (l.offset / P.dirs) (opposite l.dir)
   pub inside : i < length T.counts
@@ -297,6 +309,9 @@ link_step b T head c v k n row ls h e l beside wide =
       beside = beside;
       dir_in = s.dir_in;
       back_is = s.back_is;
+      unit_is = s.unit_is;
+      mask_is = s.mask_is;
+      row_is = ap (λ m. n * m + x.offset) wide;
       place_is = place_is;
       place_of = place_of;
       inside = subst (λ i. i < length T.counts) (sym place_is) (counted_base-in T n w turned above);
@@ -313,11 +328,11 @@ link_step b T head c v k n row ls h e l beside wide =
     }
 
 -- the same, where the facts are those of the board and the table at entry
-pub link_at : (b a : Board) (T A : Table) (head c v k n row : ℕ) (ls : List SupportLink) (hops : List ℕ) → b.problem ≡ a.problem → FitsTable a.problem.now A
+pub link_hop : (b a : Board) (T A : Table) (head c v k n row : ℕ) (ls : List SupportLink) (hops : List ℕ) → b.problem ≡ a.problem → FitsTable a.problem.now A
     → IsWorking b T head c v (link_places b.problem.now c (take k ls)) → ls ≡ links_of a.problem.now v → k < length ls
     → LeadBeside a.problem.now c hops → row ≡ A.values * A.dirs → hop_cell c (slice_index hops (get_or ls k no_link).dir) ≡ Some n
     → LinkStep b.problem.now (link_places b.problem.now c (take k ls)) (link_places b.problem.now c (take (k + 1) ls)) c v n (n * row + (get_or ls k no_link).offset) (get_or ls k no_link) T
-link_at b a T A head c v k n row ls hops same fits h e l lead wide is =
+link_hop b a T A head c v k n row ls hops same fits h e l lead wide is =
     let N = ap (λ p. p.now) same in
     let x = get_or ls k no_link in
     let e' = e ∙ ap (λ P. links_of P v) (sym N) in
@@ -334,6 +349,17 @@ no_neighbour b a T head c v k lowered ls hops same h e l lead none =
     let p = subst IsProblem N h.board.traced.problem in
     let hc = subst (λ (P : Network). c < P.cells) N (working-range h).0 in
     hop_names a.problem.now p c (get_or ls k no_link).dir hops hc (is_link a.problem.now p v k ls e l).dir_in lead ∙ none
+
+-- where there are four directions a cell's counters are even in number, so a place has the half of its byte that the offset has
+even_row : (n m o : ℕ) → (n * (m * 4) + o) % 2 ≡ o % 2
+even_row n m o =
+    let twice : n * (m * 4) + o ≡ (n * m * 2) * 2 + o = omega arith in
+    ap (λ i. i % 2) twice ∙ mul-add-mod_self_right (n * m * 2) 2 o
+
+pub half-of : (P : Network) (lowered next : List ℕ) (c v n i : ℕ) (l : SupportLink) (T : Table) → LinkStep P lowered next c v n i l T → P.dirs ≡ 4 → (l.unit ≡ unit_at i) × (l.mask ≡ mask_at i)
+half-of P lowered next c v n i l T s four =
+    let same : l.offset % 2 ≡ i % 2 = sym (even_row n (values P) l.offset) ∙ ap (λ d. (n * (values P * d) + l.offset) % 2) (sym four) ∙ ap (λ j. j % 2) (sym s.row_is) in
+    (s.unit_is ∙ ap (λ r. if r == 0 then 1 else 16) same, s.mask_is ∙ ap (λ r. if r == 0 then 15 else 240) same)
 
 -- where a cell has sides there are four directions
 pub four_dirs : (b a : Board) (c : ℕ) (x : FourSides) → b.problem ≡ a.problem → AreSides a.problem.now (counter_row a.problem.now) c x → b.problem.now.dirs ≡ 4
@@ -375,6 +401,10 @@ placed_as P i n w w' d d' is value way = is ∙ ap (λ v. counter_place P n v d)
 -- the table with the counter at a link's place lowered
 pub lowered-at : (T T' : Table) (i n w d : ℕ) → i ≡ count_place T.values T.dirs n w d → T' ≡ record T { counts = slice_set T.counts i (slice_index T.counts i - 1) } → T' ≡ with_count T n w d (entry_of T n w d - 1)
 lowered-at T T' i n w d e is = is ∙ ap (λ j. record T { counts = slice_set T.counts j (slice_index T.counts j - 1) }) e
+
+-- no count of it can be larger
+pub limit-lowered : (T T' : Table) (i x : ℕ) → T' ≡ record T { counts = slice_set T.counts i x } → T'.limit ≡ T.limit
+limit-lowered T T' i x is = ap (λ t. t.limit) is
 
 -- it is a table of the problem's size
 pub fits-lowered : (P : Network) (T T' : Table) (i x : ℕ) → FitsTable P T → T' ≡ record T { counts = slice_set T.counts i x } → FitsTable P T'

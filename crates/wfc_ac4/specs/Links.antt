@@ -10,7 +10,7 @@ use Rattle.wfc_ac4.specs.declared.links.Links.{Links}
 
 -- what is read where there is no link
 abbrev pub no_link : SupportLink
-no_link = record { offset = 0; dir = 0; back = 0; unit = 1; mask = 15 }
+no_link = record { offset = 0; dir = 0; back = 0; unit = 0; mask = 0 }
 
 -- the link that lowers the counter at an offset within a cell in direction d, with what one more there is in a byte of two
 abbrev pub link_at : ℕ → ℕ → SupportLink

@@ -11,6 +11,7 @@ sides-sides-requires-clause-cell_in g c = (working-range (start_working _ _ _ _ 
 
 pub work_links-requires : goal.work_links-requires
 work_links-requires g c = record {
+  paired = c.requires.paired;
   sides = c.sides-sides.ensures.some;
   links = c.of-list.ensures.value;
   working = start_working _ _ _ _ c.requires.between c.requires.there;

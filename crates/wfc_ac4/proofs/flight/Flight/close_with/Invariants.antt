@@ -3,14 +3,15 @@ use Rattle.wfc_problem.specs.Rounds.{depth_of}
 use Rattle.wfc_domains.specs.Counters.{cost_of}
 use Rattle.wfc_domains.specs.Board.{Grows}
 use Rattle.wfc_ac4.specs.State.{IsBetweenRemovals}
-use Rattle.wfc_ac4.proofs.flight.Flight.close.Given as goal
+use Rattle.wfc_ac4.proofs.flight.Flight.close_with.Given as goal
 
 -- the removals before the place are worked off
 abbrev pub invariant-loop-self : goal.invariant-loop-self
 invariant-loop-self g l =
     let P = l.fn.self.board.problem.now in
     record {
-      between : IsBetweenRemovals l.self.board l.self.counters (l.start + l.at);
+      between : IsBetweenRemovals l.self.board l.counters (l.start + l.at);
+      limit : l.counters.limit ≡ l.fn.counters.limit;
       forward : l.fn.self.head ≤ l.start + l.at;
       idle : l.fn.self.board.trail.removals ≡ [] → l.self.board.trail.removals ≡ [];
       grows : Grows l.fn.self.board l.self.board;

@@ -1,4 +1,4 @@
-use Rattle.std.proofs.Common.{◌<◌, ◌+◌, ◌-◌, ◌≡◌, length, take, ap, sym, subst, arith, ◌∙◌}
+use Rattle.std.proofs.Common.{◌<◌, ◌+◌, ◌-◌, ◌≡◌, length, take, refl, ap, sym, subst, arith, ◌∙◌}
 use Rattle.wfc_problem.specs.Rounds.{depth_of}
 use Rattle.wfc_domains.specs.Counters.{cost_of}
 use Rattle.wfc_domains.proofs.Boards.{grows-none, grows-more, log-few}
@@ -6,7 +6,7 @@ use Rattle.wfc_ac4.specs.Links.{AreLinks}
 use Rattle.wfc_ac4.proofs.Rolls.{log-depth}
 use Rattle.wfc_ac4.proofs.Opening.{between-at}
 use Rattle.wfc_ac4.proofs.Closing.{cost-front, last-at, last-in, same-begun}
-use Rattle.wfc_ac4.proofs.flight.Flight.close.Goals as goal
+use Rattle.wfc_ac4.proofs.flight.Flight.close_with.Goals as goal
 
 pub work_off-requires-clause-linked : goal.work_off-requires-clause-linked
 work_off-requires-clause-linked g c = subst (λ p. AreLinks p.now c.args.links.now) (sym c.loop-self.invariant.grows.problem) c.requires.linked
@@ -17,6 +17,7 @@ loop-self-init g c =
     let back : c.args.self.now.head ≡ c.start-start.result + (c.args.self.now.head - c.start-start.result) = omega (arith, c.requires.recent, c.start-start.ensures.value) in
     record {
       between = between-at _ _ _ _ c.requires.between back;
+      limit = refl;
       forward = omega (arith, back);
       idle = λ none. none;
       grows = grows-none _;
@@ -52,6 +53,7 @@ loop-self-preserved g c =
     let next = cost-front P (start + at + 1) rs new e.grows.more e.grows.removals (omega (arith, inside)) in
     record {
       between = between-at _ _ _ _ e.between one_more;
+      limit = e.limit ∙ h.limit;
       forward = omega (arith, h.forward);
       idle = λ none. absurd (omega (arith, ap length (h.idle none), inside));
       grows = grows-more h.grows e.grows;
