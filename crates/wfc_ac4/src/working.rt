@@ -159,6 +159,7 @@ impl<'p> Flight<'p> {
     }
 
     /// The same for any cell.
+    #[cold]
     #[inline(never)]
     fn work_sides<L: Ledger>(
         &mut self,
