@@ -402,7 +402,7 @@ placed_as P i n w w' d d' is value way = is ∙ ap (λ v. counter_place P n v d)
 pub lowered-at : (T T' : Table) (i n w d : ℕ) → i ≡ count_place T.values T.dirs n w d → T' ≡ record T { counts = slice_set T.counts i (slice_index T.counts i - 1) } → T' ≡ with_count T n w d (entry_of T n w d - 1)
 lowered-at T T' i n w d e is = is ∙ ap (λ j. record T { counts = slice_set T.counts j (slice_index T.counts j - 1) }) e
 
--- no count of it can be larger
+-- its limit stays
 pub limit-lowered : (T T' : Table) (i x : ℕ) → T' ≡ record T { counts = slice_set T.counts i x } → T'.limit ≡ T.limit
 limit-lowered T T' i x is = ap (λ t. t.limit) is
 

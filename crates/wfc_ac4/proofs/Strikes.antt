@@ -16,7 +16,7 @@ struck_on old new T U n w d s = elim s [
   | inr x ↦ subst (GoesOn old) (sym x.same) (record { grows = grows-none old.board; head = refl })
 ]
 
--- no count can be larger than before
+-- the limit of the counts stays
 pub struck_limit : (old new : Flight) (T U : Table) (n w d : ℕ) → IsStruck old new T U n w d → U.limit ≡ T.limit
 struck_limit old new T U n w d s = elim s [ inl x ↦ x.marks.same_limit | inr x ↦ ap (λ t. t.limit) x.same_counts ]
 
