@@ -1,11 +1,12 @@
 -- Entries of counters in two parts.
-use Rattle.std.proofs.Common.{◌≡◌, ℕ, zero, suc, ◌+◌, ◌-◌, ◌*◌, ◌/◌, ◌%◌, ◌<◌, ◌≤◌, ◌⊎◌, Bool, true, false, List, [], ◌∷◌, length, get_or, set, replicate, refl, sym, ◌∙◌, ap, subst, arith, inl, inr}
+use Rattle.std.proofs.Common.{◌≡◌, ℕ, zero, suc, ◌+◌, ◌-◌, ◌*◌, ◌/◌, ◌%◌, ◌<◌, ◌≤◌, ◌⊎◌, Bool, true, false, List, [], ◌∷◌, ◌++◌, length, get_or, take, drop, map, set, replicate, refl, sym, ◌∙◌, ap, subst, arith, inl, inr}
 use Rattle.std.proofs.lemmas.Bool.{cases_lt, cases_eq, cases_Bool, true≢false}
 use Rattle.std.proofs.lemmas.List.{get_or-set_same, get_or-set_other, get_or_past, length-set}
 use Rattle.std.proofs.lemmas.Nat.{div-mul-add, mod-mul-add, div-add-mod'}
 use Rattle.std.proofs.Math.Nat.{mod-lt}
+use Rattle.wfc_domains.specs.Changes.{AreChanged}
 use Rattle.wfc_domains.specs.Halves.{narrow_entry, wide_entry, entries_from, limit_from}
-use Rattle.wfc_domains.specs.Parts.{IsCountSplit}
+use Rattle.wfc_domains.specs.Singles.{IsCountSplit}
 
 -- ---- one part alone
 
@@ -342,6 +343,122 @@ wide-plain ss ls i some both split = elim (cases_lt i (length ss)) [
 ]
 
 -- counts that have bytes of their own can be above 7
-pub limit_above : (ls : List ℕ) → limit_from ls ≡ 7 → ⊥
-limit_above [] e = absurd (omega (arith, e))
-limit_above (l ∷ ls) e = absurd (omega (arith, e))
+pub limit_above : (ls : List ℕ) → 127 ≤ limit_from ls
+limit_above [] = omega arith
+limit_above (l ∷ ls) = omega arith
+
+-- ---- several marked in turn
+
+-- k numbers from the i-th on changed in place
+abbrev pub remapped : (ℕ → ℕ) → ℕ → ℕ → List ℕ → List ℕ
+remapped f i k xs = take i xs ++ (map f (take k (drop i xs)) ++ drop k (drop i xs))
+
+remapped-length : (f : ℕ → ℕ) (i k : ℕ) (xs : List ℕ) → length (remapped f i k xs) ≡ length xs
+remapped-length f zero zero xs = refl
+remapped-length f zero (suc k) [] = refl
+remapped-length f zero (suc k) (x ∷ xs) = ap suc (remapped-length f zero k xs)
+remapped-length f (suc i) zero [] = refl
+remapped-length f (suc i) (suc k) [] = refl
+remapped-length f (suc i) k (x ∷ xs) = ap suc (remapped-length f i k xs)
+
+remapped-changed : (f : ℕ → ℕ) (i k : ℕ) (xs : List ℕ) (p : ℕ) → i + k ≤ length xs → i ≤ p → p < i + k → get_or (remapped f i k xs) p 0 ≡ f (get_or xs p 0)
+remapped-changed f zero zero xs p h from l = absurd (omega (arith, l))
+remapped-changed f zero (suc k) [] p h from l = absurd (omega (arith, h))
+remapped-changed f zero (suc k) (x ∷ xs) zero h from l = refl
+remapped-changed f zero (suc k) (x ∷ xs) (suc p) h from l = remapped-changed f zero k xs p (omega (arith, h)) (omega arith) (omega (arith, l))
+remapped-changed f (suc i) k [] p h from l = absurd (omega (arith, h))
+remapped-changed f (suc i) k (x ∷ xs) zero h from l = absurd (omega (arith, from))
+remapped-changed f (suc i) k (x ∷ xs) (suc p) h from l = remapped-changed f i k xs p (omega (arith, h)) (omega (arith, from)) (omega (arith, l))
+
+remapped-below : (f : ℕ → ℕ) (i k : ℕ) (xs : List ℕ) (j : ℕ) → i + k ≤ length xs → j < i → get_or (remapped f i k xs) j 0 ≡ get_or xs j 0
+remapped-below f zero k xs j h l = absurd (omega (arith, l))
+remapped-below f (suc i) k [] j h l = absurd (omega (arith, h))
+remapped-below f (suc i) k (x ∷ xs) zero h l = refl
+remapped-below f (suc i) k (x ∷ xs) (suc j) h l = remapped-below f i k xs j (omega (arith, h)) (omega (arith, l))
+
+remapped-behind : (f : ℕ → ℕ) (i k : ℕ) (xs : List ℕ) (j : ℕ) → i + k ≤ length xs → i + k ≤ j → get_or (remapped f i k xs) j 0 ≡ get_or xs j 0
+remapped-behind f zero zero xs j h l = refl
+remapped-behind f zero (suc k) [] j h l = absurd (omega (arith, h))
+remapped-behind f zero (suc k) (x ∷ xs) zero h l = absurd (omega (arith, l))
+remapped-behind f zero (suc k) (x ∷ xs) (suc j) h l = remapped-behind f zero k xs j (omega (arith, h)) (omega (arith, l))
+remapped-behind f (suc i) k [] j h l = absurd (omega (arith, h))
+remapped-behind f (suc i) k (x ∷ xs) zero h l = absurd (omega (arith, l))
+remapped-behind f (suc i) k (x ∷ xs) (suc j) h l = remapped-behind f i k xs j (omega (arith, h)) (omega (arith, l))
+
+-- the first k numbers of a list changed
+abbrev pub mapped_front : (ℕ → ℕ) → ℕ → List ℕ → List ℕ
+mapped_front f k xs = map f (take k xs) ++ drop k xs
+
+pub mapped-more : (f : ℕ → ℕ) (k : ℕ) (xs : List ℕ) → k < length xs → set (mapped_front f k xs) k (f (get_or (mapped_front f k xs) k 0)) ≡ mapped_front f (suc k) xs
+mapped-more f zero [] h = absurd (omega (arith, h))
+mapped-more f zero (x ∷ xs) h = refl
+mapped-more f (suc k) [] h = absurd (omega (arith, h))
+mapped-more f (suc k) (x ∷ xs) h = ap (λ ys. f x ∷ ys) (mapped-more f k xs (omega (arith, h)))
+
+pub mapped-all : (f : ℕ → ℕ) (k : ℕ) (xs : List ℕ) → length xs ≤ k → mapped_front f k xs ≡ map f xs
+mapped-all f zero [] h = refl
+mapped-all f zero (x ∷ xs) h = absurd (omega (arith, h))
+mapped-all f (suc k) [] h = refl
+mapped-all f (suc k) (x ∷ xs) h = ap (λ ys. f x ∷ ys) (mapped-all f k xs (omega (arith, h)))
+
+pub are-remapped : (f : ℕ → ℕ) (i k : ℕ) (xs : List ℕ) → i + k ≤ length xs → AreChanged f xs (remapped f i k xs) i k
+are-remapped f i k xs h = record {
+  same_length = remapped-length f i k xs;
+  changed = λ j l. remapped-changed f i k xs (i + j) h (omega arith) (omega (arith, l));
+  below = λ j l. remapped-below f i k xs j h l;
+  behind = λ j l. remapped-behind f i k xs j h l;
+}
+
+-- a part of a list changed in place
+pub alone-written : (f : ℕ → ℕ) (ss now ws : List ℕ) (i k : ℕ) → now ≡ ss → i + k ≤ length ss → ws ≡ map f (take (i + k - i) (drop i now))
+    → AreChanged f ss (take i now ++ (ws ++ drop (i + k - i) (drop i now))) i k
+alone-written f ss now ws i k same inside written =
+    let len : k ≡ i + k - i = omega arith in
+    let all : remapped f i k ss ≡ take i now ++ (ws ++ drop (i + k - i) (drop i now))
+    = ap (λ n. take i ss ++ (map f (take n (drop i ss)) ++ drop n (drop i ss))) len
+    ∙ ap (λ xs. take i xs ++ (map f (take (i + k - i) (drop i xs)) ++ drop (i + k - i) (drop i xs))) (sym same)
+    ∙ ap (λ ys. take i now ++ (ys ++ drop (i + k - i) (drop i now))) (sym written) in
+    subst (λ zs. AreChanged f ss zs i k) all (are-remapped f i k ss inside)
+
+-- small parts that are alone changed alike are entries changed alike
+pub narrow-changed : (f g : ℕ → ℕ) (ss ss' ls : List ℕ) (start k : ℕ) → ((s : ℕ) → narrow_entry (f s) ≡ g (narrow_entry s)) → length ls ≡ 0 → start + k ≤ length ss → AreChanged f ss ss' start k
+    → AreChanged g (entries_from ss ls) (entries_from ss' ls) start k
+narrow-changed f g ss ss' ls start k step none inside h = record {
+  same_length = halves-length ss' ls ∙ h.same_length ∙ sym (halves-length ss ls);
+  changed = λ i l.
+      narrow-at ss' ls (start + i) (omega (arith, l, inside, h.same_length)) (omega (arith, none))
+      ∙ ap narrow_entry (h.changed i l)
+      ∙ step (get_or ss (start + i) 0)
+      ∙ ap g (sym (narrow-at ss ls (start + i) (omega (arith, l, inside)) (omega (arith, none))));
+  below = λ i l. kept i (h.below i l);
+  behind = λ i l. kept i (h.behind i l);
+}
+  where
+    kept : (i : ℕ) → get_or ss' i 0 ≡ get_or ss i 0 → get_or (entries_from ss' ls) i 0 ≡ get_or (entries_from ss ls) i 0
+    kept i same = elim (cases_lt i (length ss)) [
+      | inl l ↦
+          narrow-at ss' ls i (omega (arith, l, h.same_length)) (omega (arith, none))
+          ∙ ap narrow_entry same
+          ∙ sym (narrow-at ss ls i l (omega (arith, none)))
+      | inr past ↦
+          get_or_past (entries_from ss' ls) i 0 (omega (arith, past, h.same_length, halves-length ss' ls))
+          ∙ sym (get_or_past (entries_from ss ls) i 0 (omega (arith, past, halves-length ss ls)))
+    ]
+
+-- and there is room for them
+pub split-changed : (f : ℕ → ℕ) (ss ss' ls : List ℕ) (start k : ℕ) → ((s : ℕ) → f s ≤ 255) → length ls ≡ 0 → AreChanged f ss ss' start k → ((i : ℕ) → IsCountSplit (get_or ss i 0) (get_or ls i 0))
+    → (i : ℕ) → IsCountSplit (get_or ss' i 0) (get_or ls i 0)
+split-changed f ss ss' ls start k small none h each i = elim (cases_lt i start) [
+  | inl l ↦ kept (h.below i l)
+  | inr after ↦ elim (cases_lt i (start + k)) [
+    | inl l ↦
+        let at : start + (i - start) ≡ i = omega (arith, after) in
+        let is : get_or ss' i 0 ≡ f (get_or ss (start + (i - start)) 0) = ap (λ j. get_or ss' j 0) (sym at) ∙ h.changed (i - start) (omega (arith, l, after)) in
+        let past : get_or ls i 0 ≡ 0 = get_or_past ls i 0 (omega (arith, none)) in
+        record { limit = omega (arith, is, past, small (get_or ss (start + (i - start)) 0)); some = λ some. absurd (omega (arith, some, past)) }
+    | inr l ↦ kept (h.behind i l)
+  ]
+]
+  where
+    kept : get_or ss' i 0 ≡ get_or ss i 0 → IsCountSplit (get_or ss' i 0) (get_or ls i 0)
+    kept same = subst (λ x. IsCountSplit x (get_or ls i 0)) (sym same) (each i)

@@ -2,7 +2,8 @@ pub mod Problems
 pub mod Places
 pub mod HalfLemmas
 pub mod Marking
-pub mod FourMarks
+pub mod PairLemmas
+pub mod FormLemmas
 pub mod Loading
 pub mod Removals
 pub mod SizeLemmas

@@ -1,10 +1,10 @@
 -- The counters set one after another.
-use Rattle.std.proofs.Common.{◌≡◌, ℕ, ◌+◌, ◌-◌, ◌*◌, ◌%◌, ◌<◌, ◌≤◌, ◌⊎◌, Bool, Some, refl, List, length, get_or, take, drop, set, sym, ◌∙◌, ap, subst, arith, inl, inr}
-use Rattle.std.specs.Prelude.{count_by, filter}
+use Rattle.std.proofs.Common.{◌≡◌, ℕ, ◌+◌, ◌-◌, ◌*◌, ◌%◌, ◌<◌, ◌≤◌, ◌⊎◌, Bool, Some, refl, List, length, get_or, set, sym, ◌∙◌, ap, subst, arith, inl, inr}
+use Rattle.std.specs.Prelude.{count_by, filter, slice_index}
 use Rattle.std.specs.List.{range_with_len}
 use Rattle.std.proofs.lemmas.Bool.{cases_eq, cases_lt}
 use Rattle.std.proofs.Math.Nat.{mul-le-mul_right}
-use Rattle.std.proofs.lemmas.List.{length-set, length-take, length-drop, get_or-take, get_or-drop, get_or-set_same, get_or-set_other, get_or_past}
+use Rattle.std.proofs.lemmas.List.{length-set, get_or-set_same, get_or-set_other, get_or_past}
 use Rattle.std.proofs.lemmas.Nat.{mul-add-lt}
 use Rattle.std.proofs.lemmas.List.Sums.{length-filter}
 use Rattle.std.proofs.lemmas.List.FromFn.{length-range_with_len}
@@ -14,10 +14,11 @@ use Rattle.wfc_problem.specs.Network.{Network, values, neighbour, supports_of, I
 use Rattle.wfc_problem.specs.Domains.{Test, count_at, support_count}
 use Rattle.wfc_log.specs.Domains.{Flags, has, size_of}
 use Rattle.wfc_domains.specs.Counters.{Table, with_count, entry_of, counts_of, count_place, counter_place}
-use Rattle.wfc_domains.specs.Halves.{entries_from, limit_from}
-use Rattle.wfc_domains.specs.Parts.{IsCountSplit}
+use Rattle.wfc_domains.specs.Halves.{entries_from}
+use Rattle.wfc_domains.specs.Singles.{IsCountSplit, LimitedEntries}
+use Rattle.wfc_domains.specs.Forms.{table_with}
 use Rattle.wfc_domains.specs.Loaded.{AreLoaded, IsSurrounded, IsCopied, IsRowCopied}
-use Rattle.wfc_domains.proofs.HalfLemmas.{halves-length, same-entry, limit-length}
+use Rattle.wfc_domains.proofs.HalfLemmas.{halves-length, same-entry}
 use Rattle.wfc_domains.proofs.Problems.{supports-below}
 use Rattle.wfc_domains.proofs.Places.{place-same, place_in-lt, place-is, counts_are}
 
@@ -110,21 +111,9 @@ loaded-copied P D T T' from to h earlier to_in like here copy = record {
     row-before : (c v d : ℕ) → c < to → v < values P → d < P.dirs → counter_place P c v d < counter_place P to 0 0
     row-before c v d l hv hd = omega (arith, place_in-lt (values P) P.dirs c v d to l hv hd)
 
--- the numbers of a cell's row are its counts
-pub row-positive : (n k cells cell : ℕ) (xs ys : List ℕ) → ys ≡ xs → length xs ≡ (cells * n) * k → cell < cells
-    → ((i : ℕ) → i < length (take (cell * (n * k) + n * k - cell * (n * k)) (drop (cell * (n * k)) ys)) → 0 < get_or (take (cell * (n * k) + n * k - cell * (n * k)) (drop (cell * (n * k)) ys)) i 0 % 128)
-    → (v d : ℕ) → v < n → d < k → 0 < get_or xs (count_place n k cell v d) 0 % 128
-row-positive n k cells cell xs ys same whole hc h v d hv hd =
-    let start = cell * (n * k) in
-    let m = start + n * k - start in
-    let i = v * k + d in
-    let inside : i < n * k = omega (arith, mul-add-lt v k d n hv hd) in
-    let short : i < m = omega arith in
-    let rows : (cell + 1) * (n * k) ≤ cells * (n * k) = mul-le-mul_right (n * k) (let z : cell + 1 ≤ cells = omega arith in z) in
-    let long : i < length (take m (drop start ys)) = omega (arith, length-take m (drop start ys), length-drop start ys, ap length same) in
-    let pos = h i long in
-    let read : get_or (take m (drop start ys)) i 0 ≡ get_or xs (count_place n k cell v d) 0 = get_or-take m (drop start ys) i 0 short ∙ get_or-drop start ys i 0 ∙ ap (λ zs. get_or zs (start + i) 0) same ∙ ap (λ j. get_or xs j 0) (sym (place_in-row n k cell v d)) in
-    omega (arith, ap (λ x. x % 128) read)
+-- the entries of a cell's row
+pub row_some : (n k cell : ℕ) (xs : List ℕ) → ((i : ℕ) → i < n * k → 0 < slice_index xs (cell * (n * k) + i) % 32768) → (v d : ℕ) → v < n → d < k → 0 < slice_index xs (count_place n k cell v d) % 32768
+row_some n k cell xs h v d hv hd = subst (λ p. 0 < slice_index xs p % 32768) (sym (place_in-row n k cell v d)) (h (v * k + d) (omega (arith, mul-add-lt v k d n hv hd)))
 
 -- a row fits at each cell
 pub row-in : (n k cells from to places : ℕ) → places ≡ (cells * n) * k → to < cells → to * (n * k) + (from * (n * k) + n * k - from * (n * k)) ≤ places
@@ -141,31 +130,39 @@ row_none ls start row dest none = record {
   same_length = refl;
 }
 
--- entries of which both parts were copied from another row
-pub copied-row : (n k cells from to : ℕ) (ss ss' ls ls' : List ℕ) → length ss ≡ (cells * n) * k → (length ls ≡ 0) ⊎ (length ls ≡ length ss) → from < cells → to < cells
-    → IsRowCopied ss ss' (from * (n * k)) (n * k) (to * (n * k)) → IsRowCopied ls ls' (from * (n * k)) (n * k) (to * (n * k))
-    → IsCopied (record { cells = cells; values = n; dirs = k; limit = limit_from ls; counts = entries_from ss ls }) (record { cells = cells; values = n; dirs = k; limit = limit_from ls'; counts = entries_from ss' ls' }) from to
-copied-row n k cells from to ss ss' ls ls' whole both hf ht cs cl = record {
+-- entries of which both parts were copied
+pub copied-entries : (ss ss' ls ls' : List ℕ) (start row dest : ℕ) → (length ls ≡ 0) ⊎ (length ls ≡ length ss) → start + row ≤ dest → dest + row ≤ length ss → IsRowCopied ss ss' start row dest → IsRowCopied ls ls' start row dest
+    → IsRowCopied (entries_from ss ls) (entries_from ss' ls') start row dest
+copied-entries ss ss' ls ls' start row dest both before inside cs cl = record {
+  copied = λ i l. same-entry ss ls ss' ls' (dest + i) (start + i) (omega (arith, l, inside, cs.same_length)) (omega (arith, l, before, inside)) cs.same_length cl.same_length both (cs.copied i l) (cl.copied i l);
+  below = λ i l. kept i (cs.below i l) (cl.below i l);
+  behind = λ i l. kept i (cs.behind i l) (cl.behind i l);
+  same_length = long;
+}
+  where
+    long : length (entries_from ss' ls') ≡ length (entries_from ss ls)
+    long = halves-length ss' ls' ∙ cs.same_length ∙ sym (halves-length ss ls)
+
+    kept : (i : ℕ) → get_or ss' i 0 ≡ get_or ss i 0 → get_or ls' i 0 ≡ get_or ls i 0 → get_or (entries_from ss' ls') i 0 ≡ get_or (entries_from ss ls) i 0
+    kept i small large = elim (cases_lt i (length ss)) [
+      | inl l ↦ same-entry ss ls ss' ls' i i (omega (arith, l, cs.same_length)) l cs.same_length cl.same_length both small large
+      | inr past ↦ get_or_past (entries_from ss' ls') i 0 (omega (arith, past, long, halves-length ss ls)) ∙ sym (get_or_past (entries_from ss ls) i 0 (omega (arith, past, halves-length ss ls)))
+    ]
+
+-- a cell's entries that were copied to another
+pub copied-table : (n k cells from to : ℕ) (e e' : LimitedEntries) → length e.entries ≡ (cells * n) * k → to < cells → e'.limit ≡ e.limit → IsRowCopied e.entries e'.entries (from * (n * k)) (n * k) (to * (n * k))
+    → IsCopied (table_with cells n k e) (table_with cells n k e') from to
+copied-table n k cells from to e e' whole ht limits h = record {
   same_cells = refl;
   same_values = refl;
   same_dirs = refl;
-  same_limit = limit-length ls' ls cl.same_length;
-  same_length = halves-length ss' ls' ∙ cs.same_length ∙ sym (halves-length ss ls);
+  same_limit = limits;
+  same_length = h.same_length;
   copied = λ v d hv hd.
       let j = v * k + d in
       let hj : j < n * k = omega (arith, mul-add-lt v k d n hv hd) in
-      let p = count_place n k to v d in
-      let q = count_place n k from v d in
-      let pi : p < length ss' = omega (arith, place_in-lt n k to v d cells ht hv hd, whole, cs.same_length) in
-      let qi : q < length ss = omega (arith, place_in-lt n k from v d cells hf hv hd, whole) in
-      let small : get_or ss' p 0 ≡ get_or ss q 0 = ap (λ x. get_or ss' x 0) (place_in-row n k to v d) ∙ cs.copied j hj ∙ ap (λ x. get_or ss x 0) (sym (place_in-row n k from v d)) in
-      let large : get_or ls' p 0 ≡ get_or ls q 0 = ap (λ x. get_or ls' x 0) (place_in-row n k to v d) ∙ cl.copied j hj ∙ ap (λ x. get_or ls x 0) (sym (place_in-row n k from v d)) in
-      same-entry ss ls ss' ls' p q pi qi cs.same_length cl.same_length both small large;
-  others = λ c v d hc hv hd.
-      let p = count_place n k c v d in
-      let before : p < to * (n * k) = omega (arith, place_in-lt n k c v d to hc hv hd, place_in-row n k to 0 0) in
-      let inside : p < length ss = omega (arith, place_in-lt n k c v d cells (omega arith) hv hd, whole) in
-      same-entry ss ls ss' ls' p p (omega (arith, inside, cs.same_length)) inside cs.same_length cl.same_length both (cs.below p before) (cl.below p before);
+      ap (slice_index e'.entries) (place_in-row n k to v d) ∙ h.copied j hj ∙ ap (slice_index e.entries) (sym (place_in-row n k from v d));
+  others = λ c v d hc hv hd. h.below (count_place n k c v d) (omega (arith, place_in-lt n k c v d to hc hv hd, place_in-row n k to 0 0));
 }
 
 -- parts that were copied

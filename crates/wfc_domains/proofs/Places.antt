@@ -1,11 +1,11 @@
 -- Where the counters of a problem stand in their table.
-use Rattle.std.proofs.Common.{◌≡◌, ℕ, ◌+◌, ◌*◌, ◌/◌, ◌%◌, ◌<◌, get_or, map, sym, ◌∙◌, ap, arith, inl, inr}
+use Rattle.std.proofs.Common.{◌≡◌, ℕ, zero, suc, ◌≤◌, ◌+◌, ◌*◌, ◌/◌, ◌%◌, ◌<◌, get_or, map, sym, ◌∙◌, ap, arith, inl, inr}
 use Rattle.std.specs.List.{range_with_len}
 use Rattle.std.proofs.lemmas.Bool.{cases_lt}
 use Rattle.std.proofs.lemmas.List.{ext_get_or}
 use Rattle.std.proofs.lemmas.List.FromFn.{get_or-map-range_with_len, length-map-range_with_len}
 use Rattle.std.proofs.lemmas.Nat.{same_from_place, mul-add-lt, div-add-mod', div_below, div-mul-add, mod-mul-add}
-use Rattle.std.proofs.Math.Nat.{mod-lt}
+use Rattle.std.proofs.Math.Nat.{mod-lt, mul-le-mul_right}
 use Rattle.wfc_problem.specs.Network.{Network, values}
 use Rattle.wfc_problem.specs.Domains.{Test, support_count}
 use Rattle.wfc_domains.specs.Counters.{Table, FitsTable, entry_of, counts_of, count_place, counter_place}
@@ -22,6 +22,18 @@ pub place_in-lt : (n k c v d cells : ℕ) → c < cells → v < n → d < k → 
 place_in-lt n k c v d cells hc hv hd =
     let row : c * n + v < cells * n = omega (arith, mul-add-lt c n v cells hc hv) in
     omega (arith, mul-add-lt (c * n + v) k d (cells * n) row hd)
+
+-- and so are the places of a value at a cell in all directions, which are few
+pub rows_in : (n k c v cells : ℕ) → c < cells → v < n → 0 < k → (c * n ≤ (cells * n) * k) × (c * n + v ≤ (cells * n) * k) × ((c * n + v) * k + k ≤ (cells * n) * k)
+rows_in n k c v cells hc hv hk =
+    let row : c * n + v < cells * n = omega (arith, mul-add-lt c n v cells hc hv) in
+    let all : (c * n + v + 1) * k ≤ (cells * n) * k = mul-le-mul_right k (let z : c * n + v + 1 ≤ cells * n = omega arith in z) in
+    let some : cells * n ≤ (cells * n) * k = le-mul (cells * n) k hk in
+    (omega arith, omega arith, omega (arith, all))
+  where
+    le-mul : (a k : ℕ) → 0 < k → a ≤ a * k
+    le-mul a zero h = absurd (omega arith)
+    le-mul a (suc k) h = omega arith
 
 -- where a table of the problem has it
 pub place-is : (P : Network) (T : Table) → FitsTable P T → (c v d : ℕ) → counter_place P c v d ≡ count_place T.values T.dirs c v d

@@ -1,7 +1,9 @@
 pub mod Counters
 pub mod Halves
 pub mod Pairs
-pub mod Parts
+pub mod Singles
+pub mod Changes
+pub mod Forms
 pub mod Removals
 pub mod Store
 pub mod Loaded

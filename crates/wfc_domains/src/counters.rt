@@ -1,6 +1,6 @@
 //! Support counters: how many supports each value has left beside each cell.
 
-ghost use Rattle.std.specs.Prelude.{◌≡◌, ℕ, ◌*◌, ◌%◌, ◌<◌, ◌≤◌, ◌⊎◌, ◌↔◌, IfOk, IsFalse, IsTrue, length, slice_index};
+ghost use Rattle.std.specs.Prelude.{◌≡◌, ℕ, ◌+◌, ◌*◌, ◌%◌, ◌<◌, ◌≤◌, ◌^◌, ◌⊎◌, ◌↔◌, IfOk, IsFalse, IsTrue, length};
 ghost use Rattle.wfc_problem.specs.Network.{values, supports_of};
 ghost use Rattle.wfc_domains.specs.Counters.{FitsTable, count_of, count_place, no_counts};
 
@@ -8,38 +8,50 @@ mod loading;
 pub mod lowering;
 mod marking;
 
+use crate::pairs::Pairs;
+use crate::singles::Singles;
 use std::alloc::Global;
 use std::marker::Model;
 use std::mem::replace;
 use wfc_outside::NoMemory;
 use wfc_problem::Problem;
 
-/// How much the part of a marked count is above that of the count alone.
-const HALF: u8 = 128;
-
-/// The largest count that needs no large part.
+/// The largest count for which a byte has room beside its mark.
 const SMALL: usize = 127;
 
+/// The largest count of which two share a byte, each beside its mark.
+const SMALLEST: usize = 7;
+
+/// How many entries a cell must have, for two to share a byte: with fewer, those of a cell lie in one line of a
+/// processor's cache as they are.
+const LONG_ROW: usize = 64;
+
+/// How many entries there must be, for two to share a byte: with fewer they take little memory as they are, and one
+/// alone is lowered faster.
+const MANY: usize = 1_000_000;
+
 /// One count for each cell, value and direction. Each can be marked beside, where no value has more than 127 supports
-/// in a direction: a count and its mark take one byte then, and else a count takes two. A mark leaves the count as it is.
+/// in a direction: a count and its mark take one byte then, and else a count takes two. Where no value has more than 7,
+/// and there are many counts, two of them share a byte, each with its mark. A mark leaves the count as it is.
 #[derive(Drop)]
 pub struct Counters {
     cells: u32,
     values: usize,
     dirs: usize,
-    small: Vec<u8>,
-    large: Vec<u8>,
+    is_paired: bool,
+    pairs: Pairs,
+    singles: Singles,
 }
 
 impl Model for Counters {
     ghost use Rattle.wfc_domains.specs.Counters.{Table};
-    ghost use Rattle.wfc_domains.specs.Parts.{table_of, AreParts};
+    ghost use Rattle.wfc_domains.specs.Forms.{table_of, AreCounters};
 
     ghost Value = { Table };
 
     ghost view = { table_of };
 
-    ghost invariant = { AreParts };
+    ghost invariant = { AreCounters };
 }
 
 impl Counters {
@@ -52,14 +64,30 @@ impl Counters {
         let values = problem.values() as usize;
         let dirs = problem.dirs() as usize;
         let places = cells as usize * values * dirs;
-        let large = large_places(problem, places);
+        let longest = longest_list(problem);
+        let is_paired = are_paired(longest, values * dirs, places);
+        let paired = if is_paired { places } else { 0 };
+        let alone = places - paired;
         Ok(Counters {
             cells,
             values,
             dirs,
-            small: vec![in alloc; 0; places]?,
-            large: vec![in alloc; 0; large]?,
+            is_paired,
+            pairs: Pairs::zeros(alloc, paired / 2)?,
+            singles: Singles::zeros(alloc, alone, large_places(longest, alone))?,
         })
+    }
+
+    /// Where the counts of a value at a cell begin.
+    #[inline]
+    fn first_place(&self, cell: u32, value: u16) -> usize
+        requires cell_in { cell < self.now.cells }
+        requires value_in { value < self.now.values }
+        ensures value { result ≡ count_place self.now.values self.now.dirs cell value 0 }
+        ensures inside { result + self.now.dirs ≤ length self.now.counts }
+        ensures few { length self.now.counts < 2 ^ 63 }
+    {
+        (cell as usize * self.values + value as usize) * self.dirs
     }
 
     /// Where the count of a value at a cell in a direction stands.
@@ -71,7 +99,7 @@ impl Counters {
         ensures value { result ≡ count_place self.now.values self.now.dirs cell value dir }
         ensures inside { result < length self.now.counts }
     {
-        (cell as usize * self.values + value as usize) * self.dirs + dir
+        self.first_place(cell, value) + dir
     }
 
     /// How many entries a cell has.
@@ -88,8 +116,7 @@ impl Counters {
     pub fn is_paired(&self) -> bool
         ensures paired { IsTrue result ↔ (self.now.limit ≡ 7) }
     {
-        let _ = self.large.len();
-        false
+        self.is_paired
     }
 
     /// Hands the table over, and leaves one without cells. It takes no memory.
@@ -97,13 +124,14 @@ impl Counters {
     pub fn take(&mut self) -> Counters
         ensures taken { result ≡ self.old }
     {
-        let alloc = *self.small.allocator();
+        let alloc = self.singles.allocator();
         let none = Counters {
             cells: 0,
             values: 0,
             dirs: 0,
-            small: Vec::new(alloc),
-            large: Vec::new(alloc),
+            is_paired: false,
+            pairs: Pairs::none(alloc),
+            singles: Singles::none(alloc),
         };
         replace(self, none)
     }
@@ -117,11 +145,10 @@ impl Counters {
         ensures value { result ≡ count_of self.now cell value dir }
     {
         let place = self.place(cell, value, dir as usize);
-        let small = u32::from(self.small[place]);
-        if place < self.large.len() {
-            small + 255 * u32::from(self.large[place])
+        if self.is_paired {
+            u32::from(self.pairs.count(place))
         } else {
-            small % 128
+            self.singles.count(place)
         }
     }
 
@@ -133,54 +160,50 @@ impl Counters {
     {
         let row = self.values * self.dirs;
         let start = cell as usize * row;
-        has_zero(&self.small[start..start + row])
+        if self.is_paired {
+            self.pairs.has_none(start, row)
+        } else {
+            self.singles.has_none(start, row)
+        }
     }
 }
 
-/// How many large parts there are beside so many small ones: as many, or none where no count needs one.
-fn large_places(problem: &Problem, places: usize) -> usize
+/// Whether two counts share a byte where no list is longer than this, a cell has so many entries and all cells this many.
+fn are_paired(longest: usize, row: usize, places: usize) -> bool
+    ensures few { IsTrue result → longest ≤ 7 }
+    ensures even { IsTrue result → row % 2 ≡ 0 }
+{
+    longest <= SMALLEST && row % 2 == 0 && row >= LONG_ROW && places > MANY
+}
+
+/// How many large parts there are beside so many small ones, where no list is longer than this: as many, or none where
+/// no count needs one.
+fn large_places(longest: usize, places: usize) -> usize
     ensures both { (result ≡ 0) ⊎ (result ≡ places) }
-    ensures few { 0 < places → result ≡ 0 → (v d : ℕ) → length (supports_of problem.now v d)
-        ≤ 127 }
+    ensures few { 0 < places → result ≡ 0 → longest ≤ 127 }
 {
-    if has_long_list(problem) { places } else { 0 }
+    if longest > SMALL { places } else { 0 }
 }
 
-/// Whether some value has more than 127 supports in a direction.
-fn has_long_list(problem: &Problem) -> bool
-    ensures none { IsFalse result → (v d : ℕ) → length (supports_of problem.now v d) ≤ 127 }
+/// The length of the longest list of supports.
+fn longest_list(problem: &Problem) -> usize
+    ensures longest { (v d : ℕ) → length (supports_of problem.now v d) ≤ result }
 {
+    let mut longest = 0;
     for value in 0..problem.values() {
-        if has_long_side(problem, value) {
-            return true;
-        }
+        longest = longest_side(problem, value).max(longest);
     }
-    false
+    longest
 }
 
-/// Whether a value has more than 127 supports in a direction.
-fn has_long_side(problem: &Problem, value: u16) -> bool
+/// The length of the longest list of supports of a value.
+fn longest_side(problem: &Problem, value: u16) -> usize
     requires value_in { value < values problem.now }
-    ensures none { IsFalse result → (d : ℕ) → length (supports_of problem.now value d) ≤ 127 }
+    ensures longest { (d : ℕ) → length (supports_of problem.now value d) ≤ result }
 {
+    let mut longest = 0;
     for dir in 0..problem.dirs() {
-        if problem.supports(value, dir).len() > SMALL {
-            return true;
-        }
+        longest = problem.supports(value, dir).len().max(longest);
     }
-    false
-}
-
-/// Whether a small part is 0 or 128: no count is 0 where none is.
-fn has_zero(entries: &[u8]) -> bool
-    ensures none { IsFalse result → (k : ℕ) → k < length entries.now
-        → 0 < slice_index entries.now k % 128 }
-{
-    let mut found = false;
-    for entry in entries {
-        if *entry % HALF == 0 {
-            found = true;
-        }
-    }
-    found
+    longest
 }

@@ -8,7 +8,8 @@ ghost use Rattle.wfc_problem.specs.Network.{in_base};
 ghost use Rattle.wfc_problem.specs.declared.Literal.TheVariants.{Is};
 ghost use Rattle.wfc_domains.specs.Counters.{count_of, with_count, counts_of, no_counts, cost_at, cost_of};
 ghost use Rattle.wfc_domains.specs.Halves.{entries_from, limit_from};
-ghost use Rattle.wfc_domains.specs.Parts.{IsCountSplit};
+ghost use Rattle.wfc_domains.specs.Pairs.{unit_at, mask_at, paired_entries};
+ghost use Rattle.wfc_domains.specs.Singles.{IsCountSplit};
 ghost use Rattle.wfc_log.specs.Domains.{has};
 ghost use Rattle.wfc_domains.specs.Removals.{without, IsUnsupported, IsCause, AreRemoved};
 ghost use Rattle.wfc_log.specs.Sample.{unsupported_removal, cut_first, later};
@@ -79,4 +80,11 @@ pub fn entries_are_read()
     ensures split { IsCountSplit 255 127 }
     ensures nothing_small { IsCountSplit 0 1 → ⊥ }
     ensures no_room { IsCountSplit 1 128 → ⊥ }
+{}
+
+/// Of two counts in a byte that at the even place is in the lower half; each is up to 7, beside its mark.
+pub fn pairs_are_read()
+    ensures entries { paired_entries (33 ∷ 143 ∷ []) ≡ 1 ∷ 2 ∷ 32775 ∷ 32768 ∷ [] }
+    ensures units { map unit_at (6 ∷ 7 ∷ []) ≡ 1 ∷ 16 ∷ [] }
+    ensures masks { map mask_at (6 ∷ 7 ∷ []) ≡ 15 ∷ 240 ∷ [] }
 {}

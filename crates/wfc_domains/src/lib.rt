@@ -3,11 +3,14 @@
 
 mod beside;
 mod board;
+mod copies;
 mod counters;
 pub mod examples;
 pub mod laws;
 mod levels;
+mod pairs;
 mod plain;
+mod singles;
 mod steps;
 mod store;
 

@@ -1,10 +1,10 @@
 //! Counters loaded with the supports that stand.
 
-ghost use Rattle.std.specs.Prelude.{◌≡◌, ◌+◌, ◌*◌, ◌<◌, ◌≤◌, IfSome, vec_len};
+ghost use Rattle.std.specs.Prelude.{◌≡◌, ◌+◌, ◌*◌, ◌<◌, ◌≤◌, IfSome};
 ghost use Rattle.wfc_problem.specs.Network.{values};
 ghost use Rattle.wfc_domains.specs.Counters.{FitsTable, with_count, counters_of, counts_of, counter_place};
 ghost use Rattle.wfc_log.specs.Domains.{Fits, has};
-ghost use Rattle.wfc_domains.specs.Loaded.{AreLoaded, IsLike, IsCopied, IsRowCopied};
+ghost use Rattle.wfc_domains.specs.Loaded.{AreLoaded, IsLike, IsCopied};
 
 use super::Counters;
 use crate::beside::{count_beside, is_surrounded};
@@ -58,9 +58,9 @@ impl Counters {
         Some(cell)
     }
 
-    /// Sets the entries of one cell to those of another. Each entry is one step.
+    /// Sets the entries of one cell to those of an earlier one. Each entry is one step.
     fn copy_cell<L: Ledger>(&mut self, from: u32, to: u32, steps: &mut Steps<L>)
-        requires from_in { from < self.old.cells }
+        requires earlier { from < to }
         requires to_in { to < self.old.cells }
         ensures copied { IsCopied self.old self.new from to }
         ensures steps { steps.new ≡ steps.old + self.old.values * self.old.dirs }
@@ -69,9 +69,10 @@ impl Counters {
         let start = from as usize * row;
         let dest = to as usize * row;
         steps.add(row as u64);
-        copy_row(&mut self.small, start, row, dest);
-        if self.large.len() > 0 {
-            copy_row(&mut self.large, start, row, dest);
+        if self.is_paired {
+            self.pairs.copy(start, row, dest);
+        } else {
+            self.singles.copy(start, row, dest);
         }
     }
 
@@ -131,32 +132,10 @@ impl Counters {
         ensures changed { self.new ≡ with_count self.old cell value dir count }
     {
         let place = self.place(cell, value, dir as usize);
-        if place < self.large.len() {
-            let large = large_part(count);
-            self.small[place] = (count - 255 * large) as u8;
-            self.large[place] = large as u8;
+        if self.is_paired {
+            self.pairs.set(place, count as u8);
         } else {
-            self.small[place] = count as u8;
+            self.singles.set(place, count);
         }
     }
-}
-
-/// The large part of a count. What it leaves for the small one is 0 only where the count is.
-fn large_part(count: u16) -> u16
-    requires limit { count ≤ 32640 }
-    ensures room { 255 * result ≤ count }
-    ensures rest { count ≤ 255 * result + 255 }
-    ensures few { result ≤ 127 }
-    ensures some { 0 < result → 255 * result < count }
-{
-    if count == 0 { 0 } else { (count - 1) / 255 }
-}
-
-/// Copies a row of parts to another place.
-fn copy_row(parts: &mut Vec<u8>, start: usize, row: usize, dest: usize)
-    requires start_in { start + row ≤ vec_len parts.old }
-    requires dest_in { dest + row ≤ vec_len parts.old }
-    ensures copied { IsRowCopied parts.old.items parts.new.items start row dest }
-{
-    parts.copy_within(start..start + row, dest);
 }

@@ -1,16 +1,12 @@
 //! Counters lowered and raised by one.
 
-ghost use Rattle.std.specs.Prelude.{◌≡◌, ◌≢◌, ◌+◌, ◌-◌, ◌%◌, ◌<◌, ◌↔◌, IsTrue};
-ghost use Rattle.std.specs.Prelude.{IsFalse, length, slice_index, slice_set, vec_len};
+ghost use Rattle.std.specs.Prelude.{◌≡◌, ◌≢◌, ◌+◌, ◌-◌, ◌%◌, ◌<◌, ◌↔◌, IsTrue, length, slice_index};
 ghost use Rattle.wfc_domains.specs.Counters.{count_of, entry_of, with_count, with_entry};
 ghost use Rattle.wfc_domains.specs.Pairs.{unit_at, mask_at};
 
 use super::Counters;
 use crate::steps::Steps;
 use std::sync::ledger::Ledger;
-
-/// How much one more in a large part is worth.
-const WHOLE: u8 = 255;
 
 impl Counters {
     /// One less, and whether none is left and it isn't marked. It is one step.
@@ -39,13 +35,11 @@ impl Counters {
             ≡ with_entry self.old place (slice_index self.old.counts place - 1) }
         ensures steps { steps.new ≡ steps.old + 1 }
     {
-        steps.tick();
-        let left = self.small[place] - 1;
-        self.small[place] = left;
-        if left != 0 {
-            return false;
+        if self.is_paired {
+            self.down_pair(place, unit_at(place), mask_at(place), steps)
+        } else {
+            self.down_alone(place, steps)
         }
-        refill(&mut self.small, &mut self.large, place)
     }
 
     /// What `down_at` does where each count has a byte of its own.
@@ -59,7 +53,8 @@ impl Counters {
             ≡ with_entry self.old place (slice_index self.old.counts place - 1) }
         ensures steps { steps.new ≡ steps.old + 1 }
     {
-        self.down_at(place, steps)
+        steps.tick();
+        self.singles.down(place)
     }
 
     /// What `down_at` does where two counts share a byte: what one more at the place is in its byte, and which bits of it the
@@ -82,8 +77,8 @@ impl Counters {
             ≡ with_entry self.old place (slice_index self.old.counts place - 1) }
         ensures steps { steps.new ≡ steps.old + 1 }
     {
-        let _ = (unit, mask);
-        self.down_at(place, steps)
+        steps.tick();
+        self.pairs.down(place, unit, mask)
     }
 
     /// One more. It is one step.
@@ -99,11 +94,10 @@ impl Counters {
     {
         let place = self.place(cell, value, dir as usize);
         steps.tick();
-        let small = self.small[place];
-        if small == WHOLE {
-            carry(&mut self.small, &mut self.large, place);
+        if self.is_paired {
+            self.pairs.up(place);
         } else {
-            self.small[place] = small + 1;
+            self.singles.up(place);
         }
     }
 }
@@ -122,67 +116,4 @@ pub fn mask_at(place: usize) -> u8
     ensures value { result ≡ mask_at place }
 {
     if place % 2 == 0 { 15 } else { 240 }
-}
-
-/// Fills the small part of a count, which came to 0, from the large one. Whether there is nothing to fill it from.
-#[inline]
-fn refill(small: &mut Vec<u8>, large: &mut Vec<u8>, place: usize) -> bool
-    requires place_in { place < vec_len small.old }
-    ensures none { IsTrue result → (slice_index large.old.items place ≡ 0)
-        × (small.new.items ≡ small.old.items) × (large.new.items ≡ large.old.items) }
-    ensures some { IsFalse result → 0 < slice_index large.old.items place }
-    ensures small { IsFalse result → small.new.items ≡ slice_set small.old.items place 255 }
-    ensures large { IsFalse result → large.new.items
-        ≡ slice_set large.old.items place (slice_index large.old.items place - 1) }
-{
-    if large.len() == 0 {
-        return true;
-    }
-    refill_wide(small, large, place)
-}
-
-/// The same where there are large parts.
-#[inline(never)]
-fn refill_wide(small: &mut Vec<u8>, large: &mut Vec<u8>, place: usize) -> bool
-    requires place_in { place < vec_len small.old }
-    ensures none { IsTrue result → (slice_index large.old.items place ≡ 0)
-        × (small.new.items ≡ small.old.items) × (large.new.items ≡ large.old.items) }
-    ensures some { IsFalse result → 0 < slice_index large.old.items place }
-    ensures small { IsFalse result → small.new.items ≡ slice_set small.old.items place 255 }
-    ensures large { IsFalse result → large.new.items
-        ≡ slice_set large.old.items place (slice_index large.old.items place - 1) }
-{
-    let part = part_at(large, place);
-    if part == 0 {
-        return true;
-    }
-    small[place] = WHOLE;
-    large[place] = part - 1;
-    false
-}
-
-/// One more at a place whose small part is full.
-#[inline(never)]
-fn carry(small: &mut Vec<u8>, large: &mut Vec<u8>, place: usize)
-    requires place_in { place < vec_len small.old }
-    requires large_in { place < vec_len large.old }
-    requires room { slice_index large.old.items place < 255 }
-    ensures small { small.new.items ≡ slice_set small.old.items place 1 }
-    ensures large { large.new.items
-        ≡ slice_set large.old.items place (slice_index large.old.items place + 1) }
-{
-    let part = large[place];
-    small[place] = 1;
-    large[place] = part + 1;
-}
-
-/// The part at a place, 0 where there is none.
-#[inline]
-fn part_at(parts: &[u8], place: usize) -> u8
-    ensures value { result ≡ slice_index parts.now place }
-{
-    match parts.get(place) {
-        Some(part) => *part,
-        None => 0,
-    }
 }
