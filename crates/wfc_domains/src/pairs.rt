@@ -218,11 +218,9 @@ fn has_zero_half(bytes: &[u8]) -> bool
     ensures none { IsFalse result → (k : ℕ) → k < length bytes.now
         → (0 < slice_index bytes.now k % 8) × (0 < slice_index bytes.now k / 16 % 8) }
 {
-    let mut found = false;
+    let mut least = MARK;
     for byte in bytes {
-        if *byte % MARK == 0 || *byte / HALF % MARK == 0 {
-            found = true;
-        }
+        least = least.min(*byte % MARK).min(*byte / HALF % MARK);
     }
-    found
+    least == 0
 }
