@@ -193,7 +193,8 @@ impl Pairs {
 #[inline(never)]
 fn mark_halves(bytes: &mut [u8], start: usize, count: usize)
     requires start_in { start + count ≤ 2 * length bytes.old }
-    ensures marked { AreChanged marked_entry (paired_entries bytes.old) (paired_entries bytes.new) start count }
+    ensures marked { AreChanged marked_entry (paired_entries bytes.old)
+        (paired_entries bytes.new) start count }
 {
     for place in start..start + count {
         let byte = bytes[place / 2];
@@ -205,7 +206,8 @@ fn mark_halves(bytes: &mut [u8], start: usize, count: usize)
 #[inline]
 fn unmark_halves(bytes: &mut [u8], start: usize, count: usize)
     requires start_in { start + count ≤ 2 * length bytes.old }
-    ensures unmarked { AreChanged plain_entry (paired_entries bytes.old) (paired_entries bytes.new) start count }
+    ensures unmarked { AreChanged plain_entry (paired_entries bytes.old)
+        (paired_entries bytes.new) start count }
 {
     for place in start..start + count {
         let byte = bytes[place / 2];

@@ -128,7 +128,8 @@ impl Singles {
     pub fn set(&mut self, place: usize, count: u16)
         requires place_in { place < length self.old.entries }
         requires limit { count ≤ self.old.limit }
-        ensures changed { self.new ≡ record self.old { entries = slice_set self.old.entries place count } }
+        ensures changed { self.new
+            ≡ record self.old { entries = slice_set self.old.entries place count } }
     {
         if place < self.large.len() {
             let large = large_part(count);

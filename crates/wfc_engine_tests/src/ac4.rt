@@ -73,7 +73,7 @@ fn flags(alloc: Global, problem: &Problem, domains: &Domains) -> Result<Vec<bool
 }
 
 /// Whether each counter is as a fresh loading counts it.
-fn counts_afresh<L: Ledger>(
+pub fn counts_afresh<L: Ledger>(
     alloc: Global,
     problem: &Problem,
     engine: &Ac4,
@@ -113,7 +113,7 @@ fn act<S: Store, L: Ledger>(
 }
 
 /// Takes the last literal away, if one stands.
-fn go_back<S: Store, L: Ledger>(problem: &Problem, store: &mut S, steps: &mut Steps<L>)
+pub fn go_back<S: Store, L: Ledger>(problem: &Problem, store: &mut S, steps: &mut Steps<L>)
     requires problem { (S.view store.old).problem ≡ problem.now }
     ensures problem { (S.view store.new).problem ≡ problem.now }
 {

@@ -7,3 +7,5 @@ mod ac4;
 mod choose;
 #[cfg(test)]
 mod largest;
+#[cfg(test)]
+mod paired;
