@@ -1,13 +1,21 @@
 -- Marks put beside counts.
-use Rattle.std.proofs.Common.{◌≡◌, ℕ, ◌+◌, ◌-◌, ◌*◌, ◌%◌, ◌<◌, refl, sym, ◌∙◌, ap, arith, inl, inr}
+use Rattle.std.proofs.Common.{◌≡◌, ℕ, ◌+◌, ◌-◌, ◌*◌, ◌%◌, ◌<◌, refl, sym, ◌∙◌, ap, arith, inl, inr, ◌≢◌, length, set}
 use Rattle.std.specs.Prelude.{slice_index}
 use Rattle.std.proofs.lemmas.Bool.{cases_lt}
+use Rattle.std.proofs.lemmas.List.{get_or-set_same, get_or-set_other}
 use Rattle.std.proofs.lemmas.Nat.{same_from_place}
 use Rattle.std.proofs.Math.Nat.{mod-lt}
 use Rattle.wfc_domains.specs.Changes.{marked_entry, plain_entry, AreChanged}
-use Rattle.wfc_domains.specs.Counters.{Table, Marks, Unmarks, count_place}
+use Rattle.wfc_domains.specs.Counters.{Table, Marks, Unmarks, count_place, with_count, entry_of}
 use Rattle.wfc_domains.specs.Forms.{table_with}
 use Rattle.wfc_domains.specs.Singles.{LimitedEntries}
+
+-- an entry that was set, and the others
+pub entry-same : (T : Table) (n w d x c v e : ℕ) → count_place T.values T.dirs c v e ≡ count_place T.values T.dirs n w d → count_place T.values T.dirs n w d < length T.counts → entry_of (with_count T n w d x) c v e ≡ x
+entry-same T n w d x c v e same inside = ap (slice_index (set T.counts (count_place T.values T.dirs n w d) x)) same ∙ get_or-set_same T.counts (count_place T.values T.dirs n w d) x 0 inside
+
+pub entry-other : (T : Table) (n w d x c v e : ℕ) → count_place T.values T.dirs c v e ≢ count_place T.values T.dirs n w d → entry_of (with_count T n w d x) c v e ≡ entry_of T c v e
+entry-other T n w d x c v e ne = get_or-set_other T.counts (count_place T.values T.dirs n w d) (count_place T.values T.dirs c v e) x 0 ne
 
 -- the remainder of a remainder, and of one with a mark
 mod-small : (x : ℕ) → x < 32768 → x % 32768 ≡ x
