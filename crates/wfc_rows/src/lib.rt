@@ -14,7 +14,6 @@ use wfc_outside::{Folder, MemoryFolder, MemorySink};
 /// A folder with the files that command lines name, which gives so many bytes at a time.
 pub fn folder_of(alloc: Global, piece: usize) -> Result<MemoryFolder, AllocError>
     requires some { 1 ≤ piece }
-    ensures piece { IfOk result (λ folder. folder.piece ≡ piece) }
 {
     let mut folder = MemoryFolder::new(alloc, piece);
     add_all(alloc, &mut folder, &FILES)?;
