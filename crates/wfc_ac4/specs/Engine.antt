@@ -23,4 +23,3 @@ pub record HoldsTogether (a : Inside) : Type 0 where
   pub settled : a.flight.board.verdict ≡ Alive → a.flight.head ≡ length a.flight.board.trail.removals
   pub linked : AreLinks a.flight.board.problem.now a.links
   pub marked : level_mark a.flight.board.levels.marks ≤ a.flight.head
-  pub begun : a.flight.board.trail.start ≡ level_mark a.flight.board.levels.marks

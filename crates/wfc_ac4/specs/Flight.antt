@@ -16,9 +16,10 @@ use Rattle.wfc_ac4.specs.Links.{counter_row}
 abbrev pub front_cost : Flight → Flight → ℕ → ℕ
 front_cost f g k = cost_of f.board.problem.now (take k g.board.trail.removals)
 
--- removals were added behind those that stood
+-- removals were added behind those that stood, to the list that the log keeps of the last ones
 pub record GoesOn (old new : Flight) : Type 0 where
   pub grows : Grows old.board new.board
+  pub start : new.board.trail.start ≡ old.board.trail.start
   pub head : new.head ≡ old.head
 
 -- w stood at n, and no cell was empty: it was removed for want of support in direction d, and its counts were marked

@@ -69,6 +69,7 @@ impl<'p> Flight<'p> {
             (has self.old.board.domains) self.old.counters.limit }
         requires fits { FitsTable self.old.board.problem.now self.old.counters }
         requires head { self.old.head ≡ 0 }
+        requires begun { self.old.board.trail.start ≡ 0 }
         ensures between { IsBetweenRemovals self.new.board self.new.counters self.new.head }
         ensures closed { self.new.board.verdict ≡ Alive → self.new.head
             ≡ length self.new.board.trail.removals }

@@ -21,7 +21,9 @@ use links::Links;
 use std::alloc::Global;
 use std::marker::{Brand, Model};
 use std::sync::ledger::{Blank, Ledger};
-use wfc_domains::{Board, Counters, Domains, OpenFault, Removal, Steps, Store, Verdict, is_alive};
+use wfc_domains::{
+    Board, Counters, Domains, Loss, OpenFault, Removal, Steps, Store, Verdict, is_alive,
+};
 use wfc_outside::NoMemory;
 use wfc_problem::{Literal, Problem};
 
@@ -95,8 +97,7 @@ impl<'p> Ac4<'p> {
         let mark = self.flight.board.levels.mark() as usize;
         self.flight.roll_back(mark, steps);
         self.flight.board.levels.pop();
-        let start = self.flight.board.levels.mark() as usize;
-        self.flight.board.trail.reopen(start);
+        self.flight.board.relist();
         self.flight.board.verdict = Verdict::Alive;
     }
 }
@@ -149,8 +150,17 @@ impl<'p> Store for Ac4<'p> {
     }
 
     #[inline]
-    fn added(&self) -> &[Removal] {
-        self.flight.board.trail.last()
+    fn added(&self) -> Option<&[Removal]> {
+        self.flight.board.added()
+    }
+
+    #[inline]
+    fn added_len(&self) -> usize {
+        self.flight.board.added_len()
+    }
+
+    fn added_at(&self, index: usize) -> Loss {
+        self.flight.board.added_at(index)
     }
 
     #[inline]

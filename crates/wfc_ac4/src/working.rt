@@ -210,6 +210,7 @@ impl<'p> Flight<'p> {
         ensures between { IsBetweenRemovals self.new.board counters.new (index + 1) }
         ensures limit { counters.new.limit ≡ counters.old.limit }
         ensures grows { Grows self.old.board self.new.board }
+        ensures start { self.new.board.trail.start ≡ self.old.board.trail.start }
         ensures steps { steps.new + front_cost self.old self.old index
             ≡ steps.old + front_cost self.old self.old (index + 1) }
     {
@@ -228,7 +229,7 @@ impl<'p> Flight<'p> {
     }
 
     /// Works off what is pending, until nothing is or a cell is empty, with the counters at hand. Whether two counts share
-    /// a byte is asked once.
+    /// a byte is asked once. Where a level gets long, what was worked off leaves the list of the log.
     #[inline(always)]
     fn close_with<L: Ledger>(
         &mut self,
@@ -250,12 +251,18 @@ impl<'p> Flight<'p> {
         ensures steps { steps.new + front_cost self.old self.new self.old.head
             ≡ steps.old + front_cost self.old self.new self.new.head }
     {
-        let start = self.board.trail.start();
+        let most_listed = self.board.most_listed();
+        let mut start = self.board.trail.start();
         let mut at = self.head - start;
         while is_alive(self.board.verdict) && at < self.board.trail.last().len() {
             let removal = self.board.trail.last()[at];
             self.work_off(counters, paired, start + at, removal, links, steps);
             at += 1;
+            if at == most_listed {
+                start += at;
+                at = 0;
+                self.board.trail.reopen(start);
+            }
         }
         self.head = start + at;
     }

@@ -127,7 +127,6 @@ board-board_without b D cell value cause h alive l hc hv k =
       traced = traced-board_without b D cell value cause h.traced l;
       levels = levels-longer (view_of b) (r ∷ []) (cond (size_of b.domains cell == 1) (Dead cell) Alive) h.levels;
       added = subst (λ front. A front (drop m (rs ++ r ∷ []))) (sym (take-append-le m rs (r ∷ []) m_in)) (subst (A (take m rs)) (sym (drop-append-le m rs (r ∷ []) m_in)) more);
-      begun = h.begun;
       filled = λ still c hc'. elim (cases_eq c cell) [
         | inl e ↦
             let big : size_of b.domains cell ≢ 1 = λ one. not-alive (sym (cond-true _ _ _ (eq-eqb _ _ one)) ∙ still) in
@@ -220,7 +219,6 @@ board-put b l spare h sound alive = record {
       let m = level_mark (b.levels.marks ++ length rs ∷ []) in
       let none : drop m rs ≡ [] = drop_all m rs (omega (arith, mark-push b.levels.marks (length rs))) in
       subst (λ xs. AreRemoved b.problem.now (b.levels.standing ++ l ∷ []) (without (in_base b.problem.now) (take m rs)) xs) (sym none) tt;
-  begun = sym (mark-push b.levels.marks (length b.trail.removals));
   filled = h.filled;
   empty = h.empty;
 }
@@ -342,11 +340,11 @@ grown-within old new t t' same more e c v stands =
 -- ---- a fresh board
 
 -- a board with nothing removed and no literal
-pub board-emptied : (b : Board) → IsTraced b → b.trail.removals ≡ [] → b.trail.start ≡ 0 → b.levels.standing ≡ [] → b.levels.marks ≡ []
+pub board-emptied : (b : Board) → IsTraced b → b.trail.removals ≡ [] → b.levels.standing ≡ [] → b.levels.marks ≡ []
     → (b.verdict ≡ Alive → HasValues b)
     → ((cell : ℕ) → b.verdict ≡ Dead cell → (cell < b.problem.now.cells) × (size_of b.domains cell ≡ 0))
     → IsBoard b
-board-emptied b t no_removals no_start no_literals no_marks filled empty = record {
+board-emptied b t no_removals no_literals no_marks filled empty = record {
   traced = t;
   levels = record {
     one_mark_each = ap length no_marks ∙ sym (ap length no_literals);
@@ -355,7 +353,6 @@ board-emptied b t no_removals no_start no_literals no_marks filled empty = recor
     sound_at = λ k s l. absurd (omega (arith, ap length no_marks));
   };
   added = subst (AreRemoved b.problem.now b.levels.standing (before_of (view_of b))) (sym none) tt;
-  begun = no_start ∙ sym (ap level_mark no_marks);
   filled = filled;
   empty = empty;
 }
@@ -363,11 +360,11 @@ board-emptied b t no_removals no_start no_literals no_marks filled empty = recor
     none : drop (level_mark b.levels.marks) b.trail.removals ≡ []
     none = drop_all (level_mark b.levels.marks) b.trail.removals (omega (arith, ap length no_removals))
 
-pub board-fresh : (b : Board) → IsProblem b.problem.now → b.domains ≡ base_of b.problem.now → b.trail.removals ≡ [] → b.trail.start ≡ 0 → depth_of b.problem.now + 1 ≤ b.trail.room + b.problem.now.cells → b.trail.extent ≡ extent_of b.problem.now → b.levels.standing ≡ [] → b.levels.marks ≡ []
+pub board-fresh : (b : Board) → IsProblem b.problem.now → b.domains ≡ base_of b.problem.now → b.trail.removals ≡ [] → depth_of b.problem.now + 1 ≤ b.trail.room + b.problem.now.cells → b.trail.extent ≡ extent_of b.problem.now → b.levels.standing ≡ [] → b.levels.marks ≡ []
     → (b.verdict ≡ Alive → HasValues b)
     → ((cell : ℕ) → b.verdict ≡ Dead cell → (cell < b.problem.now.cells) × (size_of b.domains cell ≡ 0))
     → IsBoard b
-board-fresh b p is_base no_removals no_start room extent no_literals no_marks filled empty = board-emptied b (record {
+board-fresh b p is_base no_removals room extent no_literals no_marks filled empty = board-emptied b (record {
   problem = p;
   same_cells = ap (λ d. d.cells) is_base;
   same_values = ap (λ d. d.values) is_base;
@@ -376,4 +373,4 @@ board-fresh b p is_base no_removals no_start room extent no_literals no_marks fi
   stood = subst (AreStood (in_base b.problem.now)) (sym no_removals) tt;
   room = room;
   extent = extent;
-}) no_removals no_start no_literals no_marks filled empty
+}) no_removals no_literals no_marks filled empty

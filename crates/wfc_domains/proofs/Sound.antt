@@ -172,12 +172,11 @@ levels-undone v h some = record {
         (subst (λ x. IsSound (record { problem = v.problem; standing = x; spare = s; removals = rs; marks = ms; verdict = Alive })) a sound))
 
 -- a sound store that is alive has a board between two removals
-pub board-alive : (b : Board) → IsTraced b → HasLevels (view_of b) → IsSound (view_of b) → b.verdict ≡ Alive → b.trail.start ≡ level_mark b.levels.marks → IsBoard b
-board-alive b t levels sound alive begun = record {
+pub board-alive : (b : Board) → IsTraced b → HasLevels (view_of b) → IsSound (view_of b) → b.verdict ≡ Alive → IsBoard b
+board-alive b t levels sound alive = record {
   traced = t;
   levels = levels;
   added = sound.added;
-  begun = begun;
   filled = λ _ c l.
       let told = subst (IsVerdict b.problem.now b.levels.standing (left_of (view_of b))) alive sound.verdict in
       let pos = alive-pos b.problem.now (left_of (view_of b)) told.1 c l in

@@ -153,7 +153,6 @@ pub closed-fresh : (a n : Board) (spare : ℕ) → IsFresh a spare → IsBoard n
 closed-fresh a n spare f board cut same levels consistent first dead = record {
   traced = board.traced;
   levels = board.levels;
-  begun = board.begun;
   sound = sound-from n board (λ alive c v t. cut alive c v (ap (λ g. g c v) board.traced.stands ∙ t)) consistent (λ _. opening a.verdict refl);
 }
   where
@@ -170,7 +169,6 @@ pub closed-later : (n : Board) → IsBoard n → IsCut n → (n.verdict ≡ Aliv
 closed-later n board cut consistent some = record {
   traced = board.traced;
   levels = board.levels;
-  begun = board.begun;
   sound = sound-from n board (λ alive c v t. cut alive c v (ap (λ g. g c v) board.traced.stands ∙ t)) consistent (λ none. absurd (omega (arith, ap length none)));
 }
 

@@ -67,7 +67,6 @@ pub record IsBoard (b : Board) : Type 0 where
   pub traced : IsTraced b
   pub levels : HasLevels (view_of b)
   pub added : AreRemoved b.problem.now b.levels.standing (before_of (view_of b)) (added_of (view_of b))
-  pub begun : b.trail.start ≡ level_mark b.levels.marks
   pub filled : b.verdict ≡ Alive → HasValues b
   pub empty : (cell : ℕ) → b.verdict ≡ Dead cell → (cell < b.problem.now.cells) × (size_of b.domains cell ≡ 0)
 

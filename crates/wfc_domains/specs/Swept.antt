@@ -7,7 +7,7 @@ use Rattle.wfc_log.specs.declared.Verdict.TheVariants.{Alive}
 use Rattle.wfc_domains.specs.declared.board.Board.{Board}
 use Rattle.wfc_log.specs.Domains.{has}
 use Rattle.wfc_domains.specs.Removals.{IsUnsupported}
-use Rattle.wfc_domains.specs.Store.{IsSound, IsLeastUnsupported, level_mark}
+use Rattle.wfc_domains.specs.Store.{IsSound, IsLeastUnsupported}
 use Rattle.wfc_domains.specs.Board.{view_of, IsTraced, HasLevels}
 
 -- the first direction in which the cell has a neighbour and the value no support
@@ -35,4 +35,3 @@ pub record IsClosed (b : Board) : Type 0 where
   pub traced : IsTraced b
   pub levels : HasLevels (view_of b)
   pub sound : IsSound (view_of b)
-  pub begun : b.trail.start ≡ level_mark b.levels.marks

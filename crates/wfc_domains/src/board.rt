@@ -1,20 +1,24 @@
 //! What every engine keeps: the domains with the log of removals, the levels of literals, and the verdict.
 
-ghost use Rattle.std.specs.Prelude.{◌≡◌, ◌≢◌, ℕ, ◌+◌, ◌<◌, ◌↔◌, ◌++◌, ◌∷◌, [], length, false, IsTrue, IsFalse, IfOk};
+ghost use Rattle.std.specs.Prelude.{◌≡◌, ◌≢◌, ℕ, ◌+◌, ◌<◌, ◌↔◌, ◌++◌, ◌∷◌, [], length, false, slice_get, IsTrue, IsFalse, IfOk, IfSome, Some};
 ghost use Rattle.wfc_problem.specs.Domains.{IsLiteralIn, leaves_all};
 ghost use Rattle.wfc_problem.specs.Network.{values};
 ghost use Rattle.wfc_log.specs.declared.Verdict.TheVariants.{Alive};
 ghost use Rattle.wfc_log.specs.Domains.{has};
-ghost use Rattle.wfc_domains.specs.Store.{IsSound};
-ghost use Rattle.wfc_domains.specs.Board.{view_of, IsBoard, IsTraced, IsCut, IsPut, Loses, HasValues, Grows, Regains, IsFresh};
-ghost use Rattle.wfc_log.specs.Log.{IsCauseBelow};
+ghost use Rattle.wfc_domains.specs.Store.{IsSound, added_of};
+ghost use Rattle.wfc_domains.specs.Board.{view_of, IsBoard, IsTraced, IsCut, IsPut, Loses, HasLevels, HasValues, Grows, Regains, IsFresh};
+ghost use Rattle.wfc_log.specs.Log.{IsCauseBelow, loss_of};
+ghost use Rattle.wfc_log.specs.declared.Removal.{Removal};
 
 use crate::levels::Levels;
-use crate::{Cause, Removal, Verdict};
+use crate::{Cause, Loss, Removal, Verdict};
 use std::alloc::Global;
 use wfc_log::{Domains, Trail};
 use wfc_outside::NoMemory;
 use wfc_problem::{Literal, Problem};
+
+/// How many removals of a level stay in a list, where there are fewer cells.
+const LISTED: usize = 4_096;
 
 /// The domains with the log of removals that led to them, the levels of literals, and whether a cell is empty.
 #[derive(Drop)]
@@ -42,6 +46,7 @@ impl<'p> Board<'p> {
     pub fn new(alloc: Global, problem: &'p Problem, levels: u32) -> Result<Board<'p>, NoMemory>
         ensures problem { IfOk result (λ board. board.problem.now ≡ problem.now) }
         ensures fresh { IfOk result (λ board. IsFresh board levels) }
+        ensures begun { IfOk result (λ board. board.trail.start ≡ 0) }
     {
         let domains = Domains::new(alloc, problem)?;
         let removals = (problem.depth() + 1).saturating_sub(problem.cells());
@@ -55,6 +60,59 @@ impl<'p> Board<'p> {
             levels,
             verdict,
         })
+    }
+
+    /// The removals of the last level in their order, where all of them are in the list of the log.
+    #[inline]
+    pub fn added(&self) -> Option<&[Removal]>
+        ensures some { IfSome result (λ added. added.now ≡ added_of (view_of self.now)) }
+    {
+        if self.trail.start() == self.levels.mark() as usize {
+            Some(self.trail.last())
+        } else {
+            None
+        }
+    }
+
+    /// How many removals of a level stay in the list of the log: as many as there are cells, and not fewer than 4,096. Where
+    /// a level has more, to look at each cell takes no longer than to look at each removal.
+    #[inline]
+    pub fn most_listed(&self) -> usize
+        ensures some { 0 < result }
+    {
+        (self.problem.cells() as usize).max(LISTED)
+    }
+
+    /// Brings the removals of the last level back into the list of the log, unless they are many.
+    pub fn relist(&mut self)
+        requires levels { HasLevels (view_of self.old) }
+        ensures same { self.new ≡ record self.old {
+          trail = record self.old.trail { start = self.new.trail.start };
+        } }
+    {
+        let mark = self.levels.mark() as usize;
+        let len = self.trail.len();
+        let is_long = len - mark > self.most_listed();
+        self.trail.reopen(if is_long { len } else { mark });
+    }
+
+    /// How many removals the last level has.
+    #[inline]
+    pub fn added_len(&self) -> usize
+        requires levels { HasLevels (view_of self.now) }
+        ensures value { result ≡ length (added_of (view_of self.now)) }
+    {
+        self.trail.len() - self.levels.mark() as usize
+    }
+
+    /// What the removal at an index of the last level took away.
+    pub fn added_at(&self, index: usize) -> Loss
+        requires levels { HasLevels (view_of self.now) }
+        requires index_in { index < length (added_of (view_of self.now)) }
+        ensures value { (r : Removal) → slice_get (added_of (view_of self.now)) index ≡ Some r
+            → result ≡ loss_of r }
+    {
+        self.trail.loss(self.levels.mark() as usize + index)
     }
 
     /// Removes a value that stands, and sees whether its cell is empty then.
@@ -103,6 +161,7 @@ impl<'p> Board<'p> {
         ensures board { IsBoard self.new }
         ensures cut { IsCut self.new }
         ensures put { IsPut self.old self.new literal }
+        ensures begun { self.new.trail.start ≡ length self.old.trail.removals }
     {
         let mark = self.trail.len() as u32;
         self.trail.begin();
@@ -123,6 +182,7 @@ impl<'p> Board<'p> {
         ensures alone { self.new.verdict ≡ Alive → (other : ℕ)
             → IsTrue (has self.new.domains cell other) → other ≡ value }
         ensures grows { Grows self.old self.new }
+        ensures start { self.new.trail.start ≡ self.old.trail.start }
     {
         let values = self.problem.values();
         let mut other = self.domains.next(cell, 0);
@@ -144,6 +204,7 @@ impl<'p> Board<'p> {
         ensures stays { (k : ℕ) → has self.old.domains cell k ≡ false
             → has self.new.domains cell k ≡ false }
         ensures grows { Grows self.old self.new }
+        ensures start { self.new.trail.start ≡ self.old.trail.start }
     {
         if other != value {
             self.remove(cell, other, Cause::Assumed);
@@ -160,6 +221,7 @@ impl<'p> Board<'p> {
         ensures board { IsBoard self.new }
         ensures gone { has self.new.domains cell value ≡ false }
         ensures grows { Grows self.old self.new }
+        ensures start { self.new.trail.start ≡ self.old.trail.start }
     {
         if self.domains.has(cell, value) {
             self.remove(cell, value, Cause::Assumed);

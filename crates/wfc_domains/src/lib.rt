@@ -22,7 +22,7 @@ pub use plain::PlainStore;
 use std::alloc::AllocError;
 pub use steps::Steps;
 pub use store::Store;
-pub use wfc_log::{Cause, Domains, Removal, Trail, Verdict};
+pub use wfc_log::{Cause, Domains, Loss, Removal, Trail, Verdict};
 
 /// Why a store was not opened.
 #[derive(Clone, Copy, Debug, PartialEq, Eq)]

@@ -17,7 +17,7 @@ use crate::board::{Board, is_alive};
 use crate::levels::Levels;
 use crate::steps::Steps;
 use crate::store::Store;
-use crate::{Cause, OpenFault, Removal, Verdict};
+use crate::{Cause, Loss, OpenFault, Removal, Verdict};
 use std::alloc::Global;
 use std::marker::Model;
 use std::sync::ledger::Ledger;
@@ -226,8 +226,16 @@ impl<'p> Store for PlainStore<'p> {
         &self.board.domains
     }
 
-    fn added(&self) -> &[Removal] {
-        self.board.trail.last()
+    fn added(&self) -> Option<&[Removal]> {
+        self.board.added()
+    }
+
+    fn added_len(&self) -> usize {
+        self.board.added_len()
+    }
+
+    fn added_at(&self, index: usize) -> Loss {
+        self.board.added_at(index)
     }
 
     fn standing(&self) -> &[Literal] {

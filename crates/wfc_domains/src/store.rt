@@ -1,13 +1,15 @@
 //! What every engine is and promises.
 
-ghost use Rattle.std.specs.Prelude.{◌≡◌, ◌<◌, length};
+ghost use Rattle.std.specs.Prelude.{◌≡◌, ◌<◌, length, slice_get, IfSome, Some};
 ghost use Rattle.wfc_problem.specs.Domains.{IsLiteralIn};
 ghost use Rattle.wfc_log.specs.declared.Verdict.TheVariants.{Alive};
 ghost use Rattle.wfc_log.specs.Domains.{Fits, has, flags_of};
+ghost use Rattle.wfc_log.specs.Log.{loss_of};
+ghost use Rattle.wfc_log.specs.declared.Removal.{Removal};
 ghost use Rattle.wfc_domains.specs.Store.{StoreView, IsSound, IsAssumed, IsUndone, left_of, added_of};
 
 use crate::steps::Steps;
-use crate::{Removal, Verdict};
+use crate::{Loss, Removal, Verdict};
 use std::sync::ledger::Ledger;
 use wfc_log::Domains;
 use wfc_problem::Literal;
@@ -45,10 +47,21 @@ pub trait Store: Drop {
         ensures fits { Fits (view self.now).problem result.now }
         ensures sound { IsSound (view self.now) };
 
-    /// The removals of the last level in their order; those of the opening, where no literal stands.
-    fn added(&self) -> &[Removal]
-        ensures value { result.now ≡ added_of (view self.now) }
+    /// The removals of the last level in their order; those of the opening, where no literal stands. None where they are
+    /// many, and so not in a list.
+    fn added(&self) -> Option<&[Removal]>
+        ensures some { IfSome result (λ added. added.now ≡ added_of (view self.now)) }
         ensures sound { IsSound (view self.now) };
+
+    /// How many removals the last level has.
+    fn added_len(&self) -> usize
+        ensures value { result ≡ length (added_of (view self.now)) };
+
+    /// What the removal at an index of the last level took away, also where they are many.
+    fn added_at(&self, index: usize) -> Loss
+        requires index_in { index < length (added_of (view self.now)) }
+        ensures value { (r : Removal) → slice_get (added_of (view self.now)) index ≡ Some r → result
+            ≡ loss_of r };
 
     /// The literals that stand, in the order in which they were put on.
     fn standing(&self) -> &[Literal]

@@ -1,15 +1,16 @@
 -- Removals as numbers, and back.
-use Rattle.std.proofs.Common.{◌≡◌, ◌≢◌, ◌≤◌, ◌⊎◌, inl, inr, ℕ, zero, suc, ◌+◌, ◌*◌, ◌/◌, ◌%◌, ◌<◌, List, [], ◌∷◌, ◌++◌, length, take, map, refl, ◌∙◌, ap, arith}
+use Rattle.std.proofs.Common.{◌≡◌, ◌≢◌, ◌≤◌, ◌⊎◌, inl, inr, ℕ, zero, suc, ◌+◌, ◌*◌, ◌/◌, ◌%◌, ◌<◌, List, [], ◌∷◌, ◌++◌, length, get_or, take, map, refl, sym, ◌∙◌, ap, arith}
 use Rattle.std.specs.Prelude.{slice_get, slice_index, Some}
 use Rattle.std.proofs.lemmas.Bool.{cond-true, cond-false, eq-eqb, ne_eqb}
 use Rattle.std.proofs.lemmas.List.{nil_from_length}
 use Rattle.std.proofs.lemmas.Nat.{mul-add-lt, div-mul-add, mod-mul-add}
 use Rattle.std.proofs.Math.Nat.{div-add-mod, div-lt_iff_lt-mul}
+use Rattle.std.proofs.lemmas.Option.{get_or_from_slice_get, slice_get_within}
 use Rattle.wfc_log.specs.declared.Cause.{Cause}
 use Rattle.wfc_log.specs.declared.Cause.TheVariants.{Assumed, Arc}
 use Rattle.wfc_log.specs.declared.Removal.{Removal}
-use Rattle.wfc_log.specs.Log.{IsCauseBelow, cells_of, fewer_at, sizes_after}
-use Rattle.wfc_log.specs.Numbered.{cause_number, numbered_cause, removal_count, removal_number, placed_cell, placed_removal, placed_removals, number_from, numbers_from, wide_limit}
+use Rattle.wfc_log.specs.Log.{IsCauseBelow, cells_of, fewer_at, loss_of, sizes_after}
+use Rattle.wfc_log.specs.Numbered.{cause_number, numbered_cause, removal_count, removal_number, placed_cell, placed_loss, placed_removal, placed_removals, number_from, numbers_from, wide_limit}
 
 -- a cause's number is one of those of causes
 pub cause-few : (k : ℕ) (c : Cause) → IsCauseBelow k c → cause_number k c < k + 1
@@ -79,6 +80,18 @@ placed-cells values dirs s (n ∷ ns) = ap (λ cs. placed_cell values dirs n ∷
 pub placed-length : (values dirs : ℕ) (s ns : List ℕ) → length (placed_removals values dirs s ns) ≡ length ns
 placed-length values dirs s [] = refl
 placed-length values dirs s (n ∷ ns) = ap suc (placed-length values dirs (fewer_at s (placed_cell values dirs n)) ns)
+
+-- what each took away, from its number
+placed-loss : (values dirs : ℕ) (s ns : List ℕ) (i d : ℕ) (e : Removal) → i < length ns → loss_of (get_or (placed_removals values dirs s ns) i e) ≡ placed_loss values dirs (get_or ns i d)
+placed-loss values dirs s [] i d e inside = absurd (omega (arith, inside))
+placed-loss values dirs s (x ∷ ns) zero d e inside = refl
+placed-loss values dirs s (x ∷ ns) (suc i) d e inside = placed-loss values dirs (fewer_at s (placed_cell values dirs x)) ns i d e (omega (arith, inside))
+
+pub placed-at : (values dirs : ℕ) (s ns : List ℕ) (i n : ℕ) (r : Removal) → slice_get ns i ≡ Some n → slice_get (placed_removals values dirs s ns) i ≡ Some r → loss_of r ≡ placed_loss values dirs n
+placed-at values dirs s ns i n r number removal =
+    ap loss_of (sym (get_or_from_slice_get (placed_removals values dirs s ns) i r r removal))
+    ∙ placed-loss values dirs s ns i n r (slice_get_within ns i n number)
+    ∙ ap (placed_loss values dirs) (get_or_from_slice_get ns i n n number)
 
 -- one number more
 pub placed-push : (values dirs : ℕ) (s ns : List ℕ) (n : ℕ)

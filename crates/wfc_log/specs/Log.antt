@@ -4,6 +4,7 @@ use Rattle.wfc_problem.specs.Network.{Network, values, in_base}
 use Rattle.wfc_problem.specs.Sizes.{sizes_of}
 use Rattle.wfc_log.specs.declared.Cause.{Cause}
 use Rattle.wfc_log.specs.declared.Cause.TheVariants.{Assumed, Arc}
+use Rattle.wfc_log.specs.declared.Loss.{Loss}
 use Rattle.wfc_log.specs.declared.Removal.{Removal}
 
 -- how many cells, values and directions there are, and how many values each cell has before any removal
@@ -29,6 +30,10 @@ sizes_after sizes (c ∷ cells) = sizes_after (fewer_at sizes c) cells
 -- the cell of each removal
 abbrev pub cells_of : List Removal → List ℕ
 cells_of rs = map (λ r. r.cell) rs
+
+-- what a removal took away: its value at its cell, and why
+abbrev pub loss_of : Removal → Loss
+loss_of r = record { cell = r.cell; value = r.value; cause = r.cause }
 
 -- a direction that the cause names is one of the first k
 abbrev pub IsCauseBelow : ℕ → Cause → Type 0

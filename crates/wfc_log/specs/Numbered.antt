@@ -2,6 +2,7 @@
 use Rattle.std.specs.Prelude.{ℕ, Bool, ◌+◌, ◌*◌, ◌/◌, ◌%◌, ◌==◌, if◌then◌else◌, List, [], ◌∷◌, map, slice_index, slice_set}
 use Rattle.wfc_log.specs.declared.Cause.{Cause}
 use Rattle.wfc_log.specs.declared.Cause.TheVariants.{Assumed, Arc}
+use Rattle.wfc_log.specs.declared.Loss.{Loss}
 use Rattle.wfc_log.specs.declared.Removal.{Removal}
 use Rattle.wfc_log.specs.Log.{Extent, fewer_at}
 
@@ -26,6 +27,14 @@ numbered_cause dirs k = if k == dirs then Assumed else Arc k
 -- the cell of a number
 abbrev pub placed_cell : ℕ → ℕ → ℕ → ℕ
 placed_cell values dirs place = place / (dirs + 1) / values
+
+-- what the removal with this number took away
+abbrev pub placed_loss : ℕ → ℕ → ℕ → Loss
+placed_loss values dirs place = record {
+  cell = placed_cell values dirs place;
+  value = place / (dirs + 1) % values;
+  cause = numbered_cause dirs (place % (dirs + 1));
+}
 
 -- the removal with this number, before which so many values stood at its cell
 abbrev pub placed_removal : ℕ → ℕ → ℕ → ℕ → Removal

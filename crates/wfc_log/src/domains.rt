@@ -132,7 +132,9 @@ impl Domains {
         Verdict::Alive
     }
 
-    fn cells(&self) -> u32
+    /// How many cells there are.
+    #[inline]
+    pub fn cells(&self) -> u32
         ensures value { result ≡ self.now.cells }
     {
         self.sizes.len() as u32

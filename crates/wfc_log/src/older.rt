@@ -1,13 +1,14 @@
 //! Removals of earlier levels, in three bytes each, or in three bytes and two bits.
 
-ghost use Rattle.std.specs.Prelude.{◌≡◌, ◌+◌, ◌<◌, ◌≤◌, ◌++◌, ◌∷◌, [], length, reverse, IfOk, vec_len, vec_capacity};
+ghost use Rattle.std.specs.Prelude.{◌≡◌, ◌+◌, ◌<◌, ◌≤◌, ◌++◌, ◌∷◌, [], length, reverse, slice_get, IfOk, Some, vec_len, vec_capacity};
 ghost use Rattle.wfc_log.specs.Domains.{base_of};
-ghost use Rattle.wfc_log.specs.Log.{IsLogged, AreLogged, cells_of, extent_of, sizes_after};
-ghost use Rattle.wfc_log.specs.Numbered.{cause_number, numbered_cause, removal_number, wide_limit};
+ghost use Rattle.wfc_log.specs.Log.{IsLogged, AreLogged, cells_of, extent_of, loss_of, sizes_after};
+ghost use Rattle.wfc_log.specs.Numbered.{cause_number, numbered_cause, placed_loss, removal_number, wide_limit};
+ghost use Rattle.wfc_log.specs.declared.Removal.{Removal};
 
 use crate::domains::Domains;
 use crate::packed::{Numbers, SHORT};
-use crate::{Cause, Removal};
+use crate::{Cause, Loss, Removal};
 use core::mem::replace_with;
 use std::alloc::Global;
 use std::marker::Model;
@@ -66,6 +67,20 @@ fn removal_number(removal: Removal, values: u16, dirs: u8) -> u32
 {
     let pair = removal.cell * u32::from(values) + u32::from(removal.value);
     pair * (u32::from(dirs) + 1) + u32::from(cause_number(removal.cause, dirs))
+}
+
+/// What the removal with a number took away.
+#[inline]
+fn placed_loss(number: u32, values: u16, dirs: u8) -> Loss
+    requires some_value { 0 < values }
+    ensures value { result ≡ placed_loss values dirs number }
+{
+    let pair = number / (u32::from(dirs) + 1);
+    Loss {
+        cell: pair / u32::from(values),
+        value: (pair % u32::from(values)) as u16,
+        cause: numbered_cause((number % (u32::from(dirs) + 1)) as u8, dirs),
+    }
 }
 
 /// More removals behind these. They are taken out of where they stand and given back, so that pointers and lengths stay
@@ -166,18 +181,24 @@ impl Older {
         ensures same { self.new ≡ record self.old { removals = self.new.removals } }
     {
         let last = self.numbers.len() - 1;
-        let place = self.numbers.at(last);
+        let loss = placed_loss(self.numbers.at(last), self.values, self.dirs);
         self.numbers.truncate(last);
-        let pair = place / (u32::from(self.dirs) + 1);
-        let cause = place % (u32::from(self.dirs) + 1);
-        let cell = pair / u32::from(self.values);
-        let before = self.sizes[cell as usize] + 1;
-        self.sizes[cell as usize] = before;
+        let before = self.sizes[loss.cell as usize] + 1;
+        self.sizes[loss.cell as usize] = before;
         Removal {
-            cell,
-            value: (pair % u32::from(self.values)) as u16,
+            cell: loss.cell,
+            value: loss.value,
             before,
-            cause: numbered_cause(cause as u8, self.dirs),
+            cause: loss.cause,
         }
+    }
+
+    /// What the removal at an index took away.
+    pub fn loss(&self, index: usize) -> Loss
+        requires index_in { index < length self.now.removals }
+        ensures value { (r : Removal) → slice_get self.now.removals index ≡ Some r → result
+            ≡ loss_of r }
+    {
+        placed_loss(self.numbers.at(index), self.values, self.dirs)
     }
 }

@@ -2,11 +2,12 @@
 
 ghost use Rattle.std.specs.Prelude.{◌≡◌, ◌+◌, ◌<◌, ◌≤◌, ◌++◌, ◌∷◌, [], length, drop, slice_get, Some, IfOk};
 ghost use Rattle.wfc_log.specs.Domains.{base_of};
-ghost use Rattle.wfc_log.specs.Log.{Log, cells_of, extent_of, sizes_after, IsLogged};
+ghost use Rattle.wfc_log.specs.Log.{Log, cells_of, extent_of, loss_of, sizes_after, IsLogged};
+ghost use Rattle.wfc_log.specs.declared.Removal.{Removal};
 
-use crate::Removal;
 use crate::domains::Domains;
 use crate::older::{Older, move_from, move_to};
+use crate::{Loss, Removal};
 use std::alloc::Global;
 use std::marker::Model;
 use wfc_outside::NoMemory;
@@ -82,6 +83,19 @@ impl Trail {
         ensures value { slice_get self.now.removals index ≡ Some result }
     {
         self.list[index - self.older.len()]
+    }
+
+    /// What the removal at an index took away, of whichever level it is.
+    pub fn loss(&self, index: usize) -> Loss
+        requires index_in { index < length self.now.removals }
+        ensures value { (r : Removal) → slice_get self.now.removals index ≡ Some r → result
+            ≡ loss_of r }
+    {
+        if index < self.older.len() {
+            self.older.loss(index)
+        } else {
+            self.list[index - self.older.len()].loss()
+        }
     }
 
     /// The removals of the last level.

@@ -1,12 +1,13 @@
 //! A store, and a chooser that is told of each change of a size.
 //!
 //! After a literal is put on, each cell that changed is told once, with the size that it has then. Before one is taken
-//! away, the sizes of the cells that changed are told as they were.
+//! away, the sizes of the cells that changed are told as they were. Where the changes are so many that the store keeps no
+//! list of them, the sizes of all cells are told, in the second case after the literal was taken away.
 
 ghost use Rattle.std.specs.Prelude.{◌≡◌, ◌+◌, ◌-◌, ◌++◌, ◌∷◌, [], ◌<◌, ◌≤◌, length, take, slice_set, All, OnOk, OnErr};
 ghost use Rattle.wfc_choose.specs.Pick.{picked_cell};
 ghost use Rattle.wfc_choose.specs.Told.{Told};
-ghost use Rattle.wfc_domains.specs.Store.{StoreView, IsSound, left_of, before_of};
+ghost use Rattle.wfc_domains.specs.Store.{StoreView, IsSound, left_of, added_of, before_of};
 ghost use Rattle.wfc_log.specs.declared.Verdict.TheVariants.{Alive};
 ghost use Rattle.wfc_problem.specs.Domains.{IsLiteralIn};
 ghost use Rattle.wfc_problem.specs.Sizes.{sizes_of};
@@ -15,7 +16,7 @@ ghost use Rattle.wfc_search.specs.Follow.{Keeps, IsPutOn, IsCutBack};
 
 use std::sync::ledger::Ledger;
 use wfc_choose::Chooser;
-use wfc_domains::{Steps, Store};
+use wfc_domains::{Removal, Steps, Store};
 use wfc_outside::NoMemory;
 use wfc_problem::Literal;
 
@@ -48,16 +49,30 @@ fn resize(chooser: &mut Box<dyn Chooser>, cell: u32, size: u32)
     chooser.resized(cell, size);
 }
 
-/// Tells the chooser the size of each cell that the last level changed: at its last removal.
-fn tell_removed<S: Store>(store: &S, chooser: &mut Box<dyn Chooser>)
+/// Tells the chooser the size of each cell.
+fn tell_all<S: Store>(store: &S, chooser: &mut Box<dyn Chooser>)
     requires sound { IsSound (S.view store.now) }
+    requires cells { length (told chooser.old).sizes ≡ (S.view store.now).problem.cells }
+    ensures told { told chooser.new ≡ record (told chooser.old)
+        { sizes = sizes_of (S.view store.now).problem (left_of (S.view store.now)) } }
+{
+    let domains = store.domains();
+    for cell in 0..domains.cells() {
+        resize(chooser, cell, domains.size(cell));
+    }
+}
+
+/// Tells the chooser the size of each cell that the last level changed: at its last removal.
+fn tell_changed<S: Store>(store: &S, added: &[Removal], chooser: &mut Box<dyn Chooser>)
+    requires sound { IsSound (S.view store.now) }
+    requires added { added.now ≡ added_of (S.view store.now) }
     requires sizes { (told chooser.old).sizes ≡ sizes_of (S.view store.now).problem
         (before_of (S.view store.now)) }
     ensures told { told chooser.new ≡ record (told chooser.old)
         { sizes = sizes_of (S.view store.now).problem (left_of (S.view store.now)) } }
 {
     let domains = store.domains();
-    for removal in store.added() {
+    for removal in added {
         let size = domains.size(removal.cell);
         if u32::from(removal.before) == size + 1 {
             resize(chooser, removal.cell, size);
@@ -65,16 +80,30 @@ fn tell_removed<S: Store>(store: &S, chooser: &mut Box<dyn Chooser>)
     }
 }
 
+/// Tells the chooser the sizes that the last level left.
+fn tell_removed<S: Store>(store: &S, chooser: &mut Box<dyn Chooser>)
+    requires sound { IsSound (S.view store.now) }
+    requires sizes { (told chooser.old).sizes ≡ sizes_of (S.view store.now).problem
+        (before_of (S.view store.now)) }
+    ensures told { told chooser.new ≡ record (told chooser.old)
+        { sizes = sizes_of (S.view store.now).problem (left_of (S.view store.now)) } }
+{
+    match store.added() {
+        Some(added) => tell_changed(store, added, chooser),
+        None => tell_all(store, chooser),
+    }
+}
+
 /// Tells the chooser the size of each cell that the last level changed, as it was before it: the last removal first, but
 /// where the removal before it is of the same cell.
-fn tell_restored<S: Store>(store: &S, chooser: &mut Box<dyn Chooser>)
+fn tell_restored<S: Store>(store: &S, added: &[Removal], chooser: &mut Box<dyn Chooser>)
     requires sound { IsSound (S.view store.now) }
+    requires added { added.now ≡ added_of (S.view store.now) }
     requires sizes { (told chooser.old).sizes ≡ sizes_of (S.view store.now).problem
         (left_of (S.view store.now)) }
     ensures told { told chooser.new ≡ record (told chooser.old)
         { sizes = sizes_of (S.view store.now).problem (before_of (S.view store.now)) } }
 {
-    let added = store.added();
     let mut at = added.len();
     while at > 0 {
         at -= 1;
@@ -117,8 +146,13 @@ fn take_away<S: Store, L: Ledger>(
     ensures keeps { Keeps (S.view store.new) (told chooser.new) }
     ensures rule { (told chooser.new).rule ≡ (told chooser.old).rule }
 {
-    tell_restored(store, chooser);
-    store.undo(steps);
+    if let Some(added) = store.added() {
+        tell_restored(store, added, chooser);
+        store.undo(steps);
+    } else {
+        store.undo(steps);
+        tell_all(store, chooser);
+    }
 }
 
 /// Takes literals away until so many are left, and tells the chooser.

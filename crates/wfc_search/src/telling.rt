@@ -1,28 +1,27 @@
 //! The lines that a search tells its journal.
 
 ghost use Rattle.std.specs.Prelude.{◌≡◌, ◌≤◌, false, OnOk, OnErr};
-ghost use Rattle.wfc_domains.specs.Store.{StoreView};
-ghost use Rattle.wfc_log.specs.declared.Removal.{Removal};
+ghost use Rattle.wfc_domains.specs.Store.{StoreView, added_of};
 ghost use Rattle.wfc_proof.specs.Journal.{after_lines, IsCutOff};
 ghost use Rattle.wfc_search.specs.Telling.{lines_by, removal_lines, level_lines, opening_lines, turn_lines, end_line};
 
 use crate::{Outcome, Turn};
-use wfc_domains::{Cause, Removal, Store, Verdict};
+use wfc_domains::{Cause, Loss, Removal, Store, Verdict};
 use wfc_proof::{Journal, JournalFault, Line};
 
-/// Tells a removal, if it is one for want of support.
-fn tell_removal<J: Journal>(removal: Removal, journal: &mut J) -> Result<(), JournalFault>
+/// Tells what a removal took away, if it was for want of support.
+fn tell_loss<J: Journal>(loss: Loss, journal: &mut J) -> Result<(), JournalFault>
     requires going { (J.seen journal.old).failed ≡ false }
     ensures ok { OnOk result (J.seen journal.new ≡ after_lines (J.seen journal.old)
-        (lines_by removal.cell removal.value removal.cause)) }
+        (lines_by loss.cell loss.value loss.cause)) }
     ensures failed { OnErr result (IsCutOff (J.seen journal.old) (J.seen journal.new)
-        (lines_by removal.cell removal.value removal.cause)) }
+        (lines_by loss.cell loss.value loss.cause)) }
 {
-    match removal.cause {
+    match loss.cause {
         Cause::Assumed => Ok(()),
         Cause::Arc(dir) => journal.line(Line::Remove {
-            cell: removal.cell,
-            value: removal.value,
+            cell: loss.cell,
+            value: loss.value,
             dir,
         }),
     }
@@ -37,7 +36,21 @@ fn tell_removals<J: Journal>(removals: &[Removal], journal: &mut J) -> Result<()
         (removal_lines removals.now)) }
 {
     for removal in removals {
-        tell_removal(*removal, journal)?;
+        tell_loss(removal.loss(), journal)?;
+    }
+    Ok(())
+}
+
+/// The same of a store's last level, where its removals are not in a list.
+fn tell_added<S: Store, J: Journal>(store: &S, journal: &mut J) -> Result<(), JournalFault>
+    requires going { (J.seen journal.old).failed ≡ false }
+    ensures ok { OnOk result (J.seen journal.new ≡ after_lines (J.seen journal.old)
+        (removal_lines (added_of (S.view store.now)))) }
+    ensures failed { OnErr result (IsCutOff (J.seen journal.old) (J.seen journal.new)
+        (removal_lines (added_of (S.view store.now)))) }
+{
+    for index in 0..store.added_len() {
+        tell_loss(store.added_at(index), journal)?;
     }
     Ok(())
 }
@@ -50,7 +63,10 @@ fn tell_level<S: Store, J: Journal>(store: &S, journal: &mut J) -> Result<(), Jo
     ensures failed { OnErr result (IsCutOff (J.seen journal.old) (J.seen journal.new)
         (level_lines (S.view store.now))) }
 {
-    tell_removals(store.added(), journal)?;
+    match store.added() {
+        Some(added) => tell_removals(added, journal)?,
+        None => tell_added(store, journal)?,
+    }
     match store.verdict() {
         Verdict::Alive => Ok(()),
         Verdict::Dead { cell } => journal.line(Line::Empty { cell }),

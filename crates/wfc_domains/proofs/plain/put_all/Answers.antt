@@ -25,7 +25,7 @@ loop-literal-init c =
 pub put-requires-clause-board : goal.put-requires-clause-board
 put-requires-clause-board c =
     let h = c.loop-literal.invariant in
-    board-alive c.loop-literal.board h.closed.traced h.closed.levels h.closed.sound h.alive h.closed.begun
+    board-alive c.loop-literal.board h.closed.traced h.closed.levels h.closed.sound h.alive
 
 pub loop-literal-preserved : goal.loop-literal-preserved
 loop-literal-preserved c =

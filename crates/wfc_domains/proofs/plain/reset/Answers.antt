@@ -16,7 +16,7 @@ returns-clause-fresh c =
     let cleared = c.clear.ensures.none in
     let told = c.verdict-board.ensures in
     let board : IsBoard b = board-emptied b (record { problem = t.problem; same_cells = t.same_cells; same_values = t.same_values; whole = t.whole; stands = t.stands; stood = t.stood; room = t.room; extent = t.extent })
-    none (omega (arith, c.len.ensures.value, c.len.ensures.start)) (ap (λ l. l.standing) cleared) (ap (λ l. l.marks) cleared)
+    none (ap (λ l. l.standing) cleared) (ap (λ l. l.marks) cleared)
     (λ alive n l. told.alive alive n (omega (arith, t.same_cells)))
     (λ cell e. let f = told.dead cell e in (omega (arith, f.cell_in, t.same_cells), f.empty)) in
     record {

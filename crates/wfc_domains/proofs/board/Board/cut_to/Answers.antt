@@ -23,6 +23,7 @@ loop-other-preserved c =
       ];
       stands = λ low. n.stands (omega (arith, low, o.board.traced.same_values, same, c.values-values.ensures.value));
       grows = grows-more h.grows o.grows;
+      start = o.start ∙ h.start;
     }
 
 pub returns-after-loop-other-clause-alone : goal.returns-after-loop-other-clause-alone

@@ -11,6 +11,7 @@ invariant-loop-other l = record {
   gone : (k : ℕ) → k < l.other → k ≢ l.value → has l.self.domains l.cell k ≡ false;
   stands : l.other < l.values → IsTrue (has l.self.domains l.cell l.other);
   grows : Grows l.fn.self l.self;
+  start : l.self.trail.start ≡ l.fn.self.trail.start;
 }
 
 abbrev pub decreases-loop-other : goal.decreases-loop-other

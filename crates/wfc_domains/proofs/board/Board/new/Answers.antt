@@ -15,7 +15,7 @@ returns-clause-fresh c =
     let cells = ap (λ d. d.cells) c.in_ok-domains.ensures.ok in
     let none = ap (λ l. l.removals) log in
     let board : IsBoard b = board-fresh b c.depth.ensures.problem c.in_ok-domains.ensures.ok none
-    (ap (λ l. l.start) log) (omega (arith, ap (λ l. l.room) log, c.depth.ensures.value, c.cells.ensures.value)) (ap (λ l. l.extent) log) (ap (λ l. l.standing) levels) (ap (λ l. l.marks) levels)
+    (omega (arith, ap (λ l. l.room) log, c.depth.ensures.value, c.cells.ensures.value)) (ap (λ l. l.extent) log) (ap (λ l. l.standing) levels) (ap (λ l. l.marks) levels)
     (λ alive n l. told.alive alive n (omega arith))
     (λ cell e. let f = told.dead cell e in (omega (arith, f.cell_in), f.empty)) in
     record {

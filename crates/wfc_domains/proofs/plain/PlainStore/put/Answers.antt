@@ -8,7 +8,7 @@ pub put-requires-clause-board : goal.put-requires-clause-board
 put-requires-clause-board c =
     let h = c.self.invariant.closed in
     let alive = rw (← c.self.view_is) at c.requires.alive in
-    board-alive c.self.inside.board h.traced h.levels h.sound alive h.begun
+    board-alive c.self.inside.board h.traced h.levels h.sound alive
 
 pub invariant_of-self : goal.invariant_of-self
 invariant_of-self c =
