@@ -1,10 +1,11 @@
 -- A board after a removal, under one literal more, and with its last removal taken back.
-use Rattle.std.proofs.Common.{◌≡◌, ◌≢◌, ℕ, ◌+◌, ◌-◌, ◌<◌, ◌≤◌, false, cond, List, [], ◌∷◌, ◌++◌, length, take, drop, refl, sym, ◌∙◌, ap, subst, arith, inl, inr}
-use Rattle.std.specs.Prelude.{not, ◌&&◌, ◌==◌, IsTrue, filter, slice_index}
+use Rattle.std.proofs.Common.{◌≡◌, ◌≢◌, ℕ, ◌+◌, ◌-◌, ◌<◌, ◌≤◌, false, cond, List, [], ◌∷◌, ◌++◌, length, get_or, take, drop, refl, sym, ◌∙◌, ap, subst, arith, inl, inr}
+use Rattle.std.specs.Prelude.{not, ◌&&◌, ◌==◌, IsTrue, Some, filter, slice_get, slice_index}
 use Rattle.std.specs.List.{range_with_len}
 use Rattle.std.proofs.lemmas.List.FromFn.{get_or-map-range_with_len}
 use Rattle.std.proofs.lemmas.Bool.{cases_lt, cases_eq, false_from_ne_true, cond-true, cond-false, eq-eqb, ne_eqb}
-use Rattle.std.proofs.lemmas.List.{take-append-le, drop-append-le, length-append, length_push, take_at, take_all, drop_all, get_or_append_left, get_or_push, get_or_past, append_assoc, append-nil}
+use Rattle.std.proofs.lemmas.List.{take-append-le, drop-append-le, length-append, length_push, take_at, take_all, drop_all, get_or-drop, get_or_append_left, get_or_push, get_or_past, length-drop, append_assoc, append-nil}
+use Rattle.std.proofs.lemmas.Option.{get_or_from_slice_get, slice_get-get_or, slice_get_within}
 use Rattle.wfc_problem.specs.Network.{Network, values, in_base, IsProblem}
 use Rattle.wfc_problem.specs.Domains.{Test, Within}
 use Rattle.wfc_problem.specs.Rounds.{depth_of}
@@ -18,7 +19,7 @@ use Rattle.wfc_domains.specs.declared.board.Board.{Board}
 use Rattle.wfc_log.specs.Domains.{Flags, has, size_of, less, IsLess, base_of}
 use Rattle.wfc_log.specs.Log.{extent_of, IsInside, IsCauseBelow, IsLogged, cells_of, sizes_after}
 use Rattle.wfc_domains.specs.Removals.{without, IsCause, IsRemoved, AreRemoved}
-use Rattle.wfc_domains.specs.Store.{StoreView, IsSound, level_mark, left_of, before_of}
+use Rattle.wfc_domains.specs.Store.{StoreView, IsSound, level_mark, left_of, added_of, before_of}
 use Rattle.wfc_domains.specs.Board.{view_of, AreStood, IsTraced, HasLevels, HasValues, IsBoard, board_without, Grows}
 use Rattle.wfc_domains.proofs.Problems.{base-in, base_table, depth-few, few_pairs, dead-iff, empty-size}
 use Rattle.wfc_domains.proofs.SizeLemmas.{stood-sizes}
@@ -374,3 +375,13 @@ board-fresh b p is_base no_removals room extent no_literals no_marks filled empt
   room = room;
   extent = extent;
 }) no_removals no_literals no_marks filled empty
+
+-- ---- the last level
+
+-- a removal of the last level is one of the log
+pub added-there : (v : StoreView) (i m : ℕ) (r : Removal) → m ≡ level_mark v.marks → slice_get (added_of v) i ≡ Some r → slice_get v.removals (m + i) ≡ Some r
+added-there v i m r mark there =
+    let k = level_mark v.marks in
+    let inside : k + i < length v.removals = omega (arith, slice_get_within (added_of v) i r there, length-drop k v.removals) in
+    let same : get_or v.removals (k + i) r ≡ r = sym (get_or-drop k v.removals i r) ∙ get_or_from_slice_get (added_of v) i r r there in
+    ap (λ n. slice_get v.removals (n + i)) mark ∙ slice_get-get_or v.removals (k + i) r inside ∙ ap Some same

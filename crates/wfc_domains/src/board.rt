@@ -107,6 +107,7 @@ impl<'p> Board<'p> {
 
     /// What the removal at an index of the last level took away.
     pub fn added_at(&self, index: usize) -> Loss
+        requires traced { IsTraced self.now }
         requires levels { HasLevels (view_of self.now) }
         requires index_in { index < length (added_of (view_of self.now)) }
         ensures value { (r : Removal) → slice_get (added_of (view_of self.now)) index ≡ Some r
