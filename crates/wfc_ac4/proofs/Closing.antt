@@ -7,8 +7,8 @@ use Rattle.wfc_problem.specs.Network.{Network}
 use Rattle.wfc_log.specs.declared.Removal.{Removal}
 use Rattle.wfc_domains.specs.declared.board.Board.{Board}
 use Rattle.wfc_domains.specs.Board.{IsBoard, Grows}
-use Rattle.wfc_domains.specs.Counters.{cost_of}
-use Rattle.wfc_domains.specs.Store.{level_mark}
+use Rattle.wfc_domains.specs.Counters.{Table, cost_of}
+use Rattle.wfc_ac4.specs.State.{IsBetweenRemovals}
 
 -- the cost of a front is that of the same front of a longer log
 pub cost-front : (P : Network) (k : ℕ) (old new more : List Removal) → new ≡ old ++ more → k ≤ length old → cost_of P (take k new) ≡ cost_of P (take k old)
@@ -24,6 +24,31 @@ last-at rs xs begun start at d e same inside =
     let there : get_or xs at d ≡ get_or rs (start + at) d = ap (λ ys. get_or ys at d) e ∙ get_or-drop begun rs at d ∙ ap (λ n. get_or rs (n + at) d) same in
     slice_get-get_or rs (start + at) d (last-in rs xs begun start at e same inside) ∙ ap Some (sym there)
 
--- the last level of a board that grew begins where it began
-pub same-begun : (old new : Board) → IsBoard old → IsBoard new → Grows old new → new.trail.start ≡ old.trail.start
-same-begun old new a b h = b.begun ∙ ap (λ l. level_mark l.marks) h.levels ∙ sym a.begun
+-- ---- the list begun at another removal
+
+-- a board says nothing of where the list begins
+board-listed : (b : Board) (s : ℕ) → IsBoard b → IsBoard (record b { trail = record b.trail { start = s } })
+board-listed b s h =
+    let t = h.traced in
+    record {
+      traced = record { problem = t.problem; same_cells = t.same_cells; same_values = t.same_values; whole = t.whole; stands = t.stands; stood = t.stood; room = t.room; extent = t.extent };
+      levels = h.levels;
+      added = h.added;
+      filled = h.filled;
+      empty = h.empty;
+    }
+
+-- nor does the state between removals
+pub between-listed : (b : Board) (T : Table) (head s : ℕ) → IsBetweenRemovals b T head → IsBetweenRemovals (record b { trail = record b.trail { start = s } }) T head
+between-listed b T head s h = record {
+  board = board-listed b s h.board;
+  cut = h.cut;
+  counters = h.counters;
+  supported = h.supported;
+  marks = h.marks;
+  in_log = h.in_log;
+}
+
+-- nor what a board grew by
+pub grows-listed : (a b : Board) (s : ℕ) → Grows a b → Grows a (record b { trail = record b.trail { start = s } })
+grows-listed a b s h = record { problem = h.problem; levels = h.levels; more = h.more; removals = h.removals; room = h.room }

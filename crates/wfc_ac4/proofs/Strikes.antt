@@ -12,8 +12,8 @@ use Rattle.wfc_ac4.proofs.Steps.{SideStep, step_removed, step_lowered, working-m
 -- the log goes on
 pub struck_on : (old new : Flight) (T U : Table) (n w d : ℕ) → IsStruck old new T U n w d → GoesOn old new
 struck_on old new T U n w d s = elim s [
-  | inl x ↦ record { grows = subst (Grows old.board) (sym x.board.same) (grows-board_without old.board _ _ _ _); head = x.head }
-  | inr x ↦ subst (GoesOn old) (sym x.same) (record { grows = grows-none old.board; head = refl })
+  | inl x ↦ record { grows = subst (Grows old.board) (sym x.board.same) (grows-board_without old.board _ _ _ _); start = ap (λ b. b.trail.start) x.board.same; head = x.head }
+  | inr x ↦ subst (GoesOn old) (sym x.same) (record { grows = grows-none old.board; start = refl; head = refl })
 ]
 
 -- the limit of the counts stays

@@ -18,10 +18,6 @@ use std::sync::ledger::Ledger;
 use wfc_domains::{Cause, Counters, Removal, Steps, is_alive};
 use wfc_problem::{FourSides, hop_cell, hop_end};
 
-/// A list of removals is left once it has so many that are worked off for each that is pending, since those that are pending are
-/// brought back into it.
-const PENDING: usize = 16;
-
 /// The value whose entry stands at an offset within its cell. Division by 4 alone is a shift.
 #[inline]
 fn value_at(offset: u32, dirs: u8) -> u16
@@ -262,10 +258,10 @@ impl<'p> Flight<'p> {
             let removal = self.board.trail.last()[at];
             self.work_off(counters, paired, start + at, removal, links, steps);
             at += 1;
-            if at >= most_listed && self.board.trail.last().len() - at <= at / PENDING {
+            if at == most_listed {
+                self.board.trail.settle(at);
                 start += at;
                 at = 0;
-                self.board.trail.reopen(start);
             }
         }
         self.head = start + at;

@@ -84,6 +84,9 @@ fn mend(below: &[u16], above: &mut [u16], at: usize, was: u16) -> Option<u16>
     ensures same { IfNone result (above.new ≡ above.old) }
     ensures mended { IfSome result (λ old. slice_set above.new (at / FAN) old ≡ above.old) }
 {
+    if below[at] == was {
+        return None;
+    }
     let block = at / FAN;
     let old = above[block];
     if time_of(below[at]) < time_of(old) {

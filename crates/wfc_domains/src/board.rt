@@ -74,13 +74,13 @@ impl<'p> Board<'p> {
         }
     }
 
-    /// How many removals of a level stay in the list of the log: as many as there are cells, and not fewer than 4,096. Where
-    /// a level has more, to look at each cell takes no longer than to look at each removal.
+    /// How many removals of a level stay in the list of the log: two for each cell, and not fewer than 4,096. Where a level
+    /// has more, to look at each cell takes no longer than to look at each removal.
     #[inline]
     pub fn most_listed(&self) -> usize
         ensures some { 0 < result }
     {
-        (self.problem.cells() as usize).max(LISTED)
+        (2 * self.problem.cells() as usize).max(LISTED)
     }
 
     /// Brings the removals of the last level back into the list of the log, unless they are many.

@@ -1,6 +1,6 @@
 //! Removals of earlier levels, in three bytes each, or in three bytes and two bits.
 
-ghost use Rattle.std.specs.Prelude.{◌≡◌, ◌+◌, ◌<◌, ◌≤◌, ◌++◌, ◌∷◌, [], length, reverse, slice_get, IfOk, Some, vec_len, vec_capacity};
+ghost use Rattle.std.specs.Prelude.{◌≡◌, ◌+◌, ◌<◌, ◌≤◌, ◌++◌, ◌∷◌, [], drop, length, reverse, slice_get, take, IfOk, Some, vec_len, vec_capacity};
 ghost use Rattle.wfc_log.specs.Domains.{base_of};
 ghost use Rattle.wfc_log.specs.Log.{IsLogged, AreLogged, cells_of, extent_of, loss_of, sizes_after};
 ghost use Rattle.wfc_log.specs.Numbered.{cause_number, numbered_cause, placed_loss, removal_number, wide_limit};
@@ -83,7 +83,7 @@ fn placed_loss(number: u32, values: u16, dirs: u8) -> Loss
     }
 }
 
-/// More removals behind these. They are taken out of where they stand and given back, so that pointers and lengths stay
+/// The removals with more behind them. They are taken out of where they stand and given back, so that pointers and lengths stay
 /// in registers: a write through a reference might change them.
 #[inline]
 fn with_all(mut older: Older, removals: &[Removal]) -> Older
@@ -98,6 +98,20 @@ fn with_all(mut older: Older, removals: &[Removal]) -> Older
     older
 }
 
+/// More removals behind these.
+fn push_all(older: &mut Older, removals: &[Removal])
+    requires room { length older.old.removals + length removals.now ≤ older.old.room }
+    requires logged { AreLogged older.old.extent (sizes_after older.old.extent.sizes (cells_of
+        older.old.removals)) removals.now }
+    ensures more { older.new ≡ record older.old { removals = older.old.removals ++ removals.now } }
+{
+    replace_with(
+        older,
+        removals,
+        |older, removals| (with_all(older, removals), ()),
+    );
+}
+
 /// Moves all removals of a list behind the others.
 pub fn move_to(older: &mut Older, list: &mut Vec<Removal>)
     requires room { length older.old.removals + vec_len list.old ≤ older.old.room }
@@ -108,12 +122,25 @@ pub fn move_to(older: &mut Older, list: &mut Vec<Removal>)
     ensures empty { list.new.items ≡ [] }
     ensures capacity { vec_capacity list.new ≡ vec_capacity list.old }
 {
-    replace_with(
-        older,
-        list.as_slice(),
-        |older, removals| (with_all(older, removals), ()),
-    );
+    push_all(older, list.as_slice());
     list.clear();
+}
+
+/// Moves the first removals of a list, so many, behind the others.
+pub fn move_first(older: &mut Older, list: &mut Vec<Removal>, count: usize)
+    requires within { count ≤ vec_len list.old }
+    requires room { length older.old.removals + count ≤ older.old.room }
+    requires logged { AreLogged older.old.extent (sizes_after older.old.extent.sizes (cells_of
+        older.old.removals)) (take count list.old.items) }
+    ensures more { older.new ≡ record older.old
+        { removals = older.old.removals ++ take count list.old.items } }
+    ensures left { list.new.items ≡ drop count list.old.items }
+    ensures capacity { vec_capacity list.new ≡ vec_capacity list.old }
+{
+    push_all(older, &list[..count]);
+    let left = list.len() - count;
+    list.copy_within(count.., 0);
+    list.truncate(left);
 }
 
 /// Moves the removals from an index on to an empty list, the last first.

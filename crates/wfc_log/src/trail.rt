@@ -6,7 +6,7 @@ ghost use Rattle.wfc_log.specs.Log.{Log, cells_of, extent_of, loss_of, sizes_aft
 ghost use Rattle.wfc_log.specs.declared.Removal.{Removal};
 
 use crate::domains::Domains;
-use crate::older::{Older, move_from, move_to};
+use crate::older::{Older, move_first, move_from, move_to};
 use crate::{Loss, Removal};
 use std::alloc::Global;
 use std::marker::Model;
@@ -136,6 +136,14 @@ impl Trail {
         ensures begun { self.new ≡ record self.old { start = length self.old.removals } }
     {
         move_to(&mut self.older, &mut self.list);
+    }
+
+    /// The first removals of the last level, so many, are of earlier ones from now on.
+    pub fn settle(&mut self, count: usize)
+        requires within { self.old.start + count ≤ length self.old.removals }
+        ensures settled { self.new ≡ record self.old { start = self.old.start + count } }
+    {
+        move_first(&mut self.older, &mut self.list, count);
     }
 
     /// Goes back to a level that began with so many removals.

@@ -16,6 +16,7 @@ settle-requires g c =
       fits = subst (λ P. FitsTable P c.load.new.self) (sym c.in_ok-board.ensures.problem) c.load.ensures.fits;
       linked = subst (λ P. AreLinks P c.in_ok-links.links) (sym c.in_ok-board.ensures.problem) c.in_ok-links.ensures.linked;
       head = refl;
+      begun = c.in_ok-board.ensures.begun;
     }
 
 pub invariant_of-result : goal.invariant_of-result
@@ -32,7 +33,6 @@ invariant_of-result g c =
       settled = e.closed;
       linked = subst (λ P. AreLinks P c.in_ok-links.links) (sym (ap (λ p. p.now) e.problem ∙ c.in_ok-board.ensures.problem)) c.in_ok-links.ensures.linked;
       marked = omega (arith, ap (λ l. level_mark l.marks) levels);
-      begun = e.between.board.begun;
     }
 
 pub returns : goal.returns

@@ -14,7 +14,7 @@ pub put-requires-clause-board : goal.put-requires-clause-board
 put-requires-clause-board g c =
     let h = c.self.invariant in
     let alive = rw (← c.self.view_is) at c.requires.alive in
-    board-alive c.self.inside.flight.board h.traced h.levels h.sound alive h.begun
+    board-alive c.self.inside.flight.board h.traced h.levels h.sound alive
 
 pub close-requires : goal.close-requires
 close-requires g c =
@@ -26,7 +26,7 @@ close-requires g c =
       between = put-between f.board c.put.new.self f.counters f.head h.traced h.sound alive h.counters (h.settled alive) h.marks e.board e.cut e.put.problem e.put.more e.put.removals
           (grown-within f.board c.put.new.self h.traced e.board.traced e.put.problem e.put.more e.put.removals);
       linked = subst (λ p. AreLinks p.now c.self.inside.links) (sym e.put.problem) h.linked;
-      recent = omega (arith, e.board.begun, ap (λ l. level_mark l.marks) e.put.levels, mark-push f.board.levels.marks (length f.board.trail.removals), h.settled alive);
+      recent = omega (arith, e.begun, h.settled alive);
     }
 
 pub invariant_of-self : goal.invariant_of-self
@@ -48,7 +48,6 @@ invariant_of-self g c =
       settled = e.closed;
       linked = subst (λ p. AreLinks p.now c.self.inside.links) (sym (e.grows.problem ∙ p.problem)) h.linked;
       marked = omega (arith, ap level_mark marks, mark-push f.board.levels.marks (length f.board.trail.removals), h.settled alive, e.forward);
-      begun = e.between.board.begun;
     }
 
 pub returns-clause-sound : goal.returns-clause-sound

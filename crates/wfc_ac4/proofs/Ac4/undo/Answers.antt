@@ -10,15 +10,15 @@ use Rattle.wfc_ac4.proofs.Costs.{cost-split}
 use Rattle.wfc_ac4.proofs.Engines.{undone-is}
 use Rattle.wfc_ac4.proofs.Ac4.undo.Goals as goal
 
-pub reopen-requires : goal.reopen-requires
-reopen-requires g c =
+pub relist-requires : goal.relist-requires
+relist-requires g c =
     let h = c.self.invariant in
     let a = c.self.inside.flight in
     let some = rw (← c.self.view_is) at c.requires.some in
     let e = c.roll_back.ensures in
     let v = view_of a.board in
     let same = undone-is a.board c.roll_back.new.self.board c.pop.new.self c.mark-mark.result c.mark-mark.ensures.value e.back.problem e.back.levels e.back.removals c.pop.ensures.less in
-    record { within = omega (arith, c.mark-start.ensures.value, ap (λ (w : StoreView). level_mark w.marks) same, ap (λ (w : StoreView). length w.removals) same, mark-in (without_last v) (levels-undone v h.levels some)) }
+    record { levels = subst HasLevels (sym same) (levels-undone v h.levels some) }
 
 pub invariant_of-self : goal.invariant_of-self
 invariant_of-self g c =
@@ -31,7 +31,7 @@ invariant_of-self g c =
     let same = undone-is a.board c.roll_back.new.self.board c.pop.new.self c.mark-mark.result m e.back.problem e.back.levels e.back.removals c.pop.ensures.less in
     let left : length c.roll_back.new.self.board.trail.removals ≡ c.mark-mark.result = omega (arith, ap length e.back.removals, length-take c.mark-mark.result a.board.trail.removals, h.in_log, h.marked, m) in
     let t = e.rolled.traced in
-    rw c.reopen.ensures.reopened (record {
+    rw c.relist.ensures.same (record {
       sound = subst IsSound (sym same) (sound-undone v h.levels some);
       traced = record { problem = t.problem; same_cells = t.same_cells; same_values = t.same_values; whole = t.whole; stands = t.stands; stood = t.stood; room = t.room; extent = t.extent };
       levels = subst HasLevels (sym same) (levels-undone v h.levels some);
@@ -41,7 +41,6 @@ invariant_of-self g c =
       linked = subst (λ p. AreLinks p.now c.self.inside.links) (sym e.back.problem) h.linked;
       settled = λ _. omega (arith, left, e.back.head, h.marked, m);
       marked = omega (arith, left, e.back.head, h.marked, m, ap (λ (w : StoreView). level_mark w.marks) same, mark-in (without_last v) (levels-undone v h.levels some), length-take (level_mark v.marks) v.removals);
-      begun = c.mark-start.ensures.value;
     })
 
 pub returns-clause-sound : goal.returns-clause-sound
@@ -51,7 +50,7 @@ returns-clause-sound g c =
     let some = rw (← c.self.view_is) at c.requires.some in
     let e = c.roll_back.ensures in
     let same = undone-is a.board c.roll_back.new.self.board c.pop.new.self c.mark-mark.result c.mark-mark.ensures.value e.back.problem e.back.levels e.back.removals c.pop.ensures.less in
-    rw c.reopen.ensures.reopened (subst IsSound (sym same) (sound-undone (view_of a.board) h.levels some))
+    rw c.relist.ensures.same (subst IsSound (sym same) (sound-undone (view_of a.board) h.levels some))
 
 pub returns-clause-cost : goal.returns-clause-cost
 returns-clause-cost g c =

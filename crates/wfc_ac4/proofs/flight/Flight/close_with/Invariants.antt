@@ -11,6 +11,7 @@ invariant-loop-self g l =
     let P = l.fn.self.board.problem.now in
     record {
       between : IsBetweenRemovals l.self.board l.counters (l.start + l.at);
+      begun : l.self.board.trail.start ≡ l.start;
       limit : l.counters.limit ≡ l.fn.counters.limit;
       forward : l.fn.self.head ≤ l.start + l.at;
       idle : l.fn.self.board.trail.removals ≡ [] → l.self.board.trail.removals ≡ [];

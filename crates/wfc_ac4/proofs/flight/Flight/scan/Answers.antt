@@ -8,5 +8,5 @@ loop-cell-preserved c =
     let e = c.scan_cell.ensures in
     record {
       scanned = e.scanned;
-      goes_on = record { grows = grows-more h.goes_on.grows e.goes_on.grows; head = e.goes_on.head ∙ h.goes_on.head };
+      goes_on = record { grows = grows-more h.goes_on.grows e.goes_on.grows; start = e.goes_on.start ∙ h.goes_on.start; head = e.goes_on.head ∙ h.goes_on.head };
     }

@@ -11,7 +11,7 @@ returns-then-not-has_none-clause-scanned c =
 pub loop-value-init : goal.loop-value-init
 loop-value-init c = record {
   scanned = scanned-at _ _ _ _ c.requires.scanned (omega arith);
-  goes_on = record { grows = grows-none _; head = refl };
+  goes_on = record { grows = grows-none _; start = refl; head = refl };
 }
 
 pub loop-value-preserved : goal.loop-value-preserved
@@ -20,7 +20,7 @@ loop-value-preserved c =
     let e = c.look_at.ensures in
     record {
       scanned = scanned-at _ _ _ _ e.scanned (omega arith);
-      goes_on = record { grows = grows-more h.goes_on.grows e.goes_on.grows; head = e.goes_on.head ∙ h.goes_on.head };
+      goes_on = record { grows = grows-more h.goes_on.grows e.goes_on.grows; start = e.goes_on.start ∙ h.goes_on.start; head = e.goes_on.head ∙ h.goes_on.head };
     }
 
 pub returns-clause-scanned : goal.returns-clause-scanned

@@ -1,6 +1,6 @@
 use Rattle.std.proofs.Common.{sym, ◌∙◌, ap, subst, arith}
 use Rattle.std.proofs.lemmas.Bool.{true≢false}
-use Rattle.wfc_domains.specs.Store.{IsOpening, level_mark}
+use Rattle.wfc_domains.specs.Store.{IsOpening}
 use Rattle.wfc_ac4.specs.Links.{AreLinks}
 use Rattle.wfc_ac4.proofs.Opening.{scanned-none, scanned-done, opening-closed, between-dead, between-at}
 use Rattle.wfc_ac4.proofs.flight.Flight.settle.Goals as goal
@@ -12,7 +12,7 @@ pub close-requires : goal.close-requires
 close-requires g c = record {
   between = between-at _ _ _ _ (scanned-done _ _ c.scan.ensures.scanned) (sym (c.scan.ensures.goes_on.head ∙ c.requires.head));
   linked = subst (λ p. AreLinks p.now c.args.links.now) (sym c.scan.ensures.goes_on.grows.problem) c.requires.linked;
-  recent = omega (arith, c.scan.ensures.scanned.board.begun, ap (λ l. level_mark l.marks) (c.scan.ensures.goes_on.grows.levels ∙ c.requires.fresh.levels));
+  recent = omega (arith, c.scan.ensures.goes_on.start, c.requires.begun);
 }
 
 pub returns-then-is_alive-clause-opening : goal.returns-then-is_alive-clause-opening

@@ -119,7 +119,7 @@ loop-link-preserved g c =
           rw (w.self-is, w.counters-is) (record {
             working = struck_working _ _ T _ _ _ _ _ _ _ _ _ (λ (N : Network). link_places N c.args.cell (take (k + 1) ls)) h.working s.side (lowered-at T _ _ _ _ _ s.place_is c.lower.ensures.changed) one_left struck;
             limit = struck_limit _ _ _ _ _ _ _ struck ∙ limit-lowered _ _ _ _ c.lower.ensures.changed ∙ h.limit;
-            goes_on = record { grows = grows-more h.goes_on.grows on.grows; head = on.head ∙ h.goes_on.head };
+            goes_on = record { grows = grows-more h.goes_on.grows on.grows; start = on.start ∙ h.goes_on.start; head = on.head ∙ h.goes_on.head };
             steps = omega (arith, c.lower.ensures.steps, h.steps, longer);
           })
       | else-lower w ↦
@@ -130,7 +130,7 @@ loop-link-preserved g c =
           rw (w.self-is, w.counters-is) (record {
             working = next;
             limit = limit-lowered _ _ _ _ c.lower.ensures.changed ∙ h.limit;
-            goes_on = record { grows = h.goes_on.grows; head = h.goes_on.head };
+            goes_on = record { grows = h.goes_on.grows; start = h.goes_on.start; head = h.goes_on.head };
             steps = omega (arith, c.lower.ensures.steps, h.steps, longer);
           })
     ]

@@ -97,7 +97,7 @@ loop-link-preserved g c =
           rw (w.self-is, w.counters-is, w.steps-is) (record {
             working = struck_working _ _ T _ _ _ _ _ _ _ _ _ (λ (N : Network). link_places N c.args.cell (take (k + 1) ls)) h.working s.side (lowered-at T _ _ _ _ _ s.place_is w.down_at.ensures.changed) one_left struck;
             limit = struck_limit _ _ _ _ _ _ _ struck ∙ limit-lowered _ _ _ _ w.down_at.ensures.changed ∙ h.limit;
-            goes_on = record { grows = grows-more h.goes_on.grows on.grows; head = on.head ∙ h.goes_on.head };
+            goes_on = record { grows = grows-more h.goes_on.grows on.grows; start = on.start ∙ h.goes_on.start; head = on.head ∙ h.goes_on.head };
             steps = omega (arith, w.down_at.ensures.steps, h.steps, longer);
           })
       | in-Some+else-down_at w ↦
@@ -108,7 +108,7 @@ loop-link-preserved g c =
           rw (w.self-is, w.counters-is, w.steps-is) (record {
             working = next;
             limit = limit-lowered _ _ _ _ w.down_at.ensures.changed ∙ h.limit;
-            goes_on = record { grows = h.goes_on.grows; head = h.goes_on.head };
+            goes_on = record { grows = h.goes_on.grows; start = h.goes_on.start; head = h.goes_on.head };
             steps = omega (arith, w.down_at.ensures.steps, h.steps, longer);
           })
       | in_default w ↦
@@ -116,7 +116,7 @@ loop-link-preserved g c =
           rw (w.self-is, w.counters-is, w.steps-is) (record {
             working = link_skipped _ c.args.self.now.board _ _ _ _ _ _ h.goes_on.grows.problem h.working c.loop-link-test.true none;
             limit = h.limit;
-            goes_on = record { grows = h.goes_on.grows; head = h.goes_on.head };
+            goes_on = record { grows = h.goes_on.grows; start = h.goes_on.start; head = h.goes_on.head };
             steps = omega (arith, h.steps, ap length (link-none P c.args.cell k ls c.loop-link-test.true none));
           })
     ]
