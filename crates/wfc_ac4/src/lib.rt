@@ -97,8 +97,8 @@ impl<'p> Ac4<'p> {
         let mark = self.flight.board.levels.mark() as usize;
         self.flight.roll_back(mark, steps);
         self.flight.board.levels.pop();
-        self.flight.board.relist();
         self.flight.board.verdict = Verdict::Alive;
+        self.flight.board.relist();
     }
 }
 

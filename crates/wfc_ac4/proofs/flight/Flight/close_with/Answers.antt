@@ -71,14 +71,14 @@ loop-self-preserved g c =
       );
     }
 
-pub overflow_add-start-then-last-at : goal.overflow_add-start-then-last-at
-overflow_add-start-then-last-at g c =
+pub overflow_add-start-then-at-most_listed : goal.overflow_add-start-then-at-most_listed
+overflow_add-start-then-at-most_listed g c =
     let b = c.work_off.new.self.board in
     let e = c.work_off.ensures in
     omega (arith, e.between.in_log, log-few b e.between.board.traced)
 
-pub loop-self-preserved-then-last-at : goal.loop-self-preserved-then-last-at
-loop-self-preserved-then-last-at g c =
+pub loop-self-preserved-then-at-most_listed : goal.loop-self-preserved-then-at-most_listed
+loop-self-preserved-then-at-most_listed g c =
     let h = c.loop-self.invariant in
     let e = c.work_off.ensures in
     let P = c.args.self.now.board.problem.now in
@@ -91,9 +91,9 @@ loop-self-preserved-then-last-at g c =
     let one_more : start + at + 1 ≡ start + (at + 1) + 0 = omega arith in
     let front = cost-front P c.args.self.now.head rs new e.grows.more e.grows.removals (omega (arith, h.forward, inside)) in
     let next = cost-front P (start + at + 1) rs new e.grows.more e.grows.removals (omega (arith, inside)) in
-    rw c.reopen.ensures.reopened (record {
+    rw c.settle.ensures.settled (record {
       between = between-listed b _ _ _ (between-at _ _ _ _ e.between one_more);
-      begun = refl;
+      begun = ap (λ n. n + (at + 1)) (e.start ∙ h.begun);
       limit = e.limit ∙ h.limit;
       forward = omega (arith, h.forward);
       idle = λ none. absurd (omega (arith, ap length (h.idle none), inside));
@@ -110,8 +110,8 @@ loop-self-preserved-then-last-at g c =
       );
     })
 
-pub loop-self-smaller-then-last-at : goal.loop-self-smaller-then-last-at
-loop-self-smaller-then-last-at g c =
+pub loop-self-smaller-then-at-most_listed : goal.loop-self-smaller-then-at-most_listed
+loop-self-smaller-then-at-most_listed g c =
     let h = c.loop-self.invariant in
     let inside : c.loop-self.start + c.loop-self.at < length c.loop-self.self.board.trail.removals = last-in _ _ _ _ _ c.last.ensures.value h.begun (omega arith) in
     omega (arith, log-depth c.loop-self.self.board h.between.board.traced, ap (λ p. depth_of p.now) h.grows.problem, inside)
