@@ -344,7 +344,7 @@ fn both_engines_say_the_same(rt: HostRuntime) -> Result<(), Fail> {
 /// What the last level removed, and that each cell has a value left.
 fn removed(rt: &impl Abort, engine: &Ac4, wanted: &[Removal]) {
     assert_eq!(rt; engine.verdict(), Verdict::Alive);
-    assert_eq!(rt; engine.added(), wanted);
+    assert_eq!(rt; engine.added(), Some(wanted));
 }
 
 /// Which values stand, and for how many more literals there is room.

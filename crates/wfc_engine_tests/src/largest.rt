@@ -117,7 +117,7 @@ fn take_back<L: Ledger>(
 ) -> Result<(), Fail>
     ensures problem { engine.new.problem ≡ engine.old.problem }
 {
-    assert_eq!(rt; engine.added(), level(alloc, cell)?.as_slice());
+    assert_eq!(rt; engine.added(), Some(level(alloc, cell)?.as_slice()));
     assert!(rt; !engine.standing().is_empty());
     engine.undo(steps);
     Ok(())
@@ -152,7 +152,7 @@ fn come_back<L: Ledger>(
     for cell in cells.iter().rev() {
         take_back(rt, alloc, engine, *cell, steps)?;
     }
-    assert!(rt; engine.added().is_empty());
+    assert_eq!(rt; engine.added_len(), 0);
     Ok(())
 }
 

@@ -8,4 +8,6 @@ mod choose;
 #[cfg(test)]
 mod largest;
 #[cfg(test)]
+mod long;
+#[cfg(test)]
 mod paired;

@@ -102,7 +102,7 @@ fn give<L: Ledger>(
     assert!(rt; engine.spare() > 0);
     assert_eq!(rt; engine.verdict(), Verdict::Alive);
     engine.assume(Literal::Is { cell, value }, steps);
-    assert!(rt; engine.added().len() > 1_000);
+    assert!(rt; engine.added_len() > 1_000);
     is_counted(rt, alloc, problem, engine, steps)
 }
 

@@ -1,5 +1,5 @@
 -- What a chooser was told of a level's removals, on the way from one list of sizes to the other.
-use Rattle.std.proofs.Common.{◌≡◌, ◌≢◌, ◌+◌, ◌-◌, ◌<◌, ◌≤◌, ℕ, suc, Bool, false, List, length, take, drop, refl, sym, ◌∙◌, ap, subst, get_or, set, arith, inl, inr}
+use Rattle.std.proofs.Common.{◌≡◌, ◌≢◌, ◌+◌, ◌-◌, ◌<◌, ◌≤◌, ℕ, suc, Bool, false, List, [], length, take, drop, refl, sym, ◌∙◌, ap, subst, get_or, set, arith, inl, inr}
 use Rattle.std.specs.Prelude.{◌||◌, ◌==◌, slice_index}
 use Rattle.std.proofs.lemmas.Bool.{eq-eqb, ne_eqb, cases_eq, or_parts, false≢true}
 use Rattle.std.proofs.lemmas.List.{length-set, get_or-set_same, get_or-set_other}
@@ -126,3 +126,35 @@ told_wait P D rs rule was at d some within are same = record {
     | inr ne ↦ are.told c l (other_take rs at d (omega arith) within c ne none)
   ];
 }
+
+-- ---- all sizes, one cell after another
+
+-- the chooser has the sizes of E at the first n cells
+pub record AreFirstTold (P : Network) (E : Test) (n : ℕ) (rule : Rule) (now : Told) : Type 0 where
+  pub same_rule : now.rule ≡ rule
+  pub cells : length now.sizes ≡ P.cells
+  pub told : (c : ℕ) → c < n → slice_index now.sizes c ≡ size_at P E c
+
+-- the next cell, whose size was told
+pub first_told_more : (P : Network) (E : Test) (n : ℕ) (rule : Rule) (was now : Told) (size : ℕ) → AreFirstTold P E n rule was → n < P.cells → size ≡ size_at P E n
+    → now ≡ record was { sizes = set was.sizes n size } → AreFirstTold P E (n + 1) rule now
+first_told_more P E n rule was now size are inside right is =
+    subst (λ (t : Told). AreFirstTold P E (n + 1) rule t) (sym is) (record {
+      same_rule = are.same_rule;
+      cells = length-set was.sizes n size ∙ are.cells;
+      told = λ c l. elim (cases_eq c n) [
+        | inl e ↦
+            let within : n < length was.sizes = omega (arith, are.cells) in
+            ap (slice_index (set was.sizes n size)) e ∙ get_or-set_same was.sizes n size 0 within ∙ right ∙ sym (ap (size_at P E) e)
+        | inr ne ↦ get_or-set_other was.sizes n c size 0 ne ∙ are.told c (omega (arith, ne))
+      ];
+    })
+
+-- at the last cell the chooser has all sizes
+pub first_told_all : (P : Network) (E : Test) (n : ℕ) (rule : Rule) (now : Told) → AreFirstTold P E n rule now → P.cells ≤ n → now ≡ record { rule = rule; sizes = sizes_of P E }
+first_told_all P E n rule now are all =
+    all_told P E [] rule now (record {
+      same_rule = are.same_rule;
+      cells = are.cells;
+      told = λ c l none. are.told c (omega (arith, l, all));
+    }) (λ k. refl)

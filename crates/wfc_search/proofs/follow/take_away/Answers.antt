@@ -1,13 +1,19 @@
-use Rattle.std.proofs.Common.{sym, ◌∙◌, ap}
+use Rattle.std.proofs.Common.{sym, ◌∙◌, ap, length}
 use Rattle.wfc_choose.specs.Told.{Told}
 use Rattle.wfc_domains.specs.Store.{StoreView, left_of}
 use Rattle.wfc_problem.specs.Network.{Network}
 use Rattle.wfc_problem.specs.Sizes.{sizes_of}
+use Rattle.wfc_problem.proofs.CallerLemmas.{length-sizes_of}
 use Rattle.wfc_search.proofs.Stores.{left_undone}
 use Rattle.wfc_search.proofs.follow.take_away.Goals as goal
 
-pub returns-clause-keeps : goal.returns-clause-keeps
-returns-clause-keeps g c =
+pub tell_all-requires-clause-cells : goal.tell_all-requires-clause-cells
+tell_all-requires-clause-cells g c =
+    let old : StoreView = g.S.Store.view c.args.store.now in
+    ap length c.requires.keeps.sizes ∙ length-sizes_of old.problem (left_of old) ∙ ap (λ (P : Network). P.cells) (sym c.undo-in_default.ensures.undone.problem)
+
+pub returns-in-Some-clause-keeps : goal.returns-in-Some-clause-keeps
+returns-in-Some-clause-keeps g c =
     let old : StoreView = g.S.Store.view c.args.store.now in
     let new : StoreView = g.S.Store.view c.undo.new.self in
     record {

@@ -12,22 +12,22 @@ loop-at-init g c =
     let store : StoreView = g.S.Store.view c.args.store.now in
     record {
       within = omega arith;
-      told = rw take-length (told_last store.problem (before_of store) (left_of store) _ _ (left_added store ∙ ap (without (before_of store)) (sym c.added-added.ensures.value)) c.requires.sizes);
+      told = rw take-length (told_last store.problem (before_of store) (left_of store) _ _ (left_added store ∙ ap (without (before_of store)) (sym c.requires.added)) c.requires.sizes);
     }
 
 pub resize-requires-clause-cell_in : goal.resize-requires-clause-cell_in
 resize-requires-clause-cell_in g c =
-    let step = removal_step _ c.requires.sound _ c.added-added.ensures.value (c.loop-at.at - 1) no_removal (omega arith) in
+    let step = removal_step _ c.requires.sound _ c.requires.added (c.loop-at.at - 1) no_removal (omega arith) in
     omega (arith, step.cell_in, c.loop-at.invariant.told.cells)
 
 pub resize-requires-clause-small : goal.resize-requires-clause-small
 resize-requires-clause-small g c =
-    let step = removal_step _ c.requires.sound _ c.added-added.ensures.value (c.loop-at.at - 1) no_removal (omega arith) in
+    let step = removal_step _ c.requires.sound _ c.requires.added (c.loop-at.at - 1) no_removal (omega arith) in
     omega (arith, step.few, values_few _ c.requires.sound, c.from.ensures)
 
 pub loop-at-preserved-in-loop-at : goal.loop-at-preserved-in-loop-at
 loop-at-preserved-in-loop-at g c =
-    let step = removal_step _ c.requires.sound _ c.added-added.ensures.value (c.loop-at.at - 1) no_removal (omega arith) in
+    let step = removal_step _ c.requires.sound _ c.requires.added (c.loop-at.at - 1) no_removal (omega arith) in
     record {
       within = omega arith;
       told = told_back _ _ _ _ _ _ _ _ _ c.loop-at-test.true c.loop-at.invariant.within step c.loop-at.invariant.told (rw c.from.ensures at c.resize.ensures.resized);

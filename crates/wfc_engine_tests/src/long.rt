@@ -1,0 +1,145 @@
+//! Levels of more removals than stay in a list.
+
+ghost use Rattle.std.specs.Prelude.{◌≡◌, ◌<◌, ◌≤◌, length};
+
+use super::ac4::{counts_afresh, go_back};
+use std::alloc::{AllocError, Global};
+use std::marker::Brand;
+use std::process::Abort;
+use std::sync::ledger::{Blank, Ledger};
+use std::test::Fail;
+use wfc_ac4::Ac4;
+use wfc_domains::{Cause, Loss, Steps, Store, Verdict};
+use wfc_problem::{Literal, Parts, Problem};
+
+/// How many cells a row has, and how many rows there are.
+const SIDE: u32 = 64;
+
+/// How many cells there are: of a level some 8,192 removals stay in a list.
+const CELLS: u32 = 4_096;
+
+/// How many values each has.
+const VALUES: u16 = 4;
+
+/// How many values go where each cell keeps one.
+const GONE: usize = 12_288;
+
+/// Each row and each column is a ring.
+fn around(alloc: Global) -> Result<Vec<u32>, AllocError> {
+    let mut out = Vec::new(alloc);
+    for cell in 0..CELLS {
+        let (column, row) = (cell % SIDE, cell / SIDE);
+        let left = row * SIDE + (column + SIDE - 1) % SIDE;
+        let down = (cell + SIDE) % CELLS;
+        let right = row * SIDE + (column + 1) % SIDE;
+        let up = (cell + CELLS - SIDE) % CELLS;
+        for other in [left, down, right, up] {
+            out.push(other)?;
+        }
+    }
+    Ok(out)
+}
+
+/// Each value stands beside itself alone.
+fn itself(alloc: Global) -> Result<Vec<Vec<u16>>, AllocError> {
+    let mut supports = Vec::new(alloc);
+    for value in 0..VALUES {
+        for _ in 0..4 {
+            supports.push(Vec::from_slice(alloc, &[value])?)?;
+        }
+    }
+    Ok(supports)
+}
+
+/// A square of cells that all have one value.
+fn square(alloc: Global) -> Result<Parts, AllocError> {
+    Ok(Parts {
+        cells: CELLS,
+        dirs: 4,
+        neighbours: around(alloc)?,
+        weights: vec![in alloc; 1; 4]?,
+        supports: itself(alloc)?,
+        base: vec![in alloc; true; 16_384]?,
+    })
+}
+
+/// Each value but one went from each cell, each once.
+fn each_went_once(rt: &impl Abort, alloc: Global, engine: &Ac4, kept: u16) -> Result<(), Fail> {
+    assert_eq!(rt; engine.added_len(), GONE);
+    let mut went = vec![in alloc; false; 16_384]?;
+    for index in 0..engine.added_len() {
+        let loss = engine.added_at(index);
+        assert!(rt; loss.cell < CELLS && loss.value < VALUES && loss.value != kept);
+        let place = loss.cell as usize * 4 + loss.value as usize;
+        assert!(rt; !went[place]);
+        went[place] = true;
+    }
+    Ok(())
+}
+
+/// The level that gave the value to the first cell is long: no list has its removals, and each of them can be read.
+fn is_long(rt: &impl Abort, alloc: Global, engine: &Ac4, kept: u16) -> Result<(), Fail> {
+    assert_eq!(rt; engine.verdict(), Verdict::Alive);
+    assert_eq!(rt; engine.added(), None);
+    each_went_once(rt, alloc, engine, kept)?;
+    let first = Loss {
+        cell: 0,
+        value: 0,
+        cause: Cause::Assumed,
+    };
+    assert_eq!(rt; engine.added_at(0), first);
+    assert!(rt; engine.added_at(GONE - 1).cause != Cause::Assumed);
+    Ok(())
+}
+
+/// Gives a value to a cell.
+fn give<L: Ledger>(
+    rt: &impl Abort,
+    problem: &Problem,
+    engine: &mut Ac4,
+    cell: u32,
+    value: u16,
+    steps: &mut Steps<L>,
+)
+    requires problem { engine.old.problem ≡ problem.now }
+    ensures problem { engine.new.problem ≡ problem.now }
+{
+    assert!(rt; cell < problem.cells() && value < problem.values());
+    assert!(rt; engine.spare() > 0);
+    assert_eq!(rt; engine.verdict(), Verdict::Alive);
+    engine.assume(Literal::Is { cell, value }, steps);
+}
+
+/// A long level, one behind it that removes nothing, and both taken back; then another long one.
+fn long_and_short<L: Ledger>(
+    rt: &impl Abort,
+    alloc: Global,
+    problem: &Problem,
+    blank: Blank,
+) -> Result<(), Fail>
+    requires name { blank.name ≡ L.name }
+    requires parts { blank.parts ≡ L.parts }
+    requires some { 0 < blank.parts }
+{
+    let mut steps = Steps::<L>::new(blank);
+    let mut engine = Ac4::open(alloc, problem, 2)?;
+    give(rt, problem, &mut engine, 0, 2, &mut steps);
+    is_long(rt, alloc, &engine, 2)?;
+    give(rt, problem, &mut engine, 77, 2, &mut steps);
+    assert!(rt; engine.added().is_some_and(|added| added.is_empty()));
+    go_back(problem, &mut engine, &mut steps);
+    is_long(rt, alloc, &engine, 2)?;
+    go_back(problem, &mut engine, &mut steps);
+    assert!(rt; engine.added().is_some_and(|added| added.is_empty()));
+    assert!(rt; counts_afresh(alloc, problem, &engine, &mut steps)?);
+    give(rt, problem, &mut engine, 0, 3, &mut steps);
+    is_long(rt, alloc, &engine, 3)?;
+    assert!(rt; counts_afresh(alloc, problem, &engine, &mut steps)?);
+    Ok(())
+}
+
+#[test]
+fn long_levels_are_undone(rt: HostRuntime) -> Result<(), Fail> {
+    let problem = Problem::new(square(rt.alloc())?)?;
+    long_and_short::<Brand>(&rt, rt.alloc(), &problem, Blank::new(1))
+}
