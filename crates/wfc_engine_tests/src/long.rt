@@ -3,6 +3,7 @@
 ghost use Rattle.std.specs.Prelude.{◌≡◌, ◌<◌, ◌≤◌, length};
 
 use super::ac4::{counts_afresh, go_back};
+use super::paired::around;
 use std::alloc::{AllocError, Global};
 use std::marker::Brand;
 use std::process::Abort;
@@ -12,33 +13,14 @@ use wfc_ac4::Ac4;
 use wfc_domains::{Cause, Loss, Steps, Store, Verdict};
 use wfc_problem::{Literal, Parts, Problem};
 
-/// How many cells a row has, and how many rows there are.
-const SIDE: u32 = 64;
-
-/// How many cells there are: of a level some 8,192 removals stay in a list.
-const CELLS: u32 = 4_096;
+/// How many cells there are: of a level some 32,768 removals stay in a list.
+const CELLS: u32 = 16_384;
 
 /// How many values each has.
 const VALUES: u16 = 4;
 
 /// How many values go where each cell keeps one.
-const GONE: usize = 12_288;
-
-/// Each row and each column is a ring.
-fn around(alloc: Global) -> Result<Vec<u32>, AllocError> {
-    let mut out = Vec::new(alloc);
-    for cell in 0..CELLS {
-        let (column, row) = (cell % SIDE, cell / SIDE);
-        let left = row * SIDE + (column + SIDE - 1) % SIDE;
-        let down = (cell + SIDE) % CELLS;
-        let right = row * SIDE + (column + 1) % SIDE;
-        let up = (cell + CELLS - SIDE) % CELLS;
-        for other in [left, down, right, up] {
-            out.push(other)?;
-        }
-    }
-    Ok(out)
-}
+const GONE: usize = 49_152;
 
 /// Each value stands beside itself alone.
 fn itself(alloc: Global) -> Result<Vec<Vec<u16>>, AllocError> {
@@ -59,14 +41,14 @@ fn square(alloc: Global) -> Result<Parts, AllocError> {
         neighbours: around(alloc)?,
         weights: vec![in alloc; 1; 4]?,
         supports: itself(alloc)?,
-        base: vec![in alloc; true; 16_384]?,
+        base: vec![in alloc; true; 65_536]?,
     })
 }
 
 /// Each value but one went from each cell, each once.
 fn each_went_once(rt: &impl Abort, alloc: Global, engine: &Ac4, kept: u16) -> Result<(), Fail> {
     assert_eq!(rt; engine.added_len(), GONE);
-    let mut went = vec![in alloc; false; 16_384]?;
+    let mut went = vec![in alloc; false; 65_536]?;
     for index in 0..engine.added_len() {
         let loss = engine.added_at(index);
         assert!(rt; loss.cell < CELLS && loss.value < VALUES && loss.value != kept);

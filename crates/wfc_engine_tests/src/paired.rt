@@ -21,8 +21,8 @@ const CELLS: u32 = 16_384;
 /// How many values each has.
 const VALUES: u16 = 16;
 
-/// Each row and each column is a ring.
-fn around(alloc: Global) -> Result<Vec<u32>, AllocError> {
+/// The neighbours of each cell, where each row and each column is a ring.
+pub fn around(alloc: Global) -> Result<Vec<u32>, AllocError> {
     let mut out = Vec::new(alloc);
     for cell in 0..CELLS {
         let (column, row) = (cell % SIDE, cell / SIDE);
