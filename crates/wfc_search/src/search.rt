@@ -93,7 +93,8 @@ impl<'p, S: Store> Search<'p, S> {
     }
 
     /// Makes one turn of the run, and tells its lines. The first call, which is the one at which no literal stands, tells
-    /// the lines of the opening before them. It takes no memory, and it looks at no cell that the turn doesn't change.
+    /// the lines of the opening before them. It takes no memory, and it looks at no cell that the turn doesn't change, unless the
+    /// turn removes so much that no list is kept of it.
     pub fn step<R: Rng, J: Journal, L: Ledger>(
         &mut self,
         words: &mut R,
