@@ -43,11 +43,11 @@ fn neighbours(alloc: Global) -> Result<Vec<u32>, AllocError> {
     Ok(out)
 }
 
-/// Each value supports itself alone, in six directions.
-fn itself(alloc: Global) -> Result<Vec<Vec<u16>>, AllocError> {
+/// Each of so many values supports itself alone, in each of so many directions.
+pub fn itself(alloc: Global, values: u16, dirs: u8) -> Result<Vec<Vec<u16>>, AllocError> {
     let mut supports = Vec::new(alloc);
-    for value in 0..VALUES {
-        for _dir in 0..6 {
+    for value in 0..values {
+        for _dir in 0..dirs {
             supports.push(Vec::from_slice(alloc, &[value])?)?;
         }
     }
@@ -61,7 +61,7 @@ fn largest(alloc: Global) -> Result<Parts, AllocError> {
         dirs: 6,
         neighbours: neighbours(alloc)?,
         weights: vec![in alloc; 1; 128]?,
-        supports: itself(alloc)?,
+        supports: itself(alloc, VALUES, 6)?,
         base: vec![in alloc; true; 8_388_608]?,
     })
 }

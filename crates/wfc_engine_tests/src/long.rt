@@ -3,6 +3,7 @@
 ghost use Rattle.std.specs.Prelude.{◌≡◌, ◌<◌, ◌≤◌, length};
 
 use super::ac4::{counts_afresh, go_back};
+use super::largest::itself;
 use super::paired::around;
 use std::alloc::{AllocError, Global};
 use std::marker::Brand;
@@ -22,25 +23,14 @@ const VALUES: u16 = 4;
 /// How many values go where each cell keeps one.
 const GONE: usize = 49_152;
 
-/// Each value stands beside itself alone.
-fn itself(alloc: Global) -> Result<Vec<Vec<u16>>, AllocError> {
-    let mut supports = Vec::new(alloc);
-    for value in 0..VALUES {
-        for _ in 0..4 {
-            supports.push(Vec::from_slice(alloc, &[value])?)?;
-        }
-    }
-    Ok(supports)
-}
-
-/// A square of cells that all have one value.
+/// A square of cells that all have one value: each stands beside itself alone.
 fn square(alloc: Global) -> Result<Parts, AllocError> {
     Ok(Parts {
         cells: CELLS,
         dirs: 4,
         neighbours: around(alloc)?,
         weights: vec![in alloc; 1; 4]?,
-        supports: itself(alloc)?,
+        supports: itself(alloc, VALUES, 4)?,
         base: vec![in alloc; true; 65_536]?,
     })
 }
