@@ -6,7 +6,7 @@ ghost use Rattle.wfc_log.specs.declared.Verdict.TheVariants.{Alive};
 ghost use Rattle.wfc_log.specs.Domains.{has};
 ghost use Rattle.wfc_domains.specs.Counters.{FitsTable, count_of, counts_of};
 ghost use Rattle.wfc_domains.specs.Store.{IsOpening};
-ghost use Rattle.wfc_domains.specs.Board.{IsFresh};
+ghost use Rattle.wfc_domains.specs.Board.{IsFresh, IsListed};
 ghost use Rattle.wfc_ac4.specs.Links.{AreLinks};
 ghost use Rattle.wfc_ac4.specs.State.{IsBetweenRemovals, IsScanned};
 ghost use Rattle.wfc_ac4.specs.Flight.{GoesOn, IsFirstBare};
@@ -77,6 +77,7 @@ impl<'p> Flight<'p> {
             self.new.board.verdict }
         ensures problem { self.new.board.problem ≡ self.old.board.problem }
         ensures levels { self.new.board.levels ≡ self.old.board.levels }
+        ensures listed { IsListed self.new.board }
     {
         if is_alive(self.board.verdict) {
             self.scan();

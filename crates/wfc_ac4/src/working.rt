@@ -6,7 +6,7 @@ ghost use Rattle.wfc_problem.specs.Network.{values};
 ghost use Rattle.wfc_log.specs.declared.Verdict.TheVariants.{Alive};
 ghost use Rattle.wfc_domains.specs.Counters.{FitsTable, cost_at, counter_place, with_entry};
 ghost use Rattle.wfc_domains.specs.Pairs.{unit_at, mask_at};
-ghost use Rattle.wfc_domains.specs.Board.{Grows, HasValues, IsTraced};
+ghost use Rattle.wfc_domains.specs.Board.{Grows, HasValues, IsListed, IsTraced};
 ghost use Rattle.wfc_ac4.specs.Places.{counter_places};
 ghost use Rattle.wfc_ac4.specs.Links.{AreLinks, links_of};
 ghost use Rattle.wfc_ac4.specs.State.{IsWorking, IsBetweenRemovals};
@@ -242,10 +242,12 @@ impl<'p> Flight<'p> {
         requires between { IsBetweenRemovals self.old.board counters.old self.old.head }
         requires linked { AreLinks self.old.board.problem.now links.now }
         requires recent { self.old.board.trail.start ≤ self.old.head }
+        requires listed { IsListed self.old.board }
         ensures between { IsBetweenRemovals self.new.board counters.new self.new.head }
         ensures closed { self.new.board.verdict ≡ Alive → self.new.head
             ≡ length self.new.board.trail.removals }
         ensures forward { self.old.head ≤ self.new.head }
+        ensures listed { IsListed self.new.board }
         ensures idle { self.old.board.trail.removals ≡ [] → self.new.board.trail.removals ≡ [] }
         ensures grows { Grows self.old.board self.new.board }
         ensures steps { steps.new + front_cost self.old self.new self.old.head
@@ -273,10 +275,12 @@ impl<'p> Flight<'p> {
         requires between { IsBetweenRemovals self.old.board self.old.counters self.old.head }
         requires linked { AreLinks self.old.board.problem.now links.now }
         requires recent { self.old.board.trail.start ≤ self.old.head }
+        requires listed { IsListed self.old.board }
         ensures between { IsBetweenRemovals self.new.board self.new.counters self.new.head }
         ensures closed { self.new.board.verdict ≡ Alive → self.new.head
             ≡ length self.new.board.trail.removals }
         ensures forward { self.old.head ≤ self.new.head }
+        ensures listed { IsListed self.new.board }
         ensures idle { self.old.board.trail.removals ≡ [] → self.new.board.trail.removals ≡ [] }
         ensures grows { Grows self.old.board self.new.board }
         ensures steps { steps.new + front_cost self.old self.new self.old.head

@@ -19,8 +19,8 @@ use Rattle.wfc_domains.specs.declared.board.Board.{Board}
 use Rattle.wfc_log.specs.Domains.{Flags, has, size_of, less, IsLess, base_of}
 use Rattle.wfc_log.specs.Log.{extent_of, IsInside, IsCauseBelow, IsLogged, cells_of, sizes_after}
 use Rattle.wfc_domains.specs.Removals.{without, IsCause, IsRemoved, AreRemoved}
-use Rattle.wfc_domains.specs.Store.{StoreView, IsSound, level_mark, left_of, added_of, before_of}
-use Rattle.wfc_domains.specs.Board.{view_of, AreStood, IsTraced, HasLevels, HasValues, IsBoard, board_without, Grows}
+use Rattle.wfc_domains.specs.Store.{StoreView, IsSound, IsLongLevel, level_mark, list_limit, left_of, added_of, before_of}
+use Rattle.wfc_domains.specs.Board.{view_of, AreStood, IsTraced, HasLevels, HasValues, IsBoard, IsListed, IsFresh, board_without, Grows}
 use Rattle.wfc_domains.proofs.Problems.{base-in, base_table, depth-few, few_pairs, dead-iff, empty-size}
 use Rattle.wfc_domains.proofs.SizeLemmas.{stood-sizes}
 use Rattle.wfc_domains.proofs.Removals.{less-gone, less-back, without-within, without-append, without-push, without-split, without-in, stood-push, stood-front, stood-room, stood-few, size-less, size-other, removed-push}
@@ -200,7 +200,52 @@ levels-put v l spare h sound alive = record {
 pub mark-push : (marks : List ℕ) (n : ℕ) → level_mark (marks ++ n ∷ []) ≡ n
 mark-push marks n = get_or_push marks n 0 (length (marks ++ n ∷ []) - 1) (omega (arith, length_push marks n))
 
--- the board under one literal more, before it cuts
+-- ---- where the list of the log begins
+
+-- a long level stays long
+pub long-grown : (a b : Board) → IsLongLevel (view_of a) → Grows a b → IsLongLevel (view_of b)
+long-grown a b long g =
+    let m = ap (λ l. level_mark l.marks) g.levels in
+    omega (
+      arith,
+      ap (λ p. list_limit p.now) g.problem,
+      length-drop (level_mark a.levels.marks) a.trail.removals,
+      length-drop (level_mark b.levels.marks) b.trail.removals,
+      ap length g.removals,
+      length-append a.trail.removals g.more,
+      m,
+    )
+
+-- a list that begins with the last level does so while that level grows
+pub listed-grown : (a b : Board) → IsListed a → Grows a b → b.trail.start ≡ a.trail.start → IsListed b
+listed-grown a b listed g start = elim listed [
+  | inl same ↦ inl (start ∙ same ∙ sym (ap (λ l. level_mark l.marks) g.levels))
+  | inr long ↦ inr (long-grown a b long g)
+]
+
+-- a fresh board's list begins with its first level
+pub listed-fresh : (b : Board) (spare : ℕ) → IsFresh b spare → IsListed b
+listed-fresh b spare f = inl (f.begun ∙ sym (ap (λ l. level_mark l.marks) f.levels))
+
+-- and so does that of one that grew from it
+pub listed-fresh-grown : (a b : Board) (spare : ℕ) → IsFresh a spare → Grows a b → b.trail.start ≡ a.trail.start → IsListed b
+listed-fresh-grown a b spare f g start = listed-grown a b (listed-fresh a spare f) g start
+
+-- a new level begins a list
+pub listed-begun : (b : Board) (marks : List ℕ) (n : ℕ) → b.levels.marks ≡ marks ++ n ∷ [] → b.trail.start ≡ n → IsListed b
+listed-begun b marks n e start = inl (start ∙ sym (ap level_mark e ∙ mark-push marks n))
+
+-- where as many removals leave the list as it may have, the level is long
+pub listed-settled : (b : Board) (count : ℕ) → IsListed b → count ≡ list_limit b.problem.now → b.trail.start + count ≤ length b.trail.removals
+    → IsListed (record b { trail = record b.trail { start = b.trail.start + count } })
+listed-settled b count listed limit within = elim listed [
+  | inl same ↦ inr (omega (arith, length-drop (level_mark b.levels.marks) b.trail.removals))
+  | inr long ↦ inr long
+]
+
+-- ---- the board under one literal more
+
+-- before it cuts
 pub board-put : (b : Board) (l : Literal) (spare : ℕ) → IsBoard b → IsSound (view_of b) → b.verdict ≡ Alive
     → IsBoard (record b { levels = record { standing = b.levels.standing ++ l ∷ []; marks = b.levels.marks ++ length b.trail.removals ∷ []; spare = spare }; trail = record b.trail { start = length b.trail.removals } })
 board-put b l spare h sound alive = record {

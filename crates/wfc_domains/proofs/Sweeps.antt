@@ -19,7 +19,7 @@ use Rattle.wfc_domains.specs.declared.board.Board.{Board}
 use Rattle.wfc_log.specs.Domains.{has, size_of}
 use Rattle.wfc_domains.specs.Removals.{without, IsUnsupported}
 use Rattle.wfc_domains.specs.Store.{StoreView, IsVerdict, IsOpening, IsLeastEmpty, IsLeastUnsupported, IsBefore, left_of}
-use Rattle.wfc_domains.specs.Board.{view_of, IsTraced, HasLevels, IsBoard, IsCut, IsFresh, board_without, Loses}
+use Rattle.wfc_domains.specs.Board.{view_of, IsTraced, HasLevels, IsBoard, IsCut, IsListed, IsFresh, board_without, Loses}
 use Rattle.wfc_domains.specs.Swept.{IsFirstUnsupported, IsSwept, FirstIsLeast, IsClosed}
 use Rattle.wfc_domains.proofs.Problems.{consistent-from_counts, greatest-is, greatest-same}
 use Rattle.wfc_domains.proofs.Removals.{less-within}
@@ -149,11 +149,12 @@ first-grown (x ∷ rs) more r e = inl e
 
 -- a fresh board that was closed
 pub closed-fresh : (a n : Board) (spare : ℕ) → IsFresh a spare → IsBoard n → IsCut n → n.problem ≡ a.problem → n.levels ≡ a.levels
-    → (n.verdict ≡ Alive → IsArcConsistent n.problem.now (left_of (view_of n))) → FirstIsLeast n → ((a.verdict ≡ Alive → ⊥) → n ≡ a) → IsClosed n
-closed-fresh a n spare f board cut same levels consistent first dead = record {
+    → (n.verdict ≡ Alive → IsArcConsistent n.problem.now (left_of (view_of n))) → FirstIsLeast n → ((a.verdict ≡ Alive → ⊥) → n ≡ a) → IsListed n → IsClosed n
+closed-fresh a n spare f board cut same levels consistent first dead listed = record {
   traced = board.traced;
   levels = board.levels;
   sound = sound-from n board (λ alive c v t. cut alive c v (ap (λ g. g c v) board.traced.stands ∙ t)) consistent (λ _. opening a.verdict refl);
+  listed = listed;
 }
   where
     opening : (o : Verdict) → a.verdict ≡ o → IsOpening n.problem.now n.trail.removals n.verdict
@@ -165,11 +166,12 @@ closed-fresh a n spare f board cut same levels consistent first dead = record {
         (subst (λ rs. IsOpening a.problem.now rs a.verdict) (sym f.removals) f.opening)
 
 -- a board under literals that was closed
-pub closed-later : (n : Board) → IsBoard n → IsCut n → (n.verdict ≡ Alive → IsArcConsistent n.problem.now (left_of (view_of n))) → 0 < length n.levels.standing → IsClosed n
-closed-later n board cut consistent some = record {
+pub closed-later : (n : Board) → IsBoard n → IsCut n → (n.verdict ≡ Alive → IsArcConsistent n.problem.now (left_of (view_of n))) → 0 < length n.levels.standing → IsListed n → IsClosed n
+closed-later n board cut consistent some listed = record {
   traced = board.traced;
   levels = board.levels;
   sound = sound-from n board (λ alive c v t. cut alive c v (ap (λ g. g c v) board.traced.stands ∙ t)) consistent (λ none. absurd (omega (arith, ap length none)));
+  listed = listed;
 }
 
 -- it is alive where the greatest domains are

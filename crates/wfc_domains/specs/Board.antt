@@ -1,5 +1,6 @@
 -- What holds of a board: domains, the log that led to them, and the levels of literals.
-use Rattle.std.specs.Prelude.{◌≡◌, ℕ, ◌+◌, ◌-◌, ◌*◌, ◌<◌, ◌≤◌, List, [], ◌∷◌, ◌++◌, ◌==◌, if◌then◌else◌, length, take, slice_index, IsTrue}
+use Rattle.std.specs.Prelude.{◌≡◌, ℕ, ◌+◌, ◌-◌, ◌*◌, ◌<◌, ◌≤◌, ◌⊎◌, List, [], ◌∷◌, ◌++◌, ◌==◌, if◌then◌else◌}
+use Rattle.std.specs.Prelude.{length, take, slice_index, IsTrue}
 use Rattle.wfc_problem.specs.Network.{values, in_base, IsProblem}
 use Rattle.wfc_problem.specs.Domains.{Test, Within, base_with}
 use Rattle.wfc_problem.specs.Rounds.{depth_of}
@@ -11,7 +12,7 @@ use Rattle.wfc_domains.specs.declared.board.Board.{Board}
 use Rattle.wfc_log.specs.Domains.{Flags, has, size_of, less, IsLess}
 use Rattle.wfc_log.specs.Log.{extent_of}
 use Rattle.wfc_domains.specs.Removals.{without, AreRemoved}
-use Rattle.wfc_domains.specs.Store.{StoreView, IsSound, IsOpening, left_of, before_of, added_of, level_mark}
+use Rattle.wfc_domains.specs.Store.{StoreView, IsSound, IsOpening, left_of, before_of, added_of, level_mark, IsLongLevel}
 
 -- a board as its callers see it
 abbrev pub view_of : Board → StoreView
@@ -70,6 +71,10 @@ pub record IsBoard (b : Board) : Type 0 where
   pub filled : b.verdict ≡ Alive → HasValues b
   pub empty : (cell : ℕ) → b.verdict ≡ Dead cell → (cell < b.problem.now.cells) × (size_of b.domains cell ≡ 0)
 
+-- the log's list begins where the last level does, or that level is long
+abbrev pub IsListed : Board → Type 0
+IsListed b = (b.trail.start ≡ level_mark b.levels.marks) ⊎ IsLongLevel (view_of b)
+
 -- no value stands that the literals cut
 abbrev pub IsCut : Board → Type 0
 IsCut b = b.verdict ≡ Alive → Within (has b.domains) (base_with b.problem.now b.levels.standing)
@@ -118,9 +123,10 @@ pub record IsPut (old new : Board) (literal : Literal) : Type 0 where
   pub removals : new.trail.removals ≡ old.trail.removals ++ more
   pub room : new.trail.room ≡ old.trail.room
 
--- a board with the base domains, nothing removed and no literal
+-- a board with the base domains, nothing removed and no literal, and an empty list
 pub record IsFresh (b : Board) (spare : ℕ) : Type 0 where
   pub board : IsBoard b
   pub levels : b.levels ≡ record { standing = []; marks = []; spare = spare }
   pub removals : b.trail.removals ≡ []
+  pub begun : b.trail.start ≡ 0
   pub opening : IsOpening b.problem.now [] b.verdict

@@ -1,5 +1,5 @@
 -- Small values without symmetry, on which laws try the definitions.
-use Rattle.std.specs.Prelude.{[], ◌∷◌}
+use Rattle.std.specs.Prelude.{ℕ, [], ◌∷◌, replicate}
 use Rattle.std.specs.List.{range_with_len}
 use Rattle.wfc_problem.specs.Corner.{corner}
 use Rattle.wfc_problem.specs.declared.Literal.TheVariants.{Is, Not}
@@ -47,3 +47,7 @@ one_level = record {
   marks = 1 ∷ [];
   verdict = Alive;
 }
+
+-- a store of the corner whose one level began behind a removal, and has so many
+abbrev pub repeated_level : ℕ → StoreView
+repeated_level n = record one_level { removals = later ∷ replicate n cut_first }

@@ -1,5 +1,5 @@
 -- What contracts see of a store, and what every store promises.
-use Rattle.std.specs.Prelude.{◌≡◌, ℕ, ◌+◌, ◌-◌, ◌<◌, ◌⊎◌, List, [], ◌∷◌, ◌++◌, length, take}
+use Rattle.std.specs.Prelude.{◌≡◌, ℕ, ◌+◌, ◌-◌, ◌*◌, ◌<◌, ◌≤◌, ◌⊎◌, List, [], ◌∷◌, ◌++◌, length, max, take}
 use Rattle.std.specs.Prelude.{drop, slice_index, slice_get, Some, IsTrue, IsFalse}
 use Rattle.wfc_problem.specs.Network.{Network, in_base, IsProblem}
 use Rattle.wfc_problem.specs.Domains.{Test, IsGreatest, IsEmptyAt}
@@ -10,6 +10,7 @@ use Rattle.wfc_log.specs.declared.Cause.TheVariants.{Arc}
 use Rattle.wfc_log.specs.declared.Removal.{Removal}
 use Rattle.wfc_log.specs.declared.Verdict.{Verdict}
 use Rattle.wfc_log.specs.declared.Verdict.TheVariants.{Alive, Dead}
+use Rattle.wfc_domains.specs.declared.board.TheConstants.{LISTED}
 use Rattle.wfc_domains.specs.Removals.{without, IsUnsupported, AreRemoved}
 
 -- the problem, the literals that stand, how many more there is room for, all removals that stand in their order,
@@ -41,6 +42,14 @@ before_of v = without (in_base v.problem) (take (level_mark v.marks) v.removals)
 -- the removals of the last level, those of the opening where no literal stands
 abbrev pub added_of : StoreView → List Removal
 added_of v = drop (level_mark v.marks) v.removals
+
+-- how many removals of a level a list may have: two for each cell, and not fewer than 4,096
+abbrev pub list_limit : Network → ℕ
+list_limit P = max (2 * P.cells) LISTED
+
+-- the last level has at least as many removals as a list may have
+abbrev pub IsLongLevel : StoreView → Type 0
+IsLongLevel v = list_limit v.problem ≤ length (added_of v)
 
 -- alive: D is the greatest, and no cell is empty. Dead: some cell is empty in the greatest domains,
 -- and this one is in D

@@ -8,7 +8,7 @@ use Rattle.wfc_domains.specs.declared.board.Board.{Board}
 use Rattle.wfc_log.specs.Domains.{has}
 use Rattle.wfc_domains.specs.Removals.{IsUnsupported}
 use Rattle.wfc_domains.specs.Store.{IsSound, IsLeastUnsupported}
-use Rattle.wfc_domains.specs.Board.{view_of, IsTraced, HasLevels}
+use Rattle.wfc_domains.specs.Board.{view_of, IsListed, IsTraced, HasLevels}
 
 -- the first direction in which the cell has a neighbour and the value no support
 pub record IsFirstUnsupported (P : Network) (D : Test) (c v d : ℕ) : Type 0 where
@@ -30,8 +30,9 @@ FirstIsLeast b =
     (r : Removal) → slice_get b.trail.removals 0 ≡ Some r
     → IsLeastUnsupported b.problem.now (in_base b.problem.now) r
 
--- a board whose work is done
+-- a board whose work is done, and its last level in a list or long
 pub record IsClosed (b : Board) : Type 0 where
   pub traced : IsTraced b
   pub levels : HasLevels (view_of b)
   pub sound : IsSound (view_of b)
+  pub listed : IsListed b

@@ -1,12 +1,12 @@
 //! What every engine keeps: the domains with the log of removals, the levels of literals, and the verdict.
 
-ghost use Rattle.std.specs.Prelude.{◌≡◌, ◌≢◌, ℕ, ◌+◌, ◌<◌, ◌↔◌, ◌++◌, ◌∷◌, [], length, false, slice_get, IsTrue, IsFalse, IfOk, IfSome, Some};
+ghost use Rattle.std.specs.Prelude.{◌≡◌, ◌≢◌, ℕ, ◌+◌, ◌<◌, ◌↔◌, ◌++◌, ◌∷◌, [], length, false, slice_get, IsTrue, IsFalse, IfOk, IfSome, IfNone, Some};
 ghost use Rattle.wfc_problem.specs.Domains.{IsLiteralIn, leaves_all};
 ghost use Rattle.wfc_problem.specs.Network.{values};
 ghost use Rattle.wfc_log.specs.declared.Verdict.TheVariants.{Alive};
 ghost use Rattle.wfc_log.specs.Domains.{has};
-ghost use Rattle.wfc_domains.specs.Store.{IsSound, added_of};
-ghost use Rattle.wfc_domains.specs.Board.{view_of, IsBoard, IsTraced, IsCut, IsPut, Loses, HasLevels, HasValues, Grows, Regains, IsFresh};
+ghost use Rattle.wfc_domains.specs.Store.{IsSound, IsLongLevel, added_of, list_limit};
+ghost use Rattle.wfc_domains.specs.Board.{view_of, IsBoard, IsTraced, IsCut, IsListed, IsPut, Loses, HasLevels, HasValues, Grows, Regains, IsFresh};
 ghost use Rattle.wfc_log.specs.Log.{IsCauseBelow, loss_of};
 ghost use Rattle.wfc_log.specs.declared.Removal.{Removal};
 
@@ -65,7 +65,9 @@ impl<'p> Board<'p> {
     /// The removals of the last level in their order, where all of them are in the list of the log.
     #[inline]
     pub fn added(&self) -> Option<&[Removal]>
+        requires listed { IsListed self.now }
         ensures some { IfSome result (λ added. added.now ≡ added_of (view_of self.now)) }
+        ensures none { IfNone result (IsLongLevel (view_of self.now)) }
     {
         if self.trail.start() == self.levels.mark() as usize {
             Some(self.trail.last())
@@ -78,6 +80,7 @@ impl<'p> Board<'p> {
     /// has more, to look at each cell takes no longer than to look at each removal.
     #[inline]
     pub fn most_listed(&self) -> usize
+        ensures exact { result ≡ list_limit self.now.problem.now }
         ensures some { 0 < result }
     {
         (2 * self.problem.cells() as usize).max(LISTED)
@@ -89,6 +92,7 @@ impl<'p> Board<'p> {
         ensures same { self.new ≡ record self.old {
           trail = record self.old.trail { start = self.new.trail.start };
         } }
+        ensures listed { IsListed self.new }
     {
         let mark = self.levels.mark() as usize;
         let len = self.trail.len();
@@ -163,6 +167,7 @@ impl<'p> Board<'p> {
         ensures cut { IsCut self.new }
         ensures put { IsPut self.old self.new literal }
         ensures begun { self.new.trail.start ≡ length self.old.trail.removals }
+        ensures listed { IsListed self.new }
     {
         let mark = self.trail.len() as u32;
         self.trail.begin();

@@ -1,11 +1,14 @@
 //! What the definitions give on a small problem without symmetry. Each function does nothing; its
 //! contract is the law.
 
-ghost use Rattle.std.specs.Prelude.{◌≡◌, true, false, [], ◌∷◌, map, nat_lt};
+ghost use Rattle.std.specs.Prelude.{◌≡◌, true, false, [], ◌∷◌, length, map, nat_lt};
 ghost use Rattle.std.specs.List.{range_with_len};
 ghost use Rattle.wfc_problem.specs.Corner.{corner};
 ghost use Rattle.wfc_problem.specs.Network.{in_base};
 ghost use Rattle.wfc_problem.specs.declared.Literal.TheVariants.{Is};
+ghost use Rattle.wfc_domains.specs.declared.board.Board.{Board};
+ghost use Rattle.wfc_domains.specs.declared.board.TheConstants.{LISTED};
+ghost use Rattle.wfc_domains.specs.Board.{IsListed};
 ghost use Rattle.wfc_domains.specs.Counters.{count_of, with_count, counts_of, no_counts, cost_at, cost_of};
 ghost use Rattle.wfc_domains.specs.Halves.{entries_from, limit_from};
 ghost use Rattle.wfc_domains.specs.Pairs.{unit_at, mask_at, paired_entries};
@@ -13,8 +16,8 @@ ghost use Rattle.wfc_domains.specs.Singles.{IsCountSplit};
 ghost use Rattle.wfc_log.specs.Domains.{has};
 ghost use Rattle.wfc_domains.specs.Removals.{without, IsUnsupported, IsCause, AreRemoved};
 ghost use Rattle.wfc_log.specs.Sample.{unsupported_removal, cut_first, later};
-ghost use Rattle.wfc_domains.specs.Sample.{numbered_table, undersized_removal, displaced_removal, two_levels, one_level};
-ghost use Rattle.wfc_domains.specs.Store.{IsBefore, IsLeastUnsupported, IsLeastEmpty, level_mark, added_of, before_of, without_last};
+ghost use Rattle.wfc_domains.specs.Sample.{numbered_table, undersized_removal, displaced_removal, two_levels, one_level, repeated_level};
+ghost use Rattle.wfc_domains.specs.Store.{IsBefore, IsLeastUnsupported, IsLeastEmpty, IsLongLevel, level_mark, list_limit, added_of, before_of, without_last};
 ghost use Rattle.wfc_log.specs.declared.Cause.TheVariants.{Assumed, Arc};
 
 /// A value of the base that no value above supports; what is a true cause, and what is none; what removals leave.
@@ -53,6 +56,19 @@ pub fn levels_are_read()
     ensures least_not { IsLeastUnsupported corner (in_base corner) displaced_removal → ⊥ }
     ensures least_empty { IsLeastEmpty corner (λ c v. nat_lt c 2) 2 }
     ensures not_least { IsLeastEmpty corner (λ c v. nat_lt c 2) 3 → ⊥ }
+{}
+
+/// A list has at most two removals a cell, or 4,096 in a small problem. A level is long by its own removals alone, and a
+/// list begins with it.
+pub fn long_levels_are_told()
+    ensures listed { LISTED ≡ 4096 }
+    ensures few_cells { list_limit (record corner { cells = 2047 }) ≡ 4096 }
+    ensures many_cells { list_limit (record corner { cells = 2049 }) ≡ 4098 }
+    ensures long { IsLongLevel (repeated_level 4096) }
+    ensures short { IsLongLevel (repeated_level 4095) → ⊥ }
+    ensures begins { (b : Board) → b.trail.start ≡ 5 → b.levels.marks ≡ 3 ∷ 5 ∷ [] → IsListed b }
+    ensures begins_late { (b : Board) → b.trail.start ≡ 6 → b.levels.marks ≡ 3 ∷ 5 ∷ []
+        → length b.trail.removals ≡ 7 → IsListed b → ⊥ }
 {}
 
 /// Counters are read by cell, value and direction; what a removal costs is what it lowers.

@@ -1,5 +1,4 @@
-//! The plain engine: it sweeps over all cells until a sweep removes nothing. It is slow, and there to test faster ones
-//! against.
+//! The plain engine: it sweeps until a sweep removes nothing. It is slow, and there to test faster ones against.
 
 ghost use Rattle.std.specs.Prelude.{◌≡◌, ℕ, ◌+◌, ◌*◌, ◌-◌, ◌<◌, ◌≤◌, length, take, IsTrue, IsFalse, IfOk, IfSome, IfNone, Some, All};
 ghost use Rattle.wfc_problem.specs.Network.{values, neighbour};
@@ -132,6 +131,7 @@ fn close(board: &mut Board)
     ensures consistent { board.new.verdict ≡ Alive
         → IsArcConsistent board.new.problem.now (left_of (view_of board.new)) }
     ensures grows { Grows board.old board.new }
+    ensures start { board.new.trail.start ≡ board.old.trail.start }
     ensures dead { (board.old.verdict ≡ Alive → ⊥) → board.new ≡ board.old }
 {
     while is_alive(board.verdict) {
@@ -149,6 +149,7 @@ fn sweep(board: &mut Board) -> bool
     ensures cut { IsCut board.new }
     ensures first { FirstIsLeast board.old → FirstIsLeast board.new }
     ensures grows { Grows board.old board.new }
+    ensures start { board.new.trail.start ≡ board.old.trail.start }
     ensures done { IsTrue result → board.new.verdict ≡ Alive
         → IsArcConsistent board.new.problem.now (left_of (view_of board.new)) }
     ensures more { IsFalse result
@@ -173,6 +174,7 @@ fn look_at(board: &mut Board, cell: u32, value: u16)
     ensures board { IsBoard board.new }
     ensures cut { IsCut board.new }
     ensures grows { Grows board.old board.new }
+    ensures start { board.new.trail.start ≡ board.old.trail.start }
     ensures swept { (start : ℕ) → IsSwept board.old start (cell * values board.old.problem.now +
         value) → IsSwept board.new start (cell * values board.new.problem.now + value + 1) }
     ensures first { (start : ℕ) → IsSwept board.old start (cell * values board.old.problem.now +

@@ -1,12 +1,12 @@
 //! What every engine is and promises.
 
-ghost use Rattle.std.specs.Prelude.{◌≡◌, ◌<◌, length, slice_get, IfSome, Some};
+ghost use Rattle.std.specs.Prelude.{◌≡◌, ◌<◌, length, slice_get, IfSome, IfNone, Some};
 ghost use Rattle.wfc_problem.specs.Domains.{IsLiteralIn};
 ghost use Rattle.wfc_log.specs.declared.Verdict.TheVariants.{Alive};
 ghost use Rattle.wfc_log.specs.Domains.{Fits, has, flags_of};
 ghost use Rattle.wfc_log.specs.Log.{loss_of};
 ghost use Rattle.wfc_log.specs.declared.Removal.{Removal};
-ghost use Rattle.wfc_domains.specs.Store.{StoreView, IsSound, IsAssumed, IsUndone, left_of, added_of};
+ghost use Rattle.wfc_domains.specs.Store.{StoreView, IsSound, IsLongLevel, IsAssumed, IsUndone, left_of, added_of};
 
 use crate::steps::Steps;
 use crate::{Loss, Removal, Verdict};
@@ -51,6 +51,7 @@ pub trait Store: Drop {
     /// many, and so not in a list.
     fn added(&self) -> Option<&[Removal]>
         ensures some { IfSome result (λ added. added.now ≡ added_of (view self.now)) }
+        ensures none { IfNone result (IsLongLevel (view self.now)) }
         ensures sound { IsSound (view self.now) };
 
     /// How many removals the last level has.

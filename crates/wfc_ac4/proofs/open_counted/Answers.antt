@@ -33,6 +33,7 @@ invariant_of-result g c =
       settled = e.closed;
       linked = subst (λ P. AreLinks P c.in_ok-links.links) (sym (ap (λ p. p.now) e.problem ∙ c.in_ok-board.ensures.problem)) c.in_ok-links.ensures.linked;
       marked = omega (arith, ap (λ l. level_mark l.marks) levels);
+      listed = e.listed;
     }
 
 pub returns : goal.returns

@@ -27,6 +27,7 @@ close-requires g c =
           (grown-within f.board c.put.new.self h.traced e.board.traced e.put.problem e.put.more e.put.removals);
       linked = subst (λ p. AreLinks p.now c.self.inside.links) (sym e.put.problem) h.linked;
       recent = omega (arith, e.begun, h.settled alive);
+      listed = e.listed;
     }
 
 pub invariant_of-self : goal.invariant_of-self
@@ -48,6 +49,7 @@ invariant_of-self g c =
       settled = e.closed;
       linked = subst (λ p. AreLinks p.now c.self.inside.links) (sym (e.grows.problem ∙ p.problem)) h.linked;
       marked = omega (arith, ap level_mark marks, mark-push f.board.levels.marks (length f.board.trail.removals), h.settled alive, e.forward);
+      listed = e.listed;
     }
 
 pub returns-clause-sound : goal.returns-clause-sound

@@ -2,7 +2,7 @@ use Rattle.std.proofs.Common.{◌≡◌, ◌≤◌, ◌+◌, ap, sym, subst, ari
 use Rattle.std.proofs.lemmas.List.{length-take}
 use Rattle.wfc_domains.specs.Counters.{cost_of}
 use Rattle.wfc_domains.specs.Store.{StoreView, IsSound, level_mark, added_of, without_last}
-use Rattle.wfc_domains.specs.Board.{view_of, HasLevels}
+use Rattle.wfc_domains.specs.Board.{view_of, HasLevels, IsListed}
 use Rattle.wfc_domains.proofs.Boards.{mark-in}
 use Rattle.wfc_domains.proofs.Sound.{sound-undone, levels-undone}
 use Rattle.wfc_ac4.specs.Links.{AreLinks}
@@ -41,6 +41,7 @@ invariant_of-self g c =
       linked = subst (λ p. AreLinks p.now c.self.inside.links) (sym e.back.problem) h.linked;
       settled = λ _. omega (arith, left, e.back.head, h.marked, m);
       marked = omega (arith, left, e.back.head, h.marked, m, ap (λ (w : StoreView). level_mark w.marks) same, mark-in (without_last v) (levels-undone v h.levels some), length-take (level_mark v.marks) v.removals);
+      listed = subst IsListed c.relist.ensures.same c.relist.ensures.listed;
     })
 
 pub returns-clause-sound : goal.returns-clause-sound

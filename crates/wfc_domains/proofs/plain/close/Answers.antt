@@ -14,6 +14,7 @@ loop-board-preserved c =
       cut = e.cut;
       first = λ f. e.first (h.first f);
       grows = grows-more h.grows e.grows;
+      start = e.start ∙ h.start;
       dead = λ dead. absurd (dead (ap (λ (x : Board). x.verdict) (sym (h.dead dead)) ∙ alive));
     }
 

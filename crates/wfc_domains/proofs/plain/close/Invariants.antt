@@ -11,6 +11,7 @@ invariant-loop-board l = record {
   cut : IsCut l.board;
   first : FirstIsLeast l.fn.board → FirstIsLeast l.board;
   grows : Grows l.fn.board l.board;
+  start : l.board.trail.start ≡ l.fn.board.trail.start;
   dead : (l.fn.board.verdict ≡ Alive → ⊥) → l.board ≡ l.fn.board;
 }
 

@@ -1,6 +1,7 @@
 use Rattle.std.proofs.Common.{◌≡◌, ◌+◌, ◌++◌, ◌∷◌, [], ap, ◌∙◌, sym, arith, length, get_or, take}
 use Rattle.std.proofs.lemmas.List.{length_push, take_more}
 use Rattle.wfc_problem.specs.declared.Literal.TheVariants.{Is}
+use Rattle.wfc_domains.proofs.Boards.{listed-grown, listed-fresh-grown}
 use Rattle.wfc_domains.proofs.Sound.{board-alive}
 use Rattle.wfc_domains.proofs.Sweeps.{fresh-cut, fresh-first, closed-fresh, closed-later, closed-alive}
 use Rattle.wfc_domains.proofs.plain.put_all.Goals as goal
@@ -13,7 +14,7 @@ loop-literal-init c =
     let f = c.requires.fresh in
     let e = c.close.ensures in
     let levels = e.grows.levels ∙ f.levels in
-    let closed = closed-fresh c.args.board.now c.close.new.board _ f e.board e.cut e.grows.problem e.grows.levels e.consistent (e.first (fresh-first c.args.board.now _ f)) e.dead in
+    let closed = closed-fresh c.args.board.now c.close.new.board _ f e.board e.cut e.grows.problem e.grows.levels e.consistent (e.first (fresh-first c.args.board.now _ f)) e.dead (listed-fresh-grown c.args.board.now c.close.new.board _ f e.grows e.start) in
     record {
       closed = closed;
       alive = closed-alive c.close.new.board c.args.board.now.problem.now [] closed (ap (λ p. p.now) e.grows.problem) (ap (λ l. l.standing) levels) (c.requires.alive 0 (omega arith));
@@ -40,7 +41,7 @@ loop-literal-preserved c =
     let standing : c.close-in-loop-literal.new.board.levels.standing ≡ take (i + 1) ls =
     ap (λ x. x.standing) levels ∙ ap (λ xs. xs ++ l ∷ []) h.standing ∙ sym (take_more ls i (Is 0 0) c.loop-literal-test.true) in
     let closed = closed-later c.close-in-loop-literal.new.board e.board e.cut e.consistent
-    (omega (arith, ap (λ x. length x.standing) levels, length_push c.loop-literal.board.levels.standing l)) in
+    (omega (arith, ap (λ x. length x.standing) levels, length_push c.loop-literal.board.levels.standing l)) (listed-grown _ _ c.put.ensures.listed e.grows e.start) in
     record {
       closed = closed;
       alive = closed-alive c.close-in-loop-literal.new.board c.args.board.now.problem.now (take (i + 1) ls) closed (ap (λ q. q.now) problem) standing (c.requires.alive (i + 1) (omega arith));

@@ -23,5 +23,6 @@ returns-clause-fresh c =
       board = board;
       levels = cleared ∙ ap (λ (l : Heights). record { standing = []; marks = []; spare = l.spare + length l.standing }) h.levels;
       removals = none;
+      begun = omega (arith, c.len.ensures.start);
       opening = opening-verdict b board none (λ cell e n l. (told.dead cell e).least n l);
     }

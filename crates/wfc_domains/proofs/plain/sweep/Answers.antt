@@ -1,4 +1,4 @@
-use Rattle.std.proofs.Common.{◌≤◌, ap, ◌∙◌, sym, arith}
+use Rattle.std.proofs.Common.{◌≤◌, ap, ◌∙◌, sym, refl, arith}
 use Rattle.std.proofs.Math.Nat.{mul-le-mul_right}
 use Rattle.std.proofs.lemmas.Bool.{eqb-true}
 use Rattle.wfc_problem.specs.Network.{values}
@@ -12,6 +12,7 @@ loop-cell-init c = record {
   cut = c.requires.cut;
   first = λ f. f;
   grows = grows-none _;
+  start = refl;
   swept = record { longer = omega arith; supported = λ alive same x y d n l. absurd (omega arith) };
 }
 
@@ -24,6 +25,7 @@ loop-value-preserved c =
       cut = e.cut;
       first = λ f. e.first _ h.swept (h.first f);
       grows = grows-more h.grows e.grows;
+      start = e.start ∙ h.start;
       swept = swept-at _ _ _ _ (e.swept _ h.swept) (omega arith);
     }
 

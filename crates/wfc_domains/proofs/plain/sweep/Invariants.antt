@@ -1,4 +1,4 @@
-use Rattle.std.proofs.Common.{◌+◌, ◌*◌, length}
+use Rattle.std.proofs.Common.{◌≡◌, ◌+◌, ◌*◌, length}
 use Rattle.wfc_problem.specs.Network.{values}
 use Rattle.wfc_domains.specs.Board.{IsBoard, IsCut, Grows}
 use Rattle.wfc_domains.specs.Swept.{IsSwept, FirstIsLeast}
@@ -10,6 +10,7 @@ invariant-loop-cell l = record {
   cut : IsCut l.board;
   first : FirstIsLeast l.fn.board → FirstIsLeast l.board;
   grows : Grows l.fn.board l.board;
+  start : l.board.trail.start ≡ l.fn.board.trail.start;
   swept : IsSwept l.board (length l.fn.board.trail.removals) (l.cell * values l.board.problem.now);
 }
 
@@ -19,5 +20,6 @@ invariant-loop-value l = record {
   cut : IsCut l.board;
   first : FirstIsLeast l.fn.board → FirstIsLeast l.board;
   grows : Grows l.fn.board l.board;
+  start : l.board.trail.start ≡ l.fn.board.trail.start;
   swept : IsSwept l.board (length l.fn.board.trail.removals) (l.cell * values l.board.problem.now + l.value);
 }

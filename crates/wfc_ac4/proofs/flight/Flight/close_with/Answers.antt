@@ -1,7 +1,8 @@
 use Rattle.std.proofs.Common.{◌<◌, ◌+◌, ◌-◌, ◌≡◌, length, take, refl, ap, sym, subst, arith, ◌∙◌}
 use Rattle.wfc_problem.specs.Rounds.{depth_of}
 use Rattle.wfc_domains.specs.Counters.{cost_of}
-use Rattle.wfc_domains.proofs.Boards.{grows-none, grows-more, log-few}
+use Rattle.wfc_domains.specs.Store.{list_limit}
+use Rattle.wfc_domains.proofs.Boards.{grows-none, grows-more, listed-grown, listed-settled, log-few}
 use Rattle.wfc_ac4.specs.Links.{AreLinks}
 use Rattle.wfc_ac4.proofs.Rolls.{log-depth}
 use Rattle.wfc_ac4.proofs.Opening.{between-at}
@@ -22,6 +23,7 @@ loop-self-init g c =
       forward = omega (arith, back);
       idle = λ none. none;
       grows = grows-none _;
+      listed = c.requires.listed;
       steps = ap (λ n. c.args.steps.now + cost_of b.problem.now (take n b.trail.removals)) back;
     }
 
@@ -59,6 +61,7 @@ loop-self-preserved g c =
       forward = omega (arith, h.forward);
       idle = λ none. absurd (omega (arith, ap length (h.idle none), inside));
       grows = grows-more h.grows e.grows;
+      listed = listed-grown _ _ h.listed e.grows e.start;
       steps = omega (
         arith,
         e.steps,
@@ -89,6 +92,7 @@ loop-self-preserved-then-at-most_listed g c =
     let new = b.trail.removals in
     let inside : start + at < length rs = last-in _ _ _ _ _ c.last.ensures.value h.begun (omega arith) in
     let one_more : start + at + 1 ≡ start + (at + 1) + 0 = omega arith in
+    let limit : at + 1 ≡ list_limit b.problem.now = omega (arith, c.most_listed-most_listed.ensures.exact, ap (λ p. list_limit p.now) (e.grows.problem ∙ h.grows.problem)) in
     let front = cost-front P c.args.self.now.head rs new e.grows.more e.grows.removals (omega (arith, h.forward, inside)) in
     let next = cost-front P (start + at + 1) rs new e.grows.more e.grows.removals (omega (arith, inside)) in
     rw c.settle.ensures.settled (record {
@@ -98,6 +102,7 @@ loop-self-preserved-then-at-most_listed g c =
       forward = omega (arith, h.forward);
       idle = λ none. absurd (omega (arith, ap length (h.idle none), inside));
       grows = grows-listed _ b _ (grows-more h.grows e.grows);
+      listed = listed-settled b (at + 1) (listed-grown _ _ h.listed e.grows e.start) limit (omega (arith, e.start, h.begun, e.between.in_log));
       steps = omega (
         arith,
         e.steps,

@@ -1,7 +1,7 @@
 use Rattle.std.proofs.Common.{take, ◌+◌, ◌-◌, ◌≡◌, ◌≤◌, []}
 use Rattle.wfc_problem.specs.Rounds.{depth_of}
 use Rattle.wfc_domains.specs.Counters.{cost_of}
-use Rattle.wfc_domains.specs.Board.{Grows}
+use Rattle.wfc_domains.specs.Board.{Grows, IsListed}
 use Rattle.wfc_ac4.specs.State.{IsBetweenRemovals}
 use Rattle.wfc_ac4.proofs.flight.Flight.close_with.Given as goal
 
@@ -16,6 +16,7 @@ invariant-loop-self g l =
       forward : l.fn.self.head ≤ l.start + l.at;
       idle : l.fn.self.board.trail.removals ≡ [] → l.self.board.trail.removals ≡ [];
       grows : Grows l.fn.self.board l.self.board;
+      listed : IsListed l.self.board;
       steps : l.steps + cost_of P (take l.fn.self.head l.self.board.trail.removals) ≡ l.fn.steps + cost_of P (take (l.start + l.at) l.self.board.trail.removals);
     }
 

@@ -1,6 +1,7 @@
-use Rattle.std.proofs.Common.{sym, ◌∙◌, ap, subst, arith}
+use Rattle.std.proofs.Common.{sym, ◌∙◌, subst, arith}
 use Rattle.std.proofs.lemmas.Bool.{true≢false}
 use Rattle.wfc_domains.specs.Store.{IsOpening}
+use Rattle.wfc_domains.proofs.Boards.{listed-fresh, listed-fresh-grown}
 use Rattle.wfc_ac4.specs.Links.{AreLinks}
 use Rattle.wfc_ac4.proofs.Opening.{scanned-none, scanned-done, opening-closed, between-dead, between-at}
 use Rattle.wfc_ac4.proofs.flight.Flight.settle.Goals as goal
@@ -13,6 +14,7 @@ close-requires g c = record {
   between = between-at _ _ _ _ (scanned-done _ _ c.scan.ensures.scanned) (sym (c.scan.ensures.goes_on.head ∙ c.requires.head));
   linked = subst (λ p. AreLinks p.now c.args.links.now) (sym c.scan.ensures.goes_on.grows.problem) c.requires.linked;
   recent = omega (arith, c.scan.ensures.goes_on.start, c.requires.begun);
+  listed = listed-fresh-grown _ _ _ c.requires.fresh c.scan.ensures.goes_on.grows c.scan.ensures.goes_on.start;
 }
 
 pub returns-then-is_alive-clause-opening : goal.returns-then-is_alive-clause-opening
@@ -25,6 +27,9 @@ returns-then-is_alive-clause-opening g c =
 pub returns-else-is_alive-clause-between : goal.returns-else-is_alive-clause-between
 returns-else-is_alive-clause-between g c =
     between-at _ _ _ _ (between-dead _ _ _ c.requires.fresh (λ alive. true≢false (sym (c.is_alive.ensures.value.1 alive) ∙ c.if-is_alive.false)) c.requires.fits c.requires.loaded) (sym c.requires.head)
+
+pub returns-else-is_alive-clause-listed : goal.returns-else-is_alive-clause-listed
+returns-else-is_alive-clause-listed g c = listed-fresh _ _ c.requires.fresh
 
 pub returns-else-is_alive-clause-closed : goal.returns-else-is_alive-clause-closed
 returns-else-is_alive-clause-closed g c = λ alive. absurd (true≢false (sym (c.is_alive.ensures.value.1 alive) ∙ c.if-is_alive.false))

@@ -22,6 +22,7 @@ returns-clause-fresh c =
       board = board;
       levels = levels;
       removals = none;
+      begun = ap (λ l. l.start) log;
       opening = opening-verdict b board none (λ cell e n l. (told.dead cell e).least n l);
     }
 

@@ -1,6 +1,6 @@
-use Rattle.std.proofs.Common.{◌++◌, arith, ap, ◌∙◌}
+use Rattle.std.proofs.Common.{◌++◌, ◌∷◌, [], length, arith, ap, ◌∙◌}
 use Rattle.wfc_log.specs.Log.{Log}
-use Rattle.wfc_domains.proofs.Boards.{log-few, board-put}
+use Rattle.wfc_domains.proofs.Boards.{log-few, board-put, listed-begun}
 use Rattle.wfc_domains.proofs.Sound.{put-is, put-not}
 use Rattle.wfc_domains.proofs.board.Board.put.Goals as goal
 
@@ -12,6 +12,20 @@ cut_to-requires-clause-board c = rw (c.push.ensures.more, c.len-mark.ensures.val
 
 pub cut_from-requires-clause-board : goal.cut_from-requires-clause-board
 cut_from-requires-clause-board c = rw (c.push.ensures.more, c.len-mark.ensures.value, c.begin.ensures.begun) (board-put c.args.self.now c.args.literal _ c.requires.board c.requires.sound c.requires.alive)
+
+pub returns-in-Is-clause-listed : goal.returns-in-Is-clause-listed
+returns-in-Is-clause-listed c =
+    let e = c.cut_to.ensures in
+    let b = c.args.self.now in
+    listed-begun c.cut_to.new.self b.levels.marks (length b.trail.removals) (ap (λ l. l.marks) (e.grows.levels ∙ c.push.ensures.more) ∙ ap (λ n. b.levels.marks ++ n ∷ []) c.len-mark.ensures.value)
+    (e.start ∙ ap (λ (l : Log). l.start) c.begin.ensures.begun)
+
+pub returns-in-Not-clause-listed : goal.returns-in-Not-clause-listed
+returns-in-Not-clause-listed c =
+    let e = c.cut_from.ensures in
+    let b = c.args.self.now in
+    listed-begun c.cut_from.new.self b.levels.marks (length b.trail.removals) (ap (λ l. l.marks) (e.grows.levels ∙ c.push.ensures.more) ∙ ap (λ n. b.levels.marks ++ n ∷ []) c.len-mark.ensures.value)
+    (e.start ∙ ap (λ (l : Log). l.start) c.begin.ensures.begun)
 
 pub returns-in-Is-clause-cut : goal.returns-in-Is-clause-cut
 returns-in-Is-clause-cut c =

@@ -1,6 +1,7 @@
 use Rattle.std.proofs.Common.{ap, ◌∙◌, sym, subst, arith}
 use Rattle.std.specs.Prelude.{All}
 use Rattle.wfc_problem.specs.Domains.{IsLiteralIn}
+use Rattle.wfc_domains.proofs.Boards.{listed-fresh-grown}
 use Rattle.wfc_domains.proofs.Sweeps.{fresh-cut, fresh-first, closed-fresh}
 use Rattle.wfc_domains.proofs.plain.PlainStore.open.Goals as goal
 
@@ -14,7 +15,7 @@ invariant_of-result c =
     let levels = e.grows.levels ∙ f.levels in
     let literals = c.in-Ok-new.ensures.ok in
     record {
-      closed = closed-fresh c.in-Ok.board c.close.new.board _ f e.board e.cut e.grows.problem e.grows.levels e.consistent (e.first (fresh-first c.in-Ok.board _ f)) e.dead;
+      closed = closed-fresh c.in-Ok.board c.close.new.board _ f e.board e.cut e.grows.problem e.grows.levels e.consistent (e.first (fresh-first c.in-Ok.board _ f)) e.dead (listed-fresh-grown c.in-Ok.board c.close.new.board _ f e.grows e.start);
       literals = ap (λ l. l.standing) literals ∙ sym (ap (λ l. l.standing) levels);
       literals_in = subst (λ ls. All (IsLiteralIn c.close.new.board.problem.now) ls) (sym (ap (λ l. l.standing) literals)) (λ k d l. absurd (omega arith));
       spare = ap (λ l. l.spare) literals ∙ sym (ap (λ l. l.spare) levels);
@@ -25,7 +26,7 @@ returns c =
     let f = c.in-Ok.ensures.fresh in
     let e = c.close.ensures in
     let levels = e.grows.levels ∙ f.levels in
-    let closed = closed-fresh c.in-Ok.board c.close.new.board _ f e.board e.cut e.grows.problem e.grows.levels e.consistent (e.first (fresh-first c.in-Ok.board _ f)) e.dead in
+    let closed = closed-fresh c.in-Ok.board c.close.new.board _ f e.board e.cut e.grows.problem e.grows.levels e.consistent (e.first (fresh-first c.in-Ok.board _ f)) e.dead (listed-fresh-grown c.in-Ok.board c.close.new.board _ f e.grows e.start) in
     record {
       opened = record {
         problem = ap (λ p. p.now) e.grows.problem ∙ c.in-Ok.ensures.problem;
