@@ -15,6 +15,7 @@ use wfc_domains::{
     Board, Cause, Counters, Domains, OpenFault, PlainStore, Removal, Steps, Store, Verdict,
     is_alive,
 };
+use wfc_outside::NoMemory;
 use wfc_problem::{Literal, NO_CELL, Parts, Problem, greatest_domains};
 
 /// Three cells side by side.
@@ -78,7 +79,7 @@ pub fn counts_afresh<L: Ledger>(
     problem: &Problem,
     engine: &Ac4,
     steps: &mut Steps<L>,
-) -> Result<bool, Fail>
+) -> Result<bool, NoMemory>
     requires problem { engine.now.problem ≡ problem.now }
 {
     let mut fresh = Counters::new(alloc, problem)?;

@@ -51,19 +51,18 @@ fn set_flag(rt: &impl Abort, went: &mut Vec<bool>, loss: Loss, kept: u16) {
 }
 
 /// Each value but one went from each cell, each once.
-fn each_went_once(rt: &impl Abort, alloc: Global, engine: &Ac4, kept: u16) -> Result<(), Fail> {
-    let mut went = no_flags(alloc)?;
+fn each_went_once(rt: &impl Abort, alloc: Global, engine: &Ac4, kept: u16) {
+    let mut went = no_flags(alloc).expect(rt, "memory for the flags");
     for index in 0..engine.added_len() {
         set_flag(rt, &mut went, engine.added_at(index), kept);
     }
-    Ok(())
 }
 
 /// The level that gave the value to the first cell is long: no list has its removals, and each of them can be read.
-fn is_long(rt: &impl Abort, alloc: Global, engine: &Ac4, kept: u16) -> Result<(), Fail> {
+fn is_long(rt: &impl Abort, alloc: Global, engine: &Ac4, kept: u16) {
     assert!(rt; engine.added().is_none());
     assert_eq!(rt; engine.added_len(), GONE);
-    each_went_once(rt, alloc, engine, kept)
+    each_went_once(rt, alloc, engine, kept);
 }
 
 /// The last level removed nothing.
@@ -99,15 +98,14 @@ fn go<L: Ledger>(
     engine: &mut Ac4,
     value: u16,
     steps: &mut Steps<L>,
-) -> Result<(), Fail>
+)
     requires problem { engine.old.problem ≡ problem.now }
     ensures problem { engine.new.problem ≡ problem.now }
 {
     give(rt, problem, engine, 0, value, steps);
-    is_long(rt, alloc, engine, value)?;
+    is_long(rt, alloc, engine, value);
     give(rt, problem, engine, 77, value, steps);
     is_empty(rt, engine);
-    Ok(())
 }
 
 /// Both taken back.
@@ -118,18 +116,33 @@ fn come_back<L: Ledger>(
     engine: &mut Ac4,
     value: u16,
     steps: &mut Steps<L>,
-) -> Result<(), Fail>
+)
     requires problem { engine.old.problem ≡ problem.now }
     ensures problem { engine.new.problem ≡ problem.now }
 {
     go_back(problem, engine, steps);
-    is_long(rt, alloc, engine, value)?;
+    is_long(rt, alloc, engine, value);
     go_back(problem, engine, steps);
     is_empty(rt, engine);
-    Ok(())
 }
 
 /// Long levels of two values, one after the other is taken back.
+fn there_and_back<L: Ledger>(
+    rt: &impl Abort,
+    alloc: Global,
+    problem: &Problem,
+    engine: &mut Ac4,
+    steps: &mut Steps<L>,
+)
+    requires problem { engine.old.problem ≡ problem.now }
+    ensures problem { engine.new.problem ≡ problem.now }
+{
+    go(rt, alloc, problem, engine, 2, steps);
+    come_back(rt, alloc, problem, engine, 2, steps);
+    go(rt, alloc, problem, engine, 3, steps);
+}
+
+/// The same of an engine that is opened for it, whose counters are exact behind it.
 fn long_and_short<L: Ledger>(
     rt: &impl Abort,
     alloc: Global,
@@ -142,9 +155,7 @@ fn long_and_short<L: Ledger>(
 {
     let mut steps = Steps::<L>::new(blank);
     let mut engine = Ac4::open(alloc, problem, 2)?;
-    go(rt, alloc, problem, &mut engine, 2, &mut steps)?;
-    come_back(rt, alloc, problem, &mut engine, 2, &mut steps)?;
-    go(rt, alloc, problem, &mut engine, 3, &mut steps)?;
+    there_and_back(rt, alloc, problem, &mut engine, &mut steps);
     assert!(rt; counts_afresh(alloc, problem, &engine, &mut steps)?);
     Ok(())
 }

@@ -76,13 +76,13 @@ fn is_counted<L: Ledger>(
     problem: &Problem,
     engine: &Ac4,
     steps: &mut Steps<L>,
-) -> Result<(), Fail>
+)
     requires problem { engine.now.problem ≡ problem.now }
 {
     assert_eq!(rt; engine.verdict(), Verdict::Alive);
     assert!(rt; engine.counters().is_paired());
-    assert!(rt; counts_afresh(alloc, problem, engine, steps)?);
-    Ok(())
+    let counted = counts_afresh(alloc, problem, engine, steps);
+    assert!(rt; counted.expect(rt, "memory for other counters"));
 }
 
 /// Gives a value to a cell.
@@ -94,7 +94,7 @@ fn give<L: Ledger>(
     cell: u32,
     value: u16,
     steps: &mut Steps<L>,
-) -> Result<(), Fail>
+)
     requires problem { engine.old.problem ≡ problem.now }
     ensures problem { engine.new.problem ≡ problem.now }
 {
@@ -103,7 +103,7 @@ fn give<L: Ledger>(
     assert_eq!(rt; engine.verdict(), Verdict::Alive);
     engine.assume(Literal::Is { cell, value }, steps);
     assert!(rt; engine.added_len() > 1_000);
-    is_counted(rt, alloc, problem, engine, steps)
+    is_counted(rt, alloc, problem, engine, steps);
 }
 
 /// Takes the last value back.
@@ -113,15 +113,32 @@ fn take_back<L: Ledger>(
     problem: &Problem,
     engine: &mut Ac4,
     steps: &mut Steps<L>,
-) -> Result<(), Fail>
+)
     requires problem { engine.old.problem ≡ problem.now }
     ensures problem { engine.new.problem ≡ problem.now }
 {
     go_back(problem, engine, steps);
-    is_counted(rt, alloc, problem, engine, steps)
+    is_counted(rt, alloc, problem, engine, steps);
 }
 
 /// Two values are given and taken back.
+fn there_and_back<L: Ledger>(
+    rt: &impl Abort,
+    alloc: Global,
+    problem: &Problem,
+    engine: &mut Ac4,
+    steps: &mut Steps<L>,
+)
+    requires problem { engine.old.problem ≡ problem.now }
+{
+    is_counted(rt, alloc, problem, engine, steps);
+    give(rt, alloc, problem, engine, 0, 5, steps);
+    give(rt, alloc, problem, engine, 8_256, 11, steps);
+    take_back(rt, alloc, problem, engine, steps);
+    take_back(rt, alloc, problem, engine, steps);
+}
+
+/// The same of an engine that is opened for it.
 fn gives_and_takes<L: Ledger>(
     rt: &impl Abort,
     alloc: Global,
@@ -134,11 +151,8 @@ fn gives_and_takes<L: Ledger>(
 {
     let mut steps = Steps::<L>::new(blank);
     let mut engine = Ac4::open(alloc, problem, 2)?;
-    is_counted(rt, alloc, problem, &engine, &mut steps)?;
-    give(rt, alloc, problem, &mut engine, 0, 5, &mut steps)?;
-    give(rt, alloc, problem, &mut engine, 8_256, 11, &mut steps)?;
-    take_back(rt, alloc, problem, &mut engine, &mut steps)?;
-    take_back(rt, alloc, problem, &mut engine, &mut steps)
+    there_and_back(rt, alloc, problem, &mut engine, &mut steps);
+    Ok(())
 }
 
 #[test]
