@@ -5,8 +5,12 @@ ghost use Rattle.std.specs.Prelude.{◌≡◌, IfErr};
 ghost use Rattle.std.specs.Process.{exit_status};
 ghost use Rattle.std.specs.IoError.{error_kind};
 ghost use Rattle.wfc_cli.specs.Delivery.{Tells, said_of_words};
+ghost use Rattle.wfc_words.specs.Request.{texts};
 ghost use Rattle.wfc_app.specs.Keeping.{KeepsWhereRead};
+ghost use Rattle.wfc_app.specs.Needed.{makes_several_runs, needed_choosers};
 ghost use Rattle.wfc_app.specs.Unread.{unread_fault};
+
+pub mod laws;
 
 use std::alloc::Global;
 use std::io::BufWriter;
@@ -56,8 +60,25 @@ fn program<F: Folder, O: Sink, E: Sink>(
     ExitCode::from(status)
 }
 
-/// How many choosers of each kind there are: one for each runner of a race, and more.
-const CHOOSERS: u32 = 65;
+/// How many choosers of each kind are made for a command of several runs: one for each seed of a race, list of lines or block.
+const MANY_CHOOSERS: u32 = 65;
+
+/// Whether the command of this name makes several runs, each with a chooser of its own.
+fn makes_several_runs(name: &str) -> bool
+    ensures value { result ≡ makes_several_runs name.now }
+{
+    name == "race" || name == "explain" || name == "grow"
+}
+
+/// How many choosers of each kind a command line needs.
+fn needed_choosers(words: &[String]) -> u32
+    ensures exact { result ≡ needed_choosers (texts words.now) }
+{
+    match words.first() {
+        Some(name) if makes_several_runs(name.as_str()) => MANY_CHOOSERS,
+        _ => 1,
+    }
+}
 
 /// Puts two choosers behind the others.
 fn push_both(
@@ -78,8 +99,13 @@ fn main(rt: HostRuntime) -> ExitCode {
         return ExitCode::from(refuse(&mut err, CommandFault::NoMemory));
     };
     let mut out = StdoutSink::new(writer);
+    let words = words(&rt);
+    let needed = match &words {
+        Ok(words) => needed_choosers(words),
+        Err(_) => 0,
+    };
     let mut choosers: Vec<Box<dyn Chooser>> = Vec::new(alloc);
-    for _made in 0..CHOOSERS {
+    for _made in 0..needed {
         let Ok(scanline) = Box::new(alloc, Scanning::scanline(alloc)) else {
             return ExitCode::from(refuse(&mut err, CommandFault::NoMemory));
         };
@@ -90,5 +116,5 @@ fn main(rt: HostRuntime) -> ExitCode {
             return ExitCode::from(refuse(&mut err, CommandFault::NoMemory));
         };
     }
-    program(alloc, words(&rt), choosers, &mut folder, &mut out, &mut err)
+    program(alloc, words, choosers, &mut folder, &mut out, &mut err)
 }
