@@ -6,3 +6,4 @@ pub mod ErrorLine
 pub mod LineClaims
 pub mod Theorem
 pub mod Promises
+pub mod Small

@@ -1,7 +1,8 @@
 -- What the error stream is told with each status, and that nothing else depends on that stream.
-use Rattle.std.specs.Prelude.{Err, List, Option, ℕ, ◌≡◌, ◌≢◌, ◌⊎◌}
+use Rattle.std.specs.Prelude.{Err, List, Option, ℕ, ◌↔◌, ◌≡◌, ◌≢◌, ◌⊎◌}
+use Rattle.wfc_choose.specs.Pick.{Rule}
 use Rattle.wfc_cli.specs.Answer.{IsAnswer}
-use Rattle.wfc_cli.specs.Commands.{asked_command, task_of}
+use Rattle.wfc_cli.specs.Commands.{asked_command, command_of, task_of}
 use Rattle.wfc_cli.specs.Delivery.{IsTold, Tells}
 use Rattle.wfc_cli.specs.ErrorLine.{command_status, fault_text}
 use Rattle.wfc_cli.specs.Theorem.{IsFileFault}
@@ -19,6 +20,7 @@ use Rattle.wfc_reply.specs.Reply.{IsNoStatus}
 use Rattle.wfc_words.specs.Request.{request_of}
 use Rattle.wfc_words.specs.RequestView.{RequestView}
 use Rattle.wfc_words.specs.declared.fault.CommandFault.{CommandFault}
+use Rattle.wfc_words.specs.declared.kinds.CommandKind.{CommandKind}
 
 -- why a call ends with its status, and the text of the line that says so: the answer is no, the
 -- budget is spent, the request has a first fault, a file can't be read, the sink of the answer
@@ -61,3 +63,13 @@ abbrev pub IsApartFromErr : Call → Type 0
 IsApartFromErr call =
     (text : Option (List ℕ)) × Tells text call.before.err call.after.err
     × ((old new : SinkView) → Tells text old new → IsAnswer (with_error_stream call old new))
+
+-- where the answer of the command is no, this text says so, and no other
+abbrev pub IsNoSaidBy : CommandKind → List ℕ → Type 0
+IsNoSaidBy kind words =
+    (rules : List Rule) (asked : RequestView) (files : List File) (text : List ℕ)
+    → (command_of kind).IsNo rules asked files text ↔ (text ≡ words)
+
+-- the budget of the command's run is the one asked for
+abbrev pub HasAskedBudget : CommandKind → Type 0
+HasAskedBudget kind = (asked : RequestView) → (command_of kind).budget asked ≡ asked.budget

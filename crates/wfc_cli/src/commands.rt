@@ -16,8 +16,29 @@ use wfc_reply::{CommandVerdict, Stop};
 use wfc_run_commands::{explain, race};
 use wfc_words::{CommandKind, Request};
 
-/// Runs the command that is asked for, and puts its text.
+/// Runs the command that is asked for, and puts its text. What `fill` doesn't run lies together behind it, so that a map takes no
+/// memory for the code of the other commands.
 pub(crate) fn run<F: Folder, O: Sink>(
+    alloc: Global,
+    request: &Request,
+    choosers: Vec<Box<dyn Chooser>>,
+    folder: &mut F,
+    out: &mut O,
+) -> Result<CommandVerdict, Stop>
+    requires in_range { IsInRange request.now }
+    ensures ends { EndsAsked (map (λ c. (told c).rule) choosers.items) request.now
+        (F.seen folder.old) (F.seen folder.new) (O.seen out.old) (O.seen out.new) result }
+{
+    match request.command {
+        CommandKind::Fill => put_answer(out, fill(alloc, request, choosers, folder)),
+        _ => run_any(alloc, request, choosers, folder, out),
+    }
+}
+
+/// The same, whatever the command.
+#[cold]
+#[inline(never)]
+fn run_any<F: Folder, O: Sink>(
     alloc: Global,
     request: &Request,
     choosers: Vec<Box<dyn Chooser>>,

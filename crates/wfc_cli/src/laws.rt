@@ -1,16 +1,21 @@
 //! Laws of the definitions, each a function with no body whose contract is the law. They run nothing.
 
-ghost use Rattle.std.specs.Prelude.{List, None, Some, [], codes, ◌≡◌};
+ghost use Rattle.std.specs.Prelude.{List, None, Some, [], codes, ℕ, ◌≡◌};
 ghost use Rattle.wfc_box.specs.declared.fault.StackFault.TheVariants.{NotArray};
 ghost use Rattle.wfc_box_commands.specs.BoxFillTask.{box_fill_plan};
 ghost use Rattle.wfc_box_commands.specs.BoxProofs.{box_proofs};
+ghost use Rattle.wfc_choose.specs.Pick.{Rule};
 ghost use Rattle.wfc_choose.specs.declared.RuleKind.{RuleKind};
 ghost use Rattle.wfc_choose.specs.declared.RuleKind.TheVariants.{Ranked};
+ghost use Rattle.wfc_blocks.specs.declared.block.Block.{Block};
 ghost use Rattle.wfc_cli.specs.Commands.{command_of};
 ghost use Rattle.wfc_cli.specs.Delivery.{Tells, open_sink, said_of_words};
 ghost use Rattle.wfc_cli.specs.ErrorLine.{fault_text};
+ghost use Rattle.wfc_cli.specs.LineClaims.{HasAskedBudget, IsNoSaidBy};
 ghost use Rattle.wfc_grid.specs.declared.reading.GridFault.TheVariants as grids;
+ghost use Rattle.wfc_cli.specs.Small.{block_asked, of_windows_asked};
 ghost use Rattle.wfc_grow_command.specs.GrowTask.{grow_plan};
+ghost use Rattle.wfc_grow_command.specs.StuckText.{block_shape};
 ghost use Rattle.wfc_lines.specs.Outcome.{no_map_text};
 ghost use Rattle.wfc_map_commands.specs.DemoTask.{demo_plan};
 ghost use Rattle.wfc_map_commands.specs.DomainsTask.{domains_plan};
@@ -24,11 +29,13 @@ ghost use Rattle.wfc_pins.specs.declared.fault.BuildFault.TheVariants as builds;
 ghost use Rattle.wfc_pins.specs.declared.pins.PinFault.TheVariants as pins;
 ghost use Rattle.wfc_pins.specs.declared.steps.RangeFault.TheVariants.{OutOfRange};
 ghost use Rattle.wfc_pins.specs.declared.steps.StepFault.TheVariants.{NothingToUndo};
+ghost use Rattle.wfc_plan.specs.Fault.{class_of, status_of};
 ghost use Rattle.wfc_plan.specs.declared.fault.Fault.TheVariants.{Refused, Unread};
+ghost use Rattle.wfc_plan.specs.declared.fault.FaultClass.TheVariants.{Input};
 ghost use Rattle.wfc_plan.specs.declared.fault.Refusal.TheVariants as refusals;
 ghost use Rattle.wfc_plan.specs.declared.fault.Source.TheVariants as sources;
 ghost use Rattle.wfc_ppm.specs.declared.reading.PpmFault.TheVariants.{Header};
-ghost use Rattle.wfc_proof_commands.specs.Checking.{flat_proofs};
+ghost use Rattle.wfc_proof_commands.specs.Checking.{flat_proofs, shape_asked};
 ghost use Rattle.wfc_proof_commands.specs.CheckTask.{check_plan};
 ghost use Rattle.wfc_proof_commands.specs.RefuteTask.{refute_plan};
 ghost use Rattle.wfc_proof_commands.specs.UpgradeTask.{upgrade_plan};
@@ -49,6 +56,11 @@ pub fn lines_are_told_by_example()
         (open_sink (codes "wfc: no map\n") 3) }
     ensures none { Tells None (record { told = None; faults = 3 })
         (record { told = None; faults = 3 }) }
+    ensures front { Tells (Some no_map_text) (open_sink [] 3) (open_sink (codes "wfc: no") 4) }
+    ensures uncounted { Tells (Some no_map_text) (open_sink [] 3)
+        (open_sink (codes "wfc: no") 3) → ⊥ }
+    ensures other { Tells (Some no_map_text) (open_sink [] 3) (open_sink (codes "no map") 4) → ⊥ }
+    ensures silent { Tells None (open_sink [] 3) (open_sink (codes "w") 3) → ⊥ }
 {}
 
 /// Each command is refused for the first of its stages that has a fault, in its order, and comes to a task where none has.
@@ -57,7 +69,7 @@ pub fn commands_refuse_in_order()
     ensures made { (kind : CommandKind) → IsMadeByOrder (command_of kind) }
 {}
 
-/// Which command each kind has, by its plan, its budget and its line.
+/// Which command each kind has, by its plan.
 pub fn commands_are_of_their_kinds()
     ensures fill { (kinds : List RuleKind) (asked : RequestView) →
         (command_of commands.Fill).plan kinds asked ≡ fill_plan kinds asked }
@@ -85,11 +97,39 @@ pub fn commands_are_of_their_kinds()
         (command_of commands.BoxRefute).plan kinds asked ≡ refute_plan box_proofs kinds asked }
     ensures box_check { (kinds : List RuleKind) (asked : RequestView) →
         (command_of commands.BoxCheck).plan kinds asked ≡ check_plan box_proofs asked }
-    ensures own_budget { (asked : RequestView) → (command_of commands.Demo).budget asked ≡ 1000 }
-    ensures budget { (asked : RequestView) →
-        (command_of commands.Refute).budget asked ≡ asked.budget }
-    ensures line { (asked : RequestView) (files : List File) →
-        (command_of commands.Refute).IsNo [] asked files (codes "map exists") }
+{}
+
+/// What each command says where its answer is no; `check`, `upgrade` and `grow` name a place. `learn` never says it.
+pub fn each_no_has_its_words()
+    ensures fill { IsNoSaidBy commands.Fill (codes "no map") }
+    ensures demo { IsNoSaidBy commands.Demo (codes "no map") }
+    ensures race { IsNoSaidBy commands.Race (codes "no map") }
+    ensures box_fill { IsNoSaidBy commands.BoxFill (codes "no map") }
+    ensures domains { IsNoSaidBy commands.Domains (codes "no consistent domains") }
+    ensures refute { IsNoSaidBy commands.Refute (codes "map exists") }
+    ensures explain { IsNoSaidBy commands.Explain (codes "map exists") }
+    ensures box_refute { IsNoSaidBy commands.BoxRefute (codes "map exists") }
+    ensures learn { (rules : List Rule) (asked : RequestView) (files : List File) (text : List ℕ) →
+        (command_of commands.Learn).IsNo rules asked files text → ⊥ }
+{}
+
+/// The budget of each command that makes runs: the demonstration has one of its own.
+pub fn runs_have_the_budget_asked_for()
+    ensures fill { HasAskedBudget commands.Fill }
+    ensures refute { HasAskedBudget commands.Refute }
+    ensures race { HasAskedBudget commands.Race }
+    ensures explain { HasAskedBudget commands.Explain }
+    ensures grow { HasAskedBudget commands.Grow }
+    ensures box_fill { HasAskedBudget commands.BoxFill }
+    ensures box_refute { HasAskedBudget commands.BoxRefute }
+    ensures demo { (asked : RequestView) → (command_of commands.Demo).budget asked ≡ 1000 }
+{}
+
+/// The refutation of a stuck block has the shape that `check` looks for where it is asked for a map of the block's sides which doesn't
+/// go on over its edges.
+pub fn stuck_blocks_are_checked_as_maps()
+    ensures shape { (asked : RequestView) (n : ℕ) (block : Block) →
+        block_shape (of_windows_asked asked n) block ≡ shape_asked (block_asked asked n block) }
 {}
 
 /// The line of a file that can't be read, by example: the sample of the request is `a`, its pins `p`, its steps `s`, its mask `m` and
@@ -152,6 +192,12 @@ pub fn refusals_are_told_by_example()
     ensures memory { fault_text tiles_asked (Refused refusals.NoMemory) ≡ codes "out of memory" }
     ensures tiles { fault_text tiles_asked (Refused (refusals.Tiles (tiles.BadClass 7)))
         ≡ codes "tiles BadClass tile=7 file=a" }
+{}
+
+/// A step that isn't in the problem is a fault of what was given, and has its status.
+pub fn steps_out_of_range_have_a_status()
+    ensures class { class_of (refusals.Range (OutOfRange 6)) ≡ Input }
+    ensures status { status_of (Refused (refusals.Range (OutOfRange 6))) ≡ 4 }
 {}
 
 /// What words say that are no request, by example: one line and the status 3, and 6 where memory ran out.
