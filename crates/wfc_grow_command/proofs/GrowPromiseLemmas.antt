@@ -22,7 +22,7 @@ use Rattle.wfc_search.specs.declared.Outcome.TheVariants as outcome
 use Rattle.wfc_words.specs.RequestView.{RequestView}
 use Rattle.wfc_words.specs.declared.kinds.CommandKind.TheVariants as commands
 use Rattle.wfc_grow_command.proofs.GrowWorkLemmas.{has_grown, is_as_grown, writes_grown_map}
-use Rattle.wfc_grow_command.proofs.GrowStuckLemmas.{is_spent_below, stuck_proof, writes_stuck_block, writes_stuck_proof}
+use Rattle.wfc_grow_command.proofs.GrowStuckLemmas.{is_spent_below, stuck_proof, writes_stuck_block}
 
 -- ---- what is written
 
@@ -33,10 +33,13 @@ stuck_front asked work stuck answered text is (inl whole) =
     let run : List ℕ = writing_text (block_writing asked stuck.block) whole.P whole.lines in
     let both : Some text ≡ Some (stuck_text stuck ++ run) = sym is ∙ ap (λ (a : Answered). a.text) whole.is in
     inr (
-      whole.P,
-      whole.problem,
       run,
-      record { outcome = outcome.NoMap; text = run; is = stuck_proof asked work stuck whole.P whole.lines whole.told; more = []; whole = sym (append-nil run) },
+      record {
+        P = whole.P;
+        problem = whole.problem;
+        as_run = inl (record { lines = whole.lines; told = whole.told; is = refl });
+        front = record { outcome = outcome.NoMap; text = run; is = stuck_proof asked work stuck whole.P whole.lines whole.told; more = []; whole = sym (append-nil run) };
+      },
       cc (both),
     )
 stuck_front asked work stuck answered text is (inr (inl front)) =
@@ -49,15 +52,18 @@ stuck_front asked work stuck answered text is (inr (inl front)) =
     let parts : told ≡ run ++ rest = sym (take-append-drop front.bytes told) in
     let both : Some text ≡ Some (stuck_text stuck ++ run) = sym is ∙ front.text in
     inr (
-      front.P,
-      front.problem,
       run,
       record {
-        outcome = of.outcome;
-        text = of.text;
-        is = of.is;
-        more = rest ++ of.more;
-        whole = of.whole ∙ ap (λ (xs : List ℕ). xs ++ of.more) parts ∙ append_assoc run rest of.more;
+        P = front.P;
+        problem = front.problem;
+        as_run = inr (record { lines = front.lines; begun = front.begun; count = front.count; within = front.within; end = front.bytes; broken = front.broken; is = refl });
+        front = record {
+          outcome = of.outcome;
+          text = of.text;
+          is = of.is;
+          more = rest ++ of.more;
+          whole = of.whole ∙ ap (λ (xs : List ℕ). xs ++ of.more) parts ∙ append_assoc run rest of.more;
+        };
       },
       cc (both),
     )
@@ -100,7 +106,6 @@ pub grow_promise : (call : Call) (asked : RequestView) (files : List File) → I
 grow_promise call asked files is came = record {
   legal = writes_grown_map call asked files is came;
   stuck = writes_stuck_block call asked files is came;
-  refuted = writes_stuck_proof call asked files came;
   as_grown = is_as_grown call asked files came;
   spent = is_spent_below call asked files is came;
   front = grow_front call asked files is came;

@@ -14,7 +14,7 @@ use Rattle.wfc_blocks.specs.declared.grown.Grown.{Grown}
 use Rattle.wfc_blocks.specs.declared.grown.Grown.TheVariants as grown
 use Rattle.wfc_choose.specs.Pick.{Rule}
 use Rattle.wfc_grow_command.specs.GrowAnswer.{stuck_start}
-use Rattle.wfc_grow_command.specs.GrowClaims.{GrowWork, GrowsTo, IsSpentBelow, WritesGrown, WritesStuckBlock, WritesStuckProof, WritesStuckRun, grow_rules}
+use Rattle.wfc_grow_command.specs.GrowClaims.{GrowWork, GrowsTo, IsSpentBelow, WritesGrown, WritesStuckBlock, WritesStuckRun, grow_rules}
 use Rattle.wfc_grow_command.specs.GrowCommand.{grow_command}
 use Rattle.wfc_grow_command.specs.GrowTask.{area_asked}
 use Rattle.wfc_grow_command.specs.StuckText.{block_shape, block_writing}
@@ -75,23 +75,14 @@ writes_stuck_block call asked files is came eight =
     let block = (work_promises asked work (grown.Stuck stuck) is_known at.grows).1 in (
       work,
       stuck,
+      writing_text (block_writing asked stuck.block) at.writes.P at.writes.lines,
       record {
         among = block.among;
         pins = block.pins;
         meant = block.meant is_known.named;
         none = λ m legal. block.none work.given.sample.picture (grow_rules asked) m (is_known.windows stuck.block.width stuck.block.height) legal;
       },
-      writing_text (block_writing asked stuck.block) at.writes.P at.writes.lines,
-      at.writes.written,
-    )
-
-pub writes_stuck_proof : (call : Call) (asked : RequestView) (files : List File) → CameTo grow_command call asked files → WritesStuckProof call asked files
-writes_stuck_proof call asked files came eight =
-    let at = written_stuck call asked files came eight in (
-      at.work,
-      at.stuck,
-      writing_text (block_writing asked at.stuck.block) at.writes.P at.writes.lines,
-      record { P = at.writes.P; problem = at.writes.problem; refutes = stuck_proof asked at.work at.stuck at.writes.P at.writes.lines at.writes.told },
+      record { P = at.writes.P; problem = at.writes.problem; refutes = stuck_proof asked work stuck at.writes.P at.writes.lines at.writes.told },
       at.writes.written,
     )
 

@@ -1,5 +1,5 @@
 -- What `grow` promises, in the words of its subject.
-use Rattle.std.specs.Prelude.{Contains, List, Ok, Some, false, ℕ, ◌+◌, ◌++◌, ◌≡◌, ◌≤◌, ◌⊎◌}
+use Rattle.std.specs.Prelude.{Contains, List, Ok, Some, false, length, take, ℕ, ◌+◌, ◌++◌, ◌≡◌, ◌≤◌, ◌⊎◌}
 use Rattle.wfc_blocks.specs.Blocks.{blocks_of}
 use Rattle.wfc_blocks.specs.Canvas.{Canvas}
 use Rattle.wfc_blocks.specs.Growth.{problem_of_block}
@@ -12,7 +12,7 @@ use Rattle.wfc_choose.specs.Pick.{Rule}
 use Rattle.wfc_grow_command.specs.GrowAnswer.{IsProblemOfStuck, IsGrowthBy, stuck_start, stuck_run_text}
 use Rattle.wfc_grow_command.specs.GrowGiven.{IsGrowTask}
 use Rattle.wfc_grow_command.specs.GrowTask.{GrowTask, area_asked}
-use Rattle.wfc_grow_command.specs.StuckText.{block_shape, stuck_text}
+use Rattle.wfc_grow_command.specs.StuckText.{block_shape, block_writing, stuck_text}
 use Rattle.wfc_model.specs.Legal.{IsLegalPicture, Pin, Rules}
 use Rattle.wfc_model.specs.Raster.{Raster}
 use Rattle.wfc_outside.specs.Folder.{File}
@@ -26,8 +26,9 @@ use Rattle.wfc_reply.specs.Asking.{Promises}
 use Rattle.wfc_reply.specs.Call.{Call}
 use Rattle.wfc_reply.specs.Choosers.{first_rule, kinds_of}
 use Rattle.wfc_reply.specs.CutClaims.{CutsText}
+use Rattle.wfc_reply.specs.Putting.{IsTextBrokenOff}
 use Rattle.wfc_reply.specs.Reply.{HasAnswer}
-use Rattle.wfc_reply.specs.RunText.{IsFrontOfText, IsToldBy}
+use Rattle.wfc_reply.specs.RunText.{IsBegunBy, IsFrontOfText, IsToldBy, writing_text}
 use Rattle.wfc_search.specs.Volume.{volume_of}
 use Rattle.wfc_search.specs.declared.Outcome.TheVariants as outcome
 use Rattle.wfc_task.specs.Sources.{window_side_of}
@@ -87,19 +88,12 @@ abbrev pub WritesBehind : Call → StuckView → List ℕ → Type 0
 WritesBehind call stuck proof =
     call.after.out ≡ after_finish (after_bytes call.before.out (stuck_text stuck ++ proof))
 
--- status 8 of `grow`: the block that is named is stuck
+-- status 8 of `grow`: what was written is a block that is stuck, and behind its pins a refutation of this same block
 abbrev pub WritesStuckBlock : Call → RequestView → List File → Type 0
 WritesStuckBlock call asked files =
     call.status ≡ 8
-    → (work : GrowWork call.rules asked files) × (stuck : StuckView) × IsStuckBlock asked work stuck
-    × (proof : List ℕ) × WritesBehind call stuck proof
-
--- status 8 of `grow`: behind its pins stands a refutation of it
-abbrev pub WritesStuckProof : Call → RequestView → List File → Type 0
-WritesStuckProof call asked files =
-    call.status ≡ 8
     → (work : GrowWork call.rules asked files) × (stuck : StuckView) × (proof : List ℕ)
-    × IsStuckProof asked work stuck proof × WritesBehind call stuck proof
+    × IsStuckBlock asked work stuck × IsStuckProof asked work stuck proof × WritesBehind call stuck proof
 
 -- the lines that the run of a stuck block tells were written behind its pins
 pub record WritesStuckRun {rules : List Rule} {files : List File} (asked : RequestView) (work : GrowWork rules asked files)
@@ -125,7 +119,7 @@ IsAsGrown call asked files =
     HasAnswer call.status
     → (work : GrowWork call.rules asked files) × (made : Grown) × GrowsTo asked work made × WritesGrown asked work call made
 
--- with status 2 of `grow` the budget is below the volume of the problem of some block
+-- with status 2 of `grow` the budget is below the volume of the problem of some block with something set around it
 abbrev pub IsSpentBelow : Call → RequestView → List File → Type 0
 IsSpentBelow call asked files =
     call.status ≡ 2
@@ -134,15 +128,42 @@ IsSpentBelow call asked files =
     × (asked.budget + 1 ≤ volume_of (problem_of_block
     (terms_with work.task.patterns work.rule asked.budget asked.seed work.given.pins) canvas block))
 
--- the text of an end of growth: that of its map; or the block and its pins, alone or with a front of the text of a run of
--- the block's problem behind them
+-- the bytes are the text of all lines of the run of a stuck block
+pub record IsWholeStuckRun {rules : List Rule} {files : List File} (asked : RequestView) (work : GrowWork rules asked files)
+    (stuck : StuckView) (P : Network) (bytes : List ℕ) : Type 0 where
+  pub lines : List Line
+  pub told : IsToldBy work.rule asked.budget P (stuck_start asked stuck) outcome.NoMap lines
+  pub is : bytes ≡ writing_text (block_writing asked stuck.block) P lines
+
+-- the bytes are a front of the text of its first lines, up to one that was refused: they end in the head, or before the last
+-- of these lines ends
+pub record IsBrokenStuckRun {rules : List Rule} {files : List File} (asked : RequestView) (work : GrowWork rules asked files)
+    (stuck : StuckView) (P : Network) (bytes : List ℕ) : Type 0 where
+  pub lines : List Line
+  pub begun : IsBegunBy work.rule asked.budget P (stuck_start asked stuck) lines
+  pub count : ℕ
+  pub within : count ≤ length lines
+  pub end : ℕ
+  pub broken : IsTextBrokenOff (block_writing asked stuck.block) P (take count lines) end
+  pub is : bytes ≡ take end (writing_text (block_writing asked stuck.block) P (take count lines))
+
+-- the bytes are the text, or a front of it, of the run of a stuck block, which growth makes by the work's rule, the budget
+-- asked for and the block's seed; so they are a front of the text of a refutation or a journal of its problem
+pub record IsFrontOfStuckRun {rules : List Rule} {files : List File} (asked : RequestView) (work : GrowWork rules asked files)
+    (stuck : StuckView) (bytes : List ℕ) : Type 0 where
+  pub P : Network
+  pub problem : IsProblemOfStuck work.task stuck P
+  pub as_run : IsWholeStuckRun asked work stuck P bytes ⊎ IsBrokenStuckRun asked work stuck P bytes
+  pub front : IsFrontOfText P (block_shape asked stuck.block) bytes
+
+-- the text of an end of growth: that of its map; or the block and its pins, alone or with a front of the text of the block's
+-- own run behind them
 abbrev pub IsTextOfGrown : {rules : List Rule} {files : List File} (asked : RequestView)
     → GrowWork rules asked files → Grown → List ℕ → Type 0
 IsTextOfGrown asked work (grown.Map m) text = text ≡ text_of_grown asked work m
 IsTextOfGrown asked work (grown.Stuck stuck) text =
     (text ≡ stuck_text stuck)
-    ⊎ ((P : Network) × IsProblemOfStuck work.task stuck P × (run : List ℕ)
-    × IsFrontOfText P (block_shape asked stuck.block) run × (text ≡ stuck_text stuck ++ run))
+    ⊎ ((run : List ℕ) × IsFrontOfStuckRun asked work stuck run × (text ≡ stuck_text stuck ++ run))
 IsTextOfGrown asked work grown.Spent text = ⊥
 
 -- it is the text of the growth of this work
@@ -154,10 +175,9 @@ IsGrowText rules asked files text =
 pub record GrowPromise (call : Call) (asked : RequestView) (files : List File) : Type 0 where
   -- with status 0 a legal map of the whole size was written
   pub legal : WritesGrownMap call asked files
-  -- with status 8 the block that is written admits no map with the pins that are written
+  -- with status 8 the block that is written admits no map with the pins that are written, and a refutation of this block
+  -- stands behind them
   pub stuck : WritesStuckBlock call asked files
-  -- and behind these pins stands a refutation of it
-  pub refuted : WritesStuckProof call asked files
   -- the status and what is written are those of the defined growth
   pub as_grown : IsAsGrown call asked files
   -- a budget that was spent is below the volume of the problem of a block

@@ -37,19 +37,20 @@ abbrev pub stuck_of_two : StuckView
 stuck_of_two =
     record { block = block_with 5 12 7 3 4; pins = pin_of_a 0 ∷ pin_line 6 false 2 0 (codes "1,2,3") ∷ [] }
 
--- windows of side 2 in eight images, with seed 100 and 9 retractions
+-- a map of 21 by 13, of windows of side 6 in eight images of a sample that wraps, with seed 100 and 9 retractions
 abbrev pub seeded_asked : RequestView
-seeded_asked = record (sample_asked 2 P6) { seed = 100; budget = 9; symmetry = 8 }
+seeded_asked =
+    record (sample_asked 6 P6) { width = 21; height = 13; seed = 100; budget = 9; symmetry = 8; wrap_in = true }
 
--- windows of this side on a map of this width and height, in so many images, where nothing wraps
-abbrev pub flat_shape : ℕ → ℕ → ℕ → ℕ → Shape
-flat_shape n width height symmetry = record {
+-- windows of this side on a map of this width and height that doesn't wrap, in so many images of a sample that may
+abbrev pub flat_shape : ℕ → ℕ → ℕ → ℕ → Bool → Shape
+flat_shape n width height symmetry wrap_in = record {
   n = n;
   width = width;
   height = height;
   depth = 1;
   symmetry = symmetry;
-  wrap_in = false;
+  wrap_in = wrap_in;
   wrap_out = false;
 }
 

@@ -10,7 +10,7 @@ ghost use Rattle.wfc_grow_command.specs.GrowClaims.{grow_rules};
 ghost use Rattle.wfc_grow_command.specs.GrowGiven.{IsGrowTask};
 ghost use Rattle.wfc_grow_command.specs.GrowTask.{area_asked, grow_plan, grow_refusal};
 ghost use Rattle.wfc_grow_command.specs.Small.{ban_of_b, flat_shape, pin_of_a, seeded_asked, stuck_of_two};
-ghost use Rattle.wfc_grow_command.specs.StuckText.{block_writing, pin_text, stuck_text};
+ghost use Rattle.wfc_grow_command.specs.StuckText.{block_shape, block_writing, pin_text, stuck_text};
 ghost use Rattle.wfc_grow_command.specs.declared.growing.TheConstants.{GROW_CHOOSERS};
 ghost use Rattle.wfc_pins.specs.Pins.{pins_of};
 ghost use Rattle.wfc_pins.specs.declared.fault.BuildFault.TheVariants as builds;
@@ -44,8 +44,8 @@ pub fn growth_is_refused_so()
 pub fn growth_is_asked_so()
     ensures area { area_asked (record (sample_asked 2 P6) { width = 7; height = 5; block = 3 })
         ≡ area_with 7 5 3 }
-    ensures rules { grow_rules (record (sample_asked 2 P6) { symmetry = 8; wrap_in = true })
-        ≡ record { n = 2; symmetry = 8; wrap_in = true; wrap_out = false } }
+    ensures rules { grow_rules (record (sample_asked 3 P6) { symmetry = 8; wrap_in = true })
+        ≡ record { n = 3; symmetry = 8; wrap_in = true; wrap_out = false } }
 {}
 
 /// What is written of a stuck block, by example: its lines are those of a pins file.
@@ -57,5 +57,7 @@ pub fn stuck_blocks_are_written_so()
     ensures verdict { stuck_verdict (record { block = block_with 5 12 7 3 4; pins = [] })
         ≡ verdicts.Stuck 12 7 }
     ensures writing { block_writing seeded_asked (block_with 5 12 7 3 4)
-        ≡ record { format = 2; shape = flat_shape 2 3 4 8; budget = 9; seed = 105 } }
+        ≡ record { format = 2; shape = flat_shape 6 3 4 8 true; budget = 9; seed = 105 } }
+    ensures shape { block_shape (record seeded_asked { wrap_in = false; wrap_out = true })
+        (block_with 5 12 7 3 4) ≡ flat_shape 6 3 4 8 false }
 {}
