@@ -65,10 +65,16 @@ pub fn relations_by_example()
     ensures other { IsAlike pair ring → ⊥ }
 {}
 
-/// The lines of a core rise, and are lines.
+/// The lines of a core rise, are lines, admit no map, and need each one that is marked so.
 pub fn cores_by_example()
     ensures falls { IsTrueCore three_lines (one_kept 2 Needed ∷ one_kept 1 Needed ∷ []) → ⊥ }
     ensures outside { IsTrueCore three_lines (one_kept 1 Needed ∷ one_kept 3 Needed ∷ []) → ⊥ }
+    ensures mapped { IsTrueCore three_lines (one_kept 0 Needed ∷ one_kept 2 Needed ∷ []) → ⊥ }
+    ensures unneeded { IsTrueCore three_lines
+        (one_kept 0 Undecided ∷ one_kept 1 Needed ∷ one_kept 2 Needed ∷ []) → ⊥ }
+    ensures undecided { IsTrueCore three_lines
+        (one_kept 0 Undecided ∷ one_kept 1 Needed ∷ one_kept 2 Undecided ∷ []) }
+    ensures needed { IsTrueCore three_lines (one_kept 1 Needed ∷ one_kept 2 Needed ∷ []) }
 {}
 
 /// What is kept of a list.

@@ -1,13 +1,15 @@
 //! Laws of the definitions, each a function with no body whose contract is the law. They run nothing.
 
 ghost use Rattle.wfc_plan.specs.Kinds.{HasChoosers};
-ghost use Rattle.std.specs.Prelude.{Err, List, Ok, [], codes, false, true, ◌∷◌, ◌≡◌};
+ghost use Rattle.std.specs.Prelude.{Err, List, Ok, [], codes, drop, false, map, true, ℕ, ◌∷◌, ◌≡◌};
 ghost use Rattle.wfc_choose.specs.Pick.{Rule};
 ghost use Rattle.wfc_choose.specs.declared.RuleKind.{RuleKind};
 ghost use Rattle.wfc_choose.specs.declared.RuleKind.TheVariants.{Fewest};
 ghost use Rattle.wfc_map_commands.specs.DemoAnswer.{demo_budget, demo_text};
+ghost use Rattle.wfc_map_commands.specs.DemoClaims.{demo_rules};
 ghost use Rattle.wfc_map_commands.specs.DemoTask.{demo, demo_made, demo_plan, demo_work};
-ghost use Rattle.wfc_map_commands.specs.Demonstration.{demo_output, demo_side, demo_symbol};
+ghost use Rattle.wfc_map_commands.specs.Demonstration.{demo_output, demo_patterns, demo_picture, demo_problem, demo_side};
+ghost use Rattle.wfc_map_commands.specs.Demonstration.{demo_symbol, demo_symbols};
 ghost use Rattle.wfc_map_commands.specs.DomainsAnswer.{standings};
 ghost use Rattle.wfc_map_commands.specs.DomainsGiven.{IsDomainsMade};
 ghost use Rattle.wfc_map_commands.specs.DomainsTask.{domains, domains_made, domains_plan};
@@ -23,8 +25,11 @@ ghost use Rattle.wfc_map_commands.specs.declared.filling.Filling.{Filling};
 ghost use Rattle.wfc_map_commands.specs.declared.filling.TileFilling.{TileFilling};
 ghost use Rattle.wfc_map_commands.specs.declared.learning.Learned.TheVariants as learned;
 ghost use Rattle.wfc_map_commands.specs.declared.stepping.Stepping.{Stepping};
+ghost use Rattle.wfc_model.specs.Raster.{raster_of};
 ghost use Rattle.wfc_outside.specs.Folder.{File};
 ghost use Rattle.wfc_outside.specs.declared.whole.ReadFault.TheVariants.{Missing};
+ghost use Rattle.wfc_overlap.specs.Sample.{output_with, problem_of_sample};
+ghost use Rattle.wfc_pattern.specs.Learning.{patterns_of};
 ghost use Rattle.wfc_picture.specs.declared.symbol.Symbol.TheVariants.{Char};
 ghost use Rattle.wfc_pins.specs.declared.steps.Step.TheVariants.{Assume, Undo};
 ghost use Rattle.wfc_plan.specs.Plan.{outcome};
@@ -103,6 +108,25 @@ pub fn demonstrated_pixels_by_example()
     ensures down { demo_symbol 11 8 4 ≡ Char 35 }
     ensures across { demo_symbol 11 7 10 ≡ Char 35 }
     ensures between { demo_symbol 11 10 8 ≡ Char 46 }
+    ensures far_down { demo_symbol 88 12 7 ≡ Char 35 }
+    ensures far_across { demo_symbol 88 7 10 ≡ Char 35 }
+    ensures far_between { demo_symbol 88 10 12 ≡ Char 46 }
+{}
+
+/// The last two rows of a square of demonstrated pixels, and a square in numbers, by example.
+pub fn demonstrated_squares_by_example()
+    ensures rows { drop 24 (demo_symbols 11 6) ≡ map (λ byte. Char byte) (codes "#...#.######") }
+    ensures numbers { demo_picture 11 2 ≡ raster_of 2 2 (0 ∷ 0 ∷ 0 ∷ 1 ∷ []) }
+{}
+
+/// How windows are taken and compared in each demonstration: so its grid teaches its patterns, and so its map is posed.
+pub fn demonstrations_have_rules()
+    ensures rules { demo_rules
+        ≡ record { n = 3; symmetry = 1; wrap_in = false; wrap_out = false } }
+    ensures taught { (n : ℕ) → patterns_of (demo_picture n 24) demo_rules.n demo_rules.symmetry
+        demo_rules.wrap_in ≡ Ok (demo_patterns n) }
+    ensures posed { (n : ℕ) → demo_problem n
+        ≡ problem_of_sample (demo_patterns n) (output_with 48 48 demo_rules.wrap_out) [] }
 {}
 
 /// The first faults where nothing is there: a chooser before the sample, and the sample before all else.
