@@ -5,7 +5,7 @@
 
 Each command of the table in crates/wfc_words/src/commands.rt (its groups in groups.rt, its words in texts.rt) has a part of the
 help, and a row of the table of commands on the page: both name its words and no other ones, those that may be left out in brackets. Each
-word has a line in its part, the same in each, which says the range and the default that crates/wfc_words/src/numbers.rt has for it, and so
+word has a line in its part, the same in each (but for `OWN`), which says the range and the default that crates/wfc_words/src/numbers.rt has for it, and so
 does the page's table of words. What `./wfc --version` says of the toolchain is what README.md says. Status 0 where all agree, else 1 with a
 line for each that doesn't.
 """
@@ -16,6 +16,8 @@ import sys
 ROOT = os.path.dirname(os.path.dirname(os.path.abspath(__file__)))
 WORDS = f"{ROOT}/crates/wfc_words/src"
 MOST_COLUMNS = 110
+# Words that mean less in these commands, whose lines are their own: a box is made of tiles, and a map block by block of windows.
+OWN = {"box": ("FILE", "form"), "grow": ("FILE", "MODEL")}
 
 
 def text_of(path):
@@ -93,7 +95,8 @@ def check_part(name, text, words, limits, lines, faults):
         faults.tell(f"help {name}: lines for {sorted(told)}, words {sorted(words)}")
     for word, line in told.items():
         plain = line.removesuffix("; it must be there")
-        if lines.setdefault(word, plain) != plain:
+        own = name.partition("-")[0] if word in OWN.get(name.partition("-")[0], ()) else ""
+        if lines.setdefault((own, word), plain) != plain:
             faults.tell(f"help {name}: {word} has another line elsewhere")
         if word in limits:
             least, most, absent = limits[word]

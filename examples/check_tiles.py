@@ -94,7 +94,9 @@ def picture(name):
 
 def action_of(end):
     """The tile's name and the action of an end of a pair."""
-    name, _, action = end.partition(" ")
+    name, blank, action = end.partition(" ")
+    if blank and action not in list("01234567"):
+        raise ValueError(f"'{end}' has no action from 0 to 7")
     return name, int(action or 0)
 
 
@@ -125,6 +127,9 @@ def faults(document):
     tiles = {tile["name"]: tile for tile in document.get("tile", [])}
     pictures = {}
     for name, tile in tiles.items():
+        if tile["class"] not in COUNT:
+            raise ValueError(f"{name}: class '{tile['class']}' is none of {', '.join(COUNT)}")
+    for name, tile in tiles.items():
         extra = set(tile) - {"name", "class", "weight", "picture"}
         if extra:
             yield f"{name}: nobody reads {', '.join(sorted(extra))}"
@@ -135,6 +140,9 @@ def faults(document):
             yield told
     for number, pair in enumerate(document.get("pair", [])):
         ends = [action_of(pair["left"]), action_of(pair["right"])]
+        for name, _ in ends:
+            if name not in tiles:
+                yield f"pair {number}: there is no tile {name}"
         if all(name in pictures for name, _ in ends):
             left, right = (under(pictures[name], acted(tiles[name]["class"], action)) for name, action in ends)
             if [row[-1] for row in left] != [row[0] for row in right]:
@@ -153,8 +161,8 @@ def main(words):
         with open(words[0], "rb") as file:
             document = tomllib.load(file)
         found = list(faults(document))
-    except (OSError, ValueError, KeyError, IndexError) as error:
-        print(f"{words[0]}: {error}", file=sys.stderr)
+    except (OSError, ValueError, KeyError, IndexError, TypeError, AttributeError) as error:
+        print(f"{words[0]}: {type(error).__name__}: {error}", file=sys.stderr)
         return 2
     for each in found:
         print(each)

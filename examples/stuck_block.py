@@ -8,6 +8,7 @@ NAME.ref, both as they stand in TEXT. N, the sides, the symmetry and the wrappin
 Status 0; 1 where TEXT is of no stuck block, and then nothing is written; 3 where the words are others. Whether the refutation is one is
 not looked at here: that is what `check` is for.
 """
+import itertools
 import re
 import shlex
 import shutil
@@ -25,10 +26,10 @@ def main(words):
     sample, name = words
     text = sys.stdin.buffer
     front = FRONT.fullmatch(text.readline())
-    pins = [text.readline() for _ in range(int(front[2]) if front else 0)]
+    pins = list(itertools.islice(iter(text.readline, b""), int(front[2]) if front else 0))
     head = b"".join(text.readline() for _ in range(3))
     found = HEAD.fullmatch(head)
-    if not front or not found or found[2] != front[1] or not all(map(PIN.fullmatch, pins)):
+    if not front or len(pins) != int(front[2]) or not found or found[2] != front[1] or not all(map(PIN.fullmatch, pins)):
         print("stuck_block.py: this is not the text of a stuck block", file=sys.stderr)
         return 1
     with open(f"{name}.pins", "wb") as file:
