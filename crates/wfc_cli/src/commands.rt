@@ -16,8 +16,8 @@ use wfc_reply::{CommandVerdict, Stop};
 use wfc_run_commands::{explain, race};
 use wfc_words::{CommandKind, Request};
 
-/// Runs the command that is asked for, and puts its text. What `fill` doesn't run lies together behind it, so that a map takes no
-/// memory for the code of the other commands.
+/// Runs the command that is asked for, and puts its text. What the other commands alone run lies together behind `fill`, so that less
+/// of the program comes into memory with a map.
 pub(crate) fn run<F: Folder, O: Sink>(
     alloc: Global,
     request: &Request,
