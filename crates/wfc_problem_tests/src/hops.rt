@@ -17,20 +17,20 @@ fn map(alloc: Global, width: u8, height: u8) -> Result<Vec<u32>, AllocError> {
     Ok(table)
 }
 
+/// The entry of a side on which there is this cell, or none.
+fn side(is_there: bool, cell: u32) -> u32 {
+    if is_there { cell } else { NO_CELL }
+}
+
 /// The entries of the cell at a place of such a map.
 fn push_sides(table: &mut Vec<u32>, x: u8, y: u8, width: u8, height: u8) -> Result<(), AllocError> {
-    let cell = u32::from(y) * u32::from(width) + u32::from(x);
-    let far = u32::from(width);
-    let right = u32::from(x) + 1 < far;
-    let below = u32::from(y) + 1 < u32::from(height);
-    table.push(if x > 0 { cell.wrapping_sub(1) } else { NO_CELL })?;
-    table.push(if below { cell + far } else { NO_CELL })?;
-    table.push(if right { cell + 1 } else { NO_CELL })?;
-    table.push(if y > 0 {
-        cell.wrapping_sub(far)
-    } else {
-        NO_CELL
-    })?;
+    let (x, y) = (u32::from(x), u32::from(y));
+    let (width, height) = (u32::from(width), u32::from(height));
+    let cell = y * width + x;
+    table.push(side(x > 0, cell.wrapping_sub(1)))?;
+    table.push(side(y + 1 < height, cell + width))?;
+    table.push(side(x + 1 < width, cell + 1))?;
+    table.push(side(y > 0, cell.wrapping_sub(width)))?;
     Ok(())
 }
 

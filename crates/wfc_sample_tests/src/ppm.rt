@@ -168,6 +168,7 @@ fn refuses_plain_samples(rt: HostRuntime) {
         (b"P3\n1 1\n255\n", truncated(3, 0)),
         (b"P3\n1 1\n255\n1 2 x\n", PpmFault::BadSample { at: 15 }),
         (b"P3\n1 1\n255\n1 2 3x\n", PpmFault::BadSample { at: 15 }),
+        (b"P3\n1 1\n255\n1 2 256x\n", PpmFault::BadSample { at: 15 }),
         (b"P3\n1 1\n255\n1 -2 256\n", PpmFault::BadSample { at: 13 }),
     ];
     are_refused(&rt, rt.alloc(), &cases);

@@ -195,6 +195,12 @@ fn refuses_documents(rt: HostRuntime) {
         b"tile = [{name = 'a', class = 'X'}, {name = 'a', class = 7}]",
         TileFault::DoubleName { tile: 1 },
     );
+    is_refused(
+        &rt,
+        alloc,
+        b"[[tile]]\nname = 'a'\nclass = 'x'\nweight = 0",
+        TileFault::BadClass { tile: 0 },
+    );
 }
 
 /// Whether a document of a tile with more lines, and of pairs, is refused for this reason, or read.
@@ -218,6 +224,7 @@ fn refuses_tiles(rt: HostRuntime) -> Result<(), Fail> {
     is_read_as(&rt, alloc, ", weight = 1000000", "", None)?;
     is_read_as(&rt, alloc, ", weight = 0", "", bad_weight)?;
     is_read_as(&rt, alloc, ", weight = 1000001", "", bad_weight)?;
+    is_read_as(&rt, alloc, ", weight = 0, picture = 1", "", bad_weight)?;
     let wrong = wrong_kind(Place::Tile(0), Key::Picture);
     is_read_as(&rt, alloc, ", picture = 1", "", Some(wrong))
 }

@@ -1,7 +1,7 @@
 //! What a build refuses, in its order.
 
 use super::asking::{Sides, fault_of};
-use super::samples::{blank_and_red, checkerboard, letters, single};
+use super::samples::{blank_and_red, checkerboard, letters, noise, single};
 use std::alloc::Global;
 use std::process::Abort;
 use std::test::Fail;
@@ -57,7 +57,7 @@ fn refusals(rt: HostRuntime) -> Result<(), Fail> {
     lies_outside(&rt, alloc, b"\npin 9 9 a\npin 0 0 c", false, 2)
 }
 
-/// A side below that of a window comes before anything else, and too many pairs before the lines.
+/// A side below that of a window comes before the lines, and so do too many pairs.
 #[test]
 fn refusals_before_the_lines(rt: HostRuntime) -> Result<(), Fail> {
     let alloc = rt.alloc();
@@ -69,6 +69,19 @@ fn refusals_before_the_lines(rt: HostRuntime) -> Result<(), Fail> {
     let text = b"pin 9999 0 z";
     let many = BuildFault::TooLarge { product: 8_394_750 };
     is_refused(&rt, alloc, &palette, (4096, 1026, false), text, many)
+}
+
+/// A side below that of a window comes before too many pairs: of over 3,500 patterns, some 28 million.
+#[test]
+fn a_side_comes_before_the_pairs(rt: HostRuntime) -> Result<(), Fail> {
+    let alloc = rt.alloc();
+    let (patterns, palette) = (noise(&rt, alloc)?, letters(alloc)?);
+    let text = b"pin 9999 0 z";
+    for sides in [(4096, 2, true), (2, 4096, false)] {
+        let fault = fault_of(&rt, alloc, &patterns, &palette, sides, text)?;
+        assert!(rt; fault == Some(BuildFault::SizeBelowN));
+    }
+    Ok(())
 }
 
 /// Lines whose words spell no symbol of a palette of a blank and a red.
