@@ -51,6 +51,7 @@ pub fn pieces_of_files()
     ensures no_room { GivesFrom (Some three_files) (codes "a") 1 [] 0 }
     ensures others { GivesFrom (Some three_files) (codes "a") 1 (5 ∷ 6 ∷ []) 2 → ⊥ }
     ensures past { GivesFrom (Some three_files) (codes "a") 2 (7 ∷ 0 ∷ []) 2 → ⊥ }
+    ensures more_than_there_are { GivesFrom (Some three_files) (codes "a") 2 (7 ∷ []) 2 → ⊥ }
     ensures nothing { GivesFrom (Some three_files) (codes "a") 2 (0 ∷ []) 0 → ⊥ }
     ensures missing { GivesFrom (Some three_files) (codes "c") 0 (0 ∷ []) 0 → ⊥ }
 {}
@@ -70,6 +71,10 @@ pub fn faults_of_files()
     ensures untold { IsMissing (counting_folder None 3 5) (counting_folder None 4 5) (codes "a") }
     ensures uncounted { IsMissing (counting_folder None 3 5) (counting_folder None 3 5) (codes "a")
         → ⊥ }
+    ensures missing_forgot { IsMissing (counting_folder (Some three_files) 3 5)
+        (counting_folder None 3 5) (codes "c") → ⊥ }
+    ensures missing_fell { IsMissing (counting_folder (Some three_files) 3 5)
+        (counting_folder (Some three_files) 3 4) (codes "c") → ⊥ }
     ensures longer { IsLongerThan (Some three_files) (codes "a") 2 }
     ensures not_longer { IsLongerThan (Some three_files) (codes "a") 3 → ⊥ }
 {}
@@ -98,6 +103,10 @@ pub fn texts_that_are_put()
         (telling_sink (5 ∷ []) true 4) (Err 0) → ⊥ }
     ensures taken_more { IsFault (telling_sink (5 ∷ []) false 3) (telling_sink (5 ∷ 6 ∷ []) false 4)
         → ⊥ }
+    ensures not_counted { IsFault (telling_sink (5 ∷ []) false 3) (telling_sink (5 ∷ []) false 3)
+        → ⊥ }
+    ensures counted_for_nothing { Finishes {T = ℕ} {E = ℕ} (telling_sink (5 ∷ []) false 3)
+        (telling_sink (5 ∷ []) true 4) (Ok 0) → ⊥ }
 {}
 
 /// A computed answer is given through the view, and want of memory in its place, but no other fault.
