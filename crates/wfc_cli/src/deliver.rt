@@ -13,8 +13,25 @@ use wfc_plan::{Fault, Source};
 use wfc_reply::{Answer, CommandVerdict, Stop};
 use wfc_words::{CommandFault, Request};
 
-/// Tells how a command ended, and answers the status.
+/// Tells how a command ended, and answers the status. Of one that answered there is nothing to tell.
+#[inline]
 pub(crate) fn deliver<E: Sink>(
+    request: &Request,
+    ended: Result<CommandVerdict, Stop>,
+    err: &mut E,
+) -> u8
+    ensures says { Says request.now ended (E.seen err.old) (E.seen err.new) result }
+{
+    match ended {
+        Ok(CommandVerdict::Done) => 0,
+        _ => deliver_any(request, ended, err),
+    }
+}
+
+/// The same for every ending, out of the way of the one that has nothing to tell.
+#[cold]
+#[inline(never)]
+fn deliver_any<E: Sink>(
     request: &Request,
     ended: Result<CommandVerdict, Stop>,
     err: &mut E,

@@ -115,6 +115,7 @@ fn tell_restored<S: Store>(store: &S, added: &[Removal], chooser: &mut Box<dyn C
 }
 
 /// Puts a literal on, and tells the chooser.
+#[inline]
 pub fn put_on<S: Store, L: Ledger>(
     store: &mut S,
     chooser: &mut Box<dyn Chooser>,
