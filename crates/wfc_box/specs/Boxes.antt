@@ -10,6 +10,7 @@ use Rattle.wfc_tiled.specs.Mask.{MaskView, plain_mask}
 use Rattle.wfc_tiled.specs.Maps.{IsLegalTileMap}
 use Rattle.wfc_box.specs.Stacks.{IsStacked}
 use Rattle.wfc_box.specs.declared.frame.Frame.{Frame}
+use Rattle.wfc_box.specs.declared.layouts.TheConstants.{MAX_DEPTH}
 
 -- the frame with these sides
 abbrev pub frame_of : ℕ → ℕ → ℕ → Bool → Frame
@@ -22,7 +23,7 @@ pub record IsFrame (frame : Frame) : Type 0 where
   pub some_layer : 0 < frame.depth
   pub width_limit : frame.width ≤ MAX_OUTPUT_SIDE
   pub height_limit : frame.height ≤ MAX_OUTPUT_SIDE
-  pub depth_limit : frame.depth ≤ 256
+  pub depth_limit : frame.depth ≤ MAX_DEPTH
 
 -- how many places a layer has
 abbrev pub area : Frame → ℕ

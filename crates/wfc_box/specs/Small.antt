@@ -78,3 +78,7 @@ pins_of_one line = box_pins_in line_and_cross.tiles flat (line ∷ [])
 -- a stack of a document that has no upper end
 abbrev pub lower_alone : Data
 lower_alone = table (member (codes "lower") (string (codes "x")) no_members)
+
+-- a stack of a document whose lower end is an array of a text, and which has no upper end
+abbrev pub lower_in_an_array : Data
+lower_in_an_array = table (member (codes "lower") (array (items_of (string (codes "x") ∷ []))) no_members)

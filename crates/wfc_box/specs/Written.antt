@@ -7,6 +7,7 @@ use Rattle.wfc_render.specs.declared.form.Layout.{Layout}
 use Rattle.wfc_tileset.specs.Pictures.{IsPictured, kind_of, side_of}
 use Rattle.wfc_tileset.specs.Tiles.{TileSetView, variant_total}
 use Rattle.wfc_box.specs.BoxText.{box_layout_of}
+use Rattle.wfc_box.specs.declared.layouts.TheConstants.{MAX_DEPTH}
 
 -- a variant for each place of a box with sides within the limits, in the form of its layout, where all pictures of the
 -- tiles are taken, or none
@@ -16,7 +17,7 @@ pub record IsWrittenBox (form : Form) (set : TileSetView) (width height depth : 
   pub some_depth : 0 < depth
   pub width_limit : width ≤ MAX_OUTPUT_SIDE
   pub height_limit : height ≤ MAX_OUTPUT_SIDE
-  pub depth_limit : depth ≤ 256
+  pub depth_limit : depth ≤ MAX_DEPTH
   pub answered : box_layout_of (kind_of set.pictures) (Some form) width height depth (side_of set.pictures) ≡ Ok form
   pub pictured : (kind_of set.pictures ≡ kinds.Plain) ⊎ IsPictured set
   pub each_cell : length a ≡ depth * (width * height)

@@ -18,7 +18,7 @@ ghost use Rattle.wfc_box.specs.BoxText.{box_layout_of, box_text};
 ghost use Rattle.wfc_box.specs.Boxes.{IsLegalBox, box_of, box_cell, frame_of, number_in_box, numbers_of_box, places_in};
 ghost use Rattle.wfc_box.specs.Built.{box_pins_in};
 ghost use Rattle.wfc_box.specs.Small.{banned_in, bad_box_lines, flat, kept_in, box_line, one_stack, pillar, single};
-ghost use Rattle.wfc_box.specs.Small.{lower_alone, pins_of_one, stack_data, twelve, two_box_lines, two_by_two, with_stacks, wrapped_frame};
+ghost use Rattle.wfc_box.specs.Small.{lower_alone, lower_in_an_array, pins_of_one, stack_data, twelve, two_box_lines, two_by_two, with_stacks, wrapped_frame};
 ghost use Rattle.wfc_box.specs.StackDocument.{stack_with, stacks_in};
 ghost use Rattle.wfc_box.specs.Stacks.{IsStacked, stacked_pairs};
 ghost use Rattle.wfc_box.specs.declared.fault.StackFault.TheVariants as stack_faults;
@@ -90,6 +90,9 @@ pub fn documents_by_example()
         (stack_data (codes "x") (codes "x") ∷ string [] ∷ []))) ≡ Err (stack_faults.NotTable 1) }
     ensures missing { stacks_in line_and_cross.tiles (Some (with_stacks (lower_alone ∷ [])))
         ≡ Err (stack_faults.MissingKey 0 keys.Upper) }
+    ensures not_text { stacks_in line_and_cross.tiles (Some (with_stacks
+        (stack_data (codes "x") (codes "x") ∷ lower_in_an_array ∷ [])))
+        ≡ Err (stack_faults.NotText 1 keys.Lower) }
     ensures unknown { stacks_in line_and_cross.tiles (Some (with_stacks
         (stack_data (codes "y") (codes "x 9") ∷ []))) ≡ Err (stack_faults.UnknownTile 0) }
     ensures turn { stacks_in line_and_cross.tiles (Some (with_stacks

@@ -1,12 +1,19 @@
 //! Laws of the problem of a box, each a function with no body whose contract is the law. They run
 //! nothing.
 
-ghost use Rattle.std.specs.Prelude.{ℕ, List};
+ghost use Rattle.std.specs.Prelude.{◌≡◌, ℕ, List};
 ghost use Rattle.wfc_tileset.specs.Tiles.{TileSetView};
 ghost use Rattle.wfc_box.specs.Boxes.{LayerPin};
 ghost use Rattle.wfc_box.specs.declared.frame.Frame.{Frame};
 ghost use Rattle.wfc_box.specs.BoxPinView.{BoxPinView};
 ghost use Rattle.wfc_box.specs.Exactly.{HasAssignedBoxes, HasAssignmentsAgain, HasBoxesAgain, HasLegalBoxes, IsBuiltOfBoxes, MakesBoxProblem};
+
+use crate::MAX_DEPTH;
+
+/// The limit is this number.
+pub fn limits_are()
+    ensures layers { MAX_DEPTH ≡ 256 }
+{}
 
 /// A tile set, stacked pairs, a frame and pins make a problem, where there are few enough pairs of
 /// a place and a variant.

@@ -2,6 +2,7 @@
 
 use std::alloc::Global;
 use std::marker::Model;
+use wfc_outside::MAX_FILE_BYTES;
 use wfc_pins::{PinFault, Words, is_skipped, keep_of, number32};
 use wfc_text::{TextLine, lines};
 
@@ -54,7 +55,7 @@ ghost use Rattle.wfc_box.specs.BoxPinWords.{box_pin_view};
 /// or `ban X Y Z SYMBOL`, with X, Y and Z in decimal, up to 4,294,967,295. Which symbols there are
 /// is not looked at.
 pub fn read_box_pins(alloc: Global, bytes: &[u8]) -> Result<Vec<BoxPin>, PinFault>
-    requires limit { length bytes.now ≤ 16777216 }
+    requires limit { length bytes.now ≤ MAX_FILE_BYTES }
     ensures exact { Gives PinFault.NoMemory (λ pins. pins.items) result (box_pins_of bytes.now) }
 {
     let mut pins = Vec::new(alloc);

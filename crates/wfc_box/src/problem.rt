@@ -12,6 +12,7 @@ ghost use Rattle.wfc_box.specs.Exactly.{IsOfBoxes};
 use crate::allowed::Stacks;
 use crate::base::base;
 use crate::frame::{Frame, places};
+use crate::layouts::MAX_DEPTH;
 use crate::mark::BoxMark;
 use crate::marks::marks;
 use crate::neighbours::neighbours;
@@ -47,7 +48,7 @@ pub fn build(
     requires some_depth { 0 < depth }
     requires width_limit { width ≤ MAX_OUTPUT_SIDE }
     requires height_limit { height ≤ MAX_OUTPUT_SIDE }
-    requires depth_limit { depth ≤ 256 }
+    requires depth_limit { depth ≤ MAX_DEPTH }
     ensures exact { Gives BuildFault.NoMemory (λ problem. problem) result
         (box_built tiles.now stacks.now (frame_of width height depth wrap) pins.now) }
     ensures boxes { IfOk result (IsOfBoxes tiles.now stacks.now

@@ -18,12 +18,12 @@ use crate::reading::{MAX_LINE_BYTES, MAX_REFUTATION_BYTES};
 /// A text is accepted exactly where it is a refutation, and then there is no legal assignment. What else it is answered is a
 /// fault of the text or its length.
 pub fn refutations_are_accepted()
-    ensures exact { (P : Network) → IsProblem P → (small_shape : Shape) → IsShape small_shape →
-        (text : List ℕ) → (checked P small_shape text ≡ Ok tt) ↔ IsRefutation P small_shape text }
-    ensures sound { (P : Network) → IsProblem P → (small_shape : Shape) (text : List ℕ)
-        → IsRefutation P small_shape text → HasNone P }
-    ensures fault { (P : Network) (small_shape : Shape) (text : List ℕ) (fault : CheckFault)
-        → checked P small_shape text ≡ Err fault → IsOfText fault }
+    ensures exact { (P : Network) → IsProblem P → (shape : Shape) → IsShape shape →
+        (text : List ℕ) → (checked P shape text ≡ Ok tt) ↔ IsRefutation P shape text }
+    ensures sound { (P : Network) → IsProblem P → (shape : Shape) (text : List ℕ)
+        → IsRefutation P shape text → HasNone P }
+    ensures fault { (P : Network) (shape : Shape) (text : List ℕ) (fault : CheckFault)
+        → checked P shape text ≡ Err fault → IsOfText fault }
 {}
 
 /// A fault is at the first line that isn't right: the lines before it alone are accepted, or answered that they don't end

@@ -10,5 +10,6 @@ pub mod NumberLemmas
 pub mod OverlapLemmas
 pub mod PatternsLemmas
 pub mod SeenLemmas
+pub mod SmallLemmas
 pub mod StepLemmas
 pub mod TallyLemmas

@@ -1,5 +1,6 @@
 -- Small samples and what they teach, and what may be taught from, on which laws try the definitions.
-use Rattle.std.specs.Prelude.{ℕ, ◌*◌, ◌<◌, ◌≤◌, [], ◌∷◌}
+use Rattle.std.specs.Prelude.{ℕ, ◌*◌, ◌<◌, ◌≤◌, [], ◌∷◌, map, replicate}
+use Rattle.std.specs.List.{range_with_len}
 use Rattle.wfc_model.specs.Raster.{Raster, IsRaster, height_of, raster_of}
 use Rattle.wfc_pattern.specs.Patterns.{PatternsView}
 
@@ -21,6 +22,14 @@ wrapped_pair = record {
   n = 2;
   windows = (1 ∷ 2 ∷ 1 ∷ 2 ∷ []) ∷ (2 ∷ 1 ∷ 2 ∷ 1 ∷ []) ∷ [];
   weights = 1 ∷ 1 ∷ [];
+}
+
+-- so many patterns of one number, all different, which arise three times each
+abbrev pub patterns_of_one : ℕ → PatternsView
+patterns_of_one count = record {
+  n = 1;
+  windows = map (λ k. k ∷ []) (range_with_len 0 count);
+  weights = replicate count 3;
 }
 
 -- a sample of at most so many numbers, a side of a window and a count of images from which patterns are learned

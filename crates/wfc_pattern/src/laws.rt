@@ -9,7 +9,7 @@ ghost use Rattle.wfc_model.specs.Learned.{arising, learned};
 ghost use Rattle.wfc_pattern.specs.Agreement.{Agrees, agrees};
 ghost use Rattle.wfc_pattern.specs.Learning.{learned_patterns, learned_weights, patterns_of};
 ghost use Rattle.wfc_pattern.specs.Patterns.{PatternsView, IsPatterns};
-ghost use Rattle.wfc_pattern.specs.Small.{IsTeachable, column_patterns, last_column, wrapped_pair};
+ghost use Rattle.wfc_pattern.specs.Small.{IsTeachable, column_patterns, last_column, patterns_of_one, wrapped_pair};
 ghost use Rattle.wfc_pattern.specs.declared.TheConstants.{MAX_PATTERNS, MAX_ARISING};
 ghost use Rattle.wfc_pattern.specs.declared.learning.LearnFault.{LearnFault};
 
@@ -74,6 +74,9 @@ pub fn taught_patterns()
     ensures misshapen { IsPatterns
         (record { n = 2; windows = (5 ∷ 6 ∷ []) ∷ []; weights = 3 ∷ [] }) → ⊥ }
     ensures none { IsPatterns (record { n = 1; windows = []; weights = [] }) → ⊥ }
+    ensures most { IsPatterns (patterns_of_one 4096) }
+    ensures many { (patterns : PatternsView) → length patterns.windows ≡ 4097 →
+        IsPatterns patterns → ⊥ }
     ensures widest { IsPatterns
         (record { n = 6; windows = replicate 36 5 ∷ []; weights = 3 ∷ [] }) }
     ensures wider { IsPatterns

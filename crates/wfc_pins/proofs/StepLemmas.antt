@@ -1,5 +1,6 @@
 -- The steps of a text, read line by line with a count of what stands.
 use Rattle.std.proofs.Common.{◌≡◌, ℕ, ◌+◌, ◌≤◌, ◌==◌, Bool, true, false, not, List, [], ◌∷◌, ◌++◌, length, count_by, Option, Some, None, if◌then◌else◌, Result, Ok, Err, refl, sym, ap, ◌∙◌, subst, arith, add-zero, append_assoc, append-nil, eq-eqb}
+use Rattle.std.proofs.lemmas.Bool.{ne_eqb}
 use Rattle.std.proofs.lemmas.Bool.Decides.{nat_tests}
 use Rattle.std.proofs.lemmas.List.Elements.{filter-append}
 use Rattle.std.proofs.lemmas.List.Splits.{length-slice_split}
@@ -15,7 +16,7 @@ use Rattle.wfc_pins.specs.declared.steps.StepLine.{StepLine}
 use Rattle.wfc_pins.specs.declared.steps.StepFault.{StepFault}
 use Rattle.wfc_pins.specs.declared.steps.StepFault.TheVariants.{BadLine, NothingToUndo}
 use Rattle.wfc_pins.specs.InOrder.{and_rest}
-use Rattle.wfc_pins.specs.Steps.{step_of_line, is_assumption, is_undo, assumptions, undos, step_of, step_behind, steps_behind, steps_of}
+use Rattle.wfc_pins.specs.Steps.{step_of_line, is_assumption, is_undo, assumptions, undos, step_of, step_behind, steps_behind, steps_of, IsRightStep}
 use Rattle.wfc_pins.proofs.InOrderLemmas.{behind, behind-and_rest, behind-none}
 
 -- ---- how many lines there are
@@ -162,3 +163,16 @@ bad_line before line is = ap (step_of line.number (undos before == assumptions b
 pub nothing_to_undo : (before : List LineView) (line : LineView) → step_of_line line ≡ Some Undo → undos before ≡ assumptions before → step_behind before line ≡ Err (NothingToUndo line.number)
 nothing_to_undo before line is level =
     ap (step_of line.number (undos before == assumptions before)) is ∙ ap (λ spent. step_of line.number spent (Some Undo)) (eq-eqb (undos before) (assumptions before) level)
+
+-- a line that says a step, and isn't an `undo` where nothing stands
+pub right_line : (before : List LineView) (line : LineView) (step : Step) → IsRightStep before line step → step_behind before line ≡ Ok record { line = line.number; step = step }
+right_line before line (Assume literal) right = ap (step_of line.number (undos before == assumptions before)) right.0
+right_line before line Undo right =
+    ap (step_of line.number (undos before == assumptions before)) right.0
+    ∙ ap (λ spent. step_of line.number spent (Some Undo)) (ne_eqb (undos before) (assumptions before) (λ level. right.1 (right.0, level)))
+
+-- it is one step more behind those before it
+pub one_step_more : (before : List LineView) (line : LineView) (steps : List StepLine) (step : StepLine) → steps_behind [] before ≡ Ok steps
+    → step_behind before line ≡ Ok step → steps_behind [] (before ++ line ∷ []) ≡ Ok (steps ++ step ∷ [])
+one_step_more before line steps step right is =
+    steps_past [] before (line ∷ []) steps right ∙ steps_after steps before [] line step is ∙ ap Ok (append-nil (steps ++ step ∷ []))

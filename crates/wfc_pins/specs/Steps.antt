@@ -81,6 +81,15 @@ IsNoStep before line after = steps_behind [] (before ++ line ∷ after) ≡ Err 
 abbrev pub IsSpentUndo : List LineView → LineView → Type 0
 IsSpentUndo before line = (step_of_line line ≡ Some Undo) × (undos before ≡ assumptions before)
 
+-- a line says this step, and doesn't undo behind as many lines that undo as assume
+abbrev pub IsRightStep : List LineView → LineView → Step → Type 0
+IsRightStep before line step = (step_of_line line ≡ Some step) × (IsSpentUndo before line → ⊥)
+
+-- lines and one more say these steps and one more, with the number of its line
+abbrev pub IsOneMore : List LineView → LineView → List StepLine → Step → Type 0
+IsOneMore before line steps step =
+    AreSteps (before ++ line ∷ []) (steps ++ record { line = line.number; step = step } ∷ [])
+
 -- of these lines the one in the middle is the first at fault: it undoes where nothing stands to be undone
 abbrev pub IsUndoTooMany : List LineView → LineView → List LineView → Type 0
 IsUndoTooMany before line after = steps_behind [] (before ++ line ∷ after) ≡ Err (NothingToUndo line.number)

@@ -6,7 +6,7 @@ ghost use Rattle.wfc_pins.specs.Small.{pin_and_ban, steps_past, three_cells, thr
 ghost use Rattle.wfc_pins.specs.Words.{is_skipped, read_lines, words_of};
 ghost use Rattle.wfc_pins.specs.PinView.{PinView};
 ghost use Rattle.wfc_pins.specs.Pins.{HasFirstBad, pin_said, pins_of};
-ghost use Rattle.wfc_pins.specs.Steps.{AreSteps, HasFirstPast, IsNoStep, IsSpentUndo, IsStepIn, IsUndoTooMany};
+ghost use Rattle.wfc_pins.specs.Steps.{AreSteps, HasFirstPast, IsNoStep, IsOneMore, IsRightStep, IsSpentUndo, IsStepIn, IsUndoTooMany};
 ghost use Rattle.wfc_pins.specs.Steps.{range_fault, step_fits, step_of_line, steps_of};
 ghost use Rattle.wfc_pins.specs.declared.pins.PinFault.TheVariants as pin_faults;
 ghost use Rattle.wfc_pins.specs.declared.steps.Step.{Step};
@@ -42,12 +42,15 @@ pub fn steps()
     ensures bad { steps_of (codes "choose 7 2\nundo 1\nundo\nundo") ≡ Err (step_faults.BadLine 2) }
 {}
 
-/// A step behind steps without a fault is at fault exactly where it says none, or undoes where as many undo as assume.
+/// A line behind steps without a fault is at fault where it says no step, or undoes where as many undo as assume; any other
+/// is one step more.
 pub fn faults_of_steps()
     ensures bad { (before after : List LineView) (line : LineView) (steps : List StepLine) →
         AreSteps before steps → step_of_line line ≡ None → IsNoStep before line after }
     ensures nothing { (before after : List LineView) (line : LineView) (steps : List StepLine) →
         AreSteps before steps → IsSpentUndo before line → IsUndoTooMany before line after }
+    ensures right { (before : List LineView) (line : LineView) (steps : List StepLine) (step : Step)
+        → AreSteps before steps → IsRightStep before line step → IsOneMore before line steps step }
 {}
 
 /// A text is read as pins exactly where each of its lines says one, and else the first line that says none is at fault.

@@ -10,6 +10,7 @@ use crate::words::{Words, is_skipped, is_word, number32};
 use std::alloc::{AllocError, AllocFailed, Global};
 use std::marker::Model;
 use thiserror::Error;
+use wfc_outside::MAX_FILE_BYTES;
 use wfc_text::{TextLine, lines};
 
 /// A line of a pins file: the pixel or tile in column `x` of row `y` is the symbol, or with `keep` false isn't. The
@@ -76,7 +77,7 @@ ghost use Rattle.wfc_pins.specs.PinWords.{pin_view};
 /// The pins and bans of a pins file, in the order of its lines. A line is `pin X Y SYMBOL` or `ban X Y SYMBOL`, with X
 /// and Y in decimal, up to 4,294,967,295. Which symbols there are is not looked at.
 pub fn read_pins(alloc: Global, bytes: &[u8]) -> Result<Vec<PinLine>, PinFault>
-    requires limit { length bytes.now ≤ 16777216 }
+    requires limit { length bytes.now ≤ MAX_FILE_BYTES }
     ensures exact { Gives PinFault.NoMemory (λ pins. pins.items) result (pins_of bytes.now) }
 {
     let mut pins = Vec::new(alloc);

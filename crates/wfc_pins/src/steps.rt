@@ -10,6 +10,7 @@ ghost use Rattle.wfc_pins.specs.Words.{words_of};
 use crate::words::{Words, is_skipped, is_word, number16, number32};
 use std::alloc::{AllocError, AllocFailed, Global};
 use thiserror::Error;
+use wfc_outside::MAX_FILE_BYTES;
 use wfc_problem::{Literal, Problem};
 use wfc_text::{TextLine, lines};
 
@@ -64,7 +65,7 @@ ghost use Rattle.wfc_pins.specs.Steps.{step_of_words, steps_of};
 /// The steps of a steps file, in the order of its lines. A line is `choose CELL VALUE`, `forbid CELL VALUE` or `undo`,
 /// with CELL up to 4,294,967,295 and VALUE up to 65,535, both in decimal.
 pub fn read_steps(alloc: Global, bytes: &[u8]) -> Result<Vec<StepLine>, StepFault>
-    requires limit { length bytes.now ≤ 16777216 }
+    requires limit { length bytes.now ≤ MAX_FILE_BYTES }
     ensures exact { Gives StepFault.NoMemory (λ steps. steps.items) result (steps_of bytes.now) }
 {
     let mut steps = Vec::new(alloc);

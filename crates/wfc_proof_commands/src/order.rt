@@ -22,7 +22,8 @@ ghost use Rattle.wfc_reply.specs.Command.{IsMadeByOrder, IsRefusedByOrder};
 ghost use Rattle.wfc_task.specs.Small.{sample_asked, with_pins, with_sample};
 ghost use Rattle.wfc_words.specs.RequestView.{RequestView};
 
-/// So it is with `refute`: the chooser before the problem.
+/// `refute` has a fault exactly where it is that of the first stage at fault, and comes to a task exactly where all are in
+/// order: the chooser before the problem.
 pub fn refute_refuses_in_order()
     ensures refused { IsRefusedByOrder refute_command }
     ensures made { IsMadeByOrder refute_command }

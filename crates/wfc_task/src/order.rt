@@ -7,7 +7,8 @@ ghost use Rattle.wfc_task.specs.Posed.{posed_plan};
 ghost use Rattle.wfc_task.specs.PosedOrder.{posed_order};
 ghost use Rattle.wfc_words.specs.RequestView.{RequestView};
 
-/// So it is with the problem of a request.
+/// The problem of a request has a fault exactly where it is that of the first stage at fault, and is made exactly where all
+/// are in order.
 pub fn posing_refuses_in_order()
     ensures refused { (asked : RequestView) (files : List File) →
         IsRefusedInOrder (posed_plan asked) files (posed_order asked files) }
