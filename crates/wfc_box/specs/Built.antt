@@ -1,5 +1,5 @@
 -- What is built of a tile set, stacked pairs, a frame and the lines of a box's pins file: a problem, or the first fault.
-use Rattle.std.specs.Prelude.{ℕ, ◌*◌, ◌&&◌, nat_lt, List, map, Result, Err, if◌then◌else◌}
+use Rattle.std.specs.Prelude.{◌≡◌, ℕ, ◌*◌, ◌<◌, ◌≤◌, ◌&&◌, nat_lt, List, map, Result, Err, if◌then◌else◌}
 use Rattle.std.specs.Option.{ok_or, option_map}
 use Rattle.wfc_outside.specs.Gives.{result_map}
 use Rattle.wfc_pins.specs.InOrder.{all_in_order}
@@ -40,3 +40,14 @@ abbrev pub box_built : TileSetView → List (ℕ × ℕ) → Frame → List BoxP
 box_built set stacked frame lines =
     if nat_lt MAX_PAIRS (box_pairs set frame) then Err (TooLarge (box_pairs set frame))
     else result_map (problem_of_box set stacked frame) (box_pins_in set.tiles frame lines)
+
+-- more pairs of a place and a variant than a problem may have are the fault, whatever the lines are
+abbrev pub IsRefusedByPairs : TileSetView → List (ℕ × ℕ) → Frame → List BoxPinView → Type 0
+IsRefusedByPairs set stacked frame lines =
+    MAX_PAIRS < box_pairs set frame → box_built set stacked frame lines ≡ Err (TooLarge (box_pairs set frame))
+
+-- and else the lines decide: the problem is that of the pins that they mean, or the fault that of the first line that has one
+abbrev pub IsBuiltByLines : TileSetView → List (ℕ × ℕ) → Frame → List BoxPinView → Type 0
+IsBuiltByLines set stacked frame lines =
+    box_pairs set frame ≤ MAX_PAIRS
+    → box_built set stacked frame lines ≡ result_map (problem_of_box set stacked frame) (box_pins_in set.tiles frame lines)

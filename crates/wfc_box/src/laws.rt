@@ -6,6 +6,7 @@ ghost use Rattle.wfc_tileset.specs.Tiles.{TileSetView};
 ghost use Rattle.wfc_box.specs.Boxes.{LayerPin};
 ghost use Rattle.wfc_box.specs.declared.frame.Frame.{Frame};
 ghost use Rattle.wfc_box.specs.BoxPinView.{BoxPinView};
+ghost use Rattle.wfc_box.specs.Built.{IsBuiltByLines, IsRefusedByPairs};
 ghost use Rattle.wfc_box.specs.Exactly.{HasAssignedBoxes, HasAssignmentsAgain, HasBoxesAgain, HasLegalBoxes, IsBuiltOfBoxes, MakesBoxProblem};
 
 use crate::MAX_DEPTH;
@@ -48,4 +49,13 @@ pub fn one_to_one()
 pub fn what_is_built()
     ensures boxes { (set : TileSetView) (stacked : List (ℕ × ℕ)) (frame : Frame)
         (lines : List BoxPinView) → IsBuiltOfBoxes set stacked frame lines }
+{}
+
+/// Too many pairs of a place and a variant are refused before a line at fault, and else the lines
+/// decide.
+pub fn builds_by_pairs()
+    ensures crowded { (set : TileSetView) (stacked : List (ℕ × ℕ)) (frame : Frame)
+        (lines : List BoxPinView) → IsRefusedByPairs set stacked frame lines }
+    ensures roomy { (set : TileSetView) (stacked : List (ℕ × ℕ)) (frame : Frame)
+        (lines : List BoxPinView) → IsBuiltByLines set stacked frame lines }
 {}

@@ -8,9 +8,9 @@ ghost use Rattle.wfc_picture.specs.declared.symbol.Symbol.TheVariants.{Char};
 ghost use Rattle.wfc_render.specs.Block.{block_text, domain_text};
 ghost use Rattle.wfc_render.specs.Layout.{IsLayout, form_for, forms_of, layout_of, pixel_count};
 ghost use Rattle.wfc_render.specs.Learned.{learned_text};
-ghost use Rattle.wfc_render.specs.LearnedTiles.{learned_tiles_text};
+ghost use Rattle.wfc_render.specs.LearnedTiles.{learned_tiles_text, pair_line, pairs_text};
 ghost use Rattle.wfc_render.specs.Tiled.{tiles_in};
-ghost use Rattle.wfc_tileset.specs.Samples.{straight_lines, one_taken};
+ghost use Rattle.wfc_tileset.specs.Samples.{crossing, straight_lines, one_taken};
 ghost use Rattle.wfc_render.specs.Small.{blank_and_colour, letters_and_blank, map_across, map_down, map_of_one};
 ghost use Rattle.wfc_render.specs.Small.{map_of_six, pair_of_patterns, two_colours};
 ghost use Rattle.wfc_render.specs.SmallTiles.{four_shown_tiles};
@@ -21,6 +21,7 @@ ghost use Rattle.wfc_render.specs.declared.form.Form.{Form};
 ghost use Rattle.wfc_render.specs.declared.form.Form.TheVariants.{P6, P3, Grid, Cells};
 ghost use Rattle.wfc_render.specs.declared.form.Layout.{Layout};
 ghost use Rattle.wfc_render.specs.declared.form.RenderFault.TheVariants.{FormDiffers, TooLarge};
+ghost use Rattle.wfc_render.specs.declared.tile_texts.Way.TheVariants.{Across, Down};
 
 use crate::layouts::MAX_MAP_PIXELS;
 
@@ -126,4 +127,14 @@ pub fn tile_maps_by_example()
 pub fn learned_tiles_by_example()
     ensures lines { learned_tiles_text straight_lines
         ≡ codes "tiles 1\nvariants 2\n0 1: /0\n1 1: /1\nacross 1\n0 0\ndown 1\n1 1\n" }
+{}
+
+/// The pairs of a tile without symmetry and a junction: a left one and its right one, or an upper one and its lower one, each
+/// pair once, rising by the first and then by the second.
+pub fn pairs_by_example()
+    ensures across { pairs_text (codes "across") Across crossing
+        ≡ codes "across 4\n3 9\n5 9\n11 1\n11 7\n" }
+    ensures down { pairs_text (codes "down") Down crossing
+        ≡ codes "down 4\n2 8\n6 8\n10 0\n10 4\n" }
+    ensures line { pair_line 10 4 ≡ codes "10 4\n" }
 {}

@@ -19,5 +19,5 @@ pub use base::tile_base_of_marks;
 pub use holes::Mask;
 pub use painting::{tiles_of, tiles_of_masked};
 pub use problem::{build, build_masked, checked_plain, checked_tile_marks, tile_parts_of_marks};
-pub use reading::{MAX_MASK_BYTES, MaskFault, mask};
+pub use reading::{MaskFault, mask};
 pub use supports::{variants_fit, weights};

@@ -7,12 +7,9 @@ ghost use Rattle.wfc_tiled.specs.Mask.{is_no_mask_byte, mask_of, places_of};
 use crate::holes::Mask;
 use std::alloc::{AllocError, AllocFailed, Global};
 use thiserror::Error;
-use wfc_grid::Grid;
+use wfc_grid::{Grid, MAX_GRID_BYTES};
 use wfc_model::MAX_OUTPUT_SIDE;
 use wfc_outside::NoMemory;
-
-/// The most bytes of a mask's grid.
-pub const MAX_MASK_BYTES: usize = 1_048_576;
 
 /// Why a grid is no mask.
 #[derive(Clone, Copy, Debug, PartialEq, Eq, Error)]
@@ -68,7 +65,7 @@ pub fn mask(alloc: Global, grid: &Grid, width: u32, height: u32) -> Result<Mask,
     requires some_height { 0 < height }
     requires width_limit { width ≤ MAX_OUTPUT_SIDE }
     requires height_limit { height ≤ MAX_OUTPUT_SIDE }
-    requires limit { length grid.now.bytes ≤ MAX_MASK_BYTES }
+    requires limit { length grid.now.bytes ≤ MAX_GRID_BYTES }
     ensures exact { Gives MaskFault.NoMemory (λ mask. mask) result
         (mask_of grid.now width height) }
 {
@@ -94,7 +91,7 @@ pub fn mask(alloc: Global, grid: &Grid, width: u32, height: u32) -> Result<Mask,
 
 /// The first byte that is no place and no hole.
 fn first_other(bytes: &[u8]) -> Option<u32>
-    requires few { length bytes.now ≤ MAX_MASK_BYTES }
+    requires few { length bytes.now ≤ MAX_GRID_BYTES }
     ensures value { result ≡ position is_no_mask_byte bytes.now }
 {
     match place_of_other(bytes) {
@@ -120,7 +117,7 @@ fn is_no_mask_byte(byte: u8) -> bool
 
 /// The numbers of the places of a grid.
 fn places_of(alloc: Global, bytes: &[u8]) -> Result<Vec<u32>, NoMemory>
-    requires few { length bytes.now ≤ MAX_MASK_BYTES }
+    requires few { length bytes.now ≤ MAX_GRID_BYTES }
     ensures value { IfOk result (λ places. places.items ≡ places_of bytes.now) }
 {
     let mut places = Vec::new(alloc);
