@@ -131,7 +131,8 @@ lines_built patterns palette block lines pins room meant =
     let narrow : nat_lt block.width patterns.n ≡ false = le-ltb block.width patterns.n room.wide in
     let low : nat_lt block.height patterns.n ≡ false = le-ltb block.height patterns.n room.high in
     let few : nat_lt MAX_PAIRS many ≡ false = le-ltb MAX_PAIRS many room.few_pairs in
-    ap (λ b. if b || nat_lt block.height patterns.n then Err SizeBelowN else (if nat_lt MAX_PAIRS many then Err (TooLarge many) else result_map (problem_of_sample patterns output) read)) narrow
-    ∙ ap (λ b. if b then Err SizeBelowN else (if nat_lt MAX_PAIRS many then Err (TooLarge many) else result_map (problem_of_sample patterns output) read)) low
-    ∙ ap (λ b. if b then Err (TooLarge many) else result_map (problem_of_sample patterns output) read) few
-    ∙ ap (result_map (problem_of_sample patterns output)) meant
+    ap (result_map (problem_of_sample patterns output))
+    (ap (λ b. if b || nat_lt block.height patterns.n then Err SizeBelowN else (if nat_lt MAX_PAIRS many then Err (TooLarge many) else read)) narrow
+    ∙ ap (λ b. if b then Err SizeBelowN else (if nat_lt MAX_PAIRS many then Err (TooLarge many) else read)) low
+    ∙ ap (λ b. if b then Err (TooLarge many) else read) few
+    ∙ meant)

@@ -1,5 +1,5 @@
 -- The first faults of a box's problem, and of `box-fill`.
-use Rattle.std.proofs.Common.{Err, List, None, Ok, Option, Result, Some, [], ap, inl, inr, length, subst, ℕ, ◌∷◌, ◌≡◌}
+use Rattle.std.proofs.Common.{Bool, Err, List, None, Ok, Option, Result, Some, [], ap, false, if◌then◌else◌, inl, inr, length, nat_lt, refl, subst, true, ℕ, ◌∷◌, ◌≡◌}
 use Rattle.wfc_box.specs.BoxPinView.{BoxPinView}
 use Rattle.wfc_box.specs.BoxPins.{box_pins_of}
 use Rattle.wfc_box.specs.BoxProblem.{problem_of_box}
@@ -18,16 +18,20 @@ use Rattle.wfc_box_commands.specs.BoxSteps.{box_lines_in, frame_asked, box_form,
 use Rattle.wfc_choose.specs.declared.RuleKind.{RuleKind}
 use Rattle.wfc_outside.specs.Folder.{File}
 use Rattle.wfc_outside.specs.Gives.{result_map}
+use Rattle.wfc_pins.specs.declared.fault.BuildFault.{BuildFault}
+use Rattle.wfc_pins.specs.declared.fault.BuildFault.TheVariants.{TooLarge}
 use Rattle.wfc_plan.proofs.CallerLemmas.{Faults, Same, faults_as, faults_choosers, faults_first, faults_group, faults_last, faults_none, faults_reading, faults_step, file_given, one_file, one_value, same_first, same_known, same_on, step_ok, unrefused}
 use Rattle.wfc_plan.specs.Files.{IsFile, file_plan}
 use Rattle.wfc_plan.specs.Kinds.{enough}
 use Rattle.wfc_plan.specs.Order.{IsFirstFault}
-use Rattle.wfc_plan.specs.Plan.{outcome, step}
+use Rattle.wfc_plan.specs.Plan.{or_refuse, outcome, step}
 use Rattle.wfc_plan.specs.Stages.{IsChooserFault, IsNamedFault, IsReadingFault, IsRefusal, TaskStage}
 use Rattle.wfc_plan.specs.declared.fault.Fault.{Fault}
 use Rattle.wfc_plan.specs.declared.fault.Refusal.{Refusal}
 use Rattle.wfc_plan.specs.declared.fault.Refusal.TheVariants as refusals
 use Rattle.wfc_plan.specs.declared.fault.Source.TheVariants.{Pins, Sample}
+use Rattle.wfc_problem.specs.Network.{Network}
+use Rattle.wfc_problem.specs.declared.TheConstants.{MAX_PAIRS}
 use Rattle.wfc_task.proofs.CallerLemmas.{faults_count, faults_pictures, given_tiles, pictures_given}
 use Rattle.wfc_task.specs.Stages.{IsCountFault}
 use Rattle.wfc_task.specs.TileGiven.{IsTileSetOf}
@@ -155,6 +159,11 @@ same_box_built asked files made lines was held =
 abbrev box_problem_stages : RequestView → List File → List TaskStage
 box_problem_stages asked files = IsNamedFault Pins files asked.pins ∷ IsBoxPinsFault files asked.pins ∷ IsBoxPairsFault asked files ∷ IsBoxPinFault asked files ∷ []
 
+-- what is made of what a test lets pass
+made_within : {X Y E : Type 0} (make : X → Y) (refused : Bool) (fault : E) (given : Result X E) → result_map make (if refused then Err fault else given) ≡ (if refused then Err fault else result_map make given)
+made_within make true fault given = refl
+made_within make false fault given = refl
+
 faults_box_problem : (asked : RequestView) (files : List File) (made : StackedSet) → outcome (stacked_plan asked) files ≡ Ok made → Faults (box_problem_plan asked made) files (IsFirstFault (box_problem_stages asked files))
 faults_box_problem asked files made was =
     let frame = frame_asked asked in
@@ -162,7 +171,9 @@ faults_box_problem asked files made was =
     (λ lines held.
     faults_as (step (posed_box asked made.0 made.1 lines)) files (IsFirstFault (IsCountFault (box_pairs made.0 frame) ∷ IsRefusal refusals.Build (box_pins_in made.0.tiles frame lines) ∷ []))
     (IsFirstFault (IsBoxPairsFault asked files ∷ IsBoxPinFault asked files ∷ [])) (same_box_built asked files made lines was held)
-    (faults_count (box_pairs made.0 frame) (problem_of_box made.0 made.1 frame) (box_pins_in made.0.tiles frame lines) files))
+    (subst (λ (posed : Result Network BuildFault). Faults (step (or_refuse refusals.Build posed)) files (IsFirstFault (IsCountFault (box_pairs made.0 frame) ∷ IsRefusal refusals.Build (box_pins_in made.0.tiles frame lines) ∷ [])))
+    (made_within (problem_of_box made.0 made.1 frame) (nat_lt MAX_PAIRS (box_pairs made.0 frame)) (TooLarge (box_pairs made.0 frame)) (box_pins_in made.0.tiles frame lines))
+    (faults_count (box_pairs made.0 frame) (problem_of_box made.0 made.1 frame) (box_pins_in made.0.tiles frame lines) files)))
 
 -- the first fault of the problem of a box
 pub faults_box : (asked : RequestView) (files : List File) → Faults (box_plan asked) files (IsFirstFault (box_order asked files))

@@ -72,7 +72,7 @@ module _ (patterns : PatternsView) (palette : List Symbol) (output : Output) (li
   sample_kept s is keep =
       let f = are_found s is in
       let kept = kept_in_order (overlap.picture_pin (overlap.texts_of palette) output.width output.height) keep lines s.pins f.pins_are in
-      (λ i. cond (f.wide i) (Err SizeBelowN) (cond (f.few i) (Err (TooLarge (window_pair_count patterns output))) (result_map (problem_of_sample patterns output) (kept i))))
+      (λ i. result_map (problem_of_sample patterns output) (cond (f.wide i) (Err SizeBelowN) (cond (f.few i) (Err (TooLarge (window_pair_count patterns output))) (kept i))))
       ∙ ap (λ (t : SamplePins). Ok ((pinned_sample t).problem_of keep)) (sym f.is)
 
   -- there is a pin for each line
@@ -144,7 +144,7 @@ module _ (set : TileSetView) (mask : MaskView) (wrap : Bool) (lines : List PinVi
   tiles_kept s is keep =
       let f = are_placed s is in
       let kept = kept_in_order (tiled.tile_map_pin set.tiles mask) keep lines s.pins f.pins_are in
-      (λ i. cond (f.few i) (Err (TooLarge (tiled.tile_pair_count set mask))) (result_map (tiles.problem_of_tiles set mask wrap) (kept i)))
+      (λ i. result_map (tiles.problem_of_tiles set mask wrap) (cond (f.few i) (Err (TooLarge (tiled.tile_pair_count set mask))) (kept i)))
       ∙ ap (λ (t : TilesPins). Ok ((pinned_tiles t).problem_of keep)) (sym f.is)
 
   -- there is a pin for each line

@@ -6,7 +6,6 @@ use Rattle.wfc_map_commands.specs.FillAnswer.{fill_answer, fill_text}
 use Rattle.wfc_map_commands.specs.FillClaims.{FillPromise, FillWork, HasNoMap, IsAsRun, IsFoundMap, IsLegalMap, IsNeverSpent, WritesFront, WritesLegalMap, assignment_text, map_text_of}
 use Rattle.wfc_outside.specs.Folder.{File}
 use Rattle.wfc_outside.specs.Sink.{IsFaultAfterFront, after_bytes, after_finish}
-use Rattle.wfc_problem.specs.Assignment.{IsLegalAssignment}
 use Rattle.wfc_problem.specs.Network.{Network}
 use Rattle.wfc_reply.proofs.CallerLemmas.{CameTo, EndsSo, HasAnswered, IsEnding, as_asked, as_no, as_spent, cut, five_apart, none, ran_by, verdict_apart, verdict_outcome, whole}
 use Rattle.wfc_reply.specs.Asking.{IsCommand}

@@ -1,5 +1,6 @@
 pub mod CountLemmas
 pub mod DemonstrationLemmas
+pub mod DemoLegalLemmas
 pub mod FillOrderLemmas
 pub mod DomainsGivenLemmas
 pub mod DemoOrderLemmas

@@ -6,7 +6,7 @@ ghost use Rattle.wfc_choose.specs.Pick.{Rule};
 ghost use Rattle.wfc_choose.specs.declared.RuleKind.{RuleKind};
 ghost use Rattle.wfc_choose.specs.declared.RuleKind.TheVariants.{Fewest};
 ghost use Rattle.wfc_map_commands.specs.DemoAnswer.{demo_budget, demo_text};
-ghost use Rattle.wfc_map_commands.specs.DemoClaims.{demo_rules};
+ghost use Rattle.wfc_map_commands.specs.DemoClaims.{IsLegalDemo, demo_rules};
 ghost use Rattle.wfc_map_commands.specs.DemoTask.{demo, demo_made, demo_plan, demo_work};
 ghost use Rattle.wfc_map_commands.specs.Demonstration.{demo_output, demo_patterns, demo_picture, demo_problem, demo_side};
 ghost use Rattle.wfc_map_commands.specs.Demonstration.{demo_symbol, demo_symbols};
@@ -127,6 +127,14 @@ pub fn demonstrations_have_rules()
         demo_rules.wrap_in ≡ Ok (demo_patterns n) }
     ensures posed { (n : ℕ) → demo_problem n
         ≡ problem_of_sample (demo_patterns n) (output_with 48 48 demo_rules.wrap_out) [] }
+{}
+
+/// Each demonstration has a map: its own lines on a grid of the map's size. The grid that it learns from is too small, and the
+/// lines of another demonstration are refused.
+pub fn demonstrations_have_maps()
+    ensures itself { (n : ℕ) → IsLegalDemo n (demo_picture n 48) }
+    ensures small { (n : ℕ) → IsLegalDemo n (demo_picture n 24) → ⊥ }
+    ensures other { IsLegalDemo 0 (demo_picture 1 48) → ⊥ }
 {}
 
 /// The first faults where nothing is there: a chooser before the sample, and the sample before all else.

@@ -15,3 +15,4 @@ pub mod PaintLemmas
 pub mod PartLemmas
 pub mod SubjectLemmas
 pub mod WordLemmas
+pub mod BuiltLemmas

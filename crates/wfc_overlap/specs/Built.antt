@@ -42,13 +42,10 @@ checked_picture_pins patterns palette output lines =
     else (if nat_lt MAX_PAIRS (window_pair_count patterns output) then Err (TooLarge (window_pair_count patterns output))
     else picture_pins (texts_of palette) output.width output.height lines)
 
--- the problem, but for a side below that of a window, for too many pairs, and for a line at fault
+-- the problem of those pins, or the fault in their place
 abbrev pub picture_problem : PatternsView → List Symbol → Output → List PinView → Result Network BuildFault
 picture_problem patterns palette output lines =
-    if nat_lt output.width patterns.n || nat_lt output.height patterns.n then Err SizeBelowN
-    else (if nat_lt MAX_PAIRS (window_pair_count patterns output) then Err (TooLarge (window_pair_count patterns output))
-    else result_map (problem_of_sample patterns output)
-    (picture_pins (texts_of palette) output.width output.height lines))
+    result_map (problem_of_sample patterns output) (checked_picture_pins patterns palette output lines)
 
 -- an output has room for a window, but too many pairs of a place and a pattern
 abbrev pub IsCrowded : PatternsView → Output → Type 0

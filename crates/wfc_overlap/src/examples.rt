@@ -118,29 +118,40 @@ pub fn lines_in_order()
         ∷ window_pin_line 3 true 1 1 (codes "b") ∷ []) ≡ Err (PinOutside 2) }
 {}
 
-/// A problem is built of the pins that the lines mean; a side below that of a window comes before
-/// too many pairs, and those come before the lines.
+/// The pins that lines mean, and the problem of them; and a place outside, by which a line is refused.
 pub fn small_builds()
     ensures pins { checked_picture_pins two_patterns three_symbols three_by_two blank_and_letter
         ≡ Ok (kept_pin 1 0 1 ∷ banned_pin 2 1 0 ∷ []) }
-    ensures narrow_pins { checked_picture_pins two_patterns three_symbols (output_with 1 2 true)
-        (window_pin_line 5 true 9 9 [] ∷ []) ≡ Err SizeBelowN }
     ensures problem { picture_problem two_patterns three_symbols three_by_two (kept_blank ∷ [])
         ≡ Ok (problem_of_sample two_patterns three_by_two (kept_pin 1 0 1 ∷ [])) }
     ensures line { picture_problem two_patterns three_symbols three_by_two
         (window_pin_line 5 true 1 2 (codes "a") ∷ []) ≡ Err (PinOutside 5) }
-    ensures narrow { picture_problem two_patterns three_symbols (output_with 1 2 true)
-        (window_pin_line 5 true 9 9 [] ∷ []) ≡ Err SizeBelowN }
-    ensures low { picture_problem two_patterns three_symbols (output_with 2 1 true)
-        (window_pin_line 5 true 9 9 [] ∷ []) ≡ Err SizeBelowN }
 {}
 
-/// Of an output that is large enough, too many pairs are refused, and else the lines decide.
+/// An output that is narrower or lower than a window is refused, however many pairs there are and
+/// whatever the lines say.
+pub fn builds_by_sides()
+    ensures narrow_pins { (p : PatternsView) (s : List Symbol) (o : Output) (l : List PinView) →
+        o.width < p.n → checked_picture_pins p s o l ≡ Err SizeBelowN }
+    ensures low_pins { (p : PatternsView) (s : List Symbol) (o : Output) (l : List PinView) →
+        o.height < p.n → checked_picture_pins p s o l ≡ Err SizeBelowN }
+    ensures narrow { (p : PatternsView) (s : List Symbol) (o : Output) (l : List PinView) →
+        o.width < p.n → picture_problem p s o l ≡ Err SizeBelowN }
+    ensures low { (p : PatternsView) (s : List Symbol) (o : Output) (l : List PinView) →
+        o.height < p.n → picture_problem p s o l ≡ Err SizeBelowN }
+{}
+
+/// Of an output that is large enough, too many pairs are refused whatever the lines say, and else
+/// the lines decide.
 pub fn builds_by_pairs()
-    ensures crowded { (p : PatternsView) (s : List Symbol) (o : Output) (lines : List PinView) →
-        IsCrowded p o → picture_problem p s o lines ≡ Err (TooLarge (window_pair_count p o)) }
-    ensures roomy { (p : PatternsView) (s : List Symbol) (o : Output) (lines : List PinView) →
-        IsRoom p o → picture_problem p s o lines ≡ problem_by_lines p s o lines }
+    ensures crowded_pins { (p : PatternsView) (s : List Symbol) (o : Output) (l : List PinView) →
+        IsCrowded p o → checked_picture_pins p s o l ≡ Err (TooLarge (window_pair_count p o)) }
+    ensures roomy_pins { (p : PatternsView) (s : List Symbol) (o : Output) (l : List PinView) →
+        IsRoom p o → checked_picture_pins p s o l ≡ picture_pins (texts_of s) o.width o.height l }
+    ensures crowded { (p : PatternsView) (s : List Symbol) (o : Output) (l : List PinView) →
+        IsCrowded p o → picture_problem p s o l ≡ Err (TooLarge (window_pair_count p o)) }
+    ensures roomy { (p : PatternsView) (s : List Symbol) (o : Output) (l : List PinView) →
+        IsRoom p o → picture_problem p s o l ≡ problem_by_lines p s o l }
 {}
 
 /// Places of an output of three by two: two side by side; and the cells of one of four by three.

@@ -1,5 +1,5 @@
 -- The first faults of `explain`.
-use Rattle.std.proofs.Common.{Bool, Err, List, Ok, Result, [], ap, arith, cond, false, if◌then◌else◌, inl, inr, length, nat_le, nat_lt, refl, sym, true, ℕ, ◌++◌, ◌||◌, ◌∙◌, ◌∷◌, ◌≡◌}
+use Rattle.std.proofs.Common.{Bool, Err, List, Ok, Result, [], ap, arith, false, if◌then◌else◌, inl, inr, length, nat_le, refl, sym, true, ◌++◌, ◌∙◌, ◌∷◌, ◌≡◌}
 use Rattle.std.proofs.lemmas.Bool.Decides.{nat_tests}
 use Rattle.std.specs.Prelude.{◌↔◌}
 use Rattle.wfc_choose.specs.declared.RuleKind.{RuleKind}
@@ -7,12 +7,10 @@ use Rattle.wfc_explain.specs.Problems.{SamplePins, TilesPins, pinned_sample}
 use Rattle.wfc_model.specs.Legal.{Pin}
 use Rattle.wfc_outside.specs.Folder.{File}
 use Rattle.wfc_outside.specs.Gives.{result_map}
-use Rattle.wfc_overlap.specs.Bridge.{window_pair_count}
 use Rattle.wfc_overlap.specs.Built as overlap
 use Rattle.wfc_overlap.specs.Sample.{problem_of_sample}
 use Rattle.wfc_pins.specs.PinView.{PinView}
 use Rattle.wfc_pins.specs.declared.fault.BuildFault.{BuildFault}
-use Rattle.wfc_pins.specs.declared.fault.BuildFault.TheVariants.{SizeBelowN, TooLarge}
 use Rattle.wfc_plan.proofs.CallerLemmas.{Faults, faults_as, faults_choosers, faults_first, faults_group, faults_none, made_in_order, outcome_on, outcome_out}
 use Rattle.wfc_plan.specs.Kinds.{enough}
 use Rattle.wfc_plan.specs.Order.{AreInOrder, IsFirstFault}
@@ -23,7 +21,6 @@ use Rattle.wfc_plan.specs.declared.fault.Refusal.{Refusal}
 use Rattle.wfc_plan.specs.declared.fault.Refusal.TheVariants as refusals
 use Rattle.wfc_plan.specs.declared.fault.Source.TheVariants.{Mask}
 use Rattle.wfc_problem.specs.Network.{Network}
-use Rattle.wfc_problem.specs.declared.TheConstants.{MAX_PAIRS}
 use Rattle.wfc_run_commands.proofs.ExplainGivenLemmas.{are_read, behind_lesson, behind_lines, behind_mask_of, behind_read, behind_sample_pins, behind_set, behind_tile_lines, behind_tiles_pins}
 use Rattle.wfc_run_commands.specs.ExplainOrder.{IsLinesFault, IsManyPinsFault, explain_order, explain_order_by}
 use Rattle.wfc_run_commands.specs.ExplainTask.{explain, explain_plan, explain_plan_by, few_lines, line_numbers, lines_plan, pins_of_sample, pins_of_tiles}
@@ -89,31 +86,20 @@ after_same {A} plan f g files fault same is = by_first (outcome plan files) refl
     by_first (Ok value) first = outcome_on plan g files value first ∙ same value (sym (outcome_on plan f files value first) ∙ is)
     by_first (Err why) first = outcome_out plan g files why first ∙ moved why fault (sym (outcome_out plan f files why first) ∙ is)
 
+-- whatever is made of the same pins has their faults
+same_made : {A B : Type 0} (f : List Pin → A) (g : List Pin → B) (found : Result (List Pin) BuildFault) (files : List File) (fault : Fault)
+    → (outcome (step (or_refuse refusals.Build (result_map f found))) files ≡ Err fault) ↔ (outcome (step (or_refuse refusals.Build (result_map g found))) files ≡ Err fault)
+same_made f g (Err why) files fault = (moved _ fault, moved _ fault)
+same_made f g (Ok pins) files fault = (λ is. absurd (cc (is)), λ is. absurd (cc (is)))
+
 -- ---- problems of samples
 
 -- the pins of a sample are found exactly where its problem is built, and have the same faults
 same_sample : (asked : RequestView) (lesson : Taught) (lines : List PinView) (files : List File) (fault : Fault)
     → (outcome (step (pins_of_sample asked lesson lines)) files ≡ Err fault) ↔ (outcome (step (problem_of_lines asked lesson.patterns lesson.palette lines)) files ≡ Err fault)
 same_sample asked lesson lines files fault =
-    by_case (nat_lt asked.width lesson.patterns.n || nat_lt asked.height lesson.patterns.n) (nat_lt MAX_PAIRS (window_pair_count lesson.patterns (asked_output asked)))
-    (overlap.picture_pins (overlap.texts_of lesson.palette) asked.width asked.height lines)
-  where
-    made : List Pin → SamplePins
-    made pins = record { patterns = lesson.patterns; output = asked_output asked; pins = pins }
-
-    build : List Pin → Network
-    build pins = problem_of_sample lesson.patterns (asked_output asked) pins
-
-    count : ℕ
-    count = window_pair_count lesson.patterns (asked_output asked)
-
-    by_case : (b c : Bool) (r : Result (List Pin) BuildFault)
-        → (outcome (step (or_refuse refusals.Build (result_map made (cond b (Err SizeBelowN) (cond c (Err (TooLarge count)) r))))) files ≡ Err fault)
-        ↔ (outcome (step (or_refuse refusals.Build (cond b (Err SizeBelowN) (cond c (Err (TooLarge count)) (result_map build r))))) files ≡ Err fault)
-    by_case true c r = (moved _ fault, moved _ fault)
-    by_case false true r = (moved _ fault, moved _ fault)
-    by_case false false (Err why) = (moved _ fault, moved _ fault)
-    by_case false false (Ok pins) = (λ is. absurd (cc (is)), λ is. absurd (cc (is)))
+    same_made (λ pins. let made : SamplePins = record { patterns = lesson.patterns; output = asked_output asked; pins = pins } in made) (problem_of_sample lesson.patterns (asked_output asked))
+    (overlap.checked_picture_pins lesson.patterns lesson.palette (asked_output asked) lines) files fault
 
 faults_sample_pins : (asked : RequestView) (files : List File) (lesson : Taught) (lines : List PinView) → outcome (sample_plan asked) files ≡ Ok lesson → outcome (pins_plan asked.pins) files ≡ Ok lines
     → Faults (step (pins_of_sample asked lesson lines)) files (IsFirstFault (problem_stages asked files))
@@ -137,20 +123,9 @@ faults_sample_pins asked files lesson lines was held fault = (
 
 same_tiles : (asked : RequestView) (set : TileSetView) (mask : MaskView) (lines : List PinView) (files : List File) (fault : Fault)
     → (outcome (step (pins_of_tiles asked set mask lines)) files ≡ Err fault) ↔ (outcome (step (posed_tiles asked set mask lines)) files ≡ Err fault)
-same_tiles asked set mask lines files fault = by_case (nat_lt MAX_PAIRS (tiled.tile_pair_count set mask)) (tiled.tile_map_pins set.tiles mask lines)
-  where
-    made : List Pin → TilesPins
-    made pins = record { tiles = set; mask = mask; wrap = asked.wrap_out; pins = pins }
-
-    build : List Pin → Network
-    build pins = problem_of_tiles set mask asked.wrap_out pins
-
-    by_case : (c : Bool) (r : Result (List Pin) BuildFault)
-        → (outcome (step (or_refuse refusals.Build (result_map made (cond c (Err (TooLarge (tiled.tile_pair_count set mask))) r)))) files ≡ Err fault)
-        ↔ (outcome (step (or_refuse refusals.Build (cond c (Err (TooLarge (tiled.tile_pair_count set mask))) (result_map build r)))) files ≡ Err fault)
-    by_case true r = (moved _ fault, moved _ fault)
-    by_case false (Err why) = (moved _ fault, moved _ fault)
-    by_case false (Ok pins) = (λ is. absurd (cc (is)), λ is. absurd (cc (is)))
+same_tiles asked set mask lines files fault =
+    same_made (λ pins. let made : TilesPins = record { tiles = set; mask = mask; wrap = asked.wrap_out; pins = pins } in made) (problem_of_tiles set mask asked.wrap_out)
+    (tiled.checked_tile_map_pins set mask lines) files fault
 
 -- the mask, and then the problem
 abbrev masked_stages : RequestView → List File → List TaskStage

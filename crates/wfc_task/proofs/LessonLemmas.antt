@@ -80,7 +80,7 @@ built_is patterns palette output lines P is =
   where
     by_tests : (narrow low many : Bool) (pins : Result (List Pin) BuildFault) → nat_lt output.width patterns.n ≡ narrow → nat_lt output.height patterns.n ≡ low → nat_lt MAX_PAIRS (window_pair_count patterns output) ≡ many
         → picture_pins (texts_of palette) output.width output.height lines ≡ pins
-        → (if narrow || low then Err SizeBelowN else (if many then Err (TooLarge (window_pair_count patterns output)) else result_map (problem_of_sample patterns output) pins)) ≡ Ok P
+        → result_map (problem_of_sample patterns output) (if narrow || low then Err SizeBelowN else (if many then Err (TooLarge (window_pair_count patterns output)) else pins)) ≡ Ok P
         → IsRoom patterns output × ((pins : List Pin) × (picture_pins (texts_of palette) output.width output.height lines ≡ Ok pins) × (P ≡ problem_of_sample patterns output pins))
     by_tests true low many pins p q r t is = absurd (cc)
     by_tests false true many pins p q r t is = absurd (cc)

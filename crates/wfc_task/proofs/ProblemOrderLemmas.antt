@@ -2,6 +2,7 @@
 use Rattle.std.proofs.Common.{Bool, Err, List, None, Ok, Option, Result, Some, [], ap, arith, false, if◌then◌else◌, inl, inr, nat_lt, refl, sym, true, ℕ, ◌<◌, ◌||◌, ◌∷◌, ◌≡◌, ◌⊎◌}
 use Rattle.std.proofs.lemmas.Bool.Decides.{nat_tests}
 use Rattle.std.specs.Prelude.{◌↔◌}
+use Rattle.wfc_model.specs.Legal.{Pin}
 use Rattle.wfc_outside.specs.Folder.{File}
 use Rattle.wfc_outside.specs.Gives.{result_map}
 use Rattle.wfc_overlap.specs.Bridge.{window_pair_count}
@@ -77,19 +78,19 @@ faults_lines make (Err why) fault files = (λ is. (why, refl, cc (is)), λ has. 
 
 -- a count of pairs, and then the lines
 pub faults_count : {X T : Type 0} (count : ℕ) (make : List X → T) (pins : Result (List X) BuildFault) (files : List File)
-    → Faults (step (or_refuse refusals.Build (if nat_lt MAX_PAIRS count then Err (TooLarge count) else result_map make pins))) files (IsFirstFault (IsCountFault count ∷ IsRefusal refusals.Build pins ∷ []))
+    → Faults (step (or_refuse refusals.Build (result_map make (if nat_lt MAX_PAIRS count then Err (TooLarge count) else pins)))) files (IsFirstFault (IsCountFault count ∷ IsRefusal refusals.Build pins ∷ []))
 faults_count {T = T} count make pins files fault = by_test (nat_lt MAX_PAIRS count) refl
   where
     by_test : (many : Bool) → nat_lt MAX_PAIRS count ≡ many
-        → (outcome (step (or_refuse refusals.Build (if many then Err (TooLarge count) else result_map make pins))) files ≡ Err fault) ↔ IsFirstFault (IsCountFault count ∷ IsRefusal refusals.Build pins ∷ []) fault
+        → (outcome (step (or_refuse refusals.Build (result_map make (if many then Err (TooLarge count) else pins)))) files ≡ Err fault) ↔ IsFirstFault (IsCountFault count ∷ IsRefusal refusals.Build pins ∷ []) fault
     by_test true test = (λ is. inl (record { many = grind (arith, nat_tests, test); is = cc (is) }), from)
       where
-        from : IsFirstFault (IsCountFault count ∷ IsRefusal refusals.Build pins ∷ []) fault → outcome (step (or_refuse refusals.Build (if true then Err (TooLarge count) else result_map make pins))) files ≡ Err fault
+        from : IsFirstFault (IsCountFault count ∷ IsRefusal refusals.Build pins ∷ []) fault → outcome (step (or_refuse refusals.Build (result_map make (if true then Err (TooLarge count) else pins)))) files ≡ Err fault
         from (inl has) = ap (λ f. let end : Result T Fault = Err f in end) (sym has.is)
         from (inr (order, _)) = absurd (order (Refused (refusals.Build (TooLarge count))) (record { many = grind (arith, nat_tests, test); is = refl }))
     by_test false test = (λ is. inr (λ f has. grind (arith, nat_tests, test, has.many), inl ((faults_lines make pins fault files).0 is)), from)
       where
-        from : IsFirstFault (IsCountFault count ∷ IsRefusal refusals.Build pins ∷ []) fault → outcome (step (or_refuse refusals.Build (if false then Err (TooLarge count) else result_map make pins))) files ≡ Err fault
+        from : IsFirstFault (IsCountFault count ∷ IsRefusal refusals.Build pins ∷ []) fault → outcome (step (or_refuse refusals.Build (result_map make (if false then Err (TooLarge count) else pins)))) files ≡ Err fault
         from (inl has) = absurd (grind (arith, nat_tests, test, has.many))
         from (inr (_, inl has)) = (faults_lines make pins fault files).1 has
         from (inr (_, inr (_, none))) = absurd none
@@ -98,10 +99,13 @@ faults_built : (asked : RequestView) (lesson : Taught) (lines : List PinView) (f
     → Faults (step (problem_of_lines asked lesson.patterns lesson.palette lines)) files (IsFirstFault (built_stages asked lesson lines))
 faults_built asked lesson lines files fault = by_tests (nat_lt asked.width lesson.patterns.n) (nat_lt asked.height lesson.patterns.n) refl refl
   where
-    rest : Result Network BuildFault
+    rest : Result (List Pin) BuildFault
     rest =
         if nat_lt MAX_PAIRS (window_pair_count lesson.patterns (asked_output asked)) then Err (TooLarge (window_pair_count lesson.patterns (asked_output asked)))
-        else result_map (problem_of_sample lesson.patterns (asked_output asked)) (picture_pins (texts_of lesson.palette) asked.width asked.height lines)
+        else picture_pins (texts_of lesson.palette) asked.width asked.height lines
+
+    make : List Pin → Network
+    make pins = problem_of_sample lesson.patterns (asked_output asked) pins
 
     below : (asked.width < lesson.patterns.n) ⊎ (asked.height < lesson.patterns.n)
         → (outcome (step (or_refuse refusals.Build (let end : Result Network BuildFault = Err SizeBelowN in end))) files ≡ Err fault) ↔ IsFirstFault (built_stages asked lesson lines) fault
@@ -112,7 +116,7 @@ faults_built asked lesson lines files fault = by_tests (nat_lt asked.width lesso
         from (inr (order, _)) = absurd (order (Refused (refusals.Build SizeBelowN)) (record { below = is_below; is = refl }))
 
     by_tests : (narrow low : Bool) → nat_lt asked.width lesson.patterns.n ≡ narrow → nat_lt asked.height lesson.patterns.n ≡ low
-        → (outcome (step (or_refuse refusals.Build (if narrow || low then Err SizeBelowN else rest))) files ≡ Err fault) ↔ IsFirstFault (built_stages asked lesson lines) fault
+        → (outcome (step (or_refuse refusals.Build (result_map make (if narrow || low then Err SizeBelowN else rest)))) files ≡ Err fault) ↔ IsFirstFault (built_stages asked lesson lines) fault
     by_tests true low w h = below (inl (grind (arith, nat_tests, w)))
     by_tests false true w h = below (inr (grind (arith, nat_tests, h)))
     by_tests false false w h = (to, from)
@@ -120,15 +124,15 @@ faults_built asked lesson lines files fault = by_tests (nat_lt asked.width lesso
         fits : IsInOrder (IsBelowFault asked lesson.patterns.n)
         fits f has = elim has.below [ inl narrow ↦ grind (arith, nat_tests, w, narrow) | inr low ↦ grind (arith, nat_tests, h, low) ]
 
-        counted : Faults (step (or_refuse refusals.Build rest)) files
+        counted : Faults (step (or_refuse refusals.Build (result_map make rest))) files
             (IsFirstFault (IsCountFault (window_pair_count lesson.patterns (asked_output asked)) ∷ IsRefusal refusals.Build (picture_pins (texts_of lesson.palette) asked.width asked.height lines) ∷ []))
         counted =
-            faults_count (window_pair_count lesson.patterns (asked_output asked)) (problem_of_sample lesson.patterns (asked_output asked)) (picture_pins (texts_of lesson.palette) asked.width asked.height lines) files
+            faults_count (window_pair_count lesson.patterns (asked_output asked)) make (picture_pins (texts_of lesson.palette) asked.width asked.height lines) files
 
-        to : outcome (step (or_refuse refusals.Build rest)) files ≡ Err fault → IsFirstFault (built_stages asked lesson lines) fault
+        to : outcome (step (or_refuse refusals.Build (result_map make rest))) files ≡ Err fault → IsFirstFault (built_stages asked lesson lines) fault
         to is = inr (fits, (counted fault).0 is)
 
-        from : IsFirstFault (built_stages asked lesson lines) fault → outcome (step (or_refuse refusals.Build rest)) files ≡ Err fault
+        from : IsFirstFault (built_stages asked lesson lines) fault → outcome (step (or_refuse refusals.Build (result_map make rest))) files ≡ Err fault
         from (inl has) = absurd (fits fault has)
         from (inr (_, has)) = (counted fault).1 has
 

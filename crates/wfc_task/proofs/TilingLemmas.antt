@@ -62,7 +62,7 @@ pub tiles_built_is : (set : TileSetView) (mask : MaskView) (wrap : Bool) (lines 
 tiles_built_is set mask wrap lines P is = by_tests (nat_lt MAX_PAIRS (tile_pair_count set mask)) (tile_map_pins set.tiles mask lines) refl refl is
   where
     by_tests : (many : Bool) (pins : Result (List Pin) BuildFault) → nat_lt MAX_PAIRS (tile_pair_count set mask) ≡ many → tile_map_pins set.tiles mask lines ≡ pins
-        → (if many then Err (TooLarge (tile_pair_count set mask)) else result_map (problem_of_tiles set mask wrap) pins) ≡ Ok P
+        → result_map (problem_of_tiles set mask wrap) (if many then Err (TooLarge (tile_pair_count set mask)) else pins) ≡ Ok P
         → (tile_pair_count set mask ≤ MAX_PAIRS) × ((pins : List Pin) × (tile_map_pins set.tiles mask lines ≡ Ok pins) × (P ≡ problem_of_tiles set mask wrap pins))
     by_tests true pins p q is = absurd (cc)
     by_tests false (Err fault) p q is = absurd (cc)

@@ -1,6 +1,6 @@
 -- The problem of a tile set, entry by entry; and that it is a problem.
 use Rattle.std.proofs.Common.{◌≡◌, ℕ, zero, suc, ◌+◌, ◌*◌, ◌/◌, ◌%◌, ◌<◌, ◌≤◌, Bool, true, false, inl, List, length, get_or, Option, None, Some, Ok, Err, cond, ltb, refl, sym, subst, ap, ◌∙◌, arith, zero-add}
-use Rattle.std.specs.Prelude.{Contains, nat_lt, unwrap_or, if◌then◌else◌}
+use Rattle.std.specs.Prelude.{Contains, unwrap_or, if◌then◌else◌}
 use Rattle.std.proofs.lemmas.Bool.{and_parts, and_from, cond-true, lt-ltb}
 use Rattle.std.proofs.lemmas.List.FromFn.{length-map-range_with_len, get_or-map-range_with_len, length-range_with_len}
 use Rattle.std.proofs.lemmas.Nat.{mod-mul-add, div-mul-add}
@@ -18,10 +18,9 @@ use Rattle.wfc_places.proofs.CallerLemmas.{IsFitting, length-supports, supports_
 use Rattle.wfc_tileset.specs.Tiles.{TileSetView, HasWeight, variant_total, variant_at, tile_at}
 use Rattle.wfc_tileset.specs.TileSets.{IsTileSet}
 use Rattle.wfc_tileset.proofs.CallerLemmas.{few_tiles, variant_there}
-use Rattle.wfc_outside.specs.Gives.{result_map}
 use Rattle.wfc_pins.specs.PinView.{PinView}
 use Rattle.wfc_pins.specs.declared.fault.BuildFault.TheVariants.{TooLarge}
-use Rattle.wfc_tiled.specs.Built.{tile_map_problem, checked_tile_map_pins, tile_pair_count, tile_map_pins, roomy_mask}
+use Rattle.wfc_tiled.specs.Built.{checked_tile_map_pins, tile_pair_count, tile_map_pins, roomy_mask}
 use Rattle.wfc_tiled.specs.Mask.{MaskView, IsMask, cell_number, plain_mask}
 use Rattle.wfc_tiled.specs.Tiles.{is_step, step_from, tile_beside, tiles_beside, variants_fit, variant_meets_pins, base_row, problem_of_tiles}
 use Rattle.wfc_tiled.proofs.MaskLemmas.{found, stands, few}
@@ -47,15 +46,6 @@ pub too_large : (set : TileSetView) (w h product : ℕ) → product ≡ w * h * 
 too_large set w h product is more =
     let same : tile_pair_count set (plain_mask w h) ≡ product = ap (λ k. k * variant_total set.tiles) (length-range_with_len 0 (w * h)) ∙ sym is in
     crowded_mask set (plain_mask w h) (omega (arith, same)) ∙ ap (λ k. Err (TooLarge k)) same
-
--- what is built is the problem of the pins that are found, in a mask with few enough pairs
-pub built_from_pins : (set : TileSetView) (mask : MaskView) (wrap : Bool) (lines : List PinView) → tile_map_problem set mask wrap lines ≡ result_map (problem_of_tiles set mask wrap) (checked_tile_map_pins set mask lines)
-built_from_pins set mask wrap lines = by_case (nat_lt MAX_PAIRS (tile_pair_count set mask))
-  where
-    by_case : (large : Bool) → cond large (Err (TooLarge (tile_pair_count set mask))) (result_map (problem_of_tiles set mask wrap) (tile_map_pins set.tiles mask lines))
-        ≡ result_map (problem_of_tiles set mask wrap) (cond large (Err (TooLarge (tile_pair_count set mask))) (tile_map_pins set.tiles mask lines))
-    by_case true = refl
-    by_case false = refl
 
 module _ (set : TileSetView) (mask : MaskView) (wrap : Bool) (pins : List Pin) where
   abbrev P : Network

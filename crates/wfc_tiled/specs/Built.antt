@@ -43,11 +43,10 @@ checked_tile_map_pins set mask lines =
     if nat_lt MAX_PAIRS (tile_pair_count set mask) then Err (TooLarge (tile_pair_count set mask))
     else tile_map_pins set.tiles mask lines
 
--- the problem, but for too many pairs, and for a line at fault
+-- the problem of those pins, or the fault in their place
 abbrev pub tile_map_problem : TileSetView → MaskView → Bool → List PinView → Result Network BuildFault
 tile_map_problem set mask wrap lines =
-    if nat_lt MAX_PAIRS (tile_pair_count set mask) then Err (TooLarge (tile_pair_count set mask))
-    else result_map (problem_of_tiles set mask wrap) (tile_map_pins set.tiles mask lines)
+    result_map (problem_of_tiles set mask wrap) (checked_tile_map_pins set mask lines)
 
 -- there are too many pairs of a place and a variant
 abbrev pub HasManyPairs : TileSetView → MaskView → Type 0

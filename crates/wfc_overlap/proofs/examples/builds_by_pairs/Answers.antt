@@ -1,16 +1,17 @@
-use Rattle.std.proofs.Common.{◌≡◌, false, Err, Result, ltb}
-use Rattle.std.proofs.lemmas.Bool.{cond-true, le-ltb, lt-ltb}
-use Rattle.wfc_pins.specs.declared.fault.BuildFault.{BuildFault}
-use Rattle.wfc_pins.specs.declared.fault.BuildFault.TheVariants.{TooLarge}
-use Rattle.wfc_problem.specs.Network.{Network}
-use Rattle.wfc_problem.specs.declared.TheConstants.{MAX_PAIRS}
-use Rattle.wfc_overlap.specs.Bridge.{window_pair_count}
-use Rattle.wfc_overlap.specs.Built.{problem_by_lines}
+use Rattle.std.proofs.Common.{ap}
+use Rattle.wfc_outside.specs.Gives.{result_map}
+use Rattle.wfc_overlap.specs.Sample.{problem_of_sample}
+use Rattle.wfc_overlap.proofs.BuiltLemmas.{crowded_pins, roomy_pins}
 use Rattle.wfc_overlap.proofs.examples.builds_by_pairs.Goals as goal
 
+pub returns-clause-crowded_pins : goal.returns-clause-crowded_pins
+returns-clause-crowded_pins c = crowded_pins
+
+pub returns-clause-roomy_pins : goal.returns-clause-roomy_pins
+returns-clause-roomy_pins c = roomy_pins
+
 pub returns-clause-crowded : goal.returns-clause-crowded
-returns-clause-crowded c p s o lines crowd =
-    let count = window_pair_count p o in
-    let narrow : ltb o.width p.n ≡ false = le-ltb o.width p.n crowd.0 in
-    let low : ltb o.height p.n ≡ false = le-ltb o.height p.n crowd.1 in
-    rw (narrow, low) (cond-true (ltb MAX_PAIRS count) (Err (TooLarge count)) (problem_by_lines p s o lines) (lt-ltb MAX_PAIRS count crowd.2))
+returns-clause-crowded c p s o lines crowd = ap (result_map (problem_of_sample p o)) (crowded_pins p s o lines crowd)
+
+pub returns-clause-roomy : goal.returns-clause-roomy
+returns-clause-roomy c p s o lines room = ap (result_map (problem_of_sample p o)) (roomy_pins p s o lines room)
