@@ -1,6 +1,6 @@
 -- What growth leaves: each block that it came past is set to a legal picture, and a block at which it stops
 -- has none.
-use Rattle.std.proofs.Common.{◌≡◌, ℕ, Bool, true, false, Option, None, Some, List, [], ◌∷◌, refl, sym, subst, ap, ◌∙◌}
+use Rattle.std.proofs.Common.{◌≡◌, ℕ, suc, Bool, true, false, Option, None, Some, List, [], ◌∷◌, refl, sym, subst, ap, take, arith, ◌∙◌}
 use Rattle.std.specs.Prelude.{Contains}
 use Rattle.std.proofs.lemmas.Bool.{false≢true}
 use Rattle.std.proofs.lemmas.Option.{none-some}
@@ -12,7 +12,6 @@ use Rattle.wfc_problem.specs.Network.{Network, IsProblem}
 use Rattle.wfc_overlap.specs.Sample.{output_with}
 use Rattle.wfc_overlap.specs.Bridge.{IsRoom, IsTaughtBy, numbers_of_windows}
 use Rattle.wfc_overlap.proofs.CallerLemmas.{sample_problem, there, back}
-use Rattle.wfc_lists.proofs.Lists.{Contains_first, Contains_later}
 use Rattle.rand_core.specs.Stream.{Stream}
 use Rattle.wfc_choose.specs.Pick.{Rule}
 use Rattle.wfc_runs.specs.Words.{words_of_seed}
@@ -65,45 +64,57 @@ module _ (terms : Terms) (taught : IsPatterns terms.patterns) where
 
   -- ---- a block at which growth stopped
 
-  -- the block is one of these, its run has no map, and it has room
-  pub record IsStopped (blocks : List Block) (block : Block) (last : Canvas) : Type 0 where
+  -- the block is one of these, those before it set this, its run has no map, and it has room
+  pub record IsStopped (blocks : List Block) (canvas : Canvas) (block : Block) (last : Canvas) : Type 0 where
     pub among : Contains blocks block
+    pub before : growth_over terms (take among.0 blocks) canvas ≡ full last
     pub room : HasRoom block
     pub state : State
     pub ends : block_end terms last block ≡ Some (outcome.NoMap, state)
 
-  abbrev later_stopped : (first : Block) (blocks : List Block) (block : Block) (last : Canvas) → IsStopped blocks block last → IsStopped (first ∷ blocks) block last
-  later_stopped first blocks block last is = record { among = Contains_later first blocks block is.among; room = is.room; state = is.state; ends = is.ends }
+  -- growth goes on past a block whose run ends in a map
+  go_past : (first : Block) (blocks : List Block) (canvas last : Canvas) (s : State) → block_end terms canvas first ≡ Some (outcome.Map, s) → growth_over terms blocks (with_block canvas first (picture_of_block terms canvas first s)) ≡ full last
+      → growth_over terms (first ∷ blocks) canvas ≡ full last
+  go_past first blocks canvas last s ends on = ap (λ o. after_end terms canvas first o (λ next. growth_over terms blocks next)) ends ∙ on
 
-  stop_block : (first : Block) (blocks : List Block) → HasRoom first → ((canvas last : Canvas) (block : Block) → growth_over terms blocks canvas ≡ stopped block last → IsStopped blocks block last)
-      → (canvas last : Canvas) (block : Block) (o : Option (Outcome × State)) → block_end terms canvas first ≡ o → after_end terms canvas first o (λ next. growth_over terms blocks next) ≡ stopped block last → IsStopped (first ∷ blocks) block last
+  stop_block : (first : Block) (blocks : List Block) → HasRoom first → ((canvas last : Canvas) (block : Block) → growth_over terms blocks canvas ≡ stopped block last → IsStopped blocks canvas block last)
+      → (canvas last : Canvas) (block : Block) (o : Option (Outcome × State)) → block_end terms canvas first ≡ o → after_end terms canvas first o (λ next. growth_over terms blocks next) ≡ stopped block last → IsStopped (first ∷ blocks) canvas block last
   stop_block first blocks room on canvas last block None ends is = absurd (none-some block (ap stopped_at is))
   stop_block first blocks room on canvas last block (Some (outcome.Spent, s)) ends is = absurd (none-some block (ap stopped_at is))
   stop_block first blocks room on canvas last block (Some (outcome.Map, s)) ends is =
-      later_stopped first blocks block last (on (with_block canvas first (picture_of_block terms canvas first s)) last block is)
+      let at = on (with_block canvas first (picture_of_block terms canvas first s)) last block is in
+      record {
+        among = (suc at.among.0, omega (arith, at.among.1), at.among.2);
+        before = go_past first (take at.among.0 blocks) canvas last s ends at.before;
+        room = at.room;
+        state = at.state;
+        ends = at.ends;
+      }
   stop_block first blocks room on canvas last block (Some (outcome.NoMap, s)) ends is =
       let same : first ≡ block = ap (λ g. block_or first g) is in
       let set : canvas ≡ last = ap canvas_of is in
       record {
-        among = subst (Contains (first ∷ blocks)) same (Contains_first first blocks);
+        among = (0, omega arith, same);
+        before = ap full set;
         room = subst HasRoom same room;
         state = s;
         ends = (λ i. block_end terms (sym set i) (sym same i)) ∙ ends;
       }
 
-  pub grown_stop : (blocks : List Block) → AllByRecursion HasRoom blocks → (canvas last : Canvas) (block : Block) → growth_over terms blocks canvas ≡ stopped block last → IsStopped blocks block last
+  pub grown_stop : (blocks : List Block) → AllByRecursion HasRoom blocks → (canvas last : Canvas) (block : Block) → growth_over terms blocks canvas ≡ stopped block last → IsStopped blocks canvas block last
   grown_stop [] room canvas last block is = absurd (none-some block (ap stopped_at is))
   grown_stop (first ∷ blocks) room canvas last block is = stop_block first blocks room.0 (grown_stop blocks room.1) canvas last block (block_end terms canvas first) refl is
 
   -- ---- a block at which the budget was spent
 
-  -- the block is one of these, and where this was set, its run was spent
-  pub record IsSpentAt (blocks : List Block) : Type 0 where
+  -- the block is one of these, those before it set this, and there its run was spent
+  pub record IsSpentAt (blocks : List Block) (canvas : Canvas) : Type 0 where
     pub block : Block
-    pub canvas : Canvas
+    pub last : Canvas
     pub state : State
     pub among : Contains blocks block
-    pub ends : block_end terms canvas block ≡ Some (outcome.Spent, state)
+    pub before : growth_over terms (take among.0 blocks) canvas ≡ full last
+    pub ends : block_end terms last block ≡ Some (outcome.Spent, state)
 
   -- a run has an end
   pub some_end : (P : Network) → IsProblem P → (rule : Rule) (budget : ℕ) (words : Stream) → outcome_of P rule budget words ≡ None → ⊥
@@ -111,20 +122,25 @@ module _ (terms : Terms) (taught : IsPatterns terms.patterns) where
       let r = from_exists P p rule budget (start words) (between_start P budget words) in
       none-some (r.outcome, last_of (start words) r.later) (sym is ∙ from_computed P p rule budget (start words) r.later r.outcome (between_start P budget words) r.run)
 
-  abbrev later_spent : (first : Block) (blocks : List Block) → IsSpentAt blocks → IsSpentAt (first ∷ blocks)
-  later_spent first blocks is = record { block = is.block; canvas = is.canvas; state = is.state; among = Contains_later first blocks is.block is.among; ends = is.ends }
-
-  spend_block : (first : Block) (blocks : List Block) → HasRoom first → ((canvas : Canvas) → growth_over terms blocks canvas ≡ spent → IsSpentAt blocks)
-      → (canvas : Canvas) (o : Option (Outcome × State)) → block_end terms canvas first ≡ o → after_end terms canvas first o (λ next. growth_over terms blocks next) ≡ spent → IsSpentAt (first ∷ blocks)
+  spend_block : (first : Block) (blocks : List Block) → HasRoom first → ((canvas : Canvas) → growth_over terms blocks canvas ≡ spent → IsSpentAt blocks canvas)
+      → (canvas : Canvas) (o : Option (Outcome × State)) → block_end terms canvas first ≡ o → after_end terms canvas first o (λ next. growth_over terms blocks next) ≡ spent → IsSpentAt (first ∷ blocks) canvas
   spend_block first blocks room on canvas None ends is =
       absurd (some_end (problem_of_block terms canvas first) (sample_problem terms.patterns (output_of_block first) (pins_of_block terms.pins canvas first) taught room) terms.rule terms.budget (words_of_seed (seed_of_block terms.seed first)) ends)
   spend_block first blocks room on canvas (Some (outcome.NoMap, s)) ends is = absurd (false≢true (ap is_spent is))
   spend_block first blocks room on canvas (Some (outcome.Spent, s)) ends is =
-      record { block = first; canvas = canvas; state = s; among = Contains_first first blocks; ends = ends }
+      record { block = first; last = canvas; state = s; among = (0, omega arith, refl); before = refl; ends = ends }
   spend_block first blocks room on canvas (Some (outcome.Map, s)) ends is =
-      later_spent first blocks (on (with_block canvas first (picture_of_block terms canvas first s)) is)
+      let at = on (with_block canvas first (picture_of_block terms canvas first s)) is in
+      record {
+        block = at.block;
+        last = at.last;
+        state = at.state;
+        among = (suc at.among.0, omega (arith, at.among.1), at.among.2);
+        before = go_past first (take at.among.0 blocks) canvas at.last s ends at.before;
+        ends = at.ends;
+      }
 
-  pub grown_spent : (blocks : List Block) → AllByRecursion HasRoom blocks → (canvas : Canvas) → growth_over terms blocks canvas ≡ spent → IsSpentAt blocks
+  pub grown_spent : (blocks : List Block) → AllByRecursion HasRoom blocks → (canvas : Canvas) → growth_over terms blocks canvas ≡ spent → IsSpentAt blocks canvas
   grown_spent [] room canvas is = absurd (false≢true (ap is_spent is))
   grown_spent (first ∷ blocks) room canvas is = spend_block first blocks room.0 (grown_spent blocks room.1) canvas (block_end terms canvas first) refl is
 

@@ -1,9 +1,10 @@
 -- Blocks that are each set to a legal picture make a legal picture of the whole.
-use Rattle.std.proofs.Common.{◌≡◌, ℕ, zero, suc, ◌+◌, ◌-◌, ◌*◌, ◌/◌, ◌%◌, ◌<◌, ◌≤◌, Bool, false, Some, length, get_or, sym, subst, ap, ◌∙◌, arith}
+use Rattle.std.proofs.Common.{◌≡◌, ℕ, zero, suc, ◌+◌, ◌-◌, ◌*◌, ◌/◌, ◌%◌, ◌<◌, ◌≤◌, Bool, false, Some, length, get_or, sym, subst, ap, take, zero-add, ◌∙◌, arith}
 use Rattle.std.specs.Prelude.{All, Contains, MatchBool, ◌≢◌}
 use Rattle.std.specs.List.{AllByRecursion}
 use Rattle.std.proofs.Math.Nat.{mod-eq_of_lt, mul-le-mul, mul-le-mul_right, zero-div, zero-mod}
 use Rattle.std.proofs.lemmas.List.Elements.{recursion_from_All}
+use Rattle.std.proofs.lemmas.List.FromFn.{get_or-map-range_with_len, length-map-range_with_len}
 use Rattle.std.proofs.lemmas.Nat.{mod_below, div_below}
 use Rattle.wfc_model.specs.Learned.{learned}
 use Rattle.wfc_model.specs.Legal.{Pin, Rules, IsHeld, IsLegalPicture}
@@ -18,7 +19,7 @@ use Rattle.wfc_overlap.specs.Sample.{output_with}
 use Rattle.wfc_blocks.specs.Blocks.{Area, HasWindow, block_at, block_count, blocks_across, blocks_down, blocks_of, lies_in, output_of_block, stride, whole_of}
 use Rattle.wfc_blocks.specs.Canvas.{Canvas, empty_canvas, canvas_picture, pin_in_block, pins_of_block, pins_within}
 use Rattle.wfc_blocks.specs.CanvasView.{LiesWithin}
-use Rattle.wfc_blocks.specs.Growth.{Terms, IsGrowable, full, growth_of, spent, stopped}
+use Rattle.wfc_blocks.specs.Growth.{Terms, IsGrowable, IsSetBefore, full, growth_of, growth_over, spent, stopped}
 use Rattle.wfc_blocks.specs.declared.block.Block.{Block}
 use Rattle.wfc_blocks.proofs.BlockLemmas.{IsIn, block_inside, found, has_room, lies_from, nearest_found}
 use Rattle.wfc_blocks.proofs.CanvasLemmas.{IsDone, canvas_sized, done-at, height-canvas}
@@ -180,15 +181,33 @@ module _ (sample : Raster) (rules : Rules) (terms : Terms) (area : Area) (last :
 
 -- ---- growth over the whole
 
+-- the place of a block among all is its number
+number_is : (n : ℕ) (area : Area) (block : Block) (among : Contains (blocks_of n area) block) → among.0 ≡ block.number
+number_is n area block among =
+    let count = length-map-range_with_len (λ k. block_at n area k) 0 (block_count n area) in
+    let at : block_at n area among.0 ≡ block = sym (get_or-map-range_with_len (λ k. block_at n area k) 0 (block_count n area) among.0 among.0 block (omega (arith, count, among.1)) (zero-add among.0)) ∙ among.2 in
+    ap (λ (b : Block). b.number) at
+
 module _ (area : Area) (terms : Terms) (taught : IsPatterns terms.patterns) (growable : IsGrowable terms.patterns area) where
   rooms : AllByRecursion (λ block. IsRoom terms.patterns (output_of_block block)) (blocks_of terms.patterns.n area)
   rooms = blocks_room terms.patterns area growable
 
-  pub growth_stopped : (block : Block) (canvas : Canvas) → growth_of area terms ≡ stopped block canvas → IsStopped terms taught (blocks_of terms.patterns.n area) block canvas
+  pub growth_stopped : (block : Block) (canvas : Canvas) → growth_of area terms ≡ stopped block canvas → IsStopped terms taught (blocks_of terms.patterns.n area) empty_canvas block canvas
   growth_stopped block canvas is = grown_stop terms taught (blocks_of terms.patterns.n area) rooms empty_canvas canvas block is
 
-  pub growth_spent : growth_of area terms ≡ spent → IsSpentAt terms taught (blocks_of terms.patterns.n area)
+  pub growth_spent : growth_of area terms ≡ spent → IsSpentAt terms taught (blocks_of terms.patterns.n area) empty_canvas
   growth_spent is = grown_spent terms taught (blocks_of terms.patterns.n area) rooms empty_canvas is
+
+  -- what the blocks before a block of the area set, by its number
+  set_before : (block : Block) (canvas : Canvas) (among : Contains (blocks_of terms.patterns.n area) block) → growth_over terms (take among.0 (blocks_of terms.patterns.n area)) empty_canvas ≡ full canvas → IsSetBefore area terms block canvas
+  set_before block canvas among is =
+      subst (λ k. growth_over terms (take k (blocks_of terms.patterns.n area)) empty_canvas ≡ full canvas) (number_is terms.patterns.n area block among) is
+
+  pub stopped_before : (block : Block) (canvas : Canvas) → growth_of area terms ≡ stopped block canvas → IsSetBefore area terms block canvas
+  stopped_before block canvas is = let at = growth_stopped block canvas is in set_before block canvas at.among at.before
+
+  pub spent_before : (at : IsSpentAt terms taught (blocks_of terms.patterns.n area) empty_canvas) → IsSetBefore area terms at.block at.last
+  spent_before at = set_before at.block at.last at.among at.before
 
   module _ (sample : Raster) (rules : Rules) (by : IsTaughtBy sample rules terms.patterns (whole_of area)) where
     -- the patterns are taught for any sides

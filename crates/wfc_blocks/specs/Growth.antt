@@ -1,6 +1,6 @@
 -- Growth: block after block is filled by the run of its own problem, and keeps what the blocks
 -- before it set.
-use Rattle.std.specs.Prelude.{◌≡◌, ℕ, ◌+◌, ◌%◌, ◌^◌, ◌<◌, ◌≤◌, All, List, [], ◌∷◌, Option, Some}
+use Rattle.std.specs.Prelude.{◌≡◌, ℕ, ◌+◌, ◌%◌, ◌^◌, ◌<◌, ◌≤◌, All, List, [], ◌∷◌, Option, Some, take}
 use Rattle.wfc_choose.specs.Pick.{Rule}
 use Rattle.wfc_model.specs.Legal.{Pin}
 use Rattle.wfc_model.specs.Raster.{Raster}
@@ -85,6 +85,11 @@ growth_of area terms = growth_over terms (blocks_of terms.patterns.n area) empty
 -- growth over an area stops at this block, where this is set
 abbrev pub IsStoppedAt : Area → Terms → Block → Canvas → Type 0
 IsStoppedAt area terms block canvas = growth_of area terms ≡ stopped block canvas
+
+-- growth over the blocks of an area before this one, from where nothing is set, sets this
+abbrev pub IsSetBefore : Area → Terms → Block → Canvas → Type 0
+IsSetBefore area terms block canvas =
+    growth_over terms (take block.number (blocks_of terms.patterns.n area)) empty_canvas ≡ full canvas
 
 -- the area and a block have room for a window, and the first block, which is the largest, has few
 -- enough pairs of a place and a pattern

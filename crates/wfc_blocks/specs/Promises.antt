@@ -13,7 +13,7 @@ use Rattle.wfc_overlap.specs.Built.{picture_pins, picture_problem, texts_of}
 use Rattle.wfc_search.specs.declared.Outcome.TheVariants.{Spent}
 use Rattle.wfc_blocks.specs.Blocks.{Area, blocks_of, output_of_block, whole_of}
 use Rattle.wfc_blocks.specs.Canvas.{Canvas, canvas_picture, lines_of_block, pins_of_block}
-use Rattle.wfc_blocks.specs.Growth.{AreNumbersBelow, HasBlockOutcome, IsGrowable, IsStoppedAt, Terms, full, growth_of, problem_of_block}
+use Rattle.wfc_blocks.specs.Growth.{AreNumbersBelow, HasBlockOutcome, IsGrowable, IsSetBefore, IsStoppedAt, Terms, full, growth_of, problem_of_block}
 use Rattle.wfc_blocks.specs.StuckView.{StuckView}
 use Rattle.wfc_blocks.specs.declared.block.Block.{Block}
 use Rattle.wfc_blocks.specs.declared.grown.Grown.{Grown}
@@ -113,8 +113,8 @@ BuildStuckProblem palette lines area terms =
     → picture_problem terms.patterns palette (output_of_block block) (lines_of_block (texts_of palette) lines canvas block)
     ≡ Ok (problem_of_block terms canvas block)
 
--- the run of one of the area's blocks is spent, where something is set
+-- the run of one of the area's blocks is spent, where this is set, which the blocks before it set
 abbrev pub HasSpentBlock : Area → Terms → Type 0
 HasSpentBlock area terms =
     (block : Block) × (canvas : Canvas) × Contains (blocks_of terms.patterns.n area) block
-    × HasBlockOutcome terms canvas block Spent
+    × IsSetBefore area terms block canvas × HasBlockOutcome terms canvas block Spent

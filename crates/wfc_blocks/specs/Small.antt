@@ -11,7 +11,10 @@ use Rattle.wfc_pins.specs.PinView.{PinView}
 use Rattle.wfc_blocks.specs.Blocks.{Area, area_with, block_at}
 use Rattle.wfc_blocks.specs.declared.block.Block.{Block}
 use Rattle.wfc_blocks.specs.Canvas.{Canvas, empty_canvas, with_block}
+use Rattle.wfc_blocks.specs.Grown.{terms_with}
+use Rattle.wfc_blocks.specs.Growth.{Terms}
 use Rattle.wfc_blocks.specs.StuckView.{StuckView}
+use Rattle.wfc_search.specs.Small.{scanline}
 
 -- five columns and four rows in blocks of three
 abbrev pub five_by_four : Area
@@ -78,3 +81,28 @@ stuck_board = record {
   block = block_with 1 1 0 2 2;
   pins = window_pin_line 0 true 0 0 (codes "b") ∷ window_pin_line 0 true 0 1 (codes "a") ∷ [];
 }
+
+-- three by two pixels in two blocks, by one board alone
+abbrev pub one_board_terms : Terms
+one_board_terms = terms_with one_board scanline 0 7 []
+
+-- the first of these blocks is set to the board
+abbrev pub board_set : Canvas
+board_set = with_block empty_canvas (block_with 0 0 0 2 2) (raster_of 2 2 (0 ∷ 1 ∷ 1 ∷ 0 ∷ []))
+
+-- five windows of two by two, by which no picture of three by three has 2 at the lower left and 0 in the middle and at the
+-- other corners, though two of them fit at each place
+abbrev pub five_windows : PatternsView
+five_windows = record {
+  n = 2;
+  windows =
+      (0 ∷ 0 ∷ 0 ∷ 0 ∷ []) ∷ (0 ∷ 1 ∷ 1 ∷ 0 ∷ []) ∷ (1 ∷ 0 ∷ 0 ∷ 1 ∷ []) ∷ (0 ∷ 0 ∷ 2 ∷ 1 ∷ [])
+      ∷ (1 ∷ 0 ∷ 2 ∷ 0 ∷ []) ∷ [];
+  weights = 1 ∷ 1 ∷ 1 ∷ 1 ∷ 1 ∷ [];
+}
+
+-- growth by them with these pins and no retraction
+abbrev pub five_terms : Terms
+five_terms =
+    terms_with five_windows scanline 0 7
+    (kept_pin 0 0 0 ∷ kept_pin 2 0 0 ∷ kept_pin 1 1 0 ∷ kept_pin 0 2 2 ∷ kept_pin 2 2 0 ∷ [])

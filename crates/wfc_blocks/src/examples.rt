@@ -10,9 +10,10 @@ ghost use Rattle.wfc_blocks.specs.Blocks.{HasWindow, area_with, block_at, block_
 ghost use Rattle.wfc_blocks.specs.Blocks.{blocks_along, blocks_down, blocks_of, lies_in, output_of_block, stride, whole_of};
 ghost use Rattle.wfc_blocks.specs.Canvas.{empty_canvas, canvas_picture, lines_of_block, number_set, pin_in_block, pins_of_block, set_line};
 ghost use Rattle.wfc_search.specs.Small.{scanline};
-ghost use Rattle.wfc_blocks.specs.Growth.{AreNumbersBelow, seed_of_block};
+ghost use Rattle.wfc_blocks.specs.Growth.{AreNumbersBelow, IsSetBefore, seed_of_block};
 ghost use Rattle.wfc_blocks.specs.Grown.{grown_of};
-ghost use Rattle.wfc_blocks.specs.Small.{block_with, first_is_a, first_set, five_by_four, nine_set, one_board, right_block_lines};
+ghost use Rattle.wfc_blocks.specs.Promises.{HasSpentBlock};
+ghost use Rattle.wfc_blocks.specs.Small.{block_with, board_set, first_is_a, first_set, five_by_four, five_terms, nine_set, one_board, one_board_terms, right_block_lines};
 ghost use Rattle.wfc_blocks.specs.Small.{stuck_board, three_pins, twenty_texts, two_boards, two_file_lines, two_letters, two_pins};
 ghost use Rattle.wfc_blocks.specs.declared.grown.Grown.TheVariants as grown;
 ghost use Rattle.wfc_blocks.specs.declared.grown.GrowFault.TheVariants as faults;
@@ -112,6 +113,24 @@ pub fn grown_boards()
         ≡ Ok (grown.Stuck stuck_board) }
     ensures below { AreNumbersBelow 2 two_boards }
     ensures not_below { AreNumbersBelow 1 two_boards → ⊥ }
+{}
+
+/// Before the first block nothing is set, and before the second what the first set.
+pub fn canvases_before_blocks()
+    ensures first { IsSetBefore (area_with 3 2 2) one_board_terms (block_with 0 0 0 2 2)
+        empty_canvas }
+    ensures second { IsSetBefore (area_with 3 2 2) one_board_terms (block_with 1 1 0 2 2)
+        board_set }
+    ensures not_yet { IsSetBefore (area_with 3 2 2) one_board_terms (block_with 0 0 0 2 2)
+        board_set → ⊥ }
+    ensures no_longer { IsSetBefore (area_with 3 2 2) one_board_terms (block_with 1 1 0 2 2)
+        empty_canvas → ⊥ }
+{}
+
+/// A block whose run is spent: each choice fails. Where the second of two blocks is stuck, none is.
+pub fn spent_blocks()
+    ensures spent { HasSpentBlock (area_with 3 3 3) five_terms }
+    ensures stuck { HasSpentBlock (area_with 3 2 2) one_board_terms → ⊥ }
 {}
 
 /// What isn't grown: a side below that of a window, which comes before all else, too many blocks, a

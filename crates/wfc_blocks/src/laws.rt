@@ -15,7 +15,7 @@ ghost use Rattle.wfc_pins.specs.PinView.{PinView};
 ghost use Rattle.wfc_search.specs.declared.Outcome.TheVariants.{NoMap};
 ghost use Rattle.wfc_blocks.specs.Blocks.{Area, IsBlockIn, block_at, block_count, blocks_of, output_of_block, HasBlock, HasOneBlock, HasPixelBlock, output_at};
 ghost use Rattle.wfc_blocks.specs.Canvas.{Canvas, pins_of_block};
-ghost use Rattle.wfc_blocks.specs.Growth.{HasBlockOutcome, IsGrowable, Terms, growth_of, spent};
+ghost use Rattle.wfc_blocks.specs.Growth.{HasBlockOutcome, IsGrowable, IsSetBefore, Terms, growth_of, spent};
 ghost use Rattle.wfc_blocks.specs.declared.block.Block.{Block};
 
 use crate::MAX_BLOCKS;
@@ -68,11 +68,12 @@ pub fn grown_maps_are_legal()
         GrowsWhole sample rules area terms }
 {}
 
-/// Where growth stops at a block, that is one of the area's, its run ends without a map, and its
-/// pins admit none.
+/// Where growth stops at a block, that is one of the area's, those before it set what is set, its
+/// run ends without a map, and its pins admit none.
 pub fn stuck_blocks_have_no_map()
     ensures among { HoldsOfStopped
         (λ area terms block canvas. Contains (blocks_of terms.patterns.n area) block) }
+    ensures before { HoldsOfStopped IsSetBefore }
     ensures room { HoldsOfStopped
         (λ area terms block canvas. IsRoom terms.patterns (output_of_block block)) }
     ensures ends { HoldsOfStopped
@@ -90,7 +91,7 @@ pub fn stuck_lines_are_the_pins()
         BuildStuckProblem palette lines area terms }
 {}
 
-/// Where growth is spent, the run of one of the area's blocks is.
+/// Where growth is spent, the run of one of the area's blocks is, from what those before it set.
 pub fn spent_growth_has_a_spent_block()
     ensures spent { (area : Area) (terms : Terms) → IsPatterns terms.patterns →
         IsGrowable terms.patterns area → growth_of area terms ≡ spent → HasSpentBlock area terms }

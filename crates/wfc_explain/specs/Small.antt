@@ -23,6 +23,24 @@ two_cells_with _ = pair
 abbrev pub three_lines : PinnedView
 three_lines = record { lines = 3; problem_of = two_cells_with }
 
+-- where the first of them is always kept, with the second and the last
+abbrev pub after_the_first : List Bool → Network
+after_the_first (one ∷ other ∷ []) = two_cells_with (true ∷ one ∷ other ∷ [])
+after_the_first _ = pair
+
+-- with these two lines
+abbrev pub two_more_lines : PinnedView
+two_more_lines = record { lines = 2; problem_of = after_the_first }
+
+-- where the second is kept exactly if it is left out: no pinned problem is so
+abbrev pub turned_after_the_first : List Bool → Network
+turned_after_the_first (one ∷ other ∷ []) = two_cells_with (true ∷ not one ∷ other ∷ [])
+turned_after_the_first _ = pair
+
+-- with these two lines
+abbrev pub two_turned_lines : PinnedView
+two_turned_lines = record { lines = 2; problem_of = turned_after_the_first }
+
 -- of three cells in a ring that differ, with a line that bans value 1 from the second
 abbrev pub ring_with : List Bool → Network
 ring_with (banned ∷ []) = record ring { base = true ∷ true ∷ true ∷ not banned ∷ true ∷ true ∷ [] }

@@ -11,14 +11,14 @@ ghost use Rattle.wfc_search.specs.declared.Outcome.TheVariants as outcome;
 ghost use Rattle.wfc_tiled.specs.Mask.{plain_mask};
 ghost use Rattle.wfc_tiled.specs.Small.{line_and_cross, tile_pin_line as tile_line, two_holes};
 ghost use Rattle.wfc_tiled.specs.Tiles.{problem_of_tiles};
-ghost use Rattle.wfc_explain.specs.Blame.{IsTrueCore, core_lines};
+ghost use Rattle.wfc_explain.specs.Blame.{HasMap, IsTrueCore, IsTrueExplained, KeepsMaps, core_lines};
 ghost use Rattle.wfc_explain.specs.KeptLines.{kept_of};
 ghost use Rattle.wfc_explain.specs.Masks.{given_mask};
 ghost use Rattle.wfc_explain.specs.Outcomes.{outcome_with};
 ghost use Rattle.wfc_explain.specs.Pinned.{IsAlike, IsFewer};
 ghost use Rattle.wfc_explain.specs.Problems.{pinned_sample, pinned_tiles, sample_pins, tiles_pins};
 ghost use Rattle.wfc_explain.specs.Small.{blank_line, one_kept, no_lines, one_line, two_cells_with, ring_with};
-ghost use Rattle.wfc_explain.specs.Small.{three_choices, three_lines, turned_line, two_of_three, two_sample_lines, two_tile_lines};
+ghost use Rattle.wfc_explain.specs.Small.{three_choices, three_lines, turned_line, two_more_lines, two_of_three, two_sample_lines, two_tile_lines, two_turned_lines};
 ghost use Rattle.wfc_explain.specs.Trials.{all_lines, core_of, trial_with, explanation_of, outcome_mark, lines_without};
 ghost use Rattle.wfc_explain.specs.declared.explained.Explained.TheVariants.{Core, MapExists, Spent};
 ghost use Rattle.wfc_explain.specs.declared.explained.Mark.TheVariants.{Needed, Undecided};
@@ -63,6 +63,17 @@ pub fn relations_by_example()
     ensures more { IsFewer (true ∷ true ∷ []) (false ∷ true ∷ []) → ⊥ }
     ensures alike { IsAlike pair (two_cells_with (true ∷ false ∷ true ∷ [])) }
     ensures other { IsAlike pair ring → ⊥ }
+{}
+
+/// Some lines admit a map, and others none. That a map exists is said of all lines together. And
+/// where more of them have one, fewer do, but not where a line is kept exactly if it is left out.
+pub fn maps_by_example()
+    ensures map { HasMap (two_cells_with (true ∷ false ∷ true ∷ [])) }
+    ensures no_map { HasMap (two_cells_with (true ∷ true ∷ false ∷ [])) → ⊥ }
+    ensures exists { IsTrueExplained two_turned_lines MapExists }
+    ensures none_exists { IsTrueExplained two_more_lines MapExists → ⊥ }
+    ensures keeps { KeepsMaps two_more_lines }
+    ensures loses { KeepsMaps two_turned_lines → ⊥ }
 {}
 
 /// The lines of a core rise, are lines, admit no map, and need each one that is marked so.

@@ -1,20 +1,20 @@
 -- What a call of `grow` wrote of a stuck block, and where a budget was spent.
-use Rattle.std.proofs.Common.{List, ap, arith, inl, inr, refl, sym, ◌+◌, ◌∙◌, ◌≡◌, ◌≤◌}
+use Rattle.std.proofs.Common.{List, ap, arith, inl, inr, refl, subst, sym, ◌+◌, ◌∙◌, ◌≡◌, ◌≤◌}
 use Rattle.std.proofs.lemmas.List.Elements.{All-contains, All-from_recursion}
 use Rattle.std.specs.Prelude.{Contains}
-use Rattle.wfc_blocks.proofs.CallerLemmas.{growth_spent}
+use Rattle.wfc_blocks.proofs.CallerLemmas.{growth_spent, growth_stopped, spent_before, stopped_before}
 use Rattle.wfc_blocks.proofs.WholeLemmas.{blocks_room}
 use Rattle.wfc_blocks.specs.Blocks.{Area, blocks_of, output_of_block}
-use Rattle.wfc_blocks.specs.Canvas.{Canvas, pins_of_block}
-use Rattle.wfc_blocks.specs.Grown.{shown_growth, terms_with}
-use Rattle.wfc_blocks.specs.Growth.{Growth, IsGrowable, full, growth_of, problem_of_block, seed_of_block, spent, stopped}
+use Rattle.wfc_blocks.specs.Canvas.{Canvas, lines_of_block, pins_of_block}
+use Rattle.wfc_blocks.specs.Grown.{shown_growth, stuck_in, terms_with}
+use Rattle.wfc_blocks.specs.Growth.{Growth, IsGrowable, Terms, full, growth_of, problem_of_block, seed_of_block, spent, stopped}
 use Rattle.wfc_blocks.specs.StuckView.{StuckView}
 use Rattle.wfc_blocks.specs.declared.block.Block.{Block}
 use Rattle.wfc_blocks.specs.declared.grown.Grown.{Grown}
 use Rattle.wfc_blocks.specs.declared.grown.Grown.TheVariants as grown
 use Rattle.wfc_choose.specs.Pick.{Rule}
 use Rattle.wfc_grow_command.specs.GrowAnswer.{stuck_start}
-use Rattle.wfc_grow_command.specs.GrowClaims.{GrowWork, GrowsTo, IsSpentBelow, WritesGrown, WritesStuckBlock, WritesStuckRun, grow_rules}
+use Rattle.wfc_grow_command.specs.GrowClaims.{GrowWork, GrowsTo, IsComeTo, IsSpentBelow, IsSpentBlock, WritesGrown, WritesStuckBlock, WritesStuckRun, grow_rules, terms_of_work}
 use Rattle.wfc_grow_command.specs.GrowCommand.{grow_command}
 use Rattle.wfc_grow_command.specs.GrowTask.{area_asked}
 use Rattle.wfc_grow_command.specs.StuckText.{block_shape, block_writing}
@@ -38,6 +38,16 @@ use Rattle.wfc_search.specs.declared.Outcome.TheVariants as outcome
 use Rattle.wfc_words.specs.RequestView.{RequestView}
 use Rattle.wfc_words.specs.declared.kinds.CommandKind.TheVariants as commands
 use Rattle.wfc_grow_command.proofs.GrowWorkLemmas.{IsKnown, is_as_grown, known, work_grown, work_promises}
+
+-- ---- growth
+
+-- the pins that growth went by are those of the work
+grown_shown : {rules : List Rule} {files : List File} (asked : RequestView) (work : GrowWork rules asked files) (made : Grown) → IsKnown asked work → GrowsTo asked work made
+    → shown_growth (texts_of work.task.palette) work.task.lines (area_asked asked) (growth_of (area_asked asked) (terms_of_work asked work)) ≡ made
+grown_shown asked work made is grows =
+    let by = work_grown asked work made is grows in
+    let one : by.pins ≡ work.given.pins = cc (by.meant, work.given.meant) in
+    ap (λ (ps : List Pin). shown_growth (texts_of work.task.palette) work.task.lines (area_asked asked) (growth_of (area_asked asked) (terms_with work.task.patterns work.rule asked.budget asked.seed ps))) (sym one) ∙ by.is
 
 -- ---- stuck blocks
 
@@ -66,18 +76,54 @@ written_stuck call asked files came eight =
     by_made work (grown.Stuck stuck) grows writes = record { work = work; stuck = stuck; grows = grows; writes = writes.1 }
     by_made work grown.Spent grows writes = absurd (omega (arith, writes.0, eight))
 
+-- growth came to it, and its lines are those of what was set there
+record HasCome {rules : List Rule} {files : List File} (asked : RequestView) (work : GrowWork rules asked files) (stuck : StuckView) : Type 0 where
+  canvas : Canvas
+  come : IsComeTo asked work stuck.block canvas
+  lines : stuck.pins ≡ lines_of_block (texts_of work.task.palette) work.task.lines canvas stuck.block
+
+stuck_come : {rules : List Rule} {files : List File} (asked : RequestView) (work : GrowWork rules asked files) (stuck : StuckView) → IsKnown asked work → GrowsTo asked work (grown.Stuck stuck) → HasCome asked work stuck
+stuck_come asked work stuck is grows = by_growth (growth_of area terms) refl (grown_shown asked work (grown.Stuck stuck) is grows)
+  where
+    area : Area
+    area = area_asked asked
+
+    terms : Terms
+    terms = terms_of_work asked work
+
+    -- of a block at which growth stopped
+    HasComeTo : StuckView → Type 0
+    HasComeTo stuck = HasCome asked work stuck
+
+    by_growth : (g : Growth) → growth_of area terms ≡ g → shown_growth (texts_of work.task.palette) work.task.lines area g ≡ grown.Stuck stuck → HasCome asked work stuck
+    by_growth (full canvas) ends shown = absurd (cc (shown))
+    by_growth spent ends shown = absurd (cc (shown))
+    by_growth (stopped block canvas) ends shown =
+        let taught = is.lesson.patterns in
+        let growable = (work_grown asked work (grown.Stuck stuck) is grows).growable in
+        let own = stuck_in (texts_of work.task.palette) work.task.lines canvas block in
+        let same : own ≡ stuck = cc (shown) in
+        subst HasComeTo same (record {
+          canvas = canvas;
+          come = record { among = (growth_stopped area terms taught growable block canvas ends).among; before = stopped_before area terms taught growable block canvas ends };
+          lines = refl;
+        })
+
 pub writes_stuck_block : (call : Call) (asked : RequestView) (files : List File) → IsCommand commands.Grow call asked files → CameTo grow_command call asked files → WritesStuckBlock call asked files
 writes_stuck_block call asked files is came eight =
     let at = written_stuck call asked files came eight in
     let work = at.work in
     let stuck = at.stuck in
     let is_known = known call asked files is work in
-    let block = (work_promises asked work (grown.Stuck stuck) is_known at.grows).1 in (
+    let block = (work_promises asked work (grown.Stuck stuck) is_known at.grows).1 in
+    let come = stuck_come asked work stuck is_known at.grows in (
       work,
       stuck,
       writing_text (block_writing asked stuck.block) at.writes.P at.writes.lines,
       record {
-        among = block.among;
+        canvas = come.canvas;
+        come = come.come;
+        lines = come.lines;
         pins = block.pins;
         meant = block.meant is_known.named;
         none = λ m legal. block.none work.given.sample.picture (grow_rules asked) m (is_known.windows stuck.block.width stuck.block.height) legal;
@@ -99,30 +145,33 @@ is_spent_below call asked files is came two =
     let as_grown = is_as_grown call asked files came (inl (omega (arith, two))) in by_made as_grown.0 as_grown.1 as_grown.2 as_grown.3
   where
     Below : Type 0
-    Below =
-        (work : GrowWork call.rules asked files) × (block : Block) × (canvas : Canvas) × Contains (blocks_of work.task.patterns.n (area_asked asked)) block
-        × (asked.budget + 1 ≤ volume_of (problem_of_block (terms_with work.task.patterns work.rule asked.budget asked.seed work.given.pins) canvas block))
+    Below = (work : GrowWork call.rules asked files) × (block : Block) × IsSpentBlock asked work block
 
-    by_growth : (work : GrowWork call.rules asked files) (g : Growth) → growth_of (area_asked asked) (terms_with work.task.patterns work.rule asked.budget asked.seed work.given.pins) ≡ g
+    by_growth : (work : GrowWork call.rules asked files) (g : Growth) → growth_of (area_asked asked) (terms_of_work asked work) ≡ g
         → shown_growth (texts_of work.task.palette) work.task.lines (area_asked asked) g ≡ grown.Spent → IsKnown asked work → IsGrowable work.task.patterns (area_asked asked) → Below
     by_growth work (full canvas) ends shown is_known growable = absurd (cc (shown))
     by_growth work (stopped block canvas) ends shown is_known growable = absurd (cc (shown))
     by_growth work spent ends shown is_known growable =
-        let terms = terms_with work.task.patterns work.rule asked.budget asked.seed work.given.pins in
-        let at = growth_spent (area_asked asked) terms is_known.lesson.patterns growable ends in
-        let room = room_among work.task.patterns (area_asked asked) at.block growable at.among in
-        let problem = sample_problem work.task.patterns (output_of_block at.block) (pins_of_block work.given.pins at.canvas at.block) is_known.lesson.patterns room in
-        let below = (outcome_spent (problem_of_block terms at.canvas at.block) problem work.rule asked.budget (words_of_seed (seed_of_block asked.seed at.block)) at.state at.ends).1 in
-        (work, at.block, at.canvas, at.among, omega (arith, below))
+        let area = area_asked asked in
+        let terms = terms_of_work asked work in
+        let taught = is_known.lesson.patterns in
+        let at = growth_spent area terms taught growable ends in
+        let room = room_among work.task.patterns area at.block growable at.among in
+        let problem = sample_problem work.task.patterns (output_of_block at.block) (pins_of_block work.given.pins at.last at.block) taught room in
+        let below = (outcome_spent (problem_of_block terms at.last at.block) problem work.rule asked.budget (words_of_seed (seed_of_block asked.seed at.block)) at.state at.ends).1 in (
+          work,
+          at.block,
+          record {
+            canvas = at.last;
+            come = record { among = at.among; before = spent_before area terms taught growable at };
+            ends = (at.state, at.ends);
+            below = omega (arith, below);
+          },
+        )
 
     by_made : (work : GrowWork call.rules asked files) (made : Grown) → GrowsTo asked work made → WritesGrown asked work call made → Below
     by_made work (grown.Map m) grows writes = absurd (omega (arith, writes.0, two))
     by_made work (grown.Stuck stuck) grows writes = absurd (omega (arith, writes.0, two))
     by_made work grown.Spent grows writes =
         let is_known = known call asked files is work in
-        let by = work_grown asked work grown.Spent is_known grows in
-        let one : by.pins ≡ work.given.pins = cc (by.meant, work.given.meant) in
-        let terms = terms_with work.task.patterns work.rule asked.budget asked.seed work.given.pins in
-        by_growth work (growth_of (area_asked asked) terms) refl
-        (ap (λ (ps : List Pin). shown_growth (texts_of work.task.palette) work.task.lines (area_asked asked) (growth_of (area_asked asked) (terms_with work.task.patterns work.rule asked.budget asked.seed ps))) (sym one) ∙ by.is)
-        is_known by.growable
+        by_growth work (growth_of (area_asked asked) (terms_of_work asked work)) refl (grown_shown asked work grown.Spent is_known grows) is_known (work_grown asked work grown.Spent is_known grows).growable

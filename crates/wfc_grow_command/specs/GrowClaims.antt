@@ -1,8 +1,8 @@
 -- What `grow` promises, in the words of its subject.
 use Rattle.std.specs.Prelude.{Contains, List, Ok, Some, false, length, take, ℕ, ◌+◌, ◌++◌, ◌≡◌, ◌≤◌, ◌⊎◌}
 use Rattle.wfc_blocks.specs.Blocks.{blocks_of}
-use Rattle.wfc_blocks.specs.Canvas.{Canvas}
-use Rattle.wfc_blocks.specs.Growth.{problem_of_block}
+use Rattle.wfc_blocks.specs.Canvas.{Canvas, lines_of_block}
+use Rattle.wfc_blocks.specs.Growth.{HasBlockOutcome, IsSetBefore, Terms, problem_of_block}
 use Rattle.wfc_blocks.specs.Grown.{terms_with}
 use Rattle.wfc_blocks.specs.StuckView.{StuckView}
 use Rattle.wfc_blocks.specs.declared.block.Block.{Block}
@@ -51,6 +51,10 @@ grow_rules asked =
 abbrev pub GrowsTo : {rules : List Rule} {files : List File} (asked : RequestView) → GrowWork rules asked files → Grown → Type 0
 GrowsTo asked work made = IsGrowthBy asked work.task work.rule made
 
+-- what the map is grown by: the pins that the lines mean, the work's rule, and the budget of each block and the seed asked for
+abbrev pub terms_of_work : {rules : List Rule} {files : List File} (asked : RequestView) → GrowWork rules asked files → Terms
+terms_of_work asked work = terms_with work.task.patterns work.rule asked.budget asked.seed work.given.pins
+
 -- the map is one of the whole size, whose windows are all learned from the sample, and all pins and bans hold
 abbrev pub IsGrownMap : {rules : List Rule} {files : List File} (asked : RequestView) → GrowWork rules asked files → Raster → Type 0
 IsGrownMap asked work m =
@@ -67,10 +71,19 @@ WritesGrownMap call asked files =
     → (work : GrowWork call.rules asked files) × (m : Raster) × IsGrownMap asked work m
     × (call.after.out ≡ after_finish (after_bytes call.before.out (text_of_grown asked work m)))
 
--- the block is one of the map's, and its lines of pins, as they are written, mean pins that no map of it holds
+-- growth comes to this block of the map where this is set: the blocks before it set it, from where nothing is set
+pub record IsComeTo {rules : List Rule} {files : List File} (asked : RequestView) (work : GrowWork rules asked files)
+    (block : Block) (canvas : Canvas) : Type 0 where
+  pub among : Contains (blocks_of work.task.patterns.n (area_asked asked)) block
+  pub before : IsSetBefore (area_asked asked) (terms_of_work asked work) block canvas
+
+-- growth comes to the block, its lines of pins are those of what is set there and those of the file, and they mean, as they
+-- are written, pins that no map of it holds
 pub record IsStuckBlock {rules : List Rule} {files : List File} (asked : RequestView) (work : GrowWork rules asked files)
     (stuck : StuckView) : Type 0 where
-  pub among : Contains (blocks_of work.task.patterns.n (area_asked asked)) stuck.block
+  pub canvas : Canvas
+  pub come : IsComeTo asked work stuck.block canvas
+  pub lines : stuck.pins ≡ lines_of_block (texts_of work.task.palette) work.task.lines canvas stuck.block
   pub pins : List Pin
   pub meant : picture_pins (texts_of work.task.palette) stuck.block.width stuck.block.height stuck.pins ≡ Ok pins
   pub none : (m : Raster) → IsLegalPicture work.given.sample.picture (grow_rules asked) pins stuck.block.width
@@ -119,14 +132,18 @@ IsAsGrown call asked files =
     HasAnswer call.status
     → (work : GrowWork call.rules asked files) × (made : Grown) × GrowsTo asked work made × WritesGrown asked work call made
 
--- with status 2 of `grow` the budget is below the volume of the problem of some block with something set around it
+-- growth comes to the block, whose run is spent there, and the budget is below the volume of its problem
+pub record IsSpentBlock {rules : List Rule} {files : List File} (asked : RequestView) (work : GrowWork rules asked files)
+    (block : Block) : Type 0 where
+  pub canvas : Canvas
+  pub come : IsComeTo asked work block canvas
+  pub ends : HasBlockOutcome (terms_of_work asked work) canvas block outcome.Spent
+  pub below : asked.budget + 1 ≤ volume_of (problem_of_block (terms_of_work asked work) canvas block)
+
+-- with status 2 of `grow` growth came to a block whose run was spent, and the budget is below the volume of its problem
 abbrev pub IsSpentBelow : Call → RequestView → List File → Type 0
 IsSpentBelow call asked files =
-    call.status ≡ 2
-    → (work : GrowWork call.rules asked files) × (block : Block) × (canvas : Canvas)
-    × Contains (blocks_of work.task.patterns.n (area_asked asked)) block
-    × (asked.budget + 1 ≤ volume_of (problem_of_block
-    (terms_with work.task.patterns work.rule asked.budget asked.seed work.given.pins) canvas block))
+    call.status ≡ 2 → (work : GrowWork call.rules asked files) × (block : Block) × IsSpentBlock asked work block
 
 -- the bytes are the text of all lines of the run of a stuck block
 pub record IsWholeStuckRun {rules : List Rule} {files : List File} (asked : RequestView) (work : GrowWork rules asked files)
@@ -180,7 +197,7 @@ pub record GrowPromise (call : Call) (asked : RequestView) (files : List File) :
   pub stuck : WritesStuckBlock call asked files
   -- the status and what is written are those of the defined growth
   pub as_grown : IsAsGrown call asked files
-  -- a budget that was spent is below the volume of the problem of a block
+  -- a budget that was spent is that of a block's run, and below the volume of its problem
   pub spent : IsSpentBelow call asked files
   -- with status 5 nothing was written, or a front of the text of the growth
   pub front : CutsText (IsGrowText call.rules) call asked files
