@@ -13,7 +13,8 @@ use Rattle.wfc_overlap.specs.Built.{picture_pins, picture_problem, texts_of}
 use Rattle.wfc_search.specs.declared.Outcome.TheVariants.{Spent}
 use Rattle.wfc_blocks.specs.Blocks.{Area, blocks_of, output_of_block, whole_of}
 use Rattle.wfc_blocks.specs.Canvas.{Canvas, canvas_picture, lines_of_block, pins_of_block}
-use Rattle.wfc_blocks.specs.Growth.{AreNumbersBelow, HasBlockOutcome, IsGrowable, IsSetBefore, IsStoppedAt, Terms, full, growth_of, problem_of_block}
+use Rattle.wfc_blocks.specs.Growth.{AreNumbersBelow, HasBlockOutcome, IsGrowable, IsSetBefore, IsStoppedAt, Terms, full, growth_of}
+use Rattle.wfc_blocks.specs.Growth.{problem_of_block}
 use Rattle.wfc_blocks.specs.StuckView.{StuckView}
 use Rattle.wfc_blocks.specs.declared.block.Block.{Block}
 use Rattle.wfc_blocks.specs.declared.grown.Grown.{Grown}

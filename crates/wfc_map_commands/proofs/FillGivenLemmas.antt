@@ -119,11 +119,11 @@ filled_of_tiles kinds asked files set mask layout P task =
     (ok_step (tile_layout set asked) files layout (ok_refused refusals.Render (layout_of (kind_of set.pictures) asked.form asked.width asked.height (side_of set.pictures)) layout task.written))
     ∙ outcome_on (tiled_plan asked set) (fill_made_tiles set layout) files (mask, P) (given_tiled asked files set mask P task.problem)
 
-windows_fill : (source : SourceModel) (asked : RequestView) → is_of_windows source ≡ true → fill_plan_by source asked ≡ fill_sample_plan asked
+pub windows_fill : (source : SourceModel) (asked : RequestView) → is_of_windows source ≡ true → fill_plan_by source asked ≡ fill_sample_plan asked
 windows_fill (Overlap n) asked is = refl
 windows_fill Tiles asked is = absurd (cc)
 
-tiles_fill : (source : SourceModel) (asked : RequestView) → is_of_windows source ≡ false → fill_plan_by source asked ≡ fill_tiles_plan asked
+pub tiles_fill : (source : SourceModel) (asked : RequestView) → is_of_windows source ≡ false → fill_plan_by source asked ≡ fill_tiles_plan asked
 tiles_fill (Overlap n) asked is = absurd (cc)
 tiles_fill Tiles asked is = refl
 

@@ -1,7 +1,7 @@
 //! The command `fill`: the map that a run ends in.
 
 ghost use Rattle.wfc_plan.specs.Kinds.{HasChoosers};
-ghost use Rattle.std.specs.Prelude.{IfOk, Some, map, ◌≡◌};
+ghost use Rattle.std.specs.Prelude.{IfOk, Some, false, map, true, ◌≡◌};
 ghost use Rattle.wfc_map_commands.specs.FillAnswer.{fill_by, picture_text, tiles_text};
 ghost use Rattle.wfc_map_commands.specs.FillCommand.{fill_command};
 ghost use Rattle.wfc_map_commands.specs.Filling.{IsFilling, IsFillingBy, IsTileFilling};
@@ -11,11 +11,12 @@ ghost use Rattle.wfc_reply.specs.Choosers.{kinds_of};
 ghost use Rattle.wfc_reply.specs.Ends.{EndsBy};
 ghost use Rattle.wfc_reply.specs.Reply.{done_with};
 ghost use Rattle.wfc_reply.specs.ReplyView.{IsAnsweredAs, answer_view, reply_view};
-ghost use Rattle.wfc_task.specs.Asked.{IsOutputAsked, IsSourceAsked};
+ghost use Rattle.wfc_task.specs.Asked.{IsOutputAsked, IsSampleAsked, IsSourceAsked};
+ghost use Rattle.wfc_task.specs.Sources.{is_of_windows};
 ghost use Rattle.wfc_task.specs.Tiling.{mask_or_whole};
 ghost use Rattle.wfc_tiled.specs.Maps.{tile_map};
 
-use crate::filling::{Filled, Filling, TileFilling, fill_task};
+use crate::filling::{Filled, Filling, TileFilling, fill_sample_task, fill_tiles_task};
 use std::alloc::Global;
 use wfc_choose::Chooser;
 use wfc_outside::{Folder, NoMemory};
@@ -27,7 +28,7 @@ use wfc_render::{picture_bytes, tile_bytes};
 use wfc_reply::{Answer, CommandVerdict, first_chooser, kinds};
 use wfc_runs::{RunEnd, run};
 use wfc_tiled::{tiles_of, tiles_of_masked};
-use wfc_words::Request;
+use wfc_words::{Request, SourceModel};
 
 /// Reads the files, and answers the text of the map in which the run ends.
 pub fn fill<F: Folder>(
@@ -41,8 +42,45 @@ pub fn fill<F: Folder>(
     ensures ends { EndsBy fill_command (map (λ chooser. (told chooser).rule) choosers.items)
         request.now (F.seen folder.old) (F.seen folder.new) (reply_view result) }
 {
+    match request.source {
+        SourceModel::Overlap { .. } => fill_sample(alloc, request, choosers, folder),
+        SourceModel::Tiles => fill_tiles(alloc, request, choosers, folder),
+    }
+}
+
+/// The same for a sample.
+fn fill_sample<F: Folder>(
+    alloc: Global,
+    request: &Request,
+    choosers: Vec<Box<dyn Chooser>>,
+    folder: &mut F,
+) -> Result<Answer, Fault>
+    requires windows { is_of_windows request.now.source ≡ true }
+    requires sample { IsSampleAsked request.now }
+    requires output { IsOutputAsked request.now }
+    ensures ends { EndsBy fill_command (map (λ chooser. (told chooser).rule) choosers.items)
+        request.now (F.seen folder.old) (F.seen folder.new) (reply_view result) }
+{
     let kinds = kinds(alloc, &choosers)?;
-    let filled = fill_task(alloc, request, &kinds, folder)?;
+    let filled = fill_sample_task(alloc, request, &kinds, folder)?;
+    let answer = answer(alloc, request, choosers, &filled)?;
+    Ok(answer)
+}
+
+/// The same for a tile set, whose code lies behind that which runs and writes any map.
+fn fill_tiles<F: Folder>(
+    alloc: Global,
+    request: &Request,
+    choosers: Vec<Box<dyn Chooser>>,
+    folder: &mut F,
+) -> Result<Answer, Fault>
+    requires tiles { is_of_windows request.now.source ≡ false }
+    requires output { IsOutputAsked request.now }
+    ensures ends { EndsBy fill_command (map (λ chooser. (told chooser).rule) choosers.items)
+        request.now (F.seen folder.old) (F.seen folder.new) (reply_view result) }
+{
+    let kinds = kinds(alloc, &choosers)?;
+    let filled = fill_tiles_task(alloc, request, &kinds, folder)?;
     let answer = answer(alloc, request, choosers, &filled)?;
     Ok(answer)
 }

@@ -1,12 +1,13 @@
 //! The task of `fill`.
 
 ghost use Rattle.wfc_plan.specs.Kinds.{HasChoosers};
-ghost use Rattle.std.specs.Prelude.{IfOk, OnOk};
-ghost use Rattle.wfc_map_commands.specs.FillTask.{fill, fill_made, fill_plan, fill_plan_by, fill_sample_plan, fill_tiles_plan, tiles_filled};
+ghost use Rattle.std.specs.Prelude.{IfOk, OnOk, false, true, ◌≡◌};
+ghost use Rattle.wfc_map_commands.specs.FillTask.{fill, fill_made, fill_plan, fill_sample_plan, fill_tiles_plan, tiles_filled};
 ghost use Rattle.wfc_map_commands.specs.Filling.{IsFilling, IsFillingBy, IsTileFilling};
 ghost use Rattle.wfc_outside.specs.Gives.{result_map};
 ghost use Rattle.wfc_plan.specs.Plan.{Goes};
-ghost use Rattle.wfc_task.specs.Asked.{AskedBy, IsOutputAsked, IsSampleAsked, IsSourceAsked};
+ghost use Rattle.wfc_task.specs.Asked.{IsOutputAsked, IsSampleAsked};
+ghost use Rattle.wfc_task.specs.Sources.{is_of_windows};
 
 use std::alloc::Global;
 use wfc_choose::RuleKind;
@@ -19,7 +20,7 @@ use wfc_render::Layout;
 use wfc_task::{problem, sample, sample_layout, tile_layout, tile_set, tiled_problem};
 use wfc_tiled::Mask;
 use wfc_tileset::TileSet;
-use wfc_words::{Request, SourceModel};
+use wfc_words::Request;
 
 /// What `fill` works on.
 #[derive(Drop)]
@@ -47,15 +48,16 @@ pub enum Filled {
     Tiles(TileFilling),
 }
 
-/// What `fill` runs on. The chooser is looked for before anything is read, and the layout is looked at before the pins
-/// file is.
-pub fn fill_task<F: Folder>(
+/// What `fill` runs on for a sample. The chooser is looked for before anything is read, and the layout is looked at before
+/// the pins file is.
+pub fn fill_sample_task<F: Folder>(
     alloc: Global,
     request: &Request,
     kinds: &[RuleKind],
     folder: &mut F,
 ) -> Result<Filled, Fault>
-    requires source { IsSourceAsked request.now }
+    requires windows { is_of_windows request.now.source ≡ true }
+    requires sample { IsSampleAsked request.now }
     requires output { IsOutputAsked request.now }
     ensures goes { Goes (fill_plan kinds.now request.now)
         (F.seen folder.old) (F.seen folder.new) (fill_made request.now result) }
@@ -63,27 +65,27 @@ pub fn fill_task<F: Folder>(
     ensures filling { IfOk result (IsFillingBy request.now) }
 {
     enough(1, kinds, request.rule)?;
-    let filled = fill_by(alloc, request.source, request, folder)?;
-    Ok(filled)
+    let filling = sample_filling(alloc, request, folder)?;
+    Ok(Filled::Windows(filling))
 }
 
-/// The same for a map that is made of this.
-fn fill_by<F: Folder>(
+/// The same for a tile set.
+pub fn fill_tiles_task<F: Folder>(
     alloc: Global,
-    source: SourceModel,
     request: &Request,
+    kinds: &[RuleKind],
     folder: &mut F,
 ) -> Result<Filled, Fault>
-    requires source { AskedBy source request.now }
+    requires tiles { is_of_windows request.now.source ≡ false }
     requires output { IsOutputAsked request.now }
-    ensures goes { Goes (fill_plan_by source request.now)
+    ensures goes { Goes (fill_plan kinds.now request.now)
         (F.seen folder.old) (F.seen folder.new) (fill_made request.now result) }
+    ensures chooser { OnOk result (HasChoosers 1 kinds.now request.now.rule) }
     ensures filling { IfOk result (IsFillingBy request.now) }
 {
-    match source {
-        SourceModel::Overlap { .. } => Ok(Filled::Windows(sample_filling(alloc, request, folder)?)),
-        SourceModel::Tiles => Ok(Filled::Tiles(tile_filling(alloc, request, folder)?)),
-    }
+    enough(1, kinds, request.rule)?;
+    let filling = tile_filling(alloc, request, folder)?;
+    Ok(Filled::Tiles(filling))
 }
 
 /// What `fill` runs on for a sample.

@@ -11,7 +11,9 @@ use std::process::Abort;
 use std::test::Fail;
 use wfc_choose::RuleKind;
 use wfc_grid::GridFault;
-use wfc_map_commands::{Filled, Learned, demo_task, domains_task, fill_task, learn_task};
+use wfc_map_commands::{
+    Filled, Learned, demo_task, domains_task, fill_sample_task, fill_tiles_task, learn_task,
+};
 use wfc_outside::{MemoryFolder, ReadFault};
 use wfc_pattern::{LearnFault, Patterns};
 use wfc_pins::{BuildFault, PinFault, RangeFault, StepFault};
@@ -256,7 +258,11 @@ fn fill(alloc: Global, request: &Request, folder: &mut MemoryFolder) -> Result<S
     requires source { IsSourceAsked request.now }
     requires output { IsOutputAsked request.now }
 {
-    Ok(filled_sizes(&fill_task(alloc, request, &KINDS, folder)?))
+    let filled = match request.source {
+        SourceModel::Overlap { .. } => fill_sample_task(alloc, request, &KINDS, folder)?,
+        SourceModel::Tiles => fill_tiles_task(alloc, request, &KINDS, folder)?,
+    };
+    Ok(filled_sizes(&filled))
 }
 
 fn domains(alloc: Global, request: &Request, folder: &mut MemoryFolder) -> Result<Sizes, Fault>

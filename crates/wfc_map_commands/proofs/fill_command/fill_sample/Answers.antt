@@ -1,7 +1,7 @@
 use Rattle.std.proofs.Common.{refl, ◌∙◌}
 use Rattle.std.proofs.lemmas.Result.{err_from_is_err_and}
 use Rattle.wfc_map_commands.proofs.HeldLemmas.{fill_said}
-use Rattle.wfc_map_commands.proofs.fill_command.fill.Goals as goal
+use Rattle.wfc_map_commands.proofs.fill_command.fill_sample.Goals as goal
 use Rattle.wfc_map_commands.specs.FillCommand.{FillAnswers}
 use Rattle.wfc_map_commands.specs.FillTask.{fill_plan, filled_by}
 use Rattle.wfc_reply.proofs.CallerLemmas.{ends_answered, ends_exhausted, ends_fault, ends_short}

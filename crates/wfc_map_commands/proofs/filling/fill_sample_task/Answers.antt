@@ -1,6 +1,7 @@
 use Rattle.std.proofs.Common.{ap, inl, refl, subst, ◌∙◌}
 use Rattle.std.proofs.lemmas.Result.{err_from_is_err_and}
-use Rattle.wfc_map_commands.proofs.filling.fill_task.Goals as goal
+use Rattle.wfc_map_commands.proofs.FillGivenLemmas.{windows_fill}
+use Rattle.wfc_map_commands.proofs.filling.fill_sample_task.Goals as goal
 use Rattle.wfc_map_commands.specs.FillTask.{fill_plan_by}
 use Rattle.wfc_plan.proofs.CallerLemmas.{behind_choosers, step_out}
 use Rattle.wfc_plan.specs.Kinds.{HasChoosers, enough}
@@ -13,18 +14,18 @@ returns-in_err-enough-clause-goes g c =
     let as_asked = ap (λ (r : RequestView). enough 1 c.args.kinds.now r.rule) c.request.view_is in
     rw (p.1, p.2) (step_out (enough 1 c.args.kinds.now asked.rule) (λ _. fill_plan_by asked.source asked) _ _ (inl (c.in_err-enough.ensures.exact ∙ as_asked)))
 
-pub returns-in_err-filled-clause-goes : goal.returns-in_err-filled-clause-goes
-returns-in_err-filled-clause-goes g c =
-    let p = err_from_is_err_and c.from_residual-in_err-filled.result c.from_residual-in_err-filled.ensures.1 in
+pub returns-in_err-filling-clause-goes : goal.returns-in_err-filling-clause-goes
+returns-in_err-filling-clause-goes g c =
+    let p = err_from_is_err_and c.from_residual-in_err-filling.result c.from_residual-in_err-filling.ensures.1 in
     let asked = c.args.request.now in
     rw (p.1, p.2) (behind_choosers 1 1 c.args.kinds.now c.request.inside.rule asked.rule (fill_plan_by asked.source asked) _ _ _ _ c.in_ok-enough.ensures.exact refl (ap (λ (r : RequestView). r.rule) c.request.view_is)
-    (rw (ap (λ (r : RequestView). r.source) c.request.view_is) at c.in_err-filled.ensures.goes))
+    (rw (windows_fill asked.source asked c.requires.windows) c.in_err-filling.ensures.goes))
 
 pub returns-clause-goes : goal.returns-clause-goes
 returns-clause-goes g c =
     let asked = c.args.request.now in
     behind_choosers 1 1 c.args.kinds.now c.request.inside.rule asked.rule (fill_plan_by asked.source asked) _ _ _ _ c.in_ok-enough.ensures.exact refl (ap (λ (r : RequestView). r.rule) c.request.view_is)
-    (rw (ap (λ (r : RequestView). r.source) c.request.view_is) at c.in_ok-filled.ensures.goes)
+    (rw (windows_fill asked.source asked c.requires.windows) c.in_ok-filling.ensures.goes)
 
 pub returns-clause-chooser : goal.returns-clause-chooser
 returns-clause-chooser g c = subst (λ (r : RequestView). HasChoosers 1 c.args.kinds.now r.rule) c.request.view_is c.in_ok-enough.ensures.there
