@@ -55,6 +55,10 @@ pub fn supports_by_example()
         ≡ (0 ∷ []) ∷ [] ∷ (0 ∷ []) ∷ [] ∷ (1 ∷ []) ∷ [] ∷ [] }
     ensures upper { all_fitting_in_box straight_lines ((0, 1) ∷ []) 1
         ≡ [] ∷ (1 ∷ []) ∷ [] ∷ (1 ∷ []) ∷ [] ∷ (0 ∷ []) ∷ [] }
+    ensures across { all_fitting_in_box crossing ((5, 10) ∷ (9, 5) ∷ []) 5
+        ≡ [] ∷ [] ∷ (9 ∷ []) ∷ [] ∷ (10 ∷ []) ∷ (9 ∷ []) ∷ [] }
+    ensures down { all_fitting_in_box crossing ((5, 10) ∷ (9, 5) ∷ []) 10
+        ≡ [] ∷ (0 ∷ 4 ∷ []) ∷ [] ∷ [] ∷ [] ∷ (5 ∷ []) ∷ [] }
 {}
 
 /// A pin keeps one variant at the cell of its place, and a ban takes one away.

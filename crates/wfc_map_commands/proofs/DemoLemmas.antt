@@ -2,6 +2,7 @@
 use Rattle.std.proofs.Common.{List, Some, [], ap, arith, false, inl, length, refl, subst, sym, ℕ, ◌*◌, ◌+◌, ◌∙◌, ◌≡◌, ◌≤◌}
 use Rattle.std.proofs.lemmas.Nat.{mul-le}
 use Rattle.wfc_choose.specs.declared.RuleKind.TheVariants.{Fewest}
+use Rattle.wfc_map_commands.proofs.DemoLegalLemmas.{lines_legal}
 use Rattle.wfc_map_commands.proofs.DemoPromiseLemmas.{demo_cut, writes_demo}
 use Rattle.wfc_map_commands.proofs.DemonstrationLemmas.{demo_are_patterns, demo_few, demo_problem_is}
 use Rattle.wfc_map_commands.specs.DemoAnswer.{demo_budget}
@@ -65,7 +66,7 @@ is_problem n = subst IsProblem (sym (demo_problem_is n)) (sample_problem (demo_p
 
 pub ends_demo : (call : Call) (asked : RequestView) (files : List File) → IsCommand commands.Demo call asked files → CameTo demo_command call asked files → EndsDemo call asked files
 ends_demo call asked files is came = (
-  (λ one. let run = writes_demo call asked files is came (inl (omega (arith, one))) in no_map run.0.0 run.0.1 run.1 run.2 one),
+  (λ one. let run = writes_demo call asked files is came (inl (omega (arith, one))) in no_map run.0.0 run.0.1 run.1 run.2 one (demo_picture asked.number 48) (lines_legal asked.number 24 48 (omega arith) (omega arith))),
   (λ two. let run = writes_demo call asked files is came (inl (omega (arith, two))) in spent run.0.0 run.0.1 run.1 run.2 two),
 )
   where

@@ -37,10 +37,11 @@ demo_rules = record { n = 3; symmetry = 1; wrap_in = false; wrap_out = false }
 abbrev pub IsLegalDemo : ℕ → Raster → Type 0
 IsLegalDemo number m = IsLegalPicture (demo_picture number demo_side) demo_rules [] demo_output demo_output m
 
--- statuses 1 and 2 of `demo`: with 1 no picture is legal, and with 2 the budget is below the volume of the problem
+-- statuses 1 and 2 of `demo`: 1 never comes, since each demonstration has a map, and with 2 the budget is below the volume
+-- of the problem
 abbrev pub EndsDemo : Call → RequestView → List File → Type 0
 EndsDemo call asked files =
-    (call.status ≡ 1 → (m : Raster) → IsLegalDemo asked.number m → ⊥)
+    (call.status ≡ 1 → ⊥)
     × (call.status ≡ 2 → demo_budget + 1 ≤ volume_of (demo_problem asked.number))
 
 -- the four numbers of a demonstration whose run has this end
