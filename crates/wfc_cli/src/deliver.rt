@@ -31,11 +31,7 @@ pub(crate) fn deliver<E: Sink>(
 /// The same for every ending, out of the way of the one that has nothing to tell.
 #[cold]
 #[inline(never)]
-fn deliver_any<E: Sink>(
-    request: &Request,
-    ended: Result<CommandVerdict, Stop>,
-    err: &mut E,
-) -> u8
+fn deliver_any<E: Sink>(request: &Request, ended: Result<CommandVerdict, Stop>, err: &mut E) -> u8
     ensures says { Says request.now ended (E.seen err.old) (E.seen err.new) result }
 {
     match ended {
