@@ -9,15 +9,15 @@ use std::alloc::Global;
 use wfc_box_commands::{box_check, box_fill, box_refute};
 use wfc_choose::Chooser;
 use wfc_grow_command::grow;
-use wfc_map_commands::{demo, domains, fill, learn};
+use wfc_map_commands::{demo, domains, fill, fill_sample, learn};
 use wfc_outside::{Folder, Sink};
 use wfc_proof_commands::{check, refute, upgrade};
 use wfc_reply::{CommandVerdict, Stop};
 use wfc_run_commands::{explain, race};
-use wfc_words::{CommandKind, Request};
+use wfc_words::{CommandKind, Request, SourceModel};
 
-/// Runs the command that is asked for, and puts its text. What the other commands alone run lies together behind `fill`, so that less
-/// of the program comes into memory with a map.
+/// Runs the command that is asked for, and puts its text. What `fill` of a sample doesn't run lies together behind what it
+/// does, so that less of the program comes into memory with a map.
 pub(crate) fn run<F: Folder, O: Sink>(
     alloc: Global,
     request: &Request,
@@ -30,7 +30,12 @@ pub(crate) fn run<F: Folder, O: Sink>(
         (F.seen folder.old) (F.seen folder.new) (O.seen out.old) (O.seen out.new) result }
 {
     match request.command {
-        CommandKind::Fill => put_answer(out, fill(alloc, request, choosers, folder)),
+        CommandKind::Fill => match request.source {
+            SourceModel::Overlap { .. } => {
+                put_answer(out, fill_sample(alloc, request, choosers, folder))
+            }
+            SourceModel::Tiles => run_any(alloc, request, choosers, folder, out),
+        },
         _ => run_any(alloc, request, choosers, folder, out),
     }
 }

@@ -49,7 +49,7 @@ pub fn fill<F: Folder>(
 }
 
 /// The same for a sample.
-fn fill_sample<F: Folder>(
+pub fn fill_sample<F: Folder>(
     alloc: Global,
     request: &Request,
     choosers: Vec<Box<dyn Chooser>>,
@@ -67,7 +67,7 @@ fn fill_sample<F: Folder>(
     Ok(answer)
 }
 
-/// The same for a tile set, whose code lies behind that which runs and writes any map.
+/// The same for a tile set.
 fn fill_tiles<F: Folder>(
     alloc: Global,
     request: &Request,

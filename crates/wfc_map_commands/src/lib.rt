@@ -16,7 +16,7 @@ mod walk;
 pub use demo_command::demo;
 pub use demonstration::{Demonstration, demo_task};
 pub use domains_command::domains;
-pub use fill_command::fill;
+pub use fill_command::{fill, fill_sample};
 pub use filling::{Filled, Filling, TileFilling, fill_sample_task, fill_tiles_task};
 pub use learn_command::learn;
 pub use learning::{Learned, learn_task};
