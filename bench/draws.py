@@ -7,7 +7,7 @@ A case counts where the peer makes a map at its first try, of a sample with so m
 budget. In half of the cases the map is a square, and in seven of ten it wraps. A row has the least processor time and the least peak of --reps runs,
 which the two take in turn; each map of the program is held to its sample, as by bench.py. The same seed draws the same cases.
 With --split a row has, beside that, the least instructions of both, counted by callgrind.
-The last line has the geometric means and the greatest ratios. Status 0 where no map is wrong, else 1.
+The last line has the geometric means and the greatest ratios. Status 0 where no map is wrong and enough cases count, else 1.
 """
 import argparse
 import math
@@ -63,7 +63,7 @@ def main():
     o = ask.parse_args()
     sides, patterns = ([int(it) for it in text.split(",")] for text in (o.sides, o.patterns))
     programs = {"peer": shlex.split(o.peer), "wfc": [*shlex.split(o.wfc), "fill"]}
-    dice, rows, all_well = random.Random(o.seed), [], True
+    dice, rows, tries, all_well = random.Random(o.seed), [], 0, True
 
     with tempfile.TemporaryDirectory(prefix="wfc-draws-") as room:
         measure, out = f"{room}/measure", f"{room}/map"
@@ -77,13 +77,19 @@ def main():
 
         print(f"{'case':<34}{'patterns':>9}{'peer ms':>10}{'wfc ms':>10}{'time':>7}{'memory':>8}")
         while len(rows) < o.count:
+            tries += 1
+            if tries > 100 * o.count:
+                sys.exit(f"only {len(rows)} of {tries - 1} cases count")
             case = drawn(dice, *sides)
             words = words_of(case, o.budget)
             said = subprocess.run([*programs["peer"], *words], stdout=subprocess.DEVNULL, stderr=subprocess.PIPE, text=True).stderr
             told = dict(re.findall(r"(\w+)=(\S+)", said))
             if told.get("result") != "map" or not patterns[0] <= int(told["patterns"]) <= patterns[1]:
                 continue
-            if run("wfc", words)[2] != 0:
+            status = run("wfc", words)[2]
+            if status not in (0, 1, 2):
+                sys.exit(f"status {status} of {shlex.join([*programs['wfc'], *words])}")
+            if status != 0:
                 continue
             wrong = bench.fault(case, f"{HERE}/samples/{case['name']}.txt", out)
             all_well &= wrong is None
