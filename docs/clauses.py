@@ -1,5 +1,5 @@
 #!/usr/bin/env python3
-"""Looks for each clause that docs/theorem.md names.
+"""Looks for each clause that docs/theorem.md names, and for each law of docs/commands.md by which a limit is a plain number.
 
     docs/clauses.py
 
@@ -8,6 +8,8 @@ call parted by ',' and those of the next behind ';'. A row with the column Claus
 its own. A clause is there where a function of that name, in a file of crates/NAME/src, has a line 'ensures CLAUSE'. A part of a clause is
 there where the definition that the clause begins with is a record with that field, or names one in its body, in a file of crates/*/specs;
 a part of a part, as `fill.legal`, where the field's type is such a definition again. A part is named without its clause.
+A row with the columns Limit and Law names laws of a crate, each with its clauses in brackets or without: '`law` (`clause`) of `crate`'. The
+crate of one that names none is that of the law before it.
 Status 0 where all are there, else 1 with a line for each that is not.
 """
 import glob
@@ -98,6 +100,16 @@ def named(row):
             yield call, [word]
 
 
+def lawful(row):
+    """The laws of a row, each as a call, with the clauses in its brackets."""
+    crate = None
+    for part in row.get("Law", "").split(";"):
+        laws, _, behind = part.partition(" of `")
+        crate = re.match(r"\w+|", behind).group() or crate
+        for law, clauses in re.findall(r"`(\w+)`(?: \(([^)]*)\))?", laws):
+            yield f"{crate}::{law}", re.findall(r"`(\w+)`", clauses)
+
+
 def main():
     crates, missing, count = {}, [], 0
     records, bodies = definitions()
@@ -107,6 +119,12 @@ def main():
             found = crates.setdefault(crate, clauses_of(crate)).get(function, {})
             count += len(clauses)
             missing += [f"{call} {clause}" for clause in clauses if not is_there(clause, found, records, bodies)]
+    for row in rows(f"{ROOT}/docs/commands.md"):
+        for law, clauses in lawful(row):
+            crate, _, function = law.partition("::")
+            found = crates.setdefault(crate, clauses_of(crate)).get(function, {})
+            count += len(clauses) or 1
+            missing += [f"{law} {clause}" for clause in clauses or ["(no such law)"] if clause not in found and (clauses or not found)]
     for each in missing:
         print(f"no clause: {each}")
     print(f"{count} clauses named, {len(missing)} missing")

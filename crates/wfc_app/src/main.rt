@@ -52,6 +52,8 @@ fn program<F: Folder, O: Sink, E: Sink>(
         (λ e. exit_status result ≡ (said_of_words (unread_fault (error_kind e))).status) }
     ensures unread_line { IfErr words (λ e. Tells
         (said_of_words (unread_fault (error_kind e))).told (E.seen err.old) (E.seen err.new)) }
+    ensures unread_folder { IfErr words (λ _. F.seen folder.new ≡ F.seen folder.old) }
+    ensures unread_output { IfErr words (λ _. O.seen out.new ≡ O.seen out.old) }
 {
     let status = match words {
         Ok(words) => run(alloc, &words, folder, out, err, choosers),

@@ -13,7 +13,7 @@ use wfc_plan::{Fault, Source};
 use wfc_reply::{Answer, CommandVerdict, Stop};
 use wfc_words::{CommandFault, Request};
 
-/// Tells how a command ended, and answers the status. Of one that answered there is nothing to tell.
+/// Tells how a command ended, and answers the status. Of one that ends with status 0 there is nothing to tell.
 #[inline]
 pub(crate) fn deliver<E: Sink>(
     request: &Request,

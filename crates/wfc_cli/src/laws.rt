@@ -99,7 +99,8 @@ pub fn commands_are_of_their_kinds()
         (command_of commands.BoxCheck).plan kinds asked ≡ check_plan box_proofs asked }
 {}
 
-/// What each command says where its answer is no; `check`, `upgrade` and `grow` name a place. `learn` never says it.
+/// What each command says where its answer is no. `check`, `box-check`, `upgrade` and `grow` name a place and are left out;
+/// `learn` never says it.
 pub fn each_no_has_its_words()
     ensures fill { IsNoSaidBy commands.Fill (codes "no map") }
     ensures demo { IsNoSaidBy commands.Demo (codes "no map") }

@@ -54,7 +54,7 @@ pub record FitsTable (P : Network) (T : Table) : Type 0 where
   pub whole : length T.counts ≡ counters_of P
   pub few : (v d : ℕ) → length (supports_of P v d) ≤ T.limit
 
--- the counts of one value at a cell were marked, and nothing else changed
+-- no count changed, and no mark came but to the counts of one value at a cell
 pub record Marks (old new : Table) (cell value : ℕ) : Type 0 where
   pub same_cells : new.cells ≡ old.cells
   pub same_values : new.values ≡ old.values
@@ -65,7 +65,7 @@ pub record Marks (old new : Table) (cell value : ℕ) : Type 0 where
   pub marks : (c v d : ℕ) → v < old.values → d < old.dirs → IsMarked new c v d → IsMarked old c v d
       ⊎ ((c ≡ cell) × (v ≡ value))
 
--- the marks in the first k directions were taken from the counts of one value at a cell, and nothing else changed
+-- no count changed and no mark came, and none is left on the counts of one value at a cell in the first k directions
 pub record Unmarks (old new : Table) (cell value k : ℕ) : Type 0 where
   pub same_cells : new.cells ≡ old.cells
   pub same_values : new.values ≡ old.values

@@ -61,7 +61,7 @@ IsVerdict P literals D (Dead cell) = IsTrue (is_dead P (greatest P literals)) ×
 abbrev pub IsBefore : ℕ → ℕ → ℕ → ℕ → ℕ → ℕ → Type 0
 IsBefore c v d c' v' d' = (c < c') ⊎ ((c ≡ c') × ((v < v') ⊎ ((v ≡ v') × (d < d'))))
 
--- the removal is of the least cell, the least value and the least direction without a support in D
+-- the removal is for want of support in a direction, and no cell, value and direction without a support in D come before these
 pub record IsLeastUnsupported (P : Network) (D : Test) (r : Removal) : Type 0 where
   pub dir : ℕ
   pub arc : r.cause ≡ Arc dir

@@ -89,7 +89,7 @@ pub record IsStuckBlock {rules : List Rule} {files : List File} (asked : Request
   pub none : (m : Raster) → IsLegalPicture work.given.sample.picture (grow_rules asked) pins stuck.block.width
       stuck.block.height m → ⊥
 
--- a refutation of the problem that these lines make of the block, with the block's shape, which is what `check` accepts
+-- a refutation of the problem that these lines make of the block, with the block's shape: `check` accepts it if it isn't too long
 pub record IsStuckProof {rules : List Rule} {files : List File} (asked : RequestView) (work : GrowWork rules asked files)
     (stuck : StuckView) (proof : List ℕ) : Type 0 where
   pub P : Network

@@ -1,4 +1,4 @@
-//! The one line that the error stream gets where a command ends without its answer: a call a kind of line.
+//! The one line that the error stream gets where a command ends with another status than 0: a call a kind of line.
 //!
 //! A line is `wfc: `, a text and LF. Each call puts the whole line, or a front of it and then a fault of the sink was
 //! counted. None takes memory.

@@ -32,7 +32,7 @@ pub enum Source {
 /// What a step refuses that reads nothing.
 #[derive(Clone, Copy, Debug, PartialEq, Eq)]
 pub enum Refusal {
-    /// No chooser goes by this rule.
+    /// No chooser goes by this rule, or fewer do than the command needs.
     Chooser { rule: RuleKind },
     /// A file spells no grid.
     Grid { source: Source, fault: GridFault },

@@ -1,7 +1,7 @@
 //! A search over a store, with a chooser that is handed in.
 
 ghost use Rattle.std.specs.Prelude.{◌≡◌, ◌≢◌, ◌≤◌, ◌<◌, ◌↔◌, [], false, true, None, Some, slice_index, IfOk, OnOk};
-ghost use Rattle.std.specs.Prelude.{IsErr, IsTrue, Ok};
+ghost use Rattle.std.specs.Prelude.{IsErr, IsTrue, Ok, OnErr};
 ghost use Rattle.std.specs.Option.{ForSome};
 ghost use Rattle.wfc_log.specs.Domains.{has, flags_of};
 ghost use Rattle.wfc_domains.specs.Store.{IsSound, left_of};
@@ -109,6 +109,7 @@ impl<'p, S: Store> Search<'p, S> {
         ensures turn { TurnsBetween S.view self.old (told self.old.chooser) (R.stream words.old)
             result self.new (told self.new.chooser) (R.stream words.new) }
         ensures outcome { IfOk result (λ turn. self.new.course.outcome ≡ outcome_after turn) }
+        ensures undecided { OnErr result (self.new.course.outcome ≡ None) }
         ensures ready { OnOk result (IsReady (view_of_search S.view self.new (told
             self.new.chooser))) }
 
@@ -150,6 +151,7 @@ impl<'p, S: Store> Search<'p, S> {
         ensures end { EndsBetween S.view self.old (told self.old.chooser) (R.stream words.old)
             result self.new (told self.new.chooser) (R.stream words.new) }
         ensures outcome { IfOk result (λ outcome. self.new.course.outcome ≡ Some outcome) }
+        ensures undecided { OnErr result (self.new.course.outcome ≡ None) }
         ensures enough { volume_of self.old.problem.now ≤ self.old.course.budget → result ≢ Ok
             Outcome.Spent }
         ensures ready { OnOk result (IsReady (view_of_search S.view self.new (told
