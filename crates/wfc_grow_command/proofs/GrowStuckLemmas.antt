@@ -1,5 +1,5 @@
 -- What a call of `grow` wrote of a stuck block, and where a budget was spent.
-use Rattle.std.proofs.Common.{List, ap, arith, inl, inr, refl, subst, sym, ◌+◌, ◌∙◌, ◌≡◌, ◌≤◌}
+use Rattle.std.proofs.Common.{List, Ok, ap, arith, inl, inr, refl, subst, sym, ◌^◌, ◌∙◌, ◌≡◌, ◌≤◌}
 use Rattle.std.proofs.lemmas.List.Elements.{All-contains, All-from_recursion}
 use Rattle.std.specs.Prelude.{Contains}
 use Rattle.wfc_blocks.proofs.CallerLemmas.{growth_spent, growth_stopped, spent_before, stopped_before}
@@ -18,11 +18,12 @@ use Rattle.wfc_grow_command.specs.GrowClaims.{GrowWork, GrowsTo, IsComeTo, IsSpe
 use Rattle.wfc_grow_command.specs.GrowCommand.{grow_command}
 use Rattle.wfc_grow_command.specs.GrowTask.{area_asked}
 use Rattle.wfc_grow_command.specs.StuckText.{block_shape, block_writing}
+use Rattle.wfc_grow_command.specs.WrittenPins.{numbered_from}
 use Rattle.wfc_model.specs.Legal.{Pin}
 use Rattle.wfc_outside.specs.Folder.{File}
 use Rattle.wfc_overlap.proofs.CallerLemmas.{sample_problem}
 use Rattle.wfc_overlap.specs.Bridge.{IsRoom}
-use Rattle.wfc_overlap.specs.Built.{texts_of}
+use Rattle.wfc_overlap.specs.Built.{picture_pins, texts_of}
 use Rattle.wfc_pattern.specs.Patterns.{PatternsView}
 use Rattle.wfc_problem.specs.Network.{IsProblem, Network}
 use Rattle.wfc_proof.specs.ProofText.{IsProofText}
@@ -33,10 +34,12 @@ use Rattle.wfc_reply.specs.Call.{Call}
 use Rattle.wfc_reply.specs.RunText.{IsToldBy, writing_text}
 use Rattle.wfc_runs.specs.Words.{words_of_seed}
 use Rattle.wfc_search.proofs.CallerLemmas.{outcome_spent}
-use Rattle.wfc_search.specs.Volume.{volume_of}
 use Rattle.wfc_search.specs.declared.Outcome.TheVariants as outcome
+use Rattle.wfc_words.proofs.RangeLemmas.{asked-in_range}
 use Rattle.wfc_words.specs.RequestView.{RequestView}
 use Rattle.wfc_words.specs.declared.kinds.CommandKind.TheVariants as commands
+use Rattle.wfc_grow_command.proofs.MeantBackLemmas.{lines_renumbered, lines_written, problem_renumbered, stuck_within}
+use Rattle.wfc_grow_command.proofs.WrittenPinLemmas.{pins_back}
 use Rattle.wfc_grow_command.proofs.GrowWorkLemmas.{IsKnown, is_as_grown, known, work_grown, work_promises}
 
 -- ---- growth
@@ -116,19 +119,32 @@ writes_stuck_block call asked files is came eight =
     let stuck = at.stuck in
     let is_known = known call asked files is work in
     let block = (work_promises asked work (grown.Stuck stuck) is_known at.grows).1 in
-    let come = stuck_come asked work stuck is_known at.grows in (
+    let come = stuck_come asked work stuck is_known at.grows in
+    let within = stuck_within work.task.patterns (area_asked asked) stuck.block is_known.lesson.patterns (work_grown asked work (grown.Stuck stuck) is_known at.grows).growable come.come.among in
+    let range = (asked-in_range call.words asked is.given.spelled).map in
+    let wide : stuck.block.width ≤ 2 ^ 32 = omega (arith, within.across, range.width_limit) in
+    let high : stuck.block.height ≤ 2 ^ 32 = omega (arith, within.down, range.height_limit) in
+    let texts = texts_of work.task.palette in
+    let meant : picture_pins texts stuck.block.width stuck.block.height stuck.pins ≡ Ok block.pins = block.meant is_known.named in
+    let written = lines_written work.task.palette stuck.block.width stuck.block.height stuck.pins block.pins is_known.named.shown wide high meant in (
       work,
       stuck,
+      numbered_from 1 stuck.pins,
       writing_text (block_writing asked stuck.block) at.writes.P at.writes.lines,
       record {
         canvas = come.canvas;
         come = come.come;
         lines = come.lines;
+        read_back = pins_back 1 stuck.pins written;
         pins = block.pins;
-        meant = block.meant is_known.named;
+        meant = lines_renumbered texts stuck.block.width stuck.block.height 1 stuck.pins block.pins meant;
         none = λ m legal. block.none work.given.sample.picture (grow_rules asked) m (is_known.windows stuck.block.width stuck.block.height) legal;
       },
-      record { P = at.writes.P; problem = at.writes.problem; refutes = stuck_proof asked work stuck at.writes.P at.writes.lines at.writes.told },
+      record {
+        P = at.writes.P;
+        problem = problem_renumbered work.task.patterns work.task.palette (output_of_block stuck.block) 1 stuck.pins block.pins meant ∙ at.writes.problem;
+        refutes = stuck_proof asked work stuck at.writes.P at.writes.lines at.writes.told;
+      },
       at.writes.written,
     )
 

@@ -5,6 +5,8 @@ pub mod GrowingLemmas
 pub mod GrowEndLemmas
 pub mod StuckProblemLemmas
 pub mod GrowWorkLemmas
+pub mod WrittenPinLemmas
+pub mod MeantBackLemmas
 pub mod GrowStuckLemmas
 pub mod GrowPromiseLemmas
 pub mod CallerLemmas

@@ -1,6 +1,7 @@
 -- What `grow` promises, in the words of its subject.
+use Rattle.std.specs.List.{flat_map}
 use Rattle.std.specs.Prelude.{Contains, List, Ok, Some, false, length, take, ℕ, ◌+◌, ◌++◌, ◌≡◌, ◌≤◌, ◌⊎◌}
-use Rattle.wfc_blocks.specs.Blocks.{blocks_of}
+use Rattle.wfc_blocks.specs.Blocks.{blocks_of, output_of_block}
 use Rattle.wfc_blocks.specs.Canvas.{Canvas, lines_of_block}
 use Rattle.wfc_blocks.specs.Growth.{HasBlockOutcome, IsSetBefore, Terms, problem_of_block}
 use Rattle.wfc_blocks.specs.Grown.{terms_with}
@@ -12,12 +13,14 @@ use Rattle.wfc_choose.specs.Pick.{Rule}
 use Rattle.wfc_grow_command.specs.GrowAnswer.{IsProblemOfStuck, IsGrowthBy, stuck_start, stuck_run_text}
 use Rattle.wfc_grow_command.specs.GrowGiven.{IsGrowTask}
 use Rattle.wfc_grow_command.specs.GrowTask.{GrowTask, area_asked}
-use Rattle.wfc_grow_command.specs.StuckText.{block_shape, block_writing, stuck_text}
+use Rattle.wfc_grow_command.specs.StuckText.{block_shape, block_writing, pin_text, stuck_text}
 use Rattle.wfc_model.specs.Legal.{IsLegalPicture, Pin, Rules}
 use Rattle.wfc_model.specs.Raster.{Raster}
 use Rattle.wfc_outside.specs.Folder.{File}
 use Rattle.wfc_outside.specs.Sink.{SinkView, after_bytes, after_finish}
-use Rattle.wfc_overlap.specs.Built.{picture_pins, texts_of}
+use Rattle.wfc_overlap.specs.Built.{picture_pins, picture_problem, texts_of}
+use Rattle.wfc_pins.specs.PinView.{PinView}
+use Rattle.wfc_pins.specs.Pins.{pins_of}
 use Rattle.wfc_problem.specs.Network.{Network}
 use Rattle.wfc_proof.specs.ProofText.{IsProofText}
 use Rattle.wfc_proof.specs.declared.Line.{Line}
@@ -77,23 +80,25 @@ pub record IsComeTo {rules : List Rule} {files : List File} (asked : RequestView
   pub among : Contains (blocks_of work.task.patterns.n (area_asked asked)) block
   pub before : IsSetBefore (area_asked asked) (terms_of_work asked work) block canvas
 
--- growth comes to the block, its lines of pins are those of what is set there and those of the file, and they mean, as they
--- are written, pins that no map of it holds
+-- growth comes to the block, its lines of pins are those of what is set there and those of the file, and what is written of
+-- them is read as these lines, which mean pins that no map of it holds
 pub record IsStuckBlock {rules : List Rule} {files : List File} (asked : RequestView) (work : GrowWork rules asked files)
-    (stuck : StuckView) : Type 0 where
+    (stuck : StuckView) (read : List PinView) : Type 0 where
   pub canvas : Canvas
   pub come : IsComeTo asked work stuck.block canvas
   pub lines : stuck.pins ≡ lines_of_block (texts_of work.task.palette) work.task.lines canvas stuck.block
+  pub read_back : pins_of (flat_map pin_text stuck.pins) ≡ Ok read
   pub pins : List Pin
-  pub meant : picture_pins (texts_of work.task.palette) stuck.block.width stuck.block.height stuck.pins ≡ Ok pins
+  pub meant : picture_pins (texts_of work.task.palette) stuck.block.width stuck.block.height read ≡ Ok pins
   pub none : (m : Raster) → IsLegalPicture work.given.sample.picture (grow_rules asked) pins stuck.block.width
       stuck.block.height m → ⊥
 
--- a refutation of the problem that these lines make of the block, with the block's shape: `check` accepts it if it isn't too long
+-- a refutation of the problem that the lines which are read make of the block, with the block's shape: `check` accepts it, if
+-- it isn't too long
 pub record IsStuckProof {rules : List Rule} {files : List File} (asked : RequestView) (work : GrowWork rules asked files)
-    (stuck : StuckView) (proof : List ℕ) : Type 0 where
+    (stuck : StuckView) (read : List PinView) (proof : List ℕ) : Type 0 where
   pub P : Network
-  pub problem : IsProblemOfStuck work.task stuck P
+  pub problem : picture_problem work.task.patterns work.task.palette (output_of_block stuck.block) read ≡ Ok P
   pub refutes : IsProofText P (block_shape asked stuck.block) proof
 
 -- the text of a stuck block and this refutation were written, and finished
@@ -105,8 +110,8 @@ WritesBehind call stuck proof =
 abbrev pub WritesStuckBlock : Call → RequestView → List File → Type 0
 WritesStuckBlock call asked files =
     call.status ≡ 8
-    → (work : GrowWork call.rules asked files) × (stuck : StuckView) × (proof : List ℕ)
-    × IsStuckBlock asked work stuck × IsStuckProof asked work stuck proof × WritesBehind call stuck proof
+    → (work : GrowWork call.rules asked files) × (stuck : StuckView) × (read : List PinView) × (proof : List ℕ)
+    × IsStuckBlock asked work stuck read × IsStuckProof asked work stuck read proof × WritesBehind call stuck proof
 
 -- the lines that the run of a stuck block tells were written behind its pins
 pub record WritesStuckRun {rules : List Rule} {files : List File} (asked : RequestView) (work : GrowWork rules asked files)

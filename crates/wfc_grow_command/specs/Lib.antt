@@ -1,5 +1,6 @@
 pub mod GrowTask
 pub mod StuckText
+pub mod WrittenPins
 pub mod GrowAnswer
 pub mod GrowGiven
 pub mod GrowOrder

@@ -1,6 +1,7 @@
 //! Laws of the definitions, each a function with no body whose contract is the law. They run nothing.
 
-ghost use Rattle.std.specs.Prelude.{List, Ok, [], codes, false, true, ◌++◌, ◌∷◌, ◌≡◌};
+ghost use Rattle.std.specs.List.{flat_map};
+ghost use Rattle.std.specs.Prelude.{All, List, Ok, [], codes, false, true, ◌++◌, ◌-◌, ◌^◌, ◌∷◌, ◌≡◌};
 ghost use Rattle.wfc_blocks.specs.Blocks.{area_with};
 ghost use Rattle.wfc_blocks.specs.Small.{block_with};
 ghost use Rattle.wfc_blocks.specs.declared.grown.GrowFault.TheVariants as faults;
@@ -9,9 +10,11 @@ ghost use Rattle.wfc_grow_command.specs.GrowAnswer.{stuck_verdict};
 ghost use Rattle.wfc_grow_command.specs.GrowClaims.{grow_rules};
 ghost use Rattle.wfc_grow_command.specs.GrowGiven.{IsGrowTask};
 ghost use Rattle.wfc_grow_command.specs.GrowTask.{area_asked, grow_plan, grow_refusal};
-ghost use Rattle.wfc_grow_command.specs.Small.{ban_of_b, flat_shape, pin_of_a, seeded_asked, stuck_of_two};
+ghost use Rattle.wfc_grow_command.specs.Small.{ban_of_b, flat_shape, pin_line, pin_of_a, seeded_asked, stuck_of_two};
 ghost use Rattle.wfc_grow_command.specs.StuckText.{block_shape, block_writing, pin_text, stuck_text};
+ghost use Rattle.wfc_grow_command.specs.WrittenPins.{IsWrittenPin, numbered_from};
 ghost use Rattle.wfc_grow_command.specs.declared.growing.TheConstants.{GROW_CHOOSERS};
+ghost use Rattle.wfc_pins.specs.PinView.{PinView};
 ghost use Rattle.wfc_pins.specs.Pins.{pins_of};
 ghost use Rattle.wfc_pins.specs.declared.fault.BuildFault.TheVariants as builds;
 ghost use Rattle.wfc_plan.specs.Refusing.{IsMadeWhere};
@@ -60,4 +63,16 @@ pub fn stuck_blocks_are_written_so()
         ≡ record { format = 2; shape = flat_shape 6 3 4 8 true; budget = 9; seed = 105 } }
     ensures shape { block_shape (record seeded_asked { wrap_in = false; wrap_out = true })
         (block_with 5 12 7 3 4) ≡ flat_shape 6 3 4 8 false }
+{}
+
+/// Pins that are written as lines of a pins file are read back as they were, but for their numbers, which count from 1, where
+/// their columns and rows fit 32 bits and their symbols can stand in a sample.
+pub fn written_pins_are_read_back()
+    ensures read { (lines : List PinView) → All IsWrittenPin lines →
+        pins_of (flat_map pin_text lines) ≡ Ok (numbered_from 1 lines) }
+    ensures numbers { numbered_from 6 (pin_of_a 0 ∷ ban_of_b 0 ∷ [])
+        ≡ pin_of_a 6 ∷ ban_of_b 7 ∷ [] }
+    ensures last { IsWrittenPin (pin_line 9 false (2 ^ 32 - 1) (2 ^ 32 - 1) (codes "\\s")) }
+    ensures column { IsWrittenPin (pin_line 9 true (2 ^ 32) 0 (codes "a")) → ⊥ }
+    ensures row { IsWrittenPin (pin_line 9 true 0 (2 ^ 32) (codes "a")) → ⊥ }
 {}
