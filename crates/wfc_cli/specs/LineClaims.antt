@@ -48,8 +48,8 @@ abbrev pub TellsReason : Call → RequestView → List File → Type 0
 TellsReason call asked files =
     (text : List ℕ) × IsReason call asked files text × IsTold text call.before.err call.after.err
 
--- at status 0 the error stream is as before; at each other it took the line of the status, or a
--- front of it and then a fault of the stream was counted
+-- at status 0 the error stream is as before; at each other it took a line, or a front of one and then a fault of the stream
+-- was counted: the line of words that are no request, and over told files that of the status
 pub record TellsStatus (call : Call) : Type 0 where
   pub nothing : call.status ≡ 0 → call.after.err ≡ call.before.err
   pub one_line : call.status ≢ 0 → (text : List ℕ) × IsTold text call.before.err call.after.err

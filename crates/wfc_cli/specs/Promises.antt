@@ -32,7 +32,7 @@ pub record KeepsPromises (call : Call) : Type 0 where
   pub counts : CountsStand call
   -- without an answer the sink of the answer is as before
   pub untouched : KeepsOut call
-  -- the error stream takes the line of the status
+  -- the error stream takes a line at each status but 0: that of the words, or over told files that of the status
   pub told : TellsStatus call
   -- nothing else depends on that stream
   pub apart : IsApartFromErr call

@@ -20,7 +20,8 @@ use wfc_words::{CommandFault, request};
 
 /// Runs the command that the words spell over the files of a folder. The answer alone goes to `out`; at each status but
 /// 0 `err` gets one line that says why. The result is the exit status of docs/commands.md. A run goes by the first
-/// chooser whose kind is the rule asked for; all choosers are dropped.
+/// chooser whose kind is the rule asked for, that of `demo` by the first of the fewest values; of several runs each has
+/// one of that kind for itself. All choosers are dropped.
 pub fn run<F: Folder, O: Sink, E: Sink>(
     alloc: Global,
     words: &[String],

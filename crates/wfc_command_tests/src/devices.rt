@@ -8,7 +8,7 @@ use std::process::Abort;
 use std::test::Fail;
 use wfc_cli::refuse;
 use wfc_outside::{Folder, FolderFault, MemoryFolder, MemorySink};
-use wfc_rows::{folder_of, sink_of};
+use wfc_rows::{Row, folder_of, sink_of};
 use wfc_words::CommandFault;
 
 const LINE: &str = "fill chk.txt 2 3 3 --wrap-in --pins a.pins";
@@ -124,10 +124,12 @@ fn is_cut_off(rt: &(impl Abort + AllocGlobal), cut: Cut) -> Result<(), Fail> {
     check(rt, row, &mut folder, out, err)
 }
 
-/// A folder in memory that counts its calls that ask for another file than the two named ones.
+/// A folder in memory that counts its calls that ask for another file than these two.
 #[derive(Drop)]
 struct Recorder {
     folder: MemoryFolder,
+    first: &'static str,
+    second: &'static str,
     others: u32,
 }
 
@@ -137,24 +139,92 @@ impl Folder for Recorder {
     ghost bytes_given = { λ f. f.folder.given };
 
     fn read_at(&mut self, name: &str, at: u64, buf: &mut [u8]) -> Result<usize, FolderFault> {
-        if name != "chk.txt" && name != "a.pins" {
+        if name != self.first && name != self.second {
             self.others = self.others.saturating_add(1);
         }
         Folder::read_at(&mut self.folder, name, at, buf)
     }
 }
 
-#[test]
-fn no_file_is_read_that_is_not_named(rt: HostRuntime) -> Result<(), Fail> {
+/// The two files that a command line reads or looks for, and what comes of it. Where the second is missing, no file is read
+/// that the line names behind it.
+type Reading = (&'static str, &'static str, Row);
+
+static READINGS: [Reading; 6] = [
+    ("chk.txt", "a.pins", (LINE, 0, "aba\nbab\naba\n", "")),
+    (
+        "chk.txt",
+        "gone.pins",
+        (
+            "fill chk.txt 2 3 3 --wrap-in --pins gone.pins",
+            5,
+            "",
+            "wfc: device Missing file=gone.pins\n",
+        ),
+    ),
+    (
+        "gone.txt",
+        "gone.txt",
+        (
+            "fill gone.txt 2 3 3 --wrap-in --pins a.pins",
+            5,
+            "",
+            "wfc: device Missing file=gone.txt\n",
+        ),
+    ),
+    (
+        "lines.toml",
+        "gone.pins",
+        (
+            "fill lines.toml tiles 3 1 --mask m.txt --pins gone.pins",
+            5,
+            "",
+            "wfc: device Missing file=gone.pins\n",
+        ),
+    ),
+    (
+        "chk.txt",
+        "gone.pins",
+        (
+            "domains chk.txt 2 3 2 --pins gone.pins --steps two.steps",
+            5,
+            "",
+            "wfc: device Missing file=gone.pins\n",
+        ),
+    ),
+    (
+        "chk.txt",
+        "gone.ref",
+        (
+            "check chk.txt 2 3 2 gone.ref",
+            5,
+            "",
+            "wfc: device Missing file=gone.ref\n",
+        ),
+    ),
+];
+
+/// A command line reads no file but these two.
+fn reads_no_other(rt: &(impl Abort + AllocGlobal), reading: Reading) -> Result<(), Fail> {
+    let (first, second, row) = reading;
     let mut folder = Recorder {
         folder: folder_of(rt.alloc(), 100)?,
+        first,
+        second,
         others: 0,
     };
     let out = sink_of(rt.alloc(), 100)?;
     let err = sink_of(rt.alloc(), 100)?;
-    let row = (LINE, 0, "aba\nbab\naba\n", "");
-    check(&rt, row, &mut folder, out, err)?;
-    assert_eq!(rt; folder.others, 0);
+    check(rt, row, &mut folder, out, err)?;
+    assert_eq!(rt; folder.others, 0, "{}", row.0);
+    Ok(())
+}
+
+#[test]
+fn no_file_is_read_that_is_not_named(rt: HostRuntime) -> Result<(), Fail> {
+    for reading in &READINGS {
+        reads_no_other(&rt, *reading)?;
+    }
     Ok(())
 }
 
