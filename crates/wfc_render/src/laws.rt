@@ -10,10 +10,10 @@ ghost use Rattle.wfc_render.specs.Layout.{IsLayout, form_for, forms_of, layout_o
 ghost use Rattle.wfc_render.specs.Learned.{learned_text};
 ghost use Rattle.wfc_render.specs.LearnedTiles.{learned_tiles_text, pair_line, pairs_text};
 ghost use Rattle.wfc_render.specs.Tiled.{tiles_in};
-ghost use Rattle.wfc_tileset.specs.Samples.{crossing, straight_lines, one_taken};
+ghost use Rattle.wfc_tileset.specs.Samples.{crossing, one_taken};
 ghost use Rattle.wfc_render.specs.Small.{blank_and_colour, letters_and_blank, map_across, map_down, map_of_one};
 ghost use Rattle.wfc_render.specs.Small.{map_of_six, pair_of_patterns, two_colours};
-ghost use Rattle.wfc_render.specs.SmallTiles.{four_shown_tiles};
+ghost use Rattle.wfc_render.specs.SmallTiles.{four_shown_tiles, grass_and_bend};
 ghost use Rattle.wfc_model.specs.Raster.{raster_of};
 ghost use Rattle.wfc_render.specs.Map.{is_of_kind, symbol_at, raster_text};
 ghost use Rattle.wfc_render.specs.Numbers.{spaced_numbers};
@@ -123,10 +123,12 @@ pub fn tile_maps_by_example()
         ≡ codes "P3\n1 2\n9\n0 0 0\n1 2 3\n" }
 {}
 
-/// The text of a straight line that may go on to the right.
+/// The text of grass to the left of a bend: the variants of the second tile go on in number, have its weight, and are
+/// spelled with its name and their own numbers within it.
 pub fn learned_tiles_by_example()
-    ensures lines { learned_tiles_text straight_lines
-        ≡ codes "tiles 1\nvariants 2\n0 1: /0\n1 1: /1\nacross 1\n0 0\ndown 1\n1 1\n" }
+    ensures lines { learned_tiles_text grass_and_bend ≡ codes "tiles 2\nvariants 5\n0 30: grass/0\n"
+        ++ codes "1 7: bend/0\n2 7: bend/1\n3 7: bend/2\n4 7: bend/3\n"
+        ++ codes "across 4\n0 1\n0 4\n2 0\n3 0\ndown 4\n0 3\n0 4\n1 0\n2 0\n" }
 {}
 
 /// The pairs of a tile without symmetry and a junction: a left one and its right one, or an upper one and its lower one, each
