@@ -1,6 +1,6 @@
 //! Laws of the definitions, each a function with no body whose contract is the law. They run nothing.
 
-ghost use Rattle.std.specs.Prelude.{◌≡◌, ◌++◌, codes};
+ghost use Rattle.std.specs.Prelude.{◌≡◌, ◌∷◌, ◌++◌, [], codes, map, replicate};
 ghost use Rattle.wfc_choose.specs.declared.RuleKind.TheVariants as rules;
 ghost use Rattle.wfc_grid.specs.declared.reading.GridFault.TheVariants as grids;
 ghost use Rattle.wfc_box.specs.declared.fault.StackFault.TheVariants as stacks;
@@ -9,7 +9,8 @@ ghost use Rattle.wfc_check.specs.declared.fault.CheckFault.TheVariants as checks
 ghost use Rattle.wfc_lines.specs.Build.{text_of_build};
 ghost use Rattle.wfc_lines.specs.Check.{text_of_check};
 ghost use Rattle.wfc_proof.specs.declared.Reject.TheVariants as rejects;
-ghost use Rattle.wfc_lines.specs.Command.{text_of_chooser, text_of_command};
+ghost use Rattle.wfc_lines.specs.Command.{text_of_chooser, text_of_command, text_of_value};
+ghost use Rattle.wfc_lines.specs.Explain.{text_of_many_pins};
 ghost use Rattle.wfc_lines.specs.Grid.{text_of_grid};
 ghost use Rattle.wfc_lines.specs.Grow.{text_of_many_blocks, text_of_stuck};
 ghost use Rattle.wfc_lines.specs.Learn.{text_of_learn};
@@ -25,7 +26,7 @@ ghost use Rattle.wfc_lines.specs.Render.{text_of_render};
 ghost use Rattle.wfc_lines.specs.Small.{shape_differs};
 ghost use Rattle.wfc_lines.specs.Stacks.{text_of_stacks};
 ghost use Rattle.wfc_lines.specs.Steps.{text_of_range, text_of_steps};
-ghost use Rattle.wfc_lines.specs.Tiles.{text_of_tiles};
+ghost use Rattle.wfc_lines.specs.Tiles.{name_of_key, text_of_tiles};
 ghost use Rattle.wfc_outside.specs.declared.whole.ReadFault.TheVariants as reads;
 ghost use Rattle.wfc_pattern.specs.declared.learning.LearnFault.TheVariants as learns;
 ghost use Rattle.wfc_picture.specs.declared.palette.PaletteFault.TheVariants as palettes;
@@ -62,11 +63,22 @@ pub fn texts_of_commands_by_example()
         ≡ codes "command value quantum" }
     ensures block { text_of_command (commands.Value names.Block) ≡ codes "command value block" }
     ensures depth { text_of_command (commands.Value names.Depth) ≡ codes "command value DEPTH" }
+    ensures sizes { map text_of_value (names.Width ∷ names.Height ∷ names.Number ∷ [])
+        ≡ codes "command value WIDTH" ∷ codes "command value HEIGHT"
+        ∷ codes "command value NUMBER" ∷ [] }
+    ensures runs { map text_of_value (names.Seed ∷ names.Budget ∷ names.Rule ∷ [])
+        ≡ codes "command value seed" ∷ codes "command value budget"
+        ∷ codes "command value rule" ∷ [] }
+    ensures forms { map text_of_value (names.Symmetry ∷ names.Form ∷ names.Format ∷ [])
+        ≡ codes "command value symmetry" ∷ codes "command value form"
+        ∷ codes "command value format" ∷ [] }
     ensures race { text_of_race 2500 ≡ codes "race TooLarge product=2500" }
     ensures blocks { text_of_many_blocks 81 ≡ codes "grow TooManyBlocks count=81" }
     ensures stuck { text_of_stuck 12 7 ≡ codes "grow stuck x=12 y=7" }
-    ensures memory { text_of_command commands.NoMemory ≡ no_memory_text }
+    ensures memory { text_of_command commands.NoMemory ≡ codes "out of memory" }
     ensures chooser { text_of_chooser rules.Ranked ≡ codes "chooser missing rule=ranked" }
+    ensures fewest { text_of_chooser rules.Fewest ≡ codes "chooser missing rule=fewest" }
+    ensures scanline { text_of_chooser rules.Scanline ≡ codes "chooser missing rule=scanline" }
     ensures missing { text_of_reading reads.Missing (codes "a") ≡ codes "device Missing file=a" }
     ensures failed { text_of_reading reads.Failed (codes "a") ≡ codes "device Failed file=a" }
     ensures long { text_of_reading reads.TooLong (codes "a") ≡ codes "file TooLong file=a" }
@@ -94,6 +106,7 @@ pub fn texts_of_pictures_by_example()
 pub fn texts_of_inputs_by_example()
     ensures empty { text_of_grid grids.Empty (codes "a") ≡ codes "grid Empty file=a" }
     ensures ragged { text_of_grid (grids.Ragged 2) (codes "a") ≡ codes "grid Ragged line=2 file=a" }
+    ensures large { text_of_grid grids.TooLarge (codes "a") ≡ codes "grid TooLarge file=a" }
     ensures colours { text_of_palette (palettes.TooManyColours 70) (codes "a")
         ≡ codes "palette TooManyColours at=70 file=a" }
     ensures small { text_of_learn learns.SampleBelowN (codes "a")
@@ -101,6 +114,10 @@ pub fn texts_of_inputs_by_example()
     ensures many { text_of_learn (learns.TooManyPatterns 4097) (codes "a")
         ≡ codes "learn TooManyPatterns count=4097 file=a" }
     ensures pin { text_of_pins (pins.BadLine 1) (codes "p") ≡ codes "pins BadLine line=1 file=p" }
+    ensures pin_count { text_of_many_pins 65 (codes "p")
+        ≡ codes "explain TooManyPins count=65 file=p" }
+    ensures no_step { text_of_steps (steps.BadLine 4) (codes "s")
+        ≡ codes "steps BadLine line=4 file=s" }
     ensures step { text_of_steps (steps.NothingToUndo 1) (codes "s")
         ≡ codes "steps NothingToUndo line=1 file=s" }
     ensures range { text_of_range (ranges.OutOfRange 3) (codes "s")
@@ -125,12 +142,27 @@ pub fn texts_of_checks_by_example()
         ≡ codes "check Rejected line=3 reject=NotEmpty value=7 file=r" }
     ensures name { text_of_check (checks.Rejected 3 rejects.NotClosed) (codes "r")
         ≡ codes "check Rejected line=3 reject=NotClosed file=r" }
+    ensures not_standing { text_of_check (checks.Rejected 4 rejects.NotStanding) (codes "r")
+        ≡ codes "check Rejected line=4 reject=NotStanding file=r" }
+    ensures support { text_of_check (checks.Rejected 5 (rejects.HasSupport 6)) (codes "r")
+        ≡ codes "check Rejected line=5 reject=HasSupport value=6 file=r" }
+    ensures no_neighbour { text_of_check (checks.Rejected 7 rejects.NoNeighbour) (codes "r")
+        ≡ codes "check Rejected line=7 reject=NoNeighbour file=r" }
+    ensures after_end { text_of_check (checks.Rejected 8 rejects.AfterEnd) (codes "r")
+        ≡ codes "check Rejected line=8 reject=AfterEnd file=r" }
+    ensures index { text_of_check (checks.Rejected 9 rejects.IndexRange) (codes "r")
+        ≡ codes "check Rejected line=9 reject=IndexRange file=r" }
+    ensures only_value { text_of_check (checks.Rejected 10 rejects.OnlyValue) (codes "r")
+        ≡ codes "check Rejected line=10 reject=OnlyValue file=r" }
     ensures bad_line { text_of_check (checks.BadLine 41) (codes "r")
         ≡ codes "check BadLine line=41 file=r" }
     ensures header { text_of_check (checks.HeaderDiffers 3 2) (codes "r")
         ≡ codes "check HeaderDiffers cells=3 values=2 file=r" }
     ensures options { text_of_check shape_differs (codes "r") ≡ codes "check OptionsDiffer n=2"
         ++ codes " width=3 height=4 depth=1 symmetry=8 wrap_in=1 wrap_out=0 file=r" }
+    ensures not_ended { text_of_check checks.NotEnded (codes "r") ≡ codes "check NotEnded file=r" }
+    ensures missing { text_of_check checks.Missing (codes "r") ≡ codes "device Missing file=r" }
+    ensures failed { text_of_check checks.Failed (codes "r") ≡ codes "device Failed file=r" }
     ensures too_long { text_of_check checks.TooLong (codes "r") ≡ codes "file TooLong file=r" }
 {}
 
@@ -170,6 +202,15 @@ pub fn texts_of_tile_sets_by_example()
         ≡ codes "tiles BadName tile=11 file=t" }
 {}
 
+/// The names of keys, each as a document spells it.
+pub fn keys_are_named_as_spelled()
+    ensures top { map name_of_key (keys.Tile ∷ keys.Pair ∷ []) ≡ codes "tile" ∷ codes "pair" ∷ [] }
+    ensures tile { map name_of_key (keys.Name ∷ keys.Class ∷ keys.Weight ∷ keys.Picture ∷ [])
+        ≡ codes "name" ∷ codes "class" ∷ codes "weight" ∷ codes "picture" ∷ [] }
+    ensures pair { map name_of_key (keys.Left ∷ keys.Right ∷ [])
+        ≡ codes "left" ∷ codes "right" ∷ [] }
+{}
+
 /// The texts of files that are no masks, by example.
 pub fn texts_of_masks_by_example()
     ensures empty { text_of_mask_grid grids.Empty (codes "m") ≡ codes "mask Empty file=m" }
@@ -198,5 +239,18 @@ pub fn texts_of_stacks_by_example()
         ≡ codes "stack UnknownTile stack=1 file=t" }
     ensures turn { text_of_stacks (stacks.BadTurn 0) (codes "t")
         ≡ codes "stack BadTurn stack=0 file=t" }
-    ensures memory { text_of_stacks stacks.NoMemory (codes "t") ≡ no_memory_text }
+{}
+
+/// Want of memory is told in the same words wherever it comes.
+pub fn want_of_memory_is_told_alike()
+    ensures files { text_of_reading reads.NoMemory (codes "a")
+        ∷ text_of_check checks.NoMemory (codes "a") ∷ text_of_pins pins.NoMemory (codes "a")
+        ∷ text_of_steps steps.NoMemory (codes "a") ∷ [] ≡ replicate 4 no_memory_text }
+    ensures samples { text_of_grid grids.NoMemory (codes "a")
+        ∷ text_of_ppm ppms.NoMemory (codes "a") ∷ text_of_palette palettes.NoMemory (codes "a")
+        ∷ text_of_learn learns.NoMemory (codes "a") ∷ text_of_build builds.NoMemory (codes "a")
+        ∷ [] ≡ replicate 5 no_memory_text }
+    ensures tile_sets { text_of_tiles tiles.NoMemory (codes "a")
+        ∷ text_of_mask_grid grids.NoMemory (codes "a") ∷ text_of_mask masks.NoMemory (codes "a")
+        ∷ text_of_stacks stacks.NoMemory (codes "a") ∷ [] ≡ replicate 4 no_memory_text }
 {}

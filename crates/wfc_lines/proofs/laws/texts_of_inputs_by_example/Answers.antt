@@ -45,3 +45,11 @@ returns-clause-pixels c = refl
 pub returns-clause-hole : goal.returns-clause-hole
 unfolding digits
 returns-clause-hole c = refl
+
+pub returns-clause-pin_count : goal.returns-clause-pin_count
+unfolding digits
+returns-clause-pin_count c = refl
+
+pub returns-clause-no_step : goal.returns-clause-no_step
+unfolding digits
+returns-clause-no_step c = refl
