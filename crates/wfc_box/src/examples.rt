@@ -13,13 +13,13 @@ ghost use Rattle.wfc_tiled.specs.Small.{line_and_cross};
 ghost use Rattle.wfc_tileset.specs.Samples.{crossing, small_pair_end, straight_lines};
 ghost use Rattle.wfc_problem.specs.declared.TheConstants.{NO_CELL};
 ghost use Rattle.wfc_box.specs.BoxPins.{box_pins_of};
-ghost use Rattle.wfc_box.specs.BoxProblem.{all_beside_in_box, all_fitting_in_box, box_base_table};
+ghost use Rattle.wfc_box.specs.BoxProblem.{all_beside_in_box, all_fitting_in_box, box_base_table, problem_of_box};
 ghost use Rattle.wfc_box.specs.BoxText.{box_layout_of, box_text};
 ghost use Rattle.wfc_box.specs.Boxes.{IsLegalBox, box_of, box_cell, frame_of, number_in_box, numbers_of_box, places_in};
 ghost use Rattle.wfc_box.specs.Built.{box_pins_in};
 ghost use Rattle.wfc_box.specs.Small.{banned_in, bad_box_lines, flat, kept_in, box_line, one_stack, pillar, single};
 ghost use Rattle.wfc_box.specs.Small.{lower_alone, lower_in_an_array, pins_of_one, stack_data, twelve, two_box_lines, two_by_two, with_stacks, wrapped_frame};
-ghost use Rattle.wfc_box.specs.StackDocument.{stack_with, stacks_in};
+ghost use Rattle.wfc_box.specs.StackDocument.{stack_end_from, stack_with, stacks_in};
 ghost use Rattle.wfc_box.specs.Stacks.{IsStacked, stacked_pairs};
 ghost use Rattle.wfc_box.specs.declared.fault.StackFault.TheVariants as stack_faults;
 ghost use Rattle.wfc_box.specs.declared.fault.StackKey.TheVariants as keys;
@@ -61,6 +61,13 @@ pub fn supports_by_example()
         ≡ [] ∷ (0 ∷ 4 ∷ []) ∷ [] ∷ [] ∷ [] ∷ (5 ∷ []) ∷ [] }
 {}
 
+/// A problem has a cell for each place and six directions, and each variant weighs what its tile does.
+pub fn problems_by_example()
+    ensures cells { (problem_of_box line_and_cross [] flat []).cells ≡ 24 }
+    ensures dirs { (problem_of_box line_and_cross [] flat []).dirs ≡ 6 }
+    ensures weights { (problem_of_box line_and_cross [] flat []).weights ≡ 3 ∷ 3 ∷ 5 ∷ [] }
+{}
+
 /// A pin keeps one variant at the cell of its place, and a ban takes one away.
 pub fn pins_by_example()
     ensures base { box_base_table straight_lines two_by_two (kept_in 1 0 1 1 ∷ banned_in 0 0 1 1 ∷
@@ -83,7 +90,8 @@ pub fn boxes_by_example()
         (1 ∷ 2 ∷ 3 ∷ 4 ∷ 5 ∷ 6 ∷ 7 ∷ 8 ∷ 9 ∷ 10 ∷ 11 ∷ 12 ∷ []) ≡ twelve }
 {}
 
-/// The stacks of documents, and their faults: in a stack the lower end is looked at first.
+/// The stacks of documents, and their faults: in a stack the lower end is looked at first, and in an
+/// end the name before the action.
 pub fn documents_by_example()
     ensures none { stacks_in line_and_cross.tiles (Some no_members) ≡ Ok [] }
     ensures read { stacks_in line_and_cross.tiles (Some (with_stacks (stack_data (codes "line 1")
@@ -101,9 +109,12 @@ pub fn documents_by_example()
         (stack_data (codes "y") (codes "x 9") ∷ []))) ≡ Err (stack_faults.UnknownTile 0) }
     ensures turn { stacks_in line_and_cross.tiles (Some (with_stacks
         (stack_data (codes "line 0") (codes "x 9") ∷ []))) ≡ Err (stack_faults.BadTurn 0) }
+    ensures name_first { stack_end_from line_and_cross.tiles 3 (codes "y 9")
+        ≡ Err (stack_faults.UnknownTile 3) }
 {}
 
-/// The forms of boxes, and the text of one.
+/// The forms of boxes, of which one that the kind lacks comes before too many pixels, and the text of
+/// one.
 pub fn texts_by_example()
     ensures grid { box_layout_of kinds.Grid None 3 2 4 2 ≡ Ok Grid }
     ensures cells { box_layout_of kinds.Grid (Some Cells) 3 2 4 2 ≡ Ok Cells }
@@ -111,6 +122,8 @@ pub fn texts_by_example()
     ensures other { box_layout_of (kinds.Ppm 255) (Some P6) 3 2 4 2
         ≡ Err render_faults.FormDiffers }
     ensures no_grid { box_layout_of kinds.Plain (Some Grid) 3 2 4 1
+        ≡ Err render_faults.FormDiffers }
+    ensures form_first { box_layout_of (kinds.Ppm 255) (Some P6) 4096 4096 256 64
         ≡ Err render_faults.FormDiffers }
     ensures most { box_layout_of kinds.Plain None 4096 64 64 1 ≡ Ok Cells }
     ensures large { box_layout_of kinds.Plain None 4096 64 16 3

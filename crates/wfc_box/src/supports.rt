@@ -11,8 +11,8 @@ use wfc_places::push_if;
 use wfc_tiled::variants_fit;
 use wfc_tileset::TileSet;
 
-/// For each variant and direction the variants that may stand there, in lists that take no more
-/// memory than they need.
+/// For each variant and direction the variants that may stand there. Each list is a copy, which
+/// leaves out the room that the one it was gathered in has to spare; no clause says so.
 pub(crate) fn supports(
     alloc: Global,
     tiles: &TileSet,
