@@ -9,6 +9,7 @@ use Rattle.wfc_pattern.specs.declared.learning.LearnFault.TheVariants as learnin
 use Rattle.wfc_picture.specs.declared.palette.PaletteFault.TheVariants as palettes
 use Rattle.wfc_pins.specs.declared.fault.BuildFault.TheVariants as builds
 use Rattle.wfc_pins.specs.declared.pins.PinFault.TheVariants as pins
+use Rattle.wfc_pins.specs.declared.steps.RangeFault.TheVariants as ranges
 use Rattle.wfc_pins.specs.declared.steps.StepFault.TheVariants as steps
 use Rattle.wfc_plan.specs.Fault.{IsRefusedAs}
 use Rattle.wfc_plan.specs.Plan.{Plan, done, most_bytes, read}
@@ -61,6 +62,7 @@ wrong_refusals =
     ∷ refusals.Pins (pins.BadLine 7)
     ∷ refusals.Build builds.SizeBelowN
     ∷ refusals.Steps (steps.NothingToUndo 7)
+    ∷ refusals.Range (ranges.OutOfRange 7)
     ∷ refusals.TooLong Pins
     ∷ refusals.Tiles tiles.NoTiles
     ∷ refusals.Mask masks.AllHoles

@@ -29,7 +29,7 @@ pub enum Source {
     Mask,
 }
 
-/// What a step refuses that reads nothing.
+/// A refusal: a file, a size or a limit is at fault, a chooser is missing, or memory ran out.
 #[derive(Clone, Copy, Debug, PartialEq, Eq)]
 pub enum Refusal {
     /// No chooser goes by this rule, or fewer do than the command needs.
