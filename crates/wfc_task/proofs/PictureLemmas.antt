@@ -6,7 +6,7 @@ use Rattle.wfc_plan.proofs.CallerLemmas.{unrefused}
 use Rattle.wfc_plan.specs.Plan.{Follows, Goes, Plan, and_then, done, read, refuse, step}
 use Rattle.wfc_plan.specs.declared.fault.Refusal.{Refusal}
 use Rattle.wfc_plan.specs.declared.fault.Refusal.TheVariants as refusals
-use Rattle.wfc_task.specs.TilePlans.{document_plan, next_plan, picture_plan, pictures_plan, tiles_plan}
+use Rattle.wfc_task.specs.TilePlans.{document_plan, next_plan, tile_picture_plan, pictures_plan, tiles_plan}
 use Rattle.wfc_task.specs.TileSteps.{with_next_picture}
 use Rattle.wfc_tileset.specs.Document.{result_then as if_given}
 use Rattle.wfc_tileset.specs.Pictures.{picture_for, picture_name, picture_taken, with_picture}
@@ -54,7 +54,7 @@ IsEnough left set = IsWhole set ⊎ (length set.tiles ≤ length set.pictures + 
 
 -- the next picture is read, so that there is one tile less behind them
 next_enough : (left : ℕ) (name : Option (List ℕ)) (set next : TileSetView) (before after : FolderView) → picture_name set (length set.pictures) ≡ name → IsEnough (suc left) set
-    → Follows (picture_plan name set) before after (Ok next) → IsEnough left next
+    → Follows (tile_picture_plan name set) before after (Ok next) → IsEnough left next
 next_enough left None set next before after is enough follows = let same : next ≡ set = cc (follows.1) in subst (IsEnough left) (sym same) (inl is)
 next_enough left (Some name) set next before after is enough (inr unread) = absurd (cc (unread.2))
 next_enough left (Some name) set next before after is enough (inl goes_on) =

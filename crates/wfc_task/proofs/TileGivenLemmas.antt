@@ -21,7 +21,7 @@ use Rattle.wfc_task.proofs.TilingLemmas.{tiles_built_is}
 use Rattle.wfc_task.specs.SamplePlans.{pins_plan}
 use Rattle.wfc_task.specs.Steps.{grid_in}
 use Rattle.wfc_task.specs.TileGiven.{HoldsMask, HoldsPicture, HoldsPictures, IsTileProblemOf, IsTileSetOf}
-use Rattle.wfc_task.specs.TilePlans.{document_plan, mask_plan_by, next_plan, picture_plan, pictures_plan, tiled_plan, tiles_plan}
+use Rattle.wfc_task.specs.TilePlans.{document_plan, mask_plan_by, next_plan, tile_picture_plan, pictures_plan, tiled_plan, tiles_plan}
 use Rattle.wfc_task.specs.TileSteps.{document_in, mask_in, with_next_picture, posed_tiles}
 use Rattle.wfc_tiled.specs.Built.{tile_map_problem, tile_pair_count, tile_map_pins}
 use Rattle.wfc_tiled.specs.Mask.{MaskView, mask_of, plain_mask}
@@ -37,13 +37,13 @@ ended value = Ok value
 
 -- ---- pictures
 
-pub picture_given : (files : List File) (name : Option (List ℕ)) (before after : TileSetView) → outcome (picture_plan name before) files ≡ Ok after → HoldsPicture files name before after
+pub picture_given : (files : List File) (name : Option (List ℕ)) (before after : TileSetView) → outcome (tile_picture_plan name before) files ≡ Ok after → HoldsPicture files name before after
 picture_given files None before after is = done_is before after files is
 picture_given files (Some name) before after is =
     let parts = outcome_parts (file_plan (Picture (length before.pictures)) name) (λ bytes. step (with_next_picture before bytes)) files after is in
     (parts.0, file_given (Picture (length before.pictures)) name files parts.0 parts.1, unrefused refusals.Tiles (picture_taken before parts.0) after (step_ok (with_next_picture before parts.0) files after parts.2))
 
-pub given_picture : (files : List File) (name : Option (List ℕ)) (before after : TileSetView) → HoldsPicture files name before after → outcome (picture_plan name before) files ≡ Ok after
+pub given_picture : (files : List File) (name : Option (List ℕ)) (before after : TileSetView) → HoldsPicture files name before after → outcome (tile_picture_plan name before) files ≡ Ok after
 given_picture files None before after holds = ap ended holds
 given_picture files (Some name) before after holds =
     outcome_on (file_plan (Picture (length before.pictures)) name) (λ bytes. step (with_next_picture before bytes)) files holds.0 (given_file (Picture (length before.pictures)) name files holds.0 holds.1)

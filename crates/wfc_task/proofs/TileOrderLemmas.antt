@@ -22,7 +22,7 @@ use Rattle.wfc_task.specs.SamplePlans.{pins_plan}
 use Rattle.wfc_task.specs.Stages.{IsCountFault, IsPinsFault}
 use Rattle.wfc_task.specs.Steps.{grid_in}
 use Rattle.wfc_task.specs.TileGiven.{HoldsMask, IsTileSetOf}
-use Rattle.wfc_task.specs.TilePlans.{document_plan, mask_plan, mask_plan_by, next_plan, picture_plan, pictures_plan, tiled_plan, tiles_plan}
+use Rattle.wfc_task.specs.TilePlans.{document_plan, mask_plan, mask_plan_by, next_plan, tile_picture_plan, pictures_plan, tiled_plan, tiles_plan}
 use Rattle.wfc_task.specs.TileStages.{IsDocumentFault, IsDocumentOf, IsGridOf, IsMaskFault, IsMaskFormFault, IsPictureFault, IsPicturesFault, IsTileLayoutFault, IsTilePairsFault, IsTilePinFault, IsTilesFault}
 use Rattle.wfc_task.specs.TileSteps.{document_in, tile_layout, mask_in, with_next_picture, posed_tiles}
 use Rattle.wfc_tiled.specs.Built.{tile_pair_count, tile_map_pins}
@@ -51,10 +51,10 @@ faults_pair {A} {B} plan next files stage later faults rest fault = (to (outcome
     from (inl has) = outcome_out plan next files fault ((faults fault).1 has)
     from (inr (value, was, has)) = outcome_on plan next files value was ∙ (rest value fault).1 has
 
-faults_picture : (files : List File) (name : Option (List ℕ)) (set : TileSetView) → Faults (picture_plan name set) files (IsPictureFault files name set)
+faults_picture : (files : List File) (name : Option (List ℕ)) (set : TileSetView) → Faults (tile_picture_plan name set) files (IsPictureFault files name set)
 faults_picture files None set = λ fault. (λ is. absurd (cc (is)), λ none. absurd none)
 faults_picture files (Some name) set =
-    faults_as (picture_plan (Some name) set) files (λ fault. IsReadingFault (Picture (length set.pictures)) files name fault ⊎ ((bytes : List ℕ) × (outcome (file_plan (Picture (length set.pictures)) name) files ≡ Ok bytes) × IsRefusal refusals.Tiles (picture_taken set bytes) fault))
+    faults_as (tile_picture_plan (Some name) set) files (λ fault. IsReadingFault (Picture (length set.pictures)) files name fault ⊎ ((bytes : List ℕ) × (outcome (file_plan (Picture (length set.pictures)) name) files ≡ Ok bytes) × IsRefusal refusals.Tiles (picture_taken set bytes) fault))
     (IsPictureFault files (Some name) set) same
     (faults_pair (file_plan (Picture (length set.pictures)) name) (λ bytes. step (with_next_picture set bytes)) files (IsReadingFault (Picture (length set.pictures)) files name) (λ bytes. IsRefusal refusals.Tiles (picture_taken set bytes))
     (faults_reading (Picture (length set.pictures)) files name) (λ bytes. faults_step refusals.Tiles (picture_taken set bytes) files))

@@ -76,8 +76,8 @@ IsLaidBy Tiles asked files P of layout =
     layout_of (kind_of of.set.pictures) asked.form asked.width asked.height (side_of of.set.pictures) ≡ Ok layout
 
 -- the layout is the one in which the map of the request is to be written
-abbrev pub IsLaid : (asked : RequestView) (files : List File) (P : Network) → Posed asked files P → Layout → Type 0
-IsLaid asked files P posed layout = IsLaidBy asked.source asked files P posed layout
+abbrev pub IsMapLaid : (asked : RequestView) (files : List File) (P : Network) → Posed asked files P → Layout → Type 0
+IsMapLaid asked files P posed layout = IsLaidBy asked.source asked files P posed layout
 
 -- maps of windows and of tiles
 abbrev pub flat_maps : MapKind
@@ -85,7 +85,7 @@ flat_maps = record {
   Map = Raster;
   Layout = Layout;
   IsPosed = Posed;
-  IsLaid = IsLaid;
+  IsLaid = IsMapLaid;
   IsLegal = IsLegal;
   map_of = map_of;
   text_of = text_of_map;

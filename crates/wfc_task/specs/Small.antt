@@ -1,5 +1,6 @@
--- Small requests, whose files have several faults at once.
+-- Small requests with their files, which may have several faults at once, and small samples with what they teach, for laws.
 use Rattle.std.specs.Prelude.{Err, List, None, Ok, Option, Some, [], codes, length, true, ℕ, ◌∷◌, ◌≡◌}
+use Rattle.wfc_grid.specs.Grid.{GridView}
 use Rattle.wfc_outside.specs.Folder.{File, file_of}
 use Rattle.wfc_outside.specs.declared.whole.ReadFault.TheVariants.{TooLong}
 use Rattle.wfc_picture.specs.declared.symbol.Kind.TheVariants as kinds
@@ -7,8 +8,11 @@ use Rattle.wfc_picture.specs.declared.symbol.Symbol.TheVariants.{Char}
 use Rattle.wfc_plan.specs.Plan.{Plan, outcome}
 use Rattle.wfc_plan.specs.declared.fault.Fault.TheVariants.{Unread}
 use Rattle.wfc_plan.specs.declared.fault.Source.{Source}
+use Rattle.wfc_ppm.specs.Ppm.{PpmView}
+use Rattle.wfc_ppm.specs.Small.{colour}
 use Rattle.wfc_render.specs.Layout.{layout_of}
 use Rattle.wfc_render.specs.declared.form.Form.{Form}
+use Rattle.wfc_render.specs.declared.form.Form.TheVariants.{P6}
 use Rattle.wfc_render.specs.declared.form.Layout.{Layout}
 use Rattle.wfc_task.specs.TileGiven.{IsTileSetOf}
 use Rattle.wfc_task.specs.declared.lesson.Taught.{Taught}
@@ -99,6 +103,25 @@ windows_asked = record (default_request Fill) {
   height = 4;
   symmetry = 5;
   wrap_in = true;
+}
+
+-- two pixels in a row, in colours whose greatest sample is nine
+abbrev pub colour_pair : PpmView
+colour_pair = record { width = 2; height = 1; maxval = 9; pixels = colour 1 2 3 ∷ colour 9 5 4 ∷ [] }
+
+-- two pixels in a row, an `x` and a `y`
+abbrev pub character_pair : GridView
+character_pair = record { width = 2; height = 1; bytes = 120 ∷ 121 ∷ [] }
+
+-- a map of seven by four that wraps, of a tile set; what is said of windows is for samples alone
+abbrev pub wrapped_asked : RequestView
+wrapped_asked = record (default_request Fill) {
+  source = Tiles;
+  width = 7;
+  height = 4;
+  symmetry = 5;
+  wrap_out = true;
+  form = Some P6;
 }
 
 -- a map of three by two of a tile set

@@ -102,7 +102,7 @@ IsPairsFault asked files fault =
     (lesson : Taught) × Teaches asked files lesson
     × IsCountFault (window_pair_count lesson.patterns (asked_output asked)) fault
 
--- a line of pins means none of what was learned
+-- a line of pins lies outside of the map, or means none of what was learned
 abbrev pub IsPinFault : RequestView → List File → TaskStage
 IsPinFault asked files fault =
     (lesson : Taught) × Teaches asked files lesson

@@ -17,14 +17,14 @@ abbrev pub document_plan : RequestView → Plan TileSetView
 document_plan asked = and_then (file_plan Sample asked.file) (λ bytes. step (document_in bytes))
 
 -- the file of this name is read, which is the picture of the next tile; there is none where no file is named
-abbrev pub picture_plan : Option (List ℕ) → TileSetView → Plan TileSetView
-picture_plan None set = done set
-picture_plan (Some name) set =
+abbrev pub tile_picture_plan : Option (List ℕ) → TileSetView → Plan TileSetView
+tile_picture_plan None set = done set
+tile_picture_plan (Some name) set =
     and_then (file_plan (Picture (length set.pictures)) name) (λ bytes. step (with_next_picture set bytes))
 
 -- the picture of the next tile is read, if it has one
 abbrev pub next_plan : TileSetView → Plan TileSetView
-next_plan set = picture_plan (picture_name set (length set.pictures)) set
+next_plan set = tile_picture_plan (picture_name set (length set.pictures)) set
 
 -- the pictures of so many tiles are read, one by one
 abbrev pub pictures_plan : ℕ → TileSetView → Plan TileSetView

@@ -21,7 +21,7 @@ use Rattle.wfc_words.specs.RequestView.{RequestView}
 
 -- ---- tile sets
 
--- the file asked for spells no document
+-- the file asked for spells no tile set
 abbrev pub IsDocumentFault : RequestView → List File → TaskStage
 IsDocumentFault asked files fault =
     (bytes : List ℕ) × IsFile files asked.file bytes × IsRefusal refusals.Tiles (set_of bytes) fault
@@ -94,7 +94,7 @@ IsTilePairsFault asked files fault =
     × ((mask : MaskView) × HoldsMask asked files asked.mask mask
     × IsCountFault (tile_pair_count set mask) fault)
 
--- a line of pins means no variant of the tile set at a place that is no hole
+-- a line of pins lies outside of the map or in a hole, or means no variant of the tile set
 abbrev pub IsTilePinFault : RequestView → List File → TaskStage
 IsTilePinFault asked files fault =
     (set : TileSetView) × IsTileSetOf asked files set

@@ -1,27 +1,41 @@
 //! Laws of the definitions, each a function with no body whose contract is the law. They run nothing.
 
 ghost use Rattle.std.specs.Prelude.{Err, List, None, Ok, Some, [], codes, false, length, true, ℕ, ◌↔◌, ◌∷◌, ◌≡◌};
+ghost use Rattle.wfc_grid.specs.Grid.{GridView};
 ghost use Rattle.wfc_model.specs.Raster.{Raster};
 ghost use Rattle.wfc_outside.specs.Folder.{File};
 ghost use Rattle.wfc_outside.specs.Gives.{result_map};
 ghost use Rattle.wfc_outside.specs.declared.whole.ReadFault.TheVariants.{Missing, TooLong};
 ghost use Rattle.wfc_overlap.specs.Sample.{output_with};
-ghost use Rattle.wfc_plan.specs.Plan.{outcome};
+ghost use Rattle.wfc_picture.specs.Small.{rgb};
+ghost use Rattle.wfc_picture.specs.declared.symbol.Kind.TheVariants as kinds;
+ghost use Rattle.wfc_picture.specs.declared.symbol.Symbol.TheVariants.{Char};
+ghost use Rattle.wfc_pins.specs.PinView.{PinView};
+ghost use Rattle.wfc_plan.specs.Plan.{or_refuse, outcome};
 ghost use Rattle.wfc_plan.specs.declared.fault.Fault.TheVariants.{Unread};
+ghost use Rattle.wfc_plan.specs.declared.fault.Refusal.TheVariants as refusals;
 ghost use Rattle.wfc_plan.specs.declared.fault.Source.TheVariants.{Mask, Picture, Pins, Sample};
 ghost use Rattle.wfc_problem.specs.Assignment.{IsLegalAssignment};
 ghost use Rattle.wfc_problem.specs.Network.{Network};
-ghost use Rattle.wfc_render.specs.declared.form.Form.TheVariants.{Grid};
-ghost use Rattle.wfc_task.specs.Maps.{IsLegal, asked_output, map_of, rules_of};
-ghost use Rattle.wfc_task.specs.Posed.{HoldsOfPosed, Posed, posed_plan};
+ghost use Rattle.wfc_render.specs.Layout.{layout_of};
+ghost use Rattle.wfc_render.specs.declared.form.Form.TheVariants.{Grid, P6};
+ghost use Rattle.wfc_task.specs.Maps.{IsLegal, IsLegalBy, asked_output, map_of, rules_of};
+ghost use Rattle.wfc_task.specs.Posed.{HoldsOfPosed, OfTiles, Posed, posed_plan};
 ghost use Rattle.wfc_task.specs.SamplePlans.{pins_plan, sample_plan, sampled_plan};
+ghost use Rattle.wfc_task.specs.Sampled.{shown_by_grid, shown_by_ppm};
 ghost use Rattle.wfc_task.specs.Small.{IsLong, IsReadTooLong, file, sample_asked, tiles_asked, wide_asked, windows_asked, with_pins, with_sample};
 ghost use Rattle.wfc_task.specs.Small.{inner_windows, reflected_windows, small_lesson, wrapped_windows};
+ghost use Rattle.wfc_task.specs.Small.{character_pair, colour_pair, wrapped_asked};
 ghost use Rattle.wfc_task.specs.Sources.{window_side_of};
 ghost use Rattle.wfc_tileset.specs.Document.{is_ppm_name};
-ghost use Rattle.wfc_task.specs.TilePlans.{document_plan, mask_plan, mask_plan_by, picture_plan};
+ghost use Rattle.wfc_task.specs.TilePlans.{document_plan, mask_plan, mask_plan_by, tile_picture_plan};
+ghost use Rattle.wfc_task.specs.TileSteps.{mask_in, posed_tiles, tile_layout};
 ghost use Rattle.wfc_task.specs.Tiling.{HasSides, mask_or_whole};
-ghost use Rattle.wfc_tiled.specs.Mask.{MaskView, plain_mask};
+ghost use Rattle.wfc_tiled.specs.Built.{tile_map_problem};
+ghost use Rattle.wfc_tiled.specs.Maps.{IsLegalTileMap};
+ghost use Rattle.wfc_tiled.specs.Mask.{MaskView, mask_of, plain_mask};
+ghost use Rattle.wfc_tiled.specs.Tiles.{problem_of_tiles};
+ghost use Rattle.wfc_tileset.specs.Pictures.{kind_of, side_of};
 ghost use Rattle.wfc_tileset.specs.Tiles.{TileSetView};
 ghost use Rattle.wfc_words.specs.RequestView.{RequestView};
 ghost use Rattle.wfc_words.specs.declared.kinds.SourceModel.TheVariants.{Overlap, Tiles};
@@ -57,7 +71,7 @@ pub fn long_files_are_refused()
     ensures document { (asked : RequestView) (files : List File) → IsLong files asked.file
         → outcome (document_plan asked) files ≡ Err (Unread Sample TooLong) }
     ensures picture { (set : TileSetView) (files : List File) (name : List ℕ) → IsLong files name
-        → IsReadTooLong (picture_plan (Some name) set) files (Picture (length set.pictures)) }
+        → IsReadTooLong (tile_picture_plan (Some name) set) files (Picture (length set.pictures)) }
     ensures pins { (files : List File) (name : List ℕ) → IsLong files name
         → outcome (pins_plan (Some name)) files ≡ Err (Unread Pins TooLong) }
     ensures mask { (asked : RequestView) (files : List File) (name : List ℕ) → IsLong files name
@@ -80,6 +94,30 @@ pub fn requests_ask_for_maps()
     ensures output { asked_output windows_asked ≡ output_with 7 4 false }
     ensures side { window_side_of (Overlap 3) ≡ 3 }
     ensures no_side { window_side_of Tiles ≡ 0 }
+{}
+
+/// And what it asks of a tile map: its sides, and that of its two flags which is of the map.
+pub fn requests_ask_for_tile_maps()
+    ensures problem { (set : TileSetView) (mask : MaskView) (lines : List PinView) →
+        posed_tiles wrapped_asked set mask lines
+        ≡ or_refuse refusals.Build (tile_map_problem set mask true lines) }
+    ensures given { (files : List File) (P : Network) (of : OfTiles wrapped_asked files P) →
+        P ≡ problem_of_tiles of.set of.mask true of.problem.pins }
+    ensures maps { (files : List File) (P : Network) (of : OfTiles wrapped_asked files P)
+        (m : Raster) → IsLegalBy Tiles wrapped_asked files P of m
+        ↔ IsLegalTileMap of.set of.mask true of.problem.pins m }
+    ensures mask { (grid : GridView) →
+        mask_in wrapped_asked grid ≡ or_refuse refusals.Mask (mask_of grid 7 4) }
+    ensures layout { (set : TileSetView) → tile_layout set wrapped_asked ≡ or_refuse refusals.Render
+        (layout_of (kind_of set.pictures) (Some P6) 7 4 (side_of set.pictures)) }
+{}
+
+/// What a sample shows, by example: a picture in colours its greatest sample too, and a grid.
+pub fn samples_show_symbols()
+    ensures ppm { shown_by_ppm colour_pair
+        ≡ record { kind = kinds.Ppm 9; width = 2; symbols = rgb 1 2 3 ∷ rgb 9 5 4 ∷ [] } }
+    ensures grid { shown_by_grid character_pair
+        ≡ record { kind = kinds.Grid; width = 2; symbols = Char 120 ∷ Char 121 ∷ [] } }
 {}
 
 /// What a small sample teaches, by example: its palette, and its windows row by row, one at each pixel where the sample wraps, whether
