@@ -70,6 +70,7 @@ module _ (kind : CommandKind) (rows : List Row) (values : Values) (read : AreRea
     number_limit = number-most kind rows number_range values.writing.number read.writing.number (leb-true 0 1000000 refl);
     some_format = number-least kind rows format_range values.writing.format read.writing.format (leb-true 1 2 refl);
     two_formats = number-most kind rows format_range values.writing.format read.writing.format (leb-true 2 2 refl);
+    unmasked = read.writing.unmasked;
   }
 
   race-in_range : IsRaceInRange given

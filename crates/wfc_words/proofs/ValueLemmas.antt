@@ -127,10 +127,11 @@ module _ (kind : CommandKind) (rows : List Row) where
       subst (λ (r : Result RunValues CommandFault). IfOk r IsRunRead) (rule.1.1)
       (record { seed = seed.1.0; budget = budget.1.0; rule = rule.1.0 })
 
-  pub record IsWritingRead (values : WritingValues) : Type 0 where
+  pub record IsWritingRead (source : SourceModel) (values : WritingValues) : Type 0 where
     pub form : form_value kind rows ≡ Ok values.form
     pub number : number_value kind rows number_range ≡ Ok values.number
     pub format : number_value kind rows format_range ≡ Ok values.format
+    pub unmasked : is_sample source ≡ true → word_text kind (word_of names.Mask) rows ≡ None
 
   unless_masked-same : (source : SourceModel) (values given : WritingValues) → unless_masked kind rows source values ≡ Ok given → values ≡ given
   unless_masked-same source values given is = go (is_sample source && is_some (word_text kind (word_of names.Mask) rows)) is
@@ -139,13 +140,29 @@ module _ (kind : CommandKind) (rows : List Row) where
       go true e = let bad : ⊥ = cc in absurd bad
       go false e = cc
 
-  writing-read : (source : SourceModel) (values : WritingValues) → writing_values kind rows source ≡ Ok values → IsWritingRead values
+  -- windows of a sample have no mask
+  unless_masked-none : (source : SourceModel) (values given : WritingValues) → unless_masked kind rows source values ≡ Ok given
+      → is_sample source ≡ true → word_text kind (word_of names.Mask) rows ≡ None
+  unless_masked-none source values given is sample = go (is_sample source) (word_text kind (word_of names.Mask) rows) refl sample is
+    where
+      go : (sampled : Bool) (text : Option Text) → word_text kind (word_of names.Mask) rows ≡ text → sampled ≡ true
+          → cond (sampled && is_some text) (Err (Value names.Mask)) (Ok values) ≡ Ok given → word_text kind (word_of names.Mask) rows ≡ None
+      go true None was s e = was
+      go true (Some text) was s e = let bad : ⊥ = cc in absurd bad
+      go false text was s e = let bad : ⊥ = cc in absurd bad
+
+  writing-read : (source : SourceModel) (values : WritingValues) → writing_values kind rows source ≡ Ok values → IsWritingRead source values
   writing-read source values is =
       let form = before (form_value kind rows) _ values is in
       let number = before (number_value kind rows number_range) _ values (form.1.1) in
       let format = before (number_value kind rows format_range) _ values (number.1.1) in
-      subst IsWritingRead (unless_masked-same source (record { form = form.0; number = number.0; format = format.0 }) values (format.1.1))
-      (record { form = form.1.0; number = number.1.0; format = format.1.0 })
+      let written : WritingValues = record { form = form.0; number = number.0; format = format.0 } in
+      subst (IsWritingRead source) (unless_masked-same source written values (format.1.1)) (record {
+        form = form.1.0;
+        number = number.1.0;
+        format = format.1.0;
+        unmasked = unless_masked-none source written values (format.1.1);
+      })
 
   pub record IsRaceRead (seed : ℕ) (values : RaceValues) : Type 0 where
     pub seeds : number_value kind rows (seeds_range seed) ≡ Ok values.seeds
@@ -172,7 +189,7 @@ module _ (kind : CommandKind) (rows : List Row) where
   pub record AreRead (values : Values) : Type 0 where
     pub map : IsMapRead values.map
     pub run : IsRunRead values.run
-    pub writing : IsWritingRead values.writing
+    pub writing : IsWritingRead values.map.source values.writing
     pub race : IsRaceRead values.run.seed values.race
     pub space : IsSpaceRead values.map.source values.space
 

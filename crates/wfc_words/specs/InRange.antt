@@ -1,5 +1,5 @@
 -- The ranges of a request's values, by groups.
-use Rattle.std.specs.Prelude.{◌≡◌, ◌≢◌, ◌+◌, ◌≤◌, true, false, codes, IsSome}
+use Rattle.std.specs.Prelude.{◌≡◌, ◌≢◌, ◌+◌, ◌≤◌, true, false, codes, IsSome, None}
 use Rattle.wfc_choose.specs.declared.RuleKind.TheVariants.{Ranked}
 use Rattle.wfc_model.specs.declared.TheConstants.{MAX_OUTPUT_SIDE}
 use Rattle.wfc_words.specs.Commands.{requires_word}
@@ -7,6 +7,7 @@ use Rattle.wfc_words.specs.Named.{is_rankable, takes_tiles}
 use Rattle.wfc_words.specs.Numbers.{least_block}
 use Rattle.wfc_words.specs.RequestView.{RequestView}
 use Rattle.wfc_words.specs.ValueWords.{word_of}
+use Rattle.wfc_words.specs.Values.{is_sample}
 use Rattle.wfc_words.specs.declared.fault.ValueName.TheVariants as names
 use Rattle.wfc_words.specs.declared.kinds.SourceModel.{SourceModel}
 use Rattle.wfc_words.specs.declared.kinds.SourceModel.TheVariants.{Overlap, Tiles}
@@ -34,11 +35,12 @@ pub record IsRunInRange (asked : RequestView) : Type 0 where
   pub budget_limit : asked.budget ≤ 1000000000
   pub unranked : is_rankable asked.command ≡ false → asked.rule ≢ Ranked
 
--- the number of a demonstration, and the format of a refutation
+-- the number of a demonstration, the format of a refutation, and a mask for a tile map alone
 pub record IsWritingInRange (asked : RequestView) : Type 0 where
   pub number_limit : asked.number ≤ 1000000
   pub some_format : 1 ≤ asked.format
   pub two_formats : asked.format ≤ 2
+  pub unmasked : is_sample asked.source ≡ true → asked.mask ≡ None
 
 -- the seeds of a race all fit 64 bits
 pub record IsRaceInRange (asked : RequestView) : Type 0 where
@@ -55,7 +57,8 @@ pub record IsSpaceInRange (asked : RequestView) : Type 0 where
   pub some_depth : requires_word asked.command (word_of names.Depth) ≡ true → 1 ≤ asked.depth
   pub depth_limit : asked.depth ≤ 256
 
--- each value is in its range, and a file of pins that must be there is there
+-- each value is in its range; and a command that demands a file of pins has a name of one, be it empty, since `word_text`
+-- gives a text to each word that must be there
 pub record IsInRange (asked : RequestView) : Type 0 where
   pub map : IsMapInRange asked
   pub run : IsRunInRange asked

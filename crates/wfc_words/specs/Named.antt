@@ -22,7 +22,7 @@ number_in least most text = result_ok (number_of text least most)
 abbrev pub source_of : Text → Option SourceModel
 source_of text = if bytes_eq text (codes "tiles") then Some Tiles else option_map (λ n. Overlap n) (number_in 1 6 text)
 
--- whether the command's map may be made of tiles; one that grows block by block is made of windows
+-- whether the command's map, if it has one, may be made of tiles; one that grows block by block is made of windows
 abbrev pub takes_tiles : CommandKind → Bool
 takes_tiles Grow = false
 takes_tiles _ = true
@@ -44,8 +44,8 @@ rule_named text =
     else if bytes_eq text (codes "ranked") then Some rules.Ranked
     else None
 
--- whether the command's runs may have the rule that goes by ranks; two choosers of it may differ in their ranks, so a
--- command of several runs has another rule
+-- whether the command's runs, if it has any, may have the rule that goes by ranks; two choosers of it may differ in their
+-- ranks, so a command of several runs has another rule
 abbrev pub is_rankable : CommandKind → Bool
 is_rankable Race = false
 is_rankable Explain = false

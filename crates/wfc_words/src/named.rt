@@ -19,7 +19,7 @@ pub(crate) fn model_asked(kind: CommandKind, text: &str) -> Option<SourceModel>
     model_without_tiles(source_of(text))
 }
 
-/// Whether the command's map may be made of tiles.
+/// Whether the command's map, if it has one, may be made of tiles.
 fn takes_tiles(kind: CommandKind) -> bool
     ensures value { result ≡ takes_tiles kind }
 {
@@ -59,7 +59,7 @@ pub(crate) fn rule_asked(kind: CommandKind, text: &str) -> Option<RuleKind>
     rule_without_ranks(rule_named(text))
 }
 
-/// Whether the command's runs may have the rule that goes by ranks.
+/// Whether the command's runs, if it has any, may have the rule that goes by ranks.
 fn is_rankable(kind: CommandKind) -> bool
     ensures value { result ≡ is_rankable kind }
 {
