@@ -89,7 +89,7 @@ pub record IsWholeRunFront {space : ProofKind} {rules : List Rule} {files : List
   pub told : AreToldBy asked work outcome lines
   pub front : IsFaultAfterFront call.before.out call.after.out (refutation_text space asked work.P lines)
 
--- or of its first lines, up to one that was refused; in format 2 it ends before the last line of the text ends
+-- or of the text of some of its first lines; in format 2 it ends before the last line of that text ends
 pub record IsFirstLinesFront {space : ProofKind} {rules : List Rule} {files : List File} (asked : RequestView)
     (work : RefuteWork space rules asked files) (call : Call) : Type 0 where
   pub lines : List Line
