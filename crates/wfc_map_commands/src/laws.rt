@@ -17,7 +17,7 @@ ghost use Rattle.wfc_map_commands.specs.FillClaims.{FillWork, HasOneMap};
 ghost use Rattle.wfc_map_commands.specs.FillGiven.{IsFillMade, IsTileFillMade};
 ghost use Rattle.wfc_map_commands.specs.FillTask.{fill, fill_made, fill_plan, tiles_filled};
 ghost use Rattle.wfc_map_commands.specs.LearnGiven.{IsLearnMade};
-ghost use Rattle.wfc_map_commands.specs.LearnTask.{learn_made, learn_plan, learn_tiles};
+ghost use Rattle.wfc_map_commands.specs.LearnTask.{learn, learn_made, learn_plan, learn_tiles};
 ghost use Rattle.wfc_map_commands.specs.Small.{step_line, two_and_undo};
 ghost use Rattle.wfc_map_commands.specs.declared.demonstration.Demonstration.{Demonstration};
 ghost use Rattle.wfc_map_commands.specs.declared.filling.Filled.TheVariants as filled;
@@ -42,6 +42,7 @@ ghost use Rattle.wfc_problem.specs.declared.Literal.TheVariants.{Is, Not};
 ghost use Rattle.wfc_task.specs.Maps.{flat_maps};
 ghost use Rattle.wfc_task.specs.Sources.{is_of_windows};
 ghost use Rattle.wfc_task.specs.TileGiven.{IsTileSetOf};
+ghost use Rattle.wfc_task.specs.declared.lesson.Taught.{Taught};
 ghost use Rattle.wfc_tileset.specs.Tiles.{TileSetView};
 ghost use Rattle.wfc_words.specs.RequestView.{RequestView};
 
@@ -151,7 +152,9 @@ pub fn first_faults()
 
 /// A task is made of what its call answers, and a fault is the call's.
 pub fn tasks_are_made_of_answers()
-    ensures learn { (set : TileSetView) →
+    ensures learn { (taught : Taught) → learn_made (Ok (learned.Windows taught))
+        ≡ Ok (learn taught.patterns taught.palette) }
+    ensures learn_tiles { (set : TileSetView) →
         learn_made (Ok (learned.Tiles set)) ≡ Ok (learn_tiles set) }
     ensures learn_fault { (fault : Fault) → learn_made (Err fault) ≡ Err fault }
     ensures fill { (asked : RequestView) (made : Filling) → fill_made asked

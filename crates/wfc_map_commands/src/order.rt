@@ -11,7 +11,7 @@ ghost use Rattle.wfc_map_commands.specs.FillOrder.{fill_order};
 ghost use Rattle.wfc_map_commands.specs.FillTask.{fill_plan};
 ghost use Rattle.wfc_map_commands.specs.LearnOrder.{learn_order};
 ghost use Rattle.wfc_map_commands.specs.LearnTask.{learn_plan};
-ghost use Rattle.wfc_map_commands.specs.Small.{HasTilesFault, fill_outcome};
+ghost use Rattle.wfc_map_commands.specs.Small.{HasPlainFault, HasTilesFault, LacksPicture, fill_outcome, pictured_asked};
 ghost use Rattle.wfc_outside.specs.Folder.{File};
 ghost use Rattle.wfc_outside.specs.declared.whole.ReadFault.TheVariants.{Missing};
 ghost use Rattle.wfc_pattern.specs.declared.learning.LearnFault.TheVariants.{SampleBelowN};
@@ -21,7 +21,7 @@ ghost use Rattle.wfc_plan.specs.Plan.{outcome};
 ghost use Rattle.wfc_plan.specs.Refusing.{IsMadeInOrder, IsRefusedInOrder};
 ghost use Rattle.wfc_plan.specs.declared.fault.Fault.TheVariants.{Refused, Unread};
 ghost use Rattle.wfc_plan.specs.declared.fault.Refusal.TheVariants as refusals;
-ghost use Rattle.wfc_plan.specs.declared.fault.Source.TheVariants.{Mask, Pins, Sample, Steps};
+ghost use Rattle.wfc_plan.specs.declared.fault.Source.TheVariants.{Mask, Picture, Pins, Sample, Steps};
 ghost use Rattle.wfc_render.specs.declared.form.Form.TheVariants.{Grid, P6};
 ghost use Rattle.wfc_render.specs.declared.form.RenderFault.TheVariants.{FormDiffers};
 ghost use Rattle.wfc_task.specs.Small.{sample_asked, with_pins, with_sample};
@@ -78,8 +78,13 @@ pub fn first_of_several_faults()
         ≡ Err (Refused (refusals.Build (builds.PinOutside 1))) }
 {}
 
-/// And of a tile set, whatever the tile set is: the pins before the mask, and the mask before what the pins mean.
+/// And of a tile set: the picture of its first tile before the layout, and the layout, which a tile set without pictures
+/// doesn't have in this form, before the pins; and, whatever the tile set is, the pins before the mask, and the mask before
+/// what the pins mean.
 pub fn first_of_several_faults_of_tiles()
+    ensures picture_and_layout { (files : List File) → LacksPicture files
+        → fill_outcome pictured_asked files ≡ Err (Unread (Picture 0) Missing) }
+    ensures layout_and_pins { HasPlainFault None (Refused (refusals.Render FormDiffers)) }
     ensures pins_and_mask { HasTilesFault None (Unread Pins Missing) }
     ensures lines_and_mask { HasTilesFault (Some (codes "pin\n"))
         (Refused (refusals.Pins (pins.BadLine 1))) }
