@@ -20,8 +20,9 @@ use wfc_task::{pictures, tile_document};
 use wfc_tileset::TileSet;
 use wfc_words::Request;
 
-/// The tile set that is asked for, with its pictures, and its stacks. The bytes of the document are kept until the stacks
-/// are read, so that both come from one reading.
+/// The tile set that is asked for, with its pictures, and its stacks. The bytes of the document are kept until its stacks
+/// are looked at. By `goes` both are those of one text, that of the file where it is told; how often the file is read it
+/// does not say.
 pub(crate) fn stacked_set<F: Folder>(
     alloc: Global,
     request: &Request,

@@ -1,6 +1,6 @@
 //! Laws of the definitions, each a function with no body whose contract is the law. They run nothing.
 
-ghost use Rattle.std.specs.Prelude.{List, Ok, [], codes, true, ◌↔◌, ◌≡◌};
+ghost use Rattle.std.specs.Prelude.{Bool, List, Ok, [], codes, ◌↔◌, ◌≡◌};
 ghost use Rattle.wfc_box.specs.Boxes.{IsFrame, frame_of};
 ghost use Rattle.wfc_box_commands.specs.BoxFillCommand.{box_fill_command};
 ghost use Rattle.wfc_box_commands.specs.BoxFillGiven.{IsBoxFillTask};
@@ -10,7 +10,7 @@ ghost use Rattle.wfc_box_commands.specs.BoxPlans.{box_plan};
 ghost use Rattle.wfc_box_commands.specs.BoxProofCommands.{box_refute_command};
 ghost use Rattle.wfc_box_commands.specs.BoxProofs.{box_proofs, box_shape};
 ghost use Rattle.wfc_box_commands.specs.BoxSteps.{frame_asked};
-ghost use Rattle.wfc_box_commands.specs.Small.{shape_of_box, small_box};
+ghost use Rattle.wfc_box_commands.specs.Small.{shape_of_box, small_box, wrapped_box};
 ghost use Rattle.wfc_choose.specs.declared.RuleKind.{RuleKind};
 ghost use Rattle.wfc_outside.specs.Folder.{File};
 ghost use Rattle.wfc_plan.specs.Plan.{outcome};
@@ -53,10 +53,11 @@ pub fn asked_boxes_are_assignments()
         (posed : OfBox asked files P) → IsFrame (frame_asked asked) → AssignsBoxes posed }
 {}
 
-/// What is asked for of a box of two by one by three, by example: its layers wrap, and no words of a sample count.
+/// What is asked for of a box of two by one by three, by example: its layers wrap or don't as its own words say, and no words
+/// of a sample count.
 pub fn requests_by_example()
-    ensures frame { frame_asked small_box ≡ frame_of 2 1 3 true }
-    ensures shape { box_shape small_box ≡ shape_of_box 2 1 3 true }
+    ensures frame { (wrap : Bool) → frame_asked (wrapped_box wrap) ≡ frame_of 2 1 3 wrap }
+    ensures shape { (wrap : Bool) → box_shape (wrapped_box wrap) ≡ shape_of_box 2 1 3 wrap }
     ensures fill_budget { box_fill_command.budget small_box ≡ 7 }
     ensures refute_budget { box_refute_command.budget small_box ≡ 7 }
     ensures fill_no { (files : List File) →
