@@ -67,7 +67,7 @@ abbrev pub IsTextBrokenOff : RunWriting → Network → List Line → ℕ → Ty
 IsTextBrokenOff writing P lines bytes =
     IsBrokenOff (written_format writing.format) bytes (length (writing_head writing P)) (length (writing_text writing P lines))
 
--- or a fault came, after a front of the head and of its first lines up to one that was refused
+-- or a fault came, after a front of the head and of some of its first lines
 pub record CutsWriting (rule : Rule) (writing : RunWriting) (P : Network) (old new : SinkView) : Type 0 where
   pub lines : List Line
   pub begun : IsBegunBy rule writing.budget P (start (words_of_seed writing.seed)) lines

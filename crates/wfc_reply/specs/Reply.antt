@@ -37,7 +37,7 @@ verdict_status MapExists = 1
 verdict_status (Unaccepted fault) = 1
 verdict_status (Stuck x y) = 8
 
--- a status of an answer: 0, 1 and 2, and 8; a fault has one from 3 to 7
+-- a status of an answer: 0, 1 and 2, and 8; a fault has one from 4 to 7, and words that are no request have 3
 abbrev pub HasAnswer : ℕ → Type 0
 HasAnswer status = (status ≤ 2) ⊎ (status ≡ 8)
 

@@ -25,7 +25,7 @@ ghost use Rattle.wfc_search.specs.declared.Outcome.{Outcome};
 ghost use Rattle.wfc_search.specs.declared.Outcome.TheVariants as outcomes;
 ghost use Rattle.wfc_words.specs.RequestView.{RequestView};
 
-/// The status of each end of a run, and of each verdict.
+/// The status of each end of a run, and of each verdict, which is one of an answer; and which statuses those are.
 pub fn statuses_are()
     ensures map { outcome_status outcomes.Map ≡ 0 }
     ensures no_map { outcome_status outcomes.NoMap ≡ 1 }
@@ -34,8 +34,10 @@ pub fn statuses_are()
     ensures none { verdict_status verdicts.NoMap ≡ 1 }
     ensures dead { verdict_status verdicts.Dead ≡ 1 }
     ensures exists { verdict_status verdicts.MapExists ≡ 1 }
+    ensures unaccepted { verdict_status (verdicts.Unaccepted (checks.BadLine 3)) ≡ 1 }
     ensures budget { verdict_status (verdicts.Spent 1000) ≡ 2 }
     ensures stuck { verdict_status (verdicts.Stuck 12 7) ≡ 8 }
+    ensures each_answers { (verdict : CommandVerdict) → HasAnswer (verdict_status verdict) }
     ensures spent_answers { HasAnswer 2 }
     ensures eight_answers { HasAnswer 8 }
     ensures three_is_none { HasAnswer 3 → ⊥ }

@@ -1,5 +1,9 @@
 use Rattle.std.proofs.Common.{arith, inl, inr, refl}
+use Rattle.wfc_reply.proofs.VerdictLemmas.{verdict_answers}
 use Rattle.wfc_reply.proofs.laws.statuses_are.Goals as goal
+
+pub returns-clause-each_answers : goal.returns-clause-each_answers
+returns-clause-each_answers c = verdict_answers
 
 pub returns-clause-spent_answers : goal.returns-clause-spent_answers
 returns-clause-spent_answers c = inl (omega arith)
