@@ -33,7 +33,7 @@ pub record RefutesWhole (space : ProofKind) (rule : Rule) (asked : RequestView) 
     whole = true;
   }
 
--- a front of the text of the first lines of a run, up to one that was refused; a failed sink took no more than it
+-- a front of the text of some of the first lines of a run; a failed sink took no more than it
 pub record RefutesFront (space : ProofKind) (rule : Rule) (asked : RequestView) (P : Network) (answered : Answered) : Type 0 where
   pub lines : List Line
   pub begun : IsBegunBy rule asked.budget P (start (words_of_seed asked.seed)) lines

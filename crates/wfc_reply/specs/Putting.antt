@@ -32,7 +32,7 @@ abbrev pub IsBrokenOff : Format → ℕ → ℕ → ℕ → Type 0
 IsBrokenOff One bytes head text = ⊤
 IsBrokenOff Two bytes head text = (bytes ≤ head) ⊎ (bytes < text)
 
--- or a fault came, after a front of the text of its first lines up to one that was refused
+-- or a fault came, after a front of the text of some of its first lines
 pub record CutsRun (format : Format) (rule : Rule) (budget : ℕ) (P : Network) (s : State)
     (old new : SinkView) : Type 0 where
   pub lines : List Line
