@@ -58,6 +58,20 @@ pairs_fewer patterns w h width height narrow low =
     let few : starts h n false * starts w n false ≤ starts height n false * starts width n false = mul-le-mul (omega arith) (omega arith) in
     mul-le-mul_right (length patterns.windows) (omega (arith, few, length-places w h n false, length-places width height n false))
 
+-- the first block begins at the corner
+at_corner : (across s : ℕ) → (0 % across * s ≡ 0) × (0 / across * s ≡ 0)
+at_corner across s =
+    let none : 0 * s ≡ 0 = omega arith in
+    (ap (λ k. k * s) (zero-mod across) ∙ none, ap (λ k. k * s) (zero-div across) ∙ none)
+
+-- no block is wider or higher than the first
+pub no_larger : (n : ℕ) (area : Area) (k : ℕ)
+    → ((block_at n area k).width ≤ (block_at n area 0).width) × ((block_at n area k).height ≤ (block_at n area 0).height)
+no_larger n area k =
+    let corner = at_corner (blocks_across n area) (stride n area.side) in
+    (omega (arith, corner.0), omega (arith, corner.1))
+
+-- each block has room for a window
 pub block_room : (patterns : PatternsView) (area : Area) → IsGrowable patterns area → (k : ℕ) → k < block_count patterns.n area → IsRoom patterns (output_of_block (block_at patterns.n area k))
 block_room patterns area growable k inside =
     let n = patterns.n in
@@ -66,7 +80,7 @@ block_room patterns area growable k inside =
     let block = block_at n area k in
     let first = block_at n area 0 in
     let at = row_and_column n area k inside in
-    let corner : (0 % across * s ≡ 0) × (0 / across * s ≡ 0) = at_corner across s in
+    let corner = at_corner across s in
     let fewer = pairs_fewer patterns block.width block.height first.width first.height
     (omega (arith, corner.0)) (omega (arith, corner.1)) in
     record {
@@ -74,11 +88,6 @@ block_room patterns area growable k inside =
       high = has_room n area.side area.height (k / across) growable.long at.1 growable.high;
       few_pairs = omega (arith, fewer, growable.few_pairs);
     }
-  where
-    at_corner : (across s : ℕ) → (0 % across * s ≡ 0) × (0 / across * s ≡ 0)
-    at_corner across s =
-        let none : 0 * s ≡ 0 = omega arith in
-        (ap (λ k. k * s) (zero-mod across) ∙ none, ap (λ k. k * s) (zero-div across) ∙ none)
 
 -- and lies in the area
 pub block_within : (n : ℕ) (area : Area) (k : ℕ) → k < block_count n area → 0 < n → n ≤ area.side → n ≤ area.width → n ≤ area.height → LiesWithin area.width area.height (block_at n area k)

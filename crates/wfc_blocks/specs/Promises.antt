@@ -37,7 +37,7 @@ IsLegalWhole patterns palette area lines m =
     → picture_pins (texts_of palette) area.width area.height lines ≡ Ok pins
     → IsLegalPicture sample rules pins area.width area.height m
 
--- no picture of a block is a legal map with these pins, by no sample that teaches the patterns
+-- no picture of a block is a legal map with these pins, by any sample that teaches the patterns
 abbrev pub AdmitNoMap : PatternsView → Block → List Pin → Type 0
 AdmitNoMap patterns block pins =
     (sample : Raster) (rules : Rules) (m : Raster)

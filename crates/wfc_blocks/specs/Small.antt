@@ -57,6 +57,14 @@ two_boards = record {
 abbrev pub one_board : PatternsView
 one_board = record { n = 2; windows = (0 ∷ 1 ∷ 1 ∷ 0 ∷ []) ∷ []; weights = 1 ∷ [] }
 
+-- as many windows of one pixel, each with a number of its own
+abbrev pub lone_pixels : ℕ → PatternsView
+lone_pixels count = record {
+  n = 1;
+  windows = map (λ k. k ∷ []) (range_with_len 0 count);
+  weights = map (λ k. k + 1) (range_with_len 0 count);
+}
+
 -- a ban and a pin of the area
 abbrev pub two_pins : List Pin
 two_pins = banned_pin 4 1 7 ∷ kept_pin 1 3 5 ∷ []

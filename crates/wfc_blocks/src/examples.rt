@@ -10,10 +10,10 @@ ghost use Rattle.wfc_blocks.specs.Blocks.{HasWindow, area_with, block_at, block_
 ghost use Rattle.wfc_blocks.specs.Blocks.{blocks_along, blocks_down, blocks_of, lies_in, output_of_block, stride, whole_of};
 ghost use Rattle.wfc_blocks.specs.Canvas.{empty_canvas, canvas_picture, lines_of_block, number_set, pin_in_block, pins_of_block, set_line};
 ghost use Rattle.wfc_search.specs.Small.{scanline};
-ghost use Rattle.wfc_blocks.specs.Growth.{AreNumbersBelow, IsSetBefore, seed_of_block};
-ghost use Rattle.wfc_blocks.specs.Grown.{grown_of};
+ghost use Rattle.wfc_blocks.specs.Growth.{AreNumbersBelow, IsGrowable, IsSetBefore, seed_of_block};
+ghost use Rattle.wfc_blocks.specs.Grown.{growable_of, grown_of};
 ghost use Rattle.wfc_blocks.specs.Promises.{HasSpentBlock};
-ghost use Rattle.wfc_blocks.specs.Small.{block_with, board_set, first_is_a, first_set, five_by_four, five_terms, nine_set, one_board, one_board_terms, right_block_lines};
+ghost use Rattle.wfc_blocks.specs.Small.{block_with, board_set, first_is_a, first_set, five_by_four, five_terms, lone_pixels, nine_set, one_board, one_board_terms, right_block_lines};
 ghost use Rattle.wfc_blocks.specs.Small.{stuck_board, three_pins, twenty_texts, two_boards, two_file_lines, two_letters, two_pins};
 ghost use Rattle.wfc_blocks.specs.declared.grown.Grown.TheVariants as grown;
 ghost use Rattle.wfc_blocks.specs.declared.grown.GrowFault.TheVariants as faults;
@@ -144,4 +144,23 @@ pub fn refused_growth()
         (window_pin_line 4 true 9 0 (codes "c") ∷ []) scanline 0 7 ≡ Err (faults.PinOutside 4) }
     ensures unknown { grown_of one_board two_letters (area_with 9 9 2)
         (window_pin_line 5 false 8 8 (codes "c") ∷ []) scanline 0 7 ≡ Err (faults.UnknownSymbol 5) }
+{}
+
+/// The pairs of a pixel and a pattern are counted in the first block, of 256 by 1,024 pixels or of
+/// 481 by 545, each with 32 patterns: as many as a problem may have, and 32 more. Too many blocks
+/// come before too many pairs, and these before a line at fault.
+pub fn pairs_of_a_block()
+    ensures most { growable_of (lone_pixels 32) two_letters (area_with 256 4000 1024) first_is_a
+        ≡ Ok (kept_pin 0 0 0 ∷ []) }
+    ensures crowded { grown_of (lone_pixels 32) two_letters (area_with 481 4000 545)
+        (window_pin_line 4 true 481 0 (codes "a") ∷ []) scanline 0 7
+        ≡ Err (faults.TooLarge 8388640) }
+    ensures many { grown_of (lone_pixels 40) two_letters (area_with 4000 4096 500)
+        (window_pin_line 4 true 4000 0 (codes "a") ∷ []) scanline 0 7
+        ≡ Err (faults.TooManyBlocks 72) }
+    ensures many_fewer { grown_of (lone_pixels 40) two_letters (area_with 4000 4000 500)
+        (window_pin_line 4 true 4000 0 (codes "a") ∷ []) scanline 0 7
+        ≡ Err (faults.TooLarge 10000000) }
+    ensures growable { IsGrowable (lone_pixels 32) (area_with 256 4000 1024) }
+    ensures not_growable { IsGrowable (lone_pixels 32) (area_with 481 4000 545) → ⊥ }
 {}

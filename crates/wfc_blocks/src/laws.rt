@@ -38,12 +38,16 @@ pub fn pixels_lie_in_blocks()
         n ≤ area.height → x < area.width → y < area.height → HasPixelBlock n area x y }
 {}
 
-/// Each block has room for a window and is no larger than the first; it lies in the area.
+/// Each block has room for a window, and it lies in the area. None is wider or higher than the first.
 pub fn blocks_have_room()
     ensures room { (patterns : PatternsView) (area : Area) (k : ℕ) → IsGrowable patterns area →
         k < block_count patterns.n area → IsRoom patterns (output_at patterns.n area k) }
     ensures inside { (n : ℕ) (area : Area) (k : ℕ) → n ≤ area.side → k < block_count n area →
         0 < n → n ≤ area.width → n ≤ area.height → IsBlockIn area (block_at n area k) }
+    ensures width { (n : ℕ) (area : Area) (k : ℕ) →
+        (block_at n area k).width ≤ (block_at n area 0).width }
+    ensures height { (n : ℕ) (area : Area) (k : ℕ) →
+        (block_at n area k).height ≤ (block_at n area 0).height }
 {}
 
 /// The pins of a block lie in it.

@@ -38,7 +38,8 @@ use wfc_problem::MAX_PAIRS;
 
 /// Grows an area of `width` by `height` pixels in blocks whose sides are at most `side` pixels.
 /// Each is filled by a run of its own, with this budget and the words of the seed plus its number,
-/// and it keeps what the blocks before it set. The numbers of the patterns are those of the palette.
+/// and it keeps what the blocks before it set. A symbol of a line stands for its number in the palette.
+/// The patterns may have numbers that the palette lacks.
 ///
 /// The first of these faults is answered: a side below that of a window, more than 64 blocks, too
 /// many pairs of a cell and a pattern in the first block, and then the first line at fault, where a
