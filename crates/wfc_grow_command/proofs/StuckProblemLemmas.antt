@@ -29,10 +29,12 @@ problem_short (Err why) P fault is six = absurd (cc (is))
 -- what a step gives of it
 pub step_gives : (wanted : Result Network BuildFault) (made : Network) → IsStepEnd (or_refuse Build wanted) (Ok made) → GivesProblem wanted (Ok made)
 step_gives (Ok P) made gives = let is : P ≡ made = cc (step_is (or_refuse Build (Ok P)) made gives) in sym is
-step_gives (Err why) made gives = tt
+step_gives (Err why) made gives = absurd (cc (step_is (or_refuse Build (Err why)) made gives))
 
 pub step_fails : (wanted : Result Network BuildFault) (refusal : Refusal) → IsStepEnd (or_refuse Build wanted) (Err refusal) → GivesProblem wanted (Err (Refused refusal))
-step_fails (Err why) refusal gives = tt
+step_fails (Err why) refusal (inl is) = let same : refusal ≡ Build why = cc (is) in inl (ap Refused same)
+step_fails (Err why) refusal (inr short) =
+    let same : refusal ≡ NoMemory = cc (short) in inr (ap (λ (r : Refusal). status_of (Refused r)) same)
 step_fails (Ok P) refusal (inl is) = absurd (cc (is))
 step_fails (Ok P) refusal (inr short) = let same : refusal ≡ NoMemory = cc (short) in ap (λ (r : Refusal). status_of (Refused r)) same
 

@@ -80,8 +80,8 @@ pub record IsComeTo {rules : List Rule} {files : List File} (asked : RequestView
   pub among : Contains (blocks_of work.task.patterns.n (area_asked asked)) block
   pub before : IsSetBefore (area_asked asked) (terms_of_work asked work) block canvas
 
--- growth comes to the block, its lines of pins are those of what is set there and those of the file, and what is written of
--- them is read as these lines, which mean pins that no map of it holds
+-- growth comes to the block, its lines of pins are those of what is set there and those of the file that lie in it, and what is
+-- written of them is read as these lines, which mean pins that no map of it holds
 pub record IsStuckBlock {rules : List Rule} {files : List File} (asked : RequestView) (work : GrowWork rules asked files)
     (stuck : StuckView) (read : List PinView) : Type 0 where
   pub canvas : Canvas
@@ -93,8 +93,8 @@ pub record IsStuckBlock {rules : List Rule} {files : List File} (asked : Request
   pub none : (m : Raster) → IsLegalPicture work.given.sample.picture (grow_rules asked) pins stuck.block.width
       stuck.block.height m → ⊥
 
--- a refutation of the problem that the lines which are read make of the block, with the block's shape: `check` accepts it, if
--- it isn't too long
+-- a refutation of the problem that the lines which are read make of the block, with the block's shape: `check` accepts it for
+-- these lines, if neither is too long
 pub record IsStuckProof {rules : List Rule} {files : List File} (asked : RequestView) (work : GrowWork rules asked files)
     (stuck : StuckView) (read : List PinView) (proof : List ℕ) : Type 0 where
   pub P : Network

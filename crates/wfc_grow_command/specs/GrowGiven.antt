@@ -21,8 +21,8 @@ use Rattle.wfc_task.specs.Given.{HoldsPins, IsSample}
 use Rattle.wfc_task.specs.Sources.{window_side_of}
 use Rattle.wfc_words.specs.RequestView.{RequestView}
 
--- what a request has to say, so that a map can be grown: a sample, blocks that hold a window, and a rule that doesn't go by
--- ranks
+-- what a request has to say, so that a map can be grown: a sample, blocks that hold a window and are no longer than a map may be,
+-- and a rule that doesn't go by ranks
 pub record IsGrowAsked (asked : RequestView) : Type 0 where
   pub sample : IsSampleAsked asked
   pub some_block : window_side_of asked.source ≤ asked.block

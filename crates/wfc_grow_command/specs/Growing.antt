@@ -1,6 +1,6 @@
 -- What holds of what `grow` works on, whatever the files are, and how the code ends that puts its text.
 use Rattle.std.specs.List.{IsDistinct}
-use Rattle.std.specs.Prelude.{Err, Ok, Result, ◌<◌, ◌≡◌, ◌≤◌}
+use Rattle.std.specs.Prelude.{Err, Ok, Result, ◌<◌, ◌≡◌, ◌≤◌, ◌⊎◌}
 use Rattle.wfc_blocks.specs.Grown.{grown_of}
 use Rattle.wfc_blocks.specs.Growth.{seed_of_block}
 use Rattle.wfc_blocks.specs.StuckView.{StuckView}
@@ -18,6 +18,8 @@ use Rattle.wfc_picture.specs.Symbol.{same_symbol}
 use Rattle.wfc_pins.specs.declared.fault.BuildFault.{BuildFault}
 use Rattle.wfc_plan.specs.Fault.{status_of}
 use Rattle.wfc_plan.specs.declared.fault.Fault.{Fault}
+use Rattle.wfc_plan.specs.declared.fault.Fault.TheVariants.{Refused}
+use Rattle.wfc_plan.specs.declared.fault.Refusal.TheVariants.{Build}
 use Rattle.wfc_problem.specs.Network.{Network}
 use Rattle.wfc_render.specs.Map.{IsWritten}
 use Rattle.wfc_reply.specs.Ending.{EndsPut, Leaves}
@@ -74,8 +76,9 @@ pub record PutsGrown (rule : Rule) (asked : RequestView) (task : GrowTask) (made
   pub replies : Replies (AnswersGrown rule asked task) made reply
   pub leaves : Leaves reply old new ended
 
--- the code that makes the problem wanted may give this: the problem, or memory ran out
+-- the code that makes the problem wanted may give this: the problem or its fault, or memory ran out
 abbrev pub GivesProblem : Result Network BuildFault → Result Network Fault → Type 0
 GivesProblem (Ok P) (Ok made) = made ≡ P
 GivesProblem (Ok P) (Err fault) = status_of fault ≡ 6
-GivesProblem (Err why) made = Unit {0}
+GivesProblem (Err why) (Ok made) = ⊥
+GivesProblem (Err why) (Err fault) = (fault ≡ Refused (Build why)) ⊎ (status_of fault ≡ 6)

@@ -6,9 +6,10 @@ ghost use Rattle.wfc_blocks.specs.Blocks.{area_with};
 ghost use Rattle.wfc_blocks.specs.Small.{block_with};
 ghost use Rattle.wfc_blocks.specs.declared.grown.GrowFault.TheVariants as faults;
 ghost use Rattle.wfc_choose.specs.declared.RuleKind.{RuleKind};
+ghost use Rattle.wfc_choose.specs.declared.RuleKind.TheVariants.{Fewest, Ranked, Scanline};
 ghost use Rattle.wfc_grow_command.specs.GrowAnswer.{stuck_verdict};
 ghost use Rattle.wfc_grow_command.specs.GrowClaims.{grow_rules};
-ghost use Rattle.wfc_grow_command.specs.GrowGiven.{IsGrowTask};
+ghost use Rattle.wfc_grow_command.specs.GrowGiven.{IsGrowAsked, IsGrowTask};
 ghost use Rattle.wfc_grow_command.specs.GrowTask.{area_asked, grow_plan, grow_refusal};
 ghost use Rattle.wfc_grow_command.specs.Small.{ban_of_b, flat_shape, pin_line, pin_of_a, seeded_asked, stuck_of_two};
 ghost use Rattle.wfc_grow_command.specs.StuckText.{block_shape, block_writing, pin_text, stuck_text};
@@ -49,6 +50,17 @@ pub fn growth_is_asked_so()
         ≡ area_with 7 5 3 }
     ensures rules { grow_rules (record (sample_asked 3 P6) { symmetry = 8; wrap_in = true })
         ≡ record { n = 3; symmetry = 8; wrap_in = true; wrap_out = false } }
+{}
+
+/// Which requests have a map grown, by example: of a sample, in blocks that hold a window and are no longer than a map may be,
+/// by a rule that doesn't go by ranks.
+pub fn growth_is_asked_for_by_example()
+    ensures least { IsGrowAsked (record (sample_asked 2 P6) { block = 2; rule = Scanline }) }
+    ensures last { IsGrowAsked (record (sample_asked 6 P6) { block = 4096; rule = Fewest }) }
+    ensures narrow { IsGrowAsked (record (sample_asked 3 P6) { block = 2; rule = Fewest }) → ⊥ }
+    ensures past { IsGrowAsked (record (sample_asked 2 P6) { block = 4097; rule = Fewest }) → ⊥ }
+    ensures images { IsGrowAsked (record (sample_asked 2 P6) { block = 2; symmetry = 9 }) → ⊥ }
+    ensures ranked { IsGrowAsked (record (sample_asked 2 P6) { block = 2; rule = Ranked }) → ⊥ }
 {}
 
 /// What is written of a stuck block, by example: its lines are those of a pins file.
