@@ -41,7 +41,7 @@ pinned_sample s = record {
   problem_of = λ keep. problem_of_sample s.patterns s.output (kept_of keep s.pins);
 }
 
--- the output has room for a window, and all pins lie inside
+-- patterns, an output of a map's sides that has room for a window, and pins that lie inside, no more than 32 bits can count
 pub record IsSamplePins (s : SamplePins) : Type 0 where
   pub patterns_are : IsPatterns s.patterns
   pub room : IsRoom s.patterns s.output
@@ -72,7 +72,8 @@ pinned_tiles s = record {
   problem_of = λ keep. problem_of_tiles s.tiles s.mask s.wrap (kept_of keep s.pins);
 }
 
--- there are few enough pairs of a place and a variant, and each pin lies at a place
+-- a tile set and a mask with few enough pairs of a place and a variant, and pins that each lie at a place, no more than 32
+-- bits can count
 pub record IsTilesPins (s : TilesPins) : Type 0 where
   pub tiles_are : IsTileSet s.tiles
   pub mask_is : IsMask s.mask

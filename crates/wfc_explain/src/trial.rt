@@ -8,7 +8,6 @@ ghost use Rattle.wfc_explain.specs.Trials.{outcome_mark, trial_after, trial_with
 ghost use Rattle.wfc_explain.specs.Outcomes.{outcome_with};
 ghost use Rattle.wfc_runs.specs.Alike.{HaveRule, PickAlike};
 ghost use Rattle.wfc_runs.specs.Words.{words_of_seed};
-ghost use Rattle.wfc_search.specs.declared.TheConstants.{MAX_BUDGET};
 
 use crate::PinnedProblem;
 use crate::explained::{Core, Explained, Kept, Mark};
@@ -36,7 +35,6 @@ pub fn explain<M: PinnedProblem, L: Ledger>(
 ) -> Result<Explained, NoMemory>
     requires choosers { vec_len choosers ≡ (M.seen pinned.now).lines + 1 }
     requires alike { PickAlike (map (λ chooser. (told chooser).rule) choosers.items) }
-    requires limit { budget ≤ MAX_BUDGET }
 
     // It is what leaving lines out in turn gives, each run by the rule of the choosers.
     ensures exact { (rule : Rule) → HaveRule (map (λ c. (told c).rule) choosers.items) rule →
