@@ -46,5 +46,4 @@ explained_answers rules asked v numbers first said (Ok answer) is exact told =
 pub explain_asked : (asked : RequestView) → IsInRange asked → asked.command ≡ commands.Explain → IsExplainAsked asked
 explain_asked asked within is = record {
   plain = plain_kind asked.rule (within.run.unranked (ap is_rankable is));
-  budget = within.run.budget_limit;
 }

@@ -10,7 +10,6 @@ use Rattle.wfc_problem.specs.Network.{Network}
 use Rattle.wfc_run_commands.specs.ExplainTask.{ExplainTask, explain, line_numbers}
 use Rattle.wfc_run_commands.specs.declared.explaining.TheConstants.{EXPLAIN_CHOOSERS, MAX_LINES}
 use Rattle.wfc_runs.specs.Alike.{IsPlain}
-use Rattle.wfc_search.specs.declared.TheConstants.{MAX_BUDGET}
 use Rattle.wfc_task.specs.Maps.{asked_output}
 use Rattle.wfc_task.specs.Posed.{Posed, PosedBy}
 use Rattle.wfc_words.specs.RequestView.{RequestView}
@@ -31,10 +30,9 @@ pinned_by (Overlap n) asked files P of =
 pinned_by Tiles asked files P of =
     pinned_tiles (record { tiles = of.set; mask = of.mask; wrap = asked.wrap_out; pins = of.problem.pins })
 
--- what a request has to say, so that lines can be left out: a rule that doesn't go by ranks, and a budget of a run
+-- what a request has to say, so that lines can be left out: a rule that doesn't go by ranks
 pub record IsExplainAsked (asked : RequestView) : Type 0 where
   pub plain : IsPlain asked.rule
-  pub budget : asked.budget ≤ MAX_BUDGET
 
 -- a chooser goes by the rule for each line that `explain` may take and one more, the problem is that of the request, and its
 -- lines aren't too many

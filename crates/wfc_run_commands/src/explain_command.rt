@@ -12,7 +12,6 @@ ghost use Rattle.wfc_run_commands.specs.ExplainCommand.{ExplainsBy, explain_comm
 ghost use Rattle.wfc_run_commands.specs.ExplainGiven.{IsExplainAsked};
 ghost use Rattle.wfc_run_commands.specs.ExplainTask.{explain_plan_by, explain_sample_plan, explain_tiles_plan, line_numbers};
 ghost use Rattle.wfc_runs.specs.Alike.{HaveRule, PickAlike};
-ghost use Rattle.wfc_search.specs.declared.TheConstants.{MAX_BUDGET};
 ghost use Rattle.wfc_task.specs.Asked.{AskedBy, IsOutputAsked, IsSampleAsked, IsSourceAsked};
 
 use crate::cores::core_text;
@@ -149,7 +148,6 @@ fn run_explanation<M: PinnedProblem, L: Ledger>(
     requires some_part { 0 < blank.parts }
     requires choosers { length choosers.items ≡ (M.seen pinned.now).lines + 1 }
     requires alike { PickAlike (map (λ chooser. (told chooser).rule) choosers.items) }
-    requires budget { request.now.budget ≤ MAX_BUDGET }
     ensures exact { (rule : Rule) → HaveRule (map (λ c. (told c).rule) choosers.items) rule →
         IfOk result (λ said. said ≡ explanation_asked rule request.now (M.seen pinned.now)) }
     ensures blamed { IfOk result (IsTrueExplained (M.seen pinned.now)) }
