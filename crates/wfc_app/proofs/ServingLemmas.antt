@@ -26,7 +26,11 @@ made_more many old new was more =
 -- the call with these rules, words, folder and sinks, and this status
 abbrev with_devices : List Rule → List (List ℕ) → FolderView → FolderView → SinkView → SinkView → SinkView → SinkView → ℕ → Call
 with_devices rules words folder folder_new out out_new err err_new status = record {
-  rules = rules; words = words; before = devices folder out err; after = devices folder_new out_new err_new; status = status;
+  rules = rules;
+  words = words;
+  before = devices folder out err;
+  after = devices folder_new out_new err_new;
+  status = status;
 }
 
 -- a call that tells the want of memory, and nothing else, keeps all promises

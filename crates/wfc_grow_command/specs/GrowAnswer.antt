@@ -52,7 +52,7 @@ pub record StuckWhole (rule : Rule) (asked : RequestView) (task : GrowTask) (stu
   pub told : IsToldBy rule asked.budget P (stuck_start asked stuck) outcome.NoMap lines
   pub is : answered ≡ record { verdict = stuck_verdict stuck; text = Some (stuck_run_text asked stuck P lines); whole = true }
 
--- the block, its pins, and a front of the text of the first lines of its run, up to one that was refused
+-- the block, its pins, and a front of the text of some of the first lines of its run
 pub record StuckFront (rule : Rule) (asked : RequestView) (task : GrowTask) (stuck : StuckView) (answered : Answered) : Type 0 where
   pub P : Network
   pub problem : IsProblemOfStuck task stuck P

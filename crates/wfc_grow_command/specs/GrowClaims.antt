@@ -157,7 +157,7 @@ pub record IsWholeStuckRun {rules : List Rule} {files : List File} (asked : Requ
   pub told : IsToldBy work.rule asked.budget P (stuck_start asked stuck) outcome.NoMap lines
   pub is : bytes ≡ writing_text (block_writing asked stuck.block) P lines
 
--- the bytes are a front of the text of its first lines, up to one that was refused: they end in the head, or before the last
+-- the bytes are a front of the text of some of its first lines: they end in the head, or before the last
 -- of these lines ends
 pub record IsBrokenStuckRun {rules : List Rule} {files : List File} (asked : RequestView) (work : GrowWork rules asked files)
     (stuck : StuckView) (P : Network) (bytes : List ℕ) : Type 0 where
