@@ -17,7 +17,7 @@ use Rattle.wfc_domains.specs.Counters.{Table, with_count, entry_of, counts_of, c
 use Rattle.wfc_domains.specs.Halves.{entries_from}
 use Rattle.wfc_domains.specs.Singles.{IsCountSplit, LimitedEntries}
 use Rattle.wfc_domains.specs.Forms.{table_with}
-use Rattle.wfc_domains.specs.Loaded.{AreLoaded, IsSurrounded, IsCopied, IsRowCopied}
+use Rattle.wfc_domains.specs.Loaded.{AreLoaded, IsSurrounded, HaveSameSupports, IsCopied, IsRowCopied}
 use Rattle.wfc_domains.proofs.HalfLemmas.{halves-length, same-entry}
 use Rattle.wfc_domains.proofs.Problems.{supports-below}
 use Rattle.wfc_domains.proofs.Places.{place-same, place_in-lt, place-is, counts_are}
@@ -84,10 +84,14 @@ place-row P c v d cell hv hd l = elim (cases_lt cell c) [
   | inr l' ↦ l'
 ]
 
--- a cell's counters copied from an earlier cell, where all supports stand beside both
-pub loaded-copied : (P : Network) (D : Test) (T T' : Table) (from to : ℕ) → AreLoaded P D T (counter_place P to 0 0) → from < to → to < P.cells → IsSurrounded P D from P.dirs → IsSurrounded P D to P.dirs → IsCopied T T' from to
+-- where all supports stand beside two cells, the same stand beside both
+pub surrounded-alike : (P : Network) (D : Test) (c c' k : ℕ) → IsSurrounded P D c k → IsSurrounded P D c' k → HaveSameSupports P D c c' k
+surrounded-alike P D c c' k h h' v d l = h v d l ∙ sym (h' v d l)
+
+-- a cell's counters copied from an earlier cell, beside which the same supports stand
+pub loaded-copied : (P : Network) (D : Test) (T T' : Table) (from to : ℕ) → AreLoaded P D T (counter_place P to 0 0) → from < to → to < P.cells → HaveSameSupports P D from to P.dirs → IsCopied T T' from to
     → AreLoaded P D T' (counter_place P (to + 1) 0 0)
-loaded-copied P D T T' from to h earlier to_in like here copy = record {
+loaded-copied P D T T' from to h earlier to_in alike copy = record {
   fits = record {
     same_cells = copy.same_cells ∙ h.fits.same_cells;
     same_values = copy.same_values ∙ h.fits.same_values;
@@ -103,7 +107,7 @@ loaded-copied P D T T' from to h earlier to_in like here copy = record {
         | inr after ↦
             let same : c ≡ to = omega (arith, place-row P c v d to hv hd l) in
             ap (λ x. entry_of T' x v d) same ∙ copy.copied v d hv' hd'
-            ∙ h.below from v d (omega arith) hv hd (row-before from v d earlier hv hd) ∙ like v d hd ∙ sym (here v d hd)
+            ∙ h.below from v d (omega arith) hv hd (row-before from v d earlier hv hd) ∙ alike v d hd
             ∙ ap (λ x. support_count P D x v d) (sym same)
       ];
 }

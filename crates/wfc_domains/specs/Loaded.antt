@@ -14,6 +14,10 @@ pub record AreLoaded (P : Network) (D : Test) (T : Table) (i : ℕ) : Type 0 whe
 abbrev pub IsSurrounded : Network → Test → ℕ → ℕ → Type 0
 IsSurrounded P D c k = (v d : ℕ) → d < k → support_count P D c v d ≡ length (supports_of P v d)
 
+-- the same supports stand beside both cells in the first k directions
+abbrev pub HaveSameSupports : Network → Test → ℕ → ℕ → ℕ → Type 0
+HaveSameSupports P D c c' k = (v d : ℕ) → d < k → support_count P D c v d ≡ support_count P D c' v d
+
 -- c is before the cell, and all supports stand beside it
 pub record IsLike (P : Network) (D : Test) (cell c : ℕ) : Type 0 where
   pub earlier : c < cell

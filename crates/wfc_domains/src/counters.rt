@@ -30,6 +30,13 @@ const LONG_ROW: usize = 64;
 /// alone is lowered faster.
 const MANY: usize = 1_000_000;
 
+/// How many supports a value has in the mean, in all directions together, where there are few of them. A removal lowers as
+/// many counts.
+const FEW: usize = 12;
+
+/// How many entries there must be, for two to share a byte, where values have more supports than a few.
+const MANY_LOWERED: usize = 4_194_304;
+
 /// One count for each cell, value and direction. Each can be marked beside, where no value has more than 127 supports
 /// in a direction: a count and its mark take one byte then, and else a count takes two. Where no value has more than 7,
 /// and there are many counts, two of them share a byte, each with its mark. A mark leaves the count as it is.
@@ -65,7 +72,7 @@ impl Counters {
         let dirs = problem.dirs() as usize;
         let places = cells as usize * values * dirs;
         let longest = longest_list(problem);
-        let is_paired = are_paired(longest, values * dirs, places);
+        let is_paired = are_paired(longest, values * dirs, places, many_places(problem));
         let paired = if is_paired { places } else { 0 };
         let alone = places - paired;
         Ok(Counters {
@@ -168,12 +175,37 @@ impl Counters {
     }
 }
 
-/// Whether two counts share a byte where no list is longer than this, a cell has so many entries and all cells this many.
-fn are_paired(longest: usize, row: usize, places: usize) -> bool
+/// Whether two counts share a byte where no list is longer than this, a cell has so many entries and all cells this many,
+/// and so many are not yet enough.
+fn are_paired(longest: usize, row: usize, places: usize, many: usize) -> bool
     ensures few { IsTrue result → longest ≤ 7 }
     ensures even { IsTrue result → row % 2 ≡ 0 }
 {
-    longest <= SMALLEST && row % 2 == 0 && row >= LONG_ROW && places > MANY
+    longest <= SMALLEST && row % 2 == 0 && row >= LONG_ROW && places > many
+}
+
+/// How many entries are not yet enough, for two to share a byte.
+fn many_places(problem: &Problem) -> usize {
+    let mut all: usize = 0;
+    for value in 0..problem.values() {
+        all = all.saturating_add(support_len(problem, value));
+    }
+    if all > FEW * problem.values() as usize {
+        MANY_LOWERED
+    } else {
+        MANY
+    }
+}
+
+/// How many supports a value has, in all directions together.
+fn support_len(problem: &Problem, value: u16) -> usize
+    requires value_in { value < values problem.now }
+{
+    let mut all: usize = 0;
+    for dir in 0..problem.dirs() {
+        all = all.saturating_add(problem.supports(value, dir).len());
+    }
+    all
 }
 
 /// How many large parts there are beside so many small ones, where no list is longer than this: as many, or none where

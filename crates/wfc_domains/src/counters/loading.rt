@@ -7,7 +7,7 @@ ghost use Rattle.wfc_log.specs.Domains.{Fits, has};
 ghost use Rattle.wfc_domains.specs.Loaded.{AreLoaded, IsLike, IsCopied};
 
 use super::Counters;
-use crate::beside::{count_beside, is_surrounded};
+use crate::beside::{alike_before, count_beside, is_surrounded};
 use crate::steps::Steps;
 use std::sync::ledger::Ledger;
 use wfc_log::Domains;
@@ -28,7 +28,8 @@ impl Counters {
         }
     }
 
-    /// Sets the entries of one cell: where all values stand on all sides of it, those of the last such cell.
+    /// Sets the entries of one cell: where all values stand on all sides of it, those of the last such cell, and else
+    /// those of a neighbour beside which the same supports stand, if one was before it.
     fn load_like<L: Ledger>(
         &mut self,
         problem: &Problem,
@@ -48,7 +49,10 @@ impl Counters {
         ensures steps { steps.new ≡ steps.old + values problem.now * problem.now.dirs }
     {
         if !is_surrounded(problem, domains, cell) {
-            self.load_cell(problem, domains, cell, steps);
+            match alike_before(problem, domains, cell) {
+                Some(next) => self.copy_cell(next, cell, steps),
+                None => self.load_cell(problem, domains, cell, steps),
+            }
             return like;
         }
         match like {
