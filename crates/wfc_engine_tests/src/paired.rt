@@ -1,4 +1,4 @@
-//! A large problem of short lists, in which two counts share a byte.
+//! Large problems of short lists: two counts share a byte in one of few supports, and none do in one of many.
 
 ghost use Rattle.std.specs.Prelude.{◌≡◌, ◌<◌};
 
@@ -57,14 +57,40 @@ fn itself_and_one(alloc: Global) -> Result<Vec<Vec<u16>>, AllocError> {
     Ok(supports)
 }
 
-/// A square of cells in which each value may stand everywhere.
-fn square(alloc: Global) -> Result<Parts, AllocError> {
+/// The value so far above it and the three behind that one, in rising order; behind the last value comes the first.
+fn four_from(alloc: Global, value: u16, above: u16) -> Result<Vec<u16>, AllocError>
+    requires value_in { value < 16 }
+    requires above_in { above < 16 }
+{
+    let first = (value + above) % VALUES;
+    let mut four = Vec::new(alloc);
+    for other in 0..VALUES {
+        if (other + VALUES - first) % VALUES < 4 {
+            four.push(other)?;
+        }
+    }
+    Ok(four)
+}
+
+/// Each value may stand beside itself and three others.
+fn itself_and_three(alloc: Global) -> Result<Vec<Vec<u16>>, AllocError> {
+    let mut supports = Vec::new(alloc);
+    for value in 0..VALUES {
+        for above in [13, 0, 0, 13] {
+            supports.push(four_from(alloc, value, above)?)?;
+        }
+    }
+    Ok(supports)
+}
+
+/// A square of cells with these supports, in which each value may stand everywhere.
+fn square(alloc: Global, supports: Vec<Vec<u16>>) -> Result<Parts, AllocError> {
     Ok(Parts {
         cells: CELLS,
         dirs: 4,
         neighbours: around(alloc)?,
         weights: vec![in alloc; 1; 16]?,
-        supports: itself_and_one(alloc)?,
+        supports,
         base: vec![in alloc; true; 262_144]?,
     })
 }
@@ -80,7 +106,6 @@ fn is_counted<L: Ledger>(
     requires problem { engine.now.problem ≡ problem.now }
 {
     assert_eq!(rt; engine.verdict(), Verdict::Alive);
-    assert!(rt; engine.counters().is_paired());
     let counted = counts_afresh(alloc, problem, engine, steps);
     assert!(rt; counted.expect(rt, "memory for other counters"));
 }
@@ -102,7 +127,7 @@ fn give<L: Ledger>(
     assert!(rt; engine.spare() > 0);
     assert_eq!(rt; engine.verdict(), Verdict::Alive);
     engine.assume(Literal::Is { cell, value }, steps);
-    assert!(rt; engine.added_len() > 1_000);
+    assert!(rt; engine.added_len() > 200);
     is_counted(rt, alloc, problem, engine, steps);
 }
 
@@ -138,11 +163,12 @@ fn there_and_back<L: Ledger>(
     take_back(rt, alloc, problem, engine, steps);
 }
 
-/// The same of an engine that is opened for it.
+/// The same of an engine that is opened for it, in which two counts share a byte or none do.
 fn gives_and_takes<L: Ledger>(
     rt: &impl Abort,
     alloc: Global,
     problem: &Problem,
+    is_paired: bool,
     blank: Blank,
 ) -> Result<(), Fail>
     requires name { blank.name ≡ L.name }
@@ -151,12 +177,21 @@ fn gives_and_takes<L: Ledger>(
 {
     let mut steps = Steps::<L>::new(blank);
     let mut engine = Ac4::open(alloc, problem, 2)?;
+    assert_eq!(rt; engine.counters().is_paired(), is_paired);
     there_and_back(rt, alloc, problem, &mut engine, &mut steps);
     Ok(())
 }
 
 #[test]
 fn counts_that_share_a_byte_are_undone(rt: HostRuntime) -> Result<(), Fail> {
-    let problem = Problem::new(square(rt.alloc())?)?;
-    gives_and_takes::<Brand>(&rt, rt.alloc(), &problem, Blank::new(1))
+    let supports = itself_and_one(rt.alloc())?;
+    let problem = Problem::new(square(rt.alloc(), supports)?)?;
+    gives_and_takes::<Brand>(&rt, rt.alloc(), &problem, true, Blank::new(1))
+}
+
+#[test]
+fn counts_of_many_supports_share_no_byte(rt: HostRuntime) -> Result<(), Fail> {
+    let supports = itself_and_three(rt.alloc())?;
+    let problem = Problem::new(square(rt.alloc(), supports)?)?;
+    gives_and_takes::<Brand>(&rt, rt.alloc(), &problem, false, Blank::new(1))
 }
